@@ -1,0 +1,90 @@
+//! What requests and events name: tasks, masters, entries, and the parts of a selective wait.
+
+use crate::Bounded;
+
+/// A task by its number, 0 to 255: 0 is the main program, and task `k` was made by the `k`-th
+/// creation. A larger number names no task.
+#[derive(Clone, Copy, Debug, Default, PartialEq, Eq)]
+pub struct TaskNo(pub u16);
+
+/// What a task may depend on (9.4): the body of a task, or a block by the position of its opening.
+#[derive(Clone, Copy, Debug, PartialEq, Eq)]
+pub enum Master {
+    Body(TaskNo),
+    Block(u32),
+}
+
+/// What a task is within: a block by the position of its opening, or a rendezvous by the position of
+/// its call.
+#[derive(Clone, Copy, Debug, PartialEq, Eq)]
+pub enum Member {
+    Block(u32),
+    Rendezvous(u32),
+}
+
+impl Default for Member {
+    ghost is_default = { λ _. Unit {0} };
+
+    fn default() -> Self {
+        Member::Block(0)
+    }
+}
+
+/// A family of entries (9.5) with the index range `low..high`. A single entry is the family `0..0`,
+/// and a family whose low bound is above its high one has no entry.
+#[derive(Clone, Copy, Debug, Default, PartialEq, Eq)]
+pub struct Family {
+    pub low: i32,
+    pub high: i32,
+}
+
+/// An entry of a task (9.5): the place of its family in the task's declaration, from 0, and its
+/// index, 0 for a single entry.
+#[derive(Clone, Copy, Debug, Default, PartialEq, Eq)]
+pub struct Entry {
+    pub family: u8,
+    pub index: i32,
+}
+
+/// How long an entry call waits for its acceptance (9.5, 9.7.2, 9.7.3). A duration is in
+/// milliseconds, and a negative one counts as 0.
+#[derive(Clone, Copy, Debug, PartialEq, Eq)]
+pub enum Patience {
+    Simple,
+    Conditional,
+    Timed(i64),
+}
+
+/// An accept alternative of a selective wait (9.7.1): open where its guard is true.
+#[derive(Clone, Copy, Debug, Default, PartialEq, Eq)]
+pub struct Choice {
+    pub guard: bool,
+    pub entry: Entry,
+}
+
+/// A delay alternative of a selective wait (9.7.1), open where its guard is true, with its duration
+/// in milliseconds.
+#[derive(Clone, Copy, Debug, Default, PartialEq, Eq)]
+pub struct Pause {
+    pub guard: bool,
+    pub duration: i64,
+}
+
+/// The tasks that an activation or an abort names, at most 256.
+pub type Tasks = Bounded<TaskNo, 256>;
+
+/// The families of entries that a task declares, at most 16.
+pub type Families = Bounded<Family, 16>;
+
+/// The accept alternatives of a wait in text order, at most 16.
+pub type Choices = Bounded<Choice, 16>;
+
+/// The delay alternatives of a wait in text order, at most 8.
+pub type Pauses = Bounded<Pause, 8>;
+
+/// The moments at which the delay alternatives of a wait are due, in text order, at most 8. A closed
+/// alternative has none.
+pub type Dues = Bounded<Option<i64>, 8>;
+
+/// What a task is within, outermost first, at most 32 members.
+pub type Nest = Bounded<Member, 32>;
