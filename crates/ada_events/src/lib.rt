@@ -6,7 +6,9 @@
 
 pub mod bounded;
 pub mod event;
+pub mod journal;
 pub mod names;
+pub mod outcome;
 pub mod refusal;
 pub mod request;
 
@@ -16,5 +18,6 @@ pub use names::{
     Choice, Choices, Dues, Entry, Families, Family, Master, Member, Nest, Patience, Pause, Pauses,
     TaskNo, Tasks,
 };
+pub use outcome::Outcome;
 pub use refusal::Refusal;
 pub use request::{Request, Tail};
