@@ -2,6 +2,7 @@
 use Rattle.std.specs.Prelude.{ℕ, Bool, false, not, ◌==◌, ◌&&◌, List, length}
 use Rattle.std.specs.Option.{option_map_or, option_map}
 use Rattle.std.specs.Bool.{then_some}
+use Rattle.std.specs.List.{list_any}
 use Rattle.ada_events.specs.declared.event.Event.{Event}
 use Rattle.ada_events.specs.declared.names.Entry.{Entry}
 use Rattle.ada_events.specs.Entries.{same_entry}
@@ -12,7 +13,7 @@ use Rattle.ada_events.specs.Phases.{is_released, has_ended}
 -- a rendezvous began with the call at a position
 unfoldable pub is_met : List Event → ℕ → Bool
 is_met journal call =
-    any_event (λ _ e. is_number call (option_map (λ (m : Meeting). m.call) (meeting_in e))) journal
+    list_any (λ (e : Event). is_number call (option_map (λ (m : Meeting). m.call) (meeting_in e))) journal
 
 -- the event at a position is an open call: neither released, nor has its caller ended
 unfoldable pub is_open_at : List Event → ℕ → Event → Bool

@@ -33,7 +33,7 @@ all_terminated journal master =
 -- the block has its close, or its task has ended
 unfoldable pub is_complete_block : List Event → ℕ → Bool
 is_complete_block journal block =
-    any_event (λ _ e. is_number block (option_map (λ (c : Closing). c.block) (closing_in e))) journal
+    list_any (λ (e : Event). is_number block (option_map (λ (c : Closing). c.block) (closing_in e))) journal
     || any_event (λ p e. p == block && option_map_or (λ (o : Opening). has_ended journal o.by) (opening_in e) false) journal
 
 -- the master is complete (9.4): a block as above, a body where its task is completed
@@ -43,7 +43,7 @@ is_complete journal (Block p) = is_complete_block journal p
 
 -- no activation of the task was ever started (9.3)
 unfoldable pub is_never_started : List Event → ℕ → Bool
-is_never_started journal task = not (any_event (λ _ e. lists_task task (started_in e)) journal)
+is_never_started journal task = not (list_any (λ (e : Event). lists_task task (started_in e)) journal)
 
 -- the task will never be activated (9.3, 9.4): what it was made within is complete, or its maker is
 -- terminated

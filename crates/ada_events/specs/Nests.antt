@@ -3,6 +3,7 @@
 use Rattle.std.specs.Prelude.{ℕ, Bool, not, ◌==◌, ◌&&◌, ◌-◌, Option, None, List, [], ◌∷◌, length, slice_get}
 use Rattle.std.specs.Option.{option_map_or, option_or, option_map}
 use Rattle.std.specs.Bool.{then_some}
+use Rattle.std.specs.List.{list_any}
 use Rattle.ada_events.specs.declared.event.Event.{Event}
 use Rattle.ada_events.specs.declared.names.Master.{Master}
 use Rattle.ada_events.specs.declared.names.Master.TheVariants.{Body, Block as BlockMaster}
@@ -14,7 +15,7 @@ use Rattle.ada_events.specs.Calls.{is_open_call}
 
 -- the close at a position was followed by the task's leaving the block (9.4)
 unfoldable pub is_left_close : List Event → ℕ → Bool
-is_left_close journal close = any_event (λ _ e. is_number close (left_in e)) journal
+is_left_close journal close = list_any (λ (e : Event). is_number close (left_in e)) journal
 
 -- the block is left
 unfoldable pub is_left : List Event → ℕ → Bool

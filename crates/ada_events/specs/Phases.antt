@@ -17,15 +17,15 @@ lists_task task = list_any (λ (t : TaskNo). t.0 == task)
 
 -- the task has ended its activation, or is the main program (9.3)
 unfoldable pub is_elaborated : List Event → ℕ → Bool
-is_elaborated journal task = task == 0 || any_event (λ _ e. is_number task (elaborated_in e)) journal
+is_elaborated journal task = task == 0 || list_any (λ (e : Event). is_number task (elaborated_in e)) journal
 
 -- the task's activation ended by an exception (9.3)
 unfoldable pub has_failed : List Event → ℕ → Bool
-has_failed journal task = any_event (λ _ e. is_number task (failed_in e)) journal
+has_failed journal task = list_any (λ (e : Event). is_number task (failed_in e)) journal
 
 -- the task's body is completed (9.4)
 unfoldable pub is_completed : List Event → ℕ → Bool
-is_completed journal task = any_event (λ _ e. is_number task (completed_in e)) journal
+is_completed journal task = list_any (λ (e : Event). is_number task (completed_in e)) journal
 
 -- the task is terminated (9.4): by itself, or together with all that depend on a master on which it
 -- depended then
@@ -50,7 +50,7 @@ is_abnormal (event ∷ before) task =
 
 -- the call, wait, delay, start or close at a position is released
 unfoldable pub is_released : List Event → ℕ → Bool
-is_released journal position = any_event (λ _ e. is_number position (released_in e)) journal
+is_released journal position = list_any (λ (e : Event). is_number position (released_in e)) journal
 
 -- the task is held up by a call, wait, delay, start or close that isn't released, and hasn't ended
 unfoldable pub is_suspended : List Event → ℕ → Bool

@@ -83,7 +83,7 @@ has_empty_list _ = false
 
 -- a start of the task's activation is in the journal
 unfoldable pub was_started : List Event → ℕ → Bool
-was_started journal task = any_event (λ _ e. lists_task task (started_in e)) journal
+was_started journal task = list_any (λ (e : Event). lists_task task (started_in e)) journal
 
 -- the task is made by this one, and its activation was never started
 unfoldable pub is_to_activate : List Event → ℕ → ℕ → Bool
