@@ -1,7 +1,7 @@
 -- One more event in a loop over a journal's events, for each kind of search.
 use Rattle.std.proofs.Common.{◌≡◌, ℕ, suc, zero, ◌+◌, ◌-◌, ◌<◌, ◌≤◌, Bool, true, false, not, ◌||◌, ◌&&◌, List, [], ◌∷◌, ◌++◌, Option, Some, None, length, reverse, take, get_or, refl, ap, sym, ◌∙◌, arith, add-one}
-use Rattle.std.specs.Prelude.{◌==◌, if◌then◌else◌, nat_lt}
-use Rattle.std.specs.Option.{option_or, option_len, option_map_or, unwrap_or}
+use Rattle.std.specs.Prelude.{slice_get, ◌==◌, if◌then◌else◌, nat_lt}
+use Rattle.std.specs.Option.{option_or, option_to_list, option_len, option_map_or, unwrap_or}
 use Rattle.std.specs.List.{list_any}
 use Rattle.std.proofs.lemmas.List.{reverse-append, length-reverse, take_more, length-take-le}
 use Rattle.ada_events.specs.declared.event.Event.{Event}
@@ -9,7 +9,7 @@ use Rattle.ada_events.specs.declared.names.Master.{Master}
 use Rattle.ada_events.specs.declared.names.Master.TheVariants.{Body}
 use Rattle.ada_events.specs.declared.names.TaskNo.{TaskNo}
 use Rattle.ada_events.specs.Phases.{lists_task, is_terminated, has_ended, is_abnormal, is_started}
-use Rattle.ada_events.specs.Search.{is_number, any_event}
+use Rattle.ada_events.specs.Search.{is_number, any_event, first_given, gathered}
 use Rattle.ada_events.specs.Says.{Creation, creation_in, moment_in, gone_in, quit_in, aborted_in, started_in}
 use Rattle.ada_events.specs.Tasks.{task_count, creation_of, moment}
 use Rattle.ada_events.specs.Masters.{same_master, parent_in, reaches, depends_on}
@@ -72,3 +72,28 @@ is_abnormal_more task events i d below = rw (journal_more events i d below) refl
 pub is_started_more : (task : ℕ) (events : List Event) (i : ℕ) (d : Event) → i < length events → is_started (reverse (take (i + 1) events)) task ≡ ((lists_task task (started_in (get_or events i d)) && not (has_ended (reverse (take i events)) task)) || is_started (reverse (take i events)) task)
 unfolding is_started
 is_started_more task events i d below = rw (journal_more events i d below) refl
+
+pub first_given_more : {A : Type 0} (give : ℕ → Event → Option A) (events : List Event) (i : ℕ) (d : Event) → i < length events → first_given give (reverse (take (i + 1) events)) ≡ option_or (first_given give (reverse (take i events))) (give (i + 1) (get_or events i d))
+unfolding first_given
+first_given_more give events i d below =
+    rw (journal_more events i d below, length_journal events i (omega arith), add-one i) refl
+
+pub gathered_more : {A : Type 0} (give : ℕ → Event → Option A) (events : List Event) (i : ℕ) (d : Event) → i < length events → gathered give (reverse (take (i + 1) events)) ≡ gathered give (reverse (take i events)) ++ option_to_list (give (i + 1) (get_or events i d))
+unfolding gathered
+gathered_more give events i d below =
+    rw (journal_more events i d below, length_journal events i (omega arith), add-one i) refl
+
+first-append_option : {A : Type 0} (xs : List A) (o : Option A) → slice_get (xs ++ option_to_list o) 0 ≡ option_or (slice_get xs 0) o
+first-append_option [] None = refl
+first-append_option [] (Some x) = refl
+first-append_option (x ∷ xs) o = refl
+
+pub first_gathered_more : {A : Type 0} (give : ℕ → Event → Option A) (events : List Event) (i : ℕ) (d : Event) → i < length events → slice_get (gathered give (reverse (take (i + 1) events))) 0 ≡ option_or (slice_get (gathered give (reverse (take i events))) 0) (give (i + 1) (get_or events i d))
+first_gathered_more give events i d below =
+    rw (gathered_more give events i d below) (first-append_option (gathered give (reverse (take i events))) (give (i + 1) (get_or events i d)))
+
+-- the step of a loop that keeps the first of what the events give
+pub first_gathered_step : {A : Type 0} (give : ℕ → Event → Option A) (events : List Event) (i : ℕ) (event : Event) (first next : Option A) → i < length events → event ≡ get_or events i event → first ≡ slice_get (gathered give (reverse (take i events))) 0 → next ≡ option_or first (give (i + 1) event) → next ≡ slice_get (gathered give (reverse (take (i + 1) events))) 0
+first_gathered_step give events i event first next below is so_far step =
+    step ∙ ap (λ f. option_or f (give (i + 1) event)) so_far ∙ ap (λ e. option_or (slice_get (gathered give (reverse (take i events))) 0) (give (i + 1) e)) is
+    ∙ sym (first_gathered_more give events i event below)

@@ -5,6 +5,7 @@
 #![tactic(auto)]
 
 
+pub mod calls;
 pub mod masters;
 pub mod phases;
 pub mod says;

@@ -156,3 +156,58 @@ pub fn left_in(event: &Event) -> Option<u32>
         _ => None,
     }
 }
+
+/// The call with which an event begins a rendezvous (9.5).
+#[tactic(auto, unfolding(ada_events::specs::Says::meeting_in))]
+pub fn met_call_in(event: &Event) -> Option<u32>
+    ensures { result ≡ option_map (λ (m : says.Meeting). m.call) (says.meeting_in event.now) }
+{
+    match event {
+        Event::Met { call, .. } => Some(*call),
+        _ => None,
+    }
+}
+
+/// The task that an event makes a caller (9.5).
+#[tactic(auto, unfolding(ada_events::specs::Says::call_in))]
+pub fn caller_in(event: &Event) -> Option<TaskNo>
+    ensures { option_map (λ (t : TaskNo). t.0) result ≡ option_map (λ (c : says.Call). c.by) (says.call_in event.now) }
+{
+    match event {
+        Event::Called { by, .. } => Some(*by),
+        _ => None,
+    }
+}
+
+/// The task that an event calls (9.5).
+#[tactic(auto, unfolding(ada_events::specs::Says::call_in))]
+pub fn callee_in(event: &Event) -> Option<TaskNo>
+    ensures { option_map (λ (t : TaskNo). t.0) result ≡ option_map (λ (c : says.Call). c.callee) (says.call_in event.now) }
+{
+    match event {
+        Event::Called { callee, .. } => Some(*callee),
+        _ => None,
+    }
+}
+
+/// The task that an event makes wait (9.7.1).
+#[tactic(auto, unfolding(ada_events::specs::Says::wait_in))]
+pub fn waiter_in(event: &Event) -> Option<TaskNo>
+    ensures { option_map (λ (t : TaskNo). t.0) result ≡ option_map (λ (w : says.Wait). w.by) (says.wait_in event.now) }
+{
+    match event {
+        Event::Waiting { by, .. } => Some(*by),
+        _ => None,
+    }
+}
+
+/// The block whose end an event reaches (9.4).
+#[tactic(auto, unfolding(ada_events::specs::Says::closing_in))]
+pub fn closed_block_in(event: &Event) -> Option<u32>
+    ensures { result ≡ option_map (λ (c : says.Closing). c.block) (says.closing_in event.now) }
+{
+    match event {
+        Event::Closed { block, .. } => Some(*block),
+        _ => None,
+    }
+}
