@@ -7,6 +7,7 @@
 
 pub mod calls;
 pub mod masters;
+pub mod nests;
 pub mod phases;
 pub mod says;
 pub mod tasks;
