@@ -1,3 +1,4 @@
 pub mod Chains
+pub mod Lists
 pub mod Loops
 pub mod Members

@@ -11,3 +11,4 @@ pub mod nests;
 pub mod phases;
 pub mod says;
 pub mod tasks;
+pub mod waits;
