@@ -2,3 +2,4 @@ pub mod Chains
 pub mod Lists
 pub mod Loops
 pub mod Members
+pub mod Numbers

@@ -11,4 +11,5 @@ pub mod nests;
 pub mod phases;
 pub mod says;
 pub mod tasks;
+pub mod termination;
 pub mod waits;
