@@ -34,9 +34,10 @@ length_with_if xs false x = omega (arith, length-append xs [])
 
 -- the step of a loop that keeps what a list's items give
 pub filter_map_step : {A B : Type 0} (f : A → Option B) (xs : List A) (i : ℕ) (d : A) (so_far next : List B) → i < length xs → (so_far ≡ filter_map f (take i xs)) × (length so_far ≤ i) → next ≡ so_far ++ option_to_list (f (get_or xs i d)) → (next ≡ filter_map f (take (i + 1) xs)) × (length next ≤ i + 1)
-filter_map_step f xs i d so_far next below before step =
-    (step ∙ ap (λ ys. ys ++ option_to_list (f (get_or xs i d))) before.0 ∙ sym (filter_map_more f xs i d below),
-     rw step (omega (arith, length_with_option so_far (f (get_or xs i d)), before.1)))
+filter_map_step f xs i d so_far next below before step = (
+  step ∙ ap (λ ys. ys ++ option_to_list (f (get_or xs i d))) before.0 ∙ sym (filter_map_more f xs i d below),
+  rw step (omega (arith, length_with_option so_far (f (get_or xs i d)), before.1)),
+)
 
 pub least_due_less : (dues : List (Option ℤ)) (n : ℕ) (d : Option ℤ) → 0 < n → n ≤ length dues → least_due (drop (n - 1) dues) ≡ earlier (get_or dues (n - 1) d) (least_due (drop n dues))
 unfolding least_due
@@ -58,7 +59,7 @@ due_at-push least n [] due = rw add-zero refl
 due_at-push least n (x ∷ dues) due =
     let moved : suc n + length dues ≡ n + suc (length dues) = omega arith in
     let rest : due_at least (suc n) (dues ++ due ∷ []) ≡ due_at least (suc n) dues ++ (if is_due_at least due then (n + suc (length dues)) ∷ [] else []) =
-        due_at-push least (suc n) dues due ∙ ap (λ k. due_at least (suc n) dues ++ (if is_due_at least due then k ∷ [] else [])) moved in
+    due_at-push least (suc n) dues due ∙ ap (λ k. due_at least (suc n) dues ++ (if is_due_at least due then k ∷ [] else [])) moved in
     ap (λ ys. if is_due_at least x then n ∷ ys else ys) rest
     ∙ if-append (is_due_at least x) n (due_at least (suc n) dues) (if is_due_at least due then (n + suc (length dues)) ∷ [] else [])
 
@@ -70,6 +71,7 @@ due_at_more least dues i d below =
 
 -- the step of a loop that numbers the delay alternatives which are due
 pub due_at_step : (least : ℤ) (dues : List (Option ℤ)) (i : ℕ) (d : Option ℤ) (so_far next : List ℕ) → i < length dues → (so_far ≡ due_at least 0 (take i dues)) × (length so_far ≤ i) → next ≡ so_far ++ (if is_due_at least (get_or dues i d) then i ∷ [] else []) → (next ≡ due_at least 0 (take (i + 1) dues)) × (length next ≤ i + 1)
-due_at_step least dues i d so_far next below before step =
-    (step ∙ ap (λ ys. ys ++ (if is_due_at least (get_or dues i d) then i ∷ [] else [])) before.0 ∙ sym (due_at_more least dues i d below),
-     rw step (omega (arith, length_with_if so_far (is_due_at least (get_or dues i d)) i, before.1)))
+due_at_step least dues i d so_far next below before step = (
+  step ∙ ap (λ ys. ys ++ (if is_due_at least (get_or dues i d) then i ∷ [] else [])) before.0 ∙ sym (due_at_more least dues i d below),
+  rw step (omega (arith, length_with_if so_far (is_due_at least (get_or dues i d)) i, before.1)),
+)

@@ -58,7 +58,7 @@ unfolding reaches
 reaches_less found from to events n d low high =
     let e : n ≡ n - 1 + 1 = omega arith in
     let step : reverse (take n events) ≡ get_or events (n - 1) d ∷ reverse (take (n - 1) events) =
-        ap (λ k. reverse (take k events)) e ∙ journal_more events (n - 1) d (omega arith) in
+    ap (λ k. reverse (take k events)) e ∙ journal_more events (n - 1) d (omega arith) in
     rw step (or_swap found (same_master from to) (reaches (reverse (take (n - 1) events)) (parent_in (reverse (take (n - 1) events)) (get_or events (n - 1) d) from) to))
 
 pub is_terminated_more : (task : ℕ) (events : List Event) (i : ℕ) (d : Event) → i < length events → is_terminated (reverse (take (i + 1) events)) task ≡ ((is_number task (gone_in (get_or events i d)) || option_map_or (depends_on (reverse (take i events)) task) (quit_in (get_or events i d)) false) || is_terminated (reverse (take i events)) task)

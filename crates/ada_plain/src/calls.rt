@@ -122,7 +122,11 @@ pub fn is_call_of(task: TaskNo, entry: Entry, event: &Event) -> bool
     ensures { result ≡ calls.is_call_of task.0 entry event.now }
 {
     match event {
-        Event::Called { callee, entry: called, .. } => is_entry_of(task, entry, *callee, *called),
+        Event::Called {
+            callee,
+            entry: called,
+            ..
+        } => is_entry_of(task, entry, *callee, *called),
         _ => false,
     }
 }
@@ -135,7 +139,13 @@ fn is_queued_for(events: &[Event], task: TaskNo, entry: Entry, position: u32, ev
 }
 
 // The call at a position, if it is queued at the entry.
-fn queued_call(events: &[Event], task: TaskNo, entry: Entry, position: u32, event: &Event) -> Option<u32>
+fn queued_call(
+    events: &[Event],
+    task: TaskNo,
+    entry: Entry,
+    position: u32,
+    event: &Event,
+) -> Option<u32>
     requires { length events.now < 2 ^ 32 }
     ensures { result ≡ then_some (calls.is_call_of task.0 entry event.now && calls.is_queued_at (reverse events.now) position event.now) position }
 {
@@ -147,7 +157,14 @@ fn queued_call(events: &[Event], task: TaskNo, entry: Entry, position: u32, even
 }
 
 // The first call that was found, else the one at this position.
-fn or_queued(first: Option<u32>, events: &[Event], task: TaskNo, entry: Entry, position: u32, event: &Event) -> Option<u32>
+fn or_queued(
+    first: Option<u32>,
+    events: &[Event],
+    task: TaskNo,
+    entry: Entry,
+    position: u32,
+    event: &Event,
+) -> Option<u32>
     requires { length events.now < 2 ^ 32 }
     ensures { result ≡ option_or first (then_some (calls.is_call_of task.0 entry event.now && calls.is_queued_at (reverse events.now) position event.now) position) }
 {

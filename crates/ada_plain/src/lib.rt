@@ -4,8 +4,8 @@
 //! definition's, of the events in the order in which they came.
 #![tactic(auto)]
 
-
 pub mod calls;
+pub mod forced;
 pub mod masters;
 pub mod nests;
 pub mod phases;

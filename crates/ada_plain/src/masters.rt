@@ -24,7 +24,11 @@ fn body_parent(event: &Event, task: TaskNo, count: u64) -> Master
     ensures { result ≡ option_map_or (λ (c : says.Creation). if task.0 == count then c.master else Master.Body task) (says.creation_in event.now) (Master.Body task) }
 {
     match event {
-        Event::Created { master, .. } => if u64::from(task.0) == count { *master } else { Master::Body(task) },
+        Event::Created { master, .. } => if u64::from(task.0) == count {
+            *master
+        } else {
+            Master::Body(task)
+        },
         _ => Master::Body(task),
     }
 }
@@ -35,7 +39,11 @@ fn block_parent(event: &Event, block: u32, position: u64) -> Master
     ensures { result ≡ option_map_or (λ (o : says.Opening). if block == position then o.under else Master.Block block) (says.opening_in event.now) (Master.Block block) }
 {
     match event {
-        Event::Opened { under, .. } => if u64::from(block) == position { *under } else { Master::Block(block) },
+        Event::Opened { under, .. } => if u64::from(block) == position {
+            *under
+        } else {
+            Master::Block(block)
+        },
         _ => Master::Block(block),
     }
 }
@@ -71,7 +79,13 @@ pub fn reaches(events: &[Event], from: Master, to: Master) -> bool
 
 // The event makes the task, as the one of that number, under a master from which this one is reached.
 #[tactic(auto, unfolding(ada_events::specs::Says::creation_in))]
-fn makes_dependent(before: &[Event], event: &Event, task: TaskNo, count: u64, master: Master) -> bool
+fn makes_dependent(
+    before: &[Event],
+    event: &Event,
+    task: TaskNo,
+    count: u64,
+    master: Master,
+) -> bool
     requires { length before.now < 2 ^ 32 }
     ensures { result ≡ option_map_or (λ (c : says.Creation). (task.0 == count) && masters.reaches (reverse before.now) c.master master) (says.creation_in event.now) false }
 {

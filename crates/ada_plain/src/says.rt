@@ -2,7 +2,6 @@
 ghost use Rattle.std.specs.Prelude.{◌≡◌};
 ghost use Rattle.std.specs.Option.{option_map};
 ghost use Rattle.ada_events.specs.Says as says;
-
 ghost use Rattle.ada_events.specs.Search.{is_number};
 
 use ada_events::{Event, Master, TaskNo};
@@ -137,7 +136,9 @@ pub fn released_in(event: &Event) -> Option<u32>
     ensures { result ≡ says.released_in event.now }
 {
     match event {
-        Event::Ended { call, .. } | Event::Failed { call } | Event::Cancelled { call } => Some(*call),
+        Event::Ended { call, .. } | Event::Failed { call } | Event::Cancelled { call } => Some(
+            *call,
+        ),
         Event::Met { wait, .. } | Event::Passed { wait, .. } => Some(*wait),
         Event::Woken { pause } => Some(*pause),
         Event::Activated { start, .. } => Some(*start),

@@ -23,7 +23,12 @@ pub fn making_in(event: &Event) -> Option<Making<'_>>
     ensures { option_map creation_seen result ≡ creation_in event.now }
 {
     match event {
-        Event::Created { by, under, master, families } => Some(Making {
+        Event::Created {
+            by,
+            under,
+            master,
+            families,
+        } => Some(Making {
             by: *by,
             under: *under,
             master: *master,

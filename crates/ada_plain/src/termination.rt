@@ -226,7 +226,9 @@ fn is_ready_if_dependent(events: &[Event], task: TaskNo, master: Master) -> bool
     requires { length events.now < 2 ^ 32 }
     ensures { result ≡ (not (masters.depends_on (reverse events.now) task.0 master) || phases.is_terminated (reverse events.now) task.0 || forced.is_ready_to_quit (reverse events.now) task.0) }
 {
-    !depends_on(events, task, master) || is_terminated(events, task) || is_ready_to_quit(events, task)
+    !depends_on(events, task, master)
+        || is_terminated(events, task)
+        || is_ready_to_quit(events, task)
 }
 
 // Each dependent of the master is terminated or ready to quit.
