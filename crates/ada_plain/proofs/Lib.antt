@@ -1,4 +1,5 @@
 pub mod Chains
+pub mod Doubles
 pub mod Lists
 pub mod Loops
 pub mod Members

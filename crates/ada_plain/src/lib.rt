@@ -9,6 +9,7 @@ pub mod forced;
 pub mod masters;
 pub mod nests;
 pub mod phases;
+pub mod refusals;
 pub mod says;
 pub mod tasks;
 pub mod termination;
