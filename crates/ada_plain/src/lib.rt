@@ -4,8 +4,10 @@
 //! definition's, of the events in the order in which they came.
 #![tactic(auto)]
 
+pub mod asks;
 pub mod calls;
 pub mod forced;
+pub mod limits;
 pub mod masters;
 pub mod nests;
 pub mod phases;

@@ -11,16 +11,17 @@ ghost use Rattle.ada_events.specs.Phases as phases;
 ghost use Rattle.ada_events.specs.Entries as entries;
 ghost use Rattle.ada_events.specs.Asks as asks;
 ghost use Rattle.ada_events.specs.Refusals as refusals;
-ghost use Rattle.ada_events.specs.Masters.{reaches as is_reached};
+ghost use Rattle.ada_plain.specs.Causes.{causes_by_name, causes_by_entry, causes_by_nest, causes_by_limit};
 ghost use Rattle.ada_events.specs.Nests as nests;
 ghost use Rattle.ada_events.specs.Tasks.{task_count as count_of_tasks, creation_of};
 
+use crate::limits::{is_full, is_too_deep, is_too_late, makes_too_many_slots, makes_too_many_tasks, moves_back};
 use crate::masters::reaches;
 use crate::nests::{depth, frame, innermost, is_in_rendezvous, is_in_rendezvous_for};
 use crate::phases::{is_elaborated, is_running, lists_task};
 use crate::says;
 use crate::tasks::{families, making_of, task_count};
-use ada_events::{Choice, Entry, Event, Family, Master, Member, Request, Tail, TaskNo};
+use ada_events::{Choice, Entry, Event, Family, Master, Member, Refusal, Request, Tail, TaskNo};
 
 /// The task that asks; a tick has none.
 #[tactic(auto, unfolding(ada_events::specs::Asks::asker))]
@@ -389,4 +390,124 @@ fn aborts_main(request: &Request) -> bool
         Request::Abort { tasks, .. } => lists_task(tasks.as_slice(), TaskNo(0)),
         _ => false,
     }
+}
+
+// The first of the causes from the names of tasks to empty lists.
+#[tactic(auto, unfolding(ada_events::specs::Refusals::first_cause))]
+fn refused_name(events: &[Event], request: &Request) -> Option<Refusal>
+    requires { length events.now < 2 ^ 32 }
+    ensures { result ≡ refusals.first_cause (causes_by_name (reverse events.now) request.now) }
+{
+    if names_unknown_task(events, request) {
+        return Some(Refusal::UnknownTask);
+    }
+    if asker_not_running(events, request) {
+        return Some(Refusal::NotRunning);
+    }
+    if is_during_activation(events, request) {
+        return Some(Refusal::DuringActivation);
+    }
+    if is_not_activating(events, request) {
+        return Some(Refusal::NotActivating);
+    }
+    if is_not_your_master(events, request) {
+        return Some(Refusal::NotYourMaster);
+    }
+    if has_empty_list(request) {
+        return Some(Refusal::EmptyList);
+    }
+    None
+}
+
+// The first of the causes that have to do with activation and entries.
+#[tactic(auto, unfolding(ada_events::specs::Refusals::first_cause))]
+fn refused_entry(events: &[Event], request: &Request) -> Option<Refusal>
+    requires { length events.now < 2 ^ 32 }
+    ensures { result ≡ refusals.first_cause (causes_by_entry (reverse events.now) request.now) }
+{
+    if is_not_your_task(events, request) {
+        return Some(Refusal::NotYourTask);
+    }
+    if has_no_accept(request) {
+        return Some(Refusal::NoAccept);
+    }
+    if names_no_family(events, request) {
+        return Some(Refusal::NoSuchFamily);
+    }
+    if breaks_constraint(events, request) {
+        return Some(Refusal::ConstraintError);
+    }
+    None
+}
+
+// The first of the causes that have to do with the asking task's nest.
+#[tactic(auto, unfolding(ada_events::specs::Refusals::first_cause))]
+fn refused_nest(events: &[Event], request: &Request) -> Option<Refusal>
+    requires { length events.now < 2 ^ 32 }
+    ensures { result ≡ refusals.first_cause (causes_by_nest (reverse events.now) request.now) }
+{
+    if nests_same_family(events, request) {
+        return Some(Refusal::SameFamilyNested);
+    }
+    if terminates_in_accept(events, request) {
+        return Some(Refusal::TerminateInAccept);
+    }
+    if is_not_in_accept(events, request) {
+        return Some(Refusal::NotInAccept);
+    }
+    if has_no_block(events, request) {
+        return Some(Refusal::NoBlock);
+    }
+    if is_still_nested(events, request) {
+        return Some(Refusal::StillNested);
+    }
+    None
+}
+
+// The first of the causes that have to do with the main program, the moment and the limits.
+#[tactic(auto, unfolding(ada_events::specs::Refusals::first_cause))]
+fn refused_limit(events: &[Event], request: &Request) -> Option<Refusal>
+    requires { length events.now < 2 ^ 32 }
+    ensures { result ≡ refusals.first_cause (causes_by_limit (reverse events.now) request.now) }
+{
+    if aborts_main(request) {
+        return Some(Refusal::MainTask);
+    }
+    if moves_back(events, request) {
+        return Some(Refusal::MomentBack);
+    }
+    if is_too_late(events, request) {
+        return Some(Refusal::MomentTooLarge);
+    }
+    if makes_too_many_tasks(events, request) {
+        return Some(Refusal::TooManyTasks);
+    }
+    if makes_too_many_slots(events, request) {
+        return Some(Refusal::TooManySlots);
+    }
+    if is_too_deep(events, request) {
+        return Some(Refusal::TooDeep);
+    }
+    if is_full(events) {
+        return Some(Refusal::JournalFull);
+    }
+    None
+}
+
+/// The cause for which a request is refused, if there is one.
+#[tactic(auto, unfolding(ada_events::specs::Refusals::refusal), using(crate::proofs::CauseParts::first_cause_in_parts))]
+pub fn refusal(events: &[Event], request: &Request) -> Option<Refusal>
+    requires { length events.now < 2 ^ 32 }
+    ensures { result ≡ refusals.refusal (reverse events.now) request.now }
+{
+    if let Some(cause) = refused_name(events, request) {
+        return Some(cause);
+    }
+    if let Some(cause) = refused_entry(events, request) {
+        return Some(cause);
+    }
+    if let Some(cause) = refused_nest(events, request) {
+        return Some(cause);
+    }
+    refused_limit(events, request)
 }
