@@ -1,2 +1,11 @@
 pub mod Forcing
 pub mod RequestLaws
+pub mod Searching
+pub mod Saying
+pub mod Growing
+pub mod Accepting
+pub mod Stepping
+pub mod Holding
+pub mod Sums
+pub mod Working
+pub mod LimitLaws

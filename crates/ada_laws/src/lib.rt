@@ -4,4 +4,5 @@
 //! Section numbers are those of the Ada 83 manual, ANSI/MIL-STD-1815A.
 #![tactic(auto)]
 
+pub mod limits;
 pub mod requests;
