@@ -4,6 +4,7 @@ pub mod Searching
 pub mod Saying
 pub mod Growing
 pub mod Accepting
+pub mod Rows
 pub mod Stepping
 pub mod Holding
 pub mod Sums
