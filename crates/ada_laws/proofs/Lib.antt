@@ -10,3 +10,7 @@ pub mod Holding
 pub mod Sums
 pub mod Working
 pub mod LimitLaws
+pub mod Gathering
+pub mod Queueing
+pub mod Meeting
+pub mod CallLaws

@@ -1,3 +1,4 @@
 pub mod Requests
 pub mod Work
 pub mod Limits
+pub mod Calls

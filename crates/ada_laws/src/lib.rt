@@ -4,5 +4,6 @@
 //! Section numbers are those of the Ada 83 manual, ANSI/MIL-STD-1815A.
 #![tactic(auto)]
 
+pub mod calls;
 pub mod limits;
 pub mod requests;
