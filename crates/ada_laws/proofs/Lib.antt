@@ -14,3 +14,7 @@ pub mod Gathering
 pub mod Queueing
 pub mod Meeting
 pub mod CallLaws
+pub mod Framing
+pub mod Reaching
+pub mod Depending
+pub mod DependentLaws

@@ -2,7 +2,7 @@
 use Rattle.std.proofs.Common.{◌≡◌, ℕ, zero, suc, ◌<◌, ◌≤◌, Bool, true, false, cond, not, ◌&&◌, Option, Some, None, List, [], ◌∷◌, length, sym, refl, ap, ◌∙◌, arith, ◌⊎◌, inl, inr, ◌≢◌}
 use Rattle.std.specs.Option.{option_or, option_map, option_map_or}
 use Rattle.std.specs.Bool.{then_some}
-use Rattle.std.proofs.lemmas.Bool.{ne_eqb, eq-eqb, eqb-true, cases_eq, or_cases, and_cases, or_left, or_right, true≢false, false≢true}
+use Rattle.std.proofs.lemmas.Bool.{ne_eqb, eq-eqb, eqb-true, cases_eq, or_cases, and_cases, and_parts, or_left, or_right, true≢false, false≢true}
 use Rattle.std.proofs.lemmas.Option.{same_Some, none-some}
 use Rattle.ada_events.specs.declared.event.Event.{Event}
 use Rattle.ada_events.specs.Search.{is_number, any_event, first_given, first_below, all_below, event_at}
@@ -132,4 +132,14 @@ all_below-fails test (suc n) fails =
           let (u, below, found) = all_below-fails test n there in
           (u, omega arith, found)
       | inr here ↦ (n, omega arith, here)
+    ]
+
+pub all_below-holds : (test : ℕ → Bool) (n u : ℕ) → all_below test n ≡ true → u < n → test u ≡ true
+unfolding all_below
+all_below-holds test zero u all below = absurd (omega arith)
+all_below-holds test (suc n) u all below =
+    let both = and_parts (all_below test n) (test n) all in
+    elim (cases_eq u n) [
+      | inl same ↦ rw same both.1
+      | inr other ↦ all_below-holds test n u both.0 (omega arith)
     ]

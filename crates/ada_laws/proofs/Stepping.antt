@@ -9,7 +9,7 @@ use Rattle.ada_events.specs.declared.event.Event.TheVariants.{Failed, Met, Cance
 use Rattle.ada_events.specs.declared.names.Master.{Master}
 use Rattle.ada_events.specs.declared.names.Master.TheVariants.{Body, Block}
 use Rattle.ada_events.specs.Search.{all_below, event_at}
-use Rattle.ada_events.specs.Says.{Call, call_in, creation_in, held_in, released_in, completed_in, gone_in, quit_in}
+use Rattle.ada_events.specs.Says.{Call, call_in, opening_in, creation_in, held_in, released_in, completed_in, gone_in, quit_in}
 use Rattle.ada_events.specs.Tasks.{task_count, moment}
 use Rattle.ada_events.specs.Masters.{depends_on}
 use Rattle.ada_events.specs.Phases.{is_completed, is_terminated, has_ended, is_abnormal, is_released}
@@ -105,3 +105,9 @@ row-step journal event (leaves p e closing at says leave) =
 
 pub forced-step : (journal : List Event) (event : Event) → forced journal ≡ Some event → IsStep journal event
 forced-step journal event step = row-step journal event (forced-row journal event step)
+
+-- a forced step opens no block
+pub row-opens_none : (journal : List Event) (event : Event) → IsRow journal event → opening_in event ≡ None
+unfolding opening_in
+row-opens_none journal event (halts u below halt) = refl
+row-opens_none journal event _ = refl

@@ -2,3 +2,4 @@ pub mod Requests
 pub mod Work
 pub mod Limits
 pub mod Calls
+pub mod Dependents

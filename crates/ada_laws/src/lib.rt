@@ -5,5 +5,6 @@
 #![tactic(auto)]
 
 pub mod calls;
+pub mod dependents;
 pub mod limits;
 pub mod requests;
