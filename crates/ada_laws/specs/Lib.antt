@@ -1,0 +1,5 @@
+pub mod Requests
+pub mod Work
+pub mod Limits
+pub mod Calls
+pub mod Dependents
