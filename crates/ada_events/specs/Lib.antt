@@ -12,3 +12,4 @@ pub mod Forced
 pub mod Asks
 pub mod Refusals
 pub mod Lawful
+pub mod Steps

@@ -14,6 +14,7 @@ pub mod request;
 
 pub use bounded::Bounded;
 pub use event::{Event, EventTail, Way};
+pub use journal::Journal;
 pub use names::{
     Choice, Choices, Dues, Entry, Families, Family, Master, Member, Nest, Patience, Pause, Pauses,
     TaskNo, Tasks,

@@ -1,11 +1,11 @@
 -- The first cause, from the four parts of the causes.
-use Rattle.std.proofs.Common.{◌≡◌, Bool, true, false, Option, Some, None, List, [], ◌∷◌, ◌++◌, refl, ap, ◌∙◌}
+use Rattle.std.proofs.Common.{◌≡◌, Bool, true, false, Option, Some, List, [], ◌∷◌, ◌++◌, refl, ap, ◌∙◌}
 use Rattle.std.specs.Prelude.{if◌then◌else◌}
 use Rattle.std.specs.Option.{option_or}
 use Rattle.ada_events.specs.declared.event.Event.{Event}
 use Rattle.ada_events.specs.declared.refusal.Refusal.{Refusal}
 use Rattle.ada_events.specs.declared.request.Request.{Request}
-use Rattle.ada_events.specs.Refusals.{Cause, cause, first_cause, causes, refusal}
+use Rattle.ada_events.specs.Refusals.{Cause, first_cause, causes, refusal}
 use Rattle.ada_plain.specs.Causes.{causes_by_name, causes_by_entry, causes_by_nest, causes_by_limit}
 
 if-option_or : (b : Bool) (name : Refusal) (x y : Option Refusal) → (if b then Some name else option_or x y) ≡ option_or (if b then Some name else x) y
@@ -23,5 +23,5 @@ unfolding refusal causes
 first_cause_in_parts journal request =
     first_cause-append (causes_by_name journal request) (causes_by_entry journal request ++ (causes_by_nest journal request ++ causes_by_limit journal request))
     ∙ ap (option_or (first_cause (causes_by_name journal request)))
-        (first_cause-append (causes_by_entry journal request) (causes_by_nest journal request ++ causes_by_limit journal request)
-        ∙ ap (option_or (first_cause (causes_by_entry journal request))) (first_cause-append (causes_by_nest journal request) (causes_by_limit journal request)))
+    (first_cause-append (causes_by_entry journal request) (causes_by_nest journal request ++ causes_by_limit journal request)
+    ∙ ap (option_or (first_cause (causes_by_entry journal request))) (first_cause-append (causes_by_nest journal request) (causes_by_limit journal request)))

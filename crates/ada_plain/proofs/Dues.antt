@@ -1,6 +1,6 @@
 -- The moments at which the parts of a request are due. A moment that a function was given stands for
 -- itself, read back from its bits.
-use Rattle.std.proofs.Common.{◌≡◌, ℕ, ℤ, Bool, true, false, ◌≤◌, ◌&&◌, List, [], ◌∷◌, length, take, map, refl, ap, sym, ◌∙◌, subst, Option}
+use Rattle.std.proofs.Common.{◌≡◌, ℕ, ℤ, false, ◌≤◌, List, length, take, map, refl, ap, sym, ◌∙◌, subst, Option}
 use Rattle.std.proofs.lemmas.List.{take_all}
 use Rattle.ada_events.specs.declared.event.Event.{Event}
 use Rattle.ada_events.specs.declared.event.Event.TheVariants.{Waiting}

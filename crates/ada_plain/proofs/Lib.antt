@@ -6,4 +6,6 @@ pub mod Lists
 pub mod Loops
 pub mod Members
 pub mod Numbers
+pub mod Resting
+pub mod Settled
 pub mod Slots

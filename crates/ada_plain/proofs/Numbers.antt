@@ -1,5 +1,5 @@
 -- One more task in a loop over the tasks.
-use Rattle.std.proofs.Common.{◌≡◌, ℕ, suc, zero, ◌+◌, Bool, true, false, ◌&&◌, Option, Some, None, refl, ap, add-one}
+use Rattle.std.proofs.Common.{◌≡◌, ℕ, ◌+◌, Bool, ◌&&◌, Option, refl, add-one}
 use Rattle.std.specs.Option.{option_or}
 use Rattle.ada_events.specs.Search.{first_below, all_below}
 

@@ -5,7 +5,6 @@ ghost use Rattle.ada_events.specs.Asks as asks;
 ghost use Rattle.ada_events.specs.Nests as nests;
 ghost use Rattle.ada_events.specs.Refusals as refusals;
 ghost use Rattle.ada_events.specs.declared.names.Pause.{Pause as PauseValue};
-
 ghost use Rattle.ada_plain.specs.Late.{is_late_tail, is_late_call};
 
 use crate::nests::{frame, innermost};
@@ -81,15 +80,58 @@ pub fn asked_event(events: &[Event], request: Request) -> Event
     ensures { result ≡ asks.asked_event (reverse events.now) request }
 {
     match request {
-        Request::Open { by } => Event::Opened { by, under: frame(events, by) },
-        Request::Create { by, master, families } => Event::Created { by, under: frame(events, by), master, families },
+        Request::Open { by } => Event::Opened {
+            by,
+            under: frame(events, by),
+        },
+        Request::Create {
+            by,
+            master,
+            families,
+        } => Event::Created {
+            by,
+            under: frame(events, by),
+            master,
+            families,
+        },
         Request::Activate { by, tasks } => Event::Started { by, tasks },
         Request::Elaborated { by, ok } => Event::Elaborated { by, ok },
-        Request::Call { by, callee, entry, patience } => Event::Called { by, callee, entry, patience, due: call_due(moment(events), patience) },
-        Request::Wait { by, choices, tail, pick } => Event::Waiting { by, choices, tail: asked_tail(moment(events), tail), pick },
-        Request::Delay { by, duration } => Event::Paused { by, due: due_after(moment(events), duration) },
-        Request::End { by, raised } => Event::Ended { by, call: innermost_position(events, by), raised },
-        Request::Close { by } => Event::Closed { by, block: innermost_position(events, by) },
+        Request::Call {
+            by,
+            callee,
+            entry,
+            patience,
+        } => Event::Called {
+            by,
+            callee,
+            entry,
+            patience,
+            due: call_due(moment(events), patience),
+        },
+        Request::Wait {
+            by,
+            choices,
+            tail,
+            pick,
+        } => Event::Waiting {
+            by,
+            choices,
+            tail: asked_tail(moment(events), tail),
+            pick,
+        },
+        Request::Delay { by, duration } => Event::Paused {
+            by,
+            due: due_after(moment(events), duration),
+        },
+        Request::End { by, raised } => Event::Ended {
+            by,
+            call: innermost_position(events, by),
+            raised,
+        },
+        Request::Close { by } => Event::Closed {
+            by,
+            block: innermost_position(events, by),
+        },
         Request::Complete { by } => Event::Completed { by },
         Request::Abort { by, tasks } => Event::Aborted { by, tasks },
         Request::Tick { now } => Event::Ticked { now },

@@ -7,6 +7,7 @@
 pub mod asks;
 pub mod calls;
 pub mod forced;
+pub mod kernel;
 pub mod limits;
 pub mod masters;
 pub mod nests;

@@ -71,9 +71,15 @@ pub fn is_too_late(events: &[Event], request: &Request) -> bool
 {
     match request {
         Request::Tick { now } => LAST_MOMENT < *now,
-        Request::Call { patience: Patience::Timed(duration), .. } => ends_too_late(moment(events), *duration),
+        Request::Call {
+            patience: Patience::Timed(duration),
+            ..
+        } => ends_too_late(moment(events), *duration),
         Request::Delay { duration, .. } => ends_too_late(moment(events), *duration),
-        Request::Wait { tail: Tail::Delays(pauses), .. } => has_open_too_late(moment(events), pauses.as_slice()),
+        Request::Wait {
+            tail: Tail::Delays(pauses),
+            ..
+        } => has_open_too_late(moment(events), pauses.as_slice()),
         _ => false,
     }
 }
@@ -143,7 +149,8 @@ pub fn makes_too_many_slots(events: &[Event], request: &Request) -> bool
     ensures { result ≡ refusals.makes_too_many_slots (reverse events.now) request.now }
 {
     match request {
-        Request::Create { families, .. } => MOST_SLOTS < slot_count(events).saturating_add(entries_in(families.as_slice())),
+        Request::Create { families, .. } => MOST_SLOTS
+            < slot_count(events).saturating_add(entries_in(families.as_slice())),
         _ => false,
     }
 }

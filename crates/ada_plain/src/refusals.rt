@@ -15,7 +15,9 @@ ghost use Rattle.ada_plain.specs.Causes.{causes_by_name, causes_by_entry, causes
 ghost use Rattle.ada_events.specs.Nests as nests;
 ghost use Rattle.ada_events.specs.Tasks.{task_count as count_of_tasks, creation_of};
 
-use crate::limits::{is_full, is_too_deep, is_too_late, makes_too_many_slots, makes_too_many_tasks, moves_back};
+use crate::limits::{
+    is_full, is_too_deep, is_too_late, makes_too_many_slots, makes_too_many_tasks, moves_back,
+};
 use crate::masters::reaches;
 use crate::nests::{depth, frame, innermost, is_in_rendezvous, is_in_rendezvous_for};
 use crate::phases::{is_elaborated, is_running, lists_task};
@@ -71,7 +73,10 @@ fn names_unknown(count: u64, request: &Request) -> bool
 {
     match request {
         Request::Create { master, .. } => is_unknown_body(count, *master),
-        Request::Activate { tasks, .. } | Request::Abort { tasks, .. } => lists_unknown(count, tasks.as_slice()),
+        Request::Activate { tasks, .. } | Request::Abort { tasks, .. } => lists_unknown(
+            count,
+            tasks.as_slice(),
+        ),
         Request::Call { callee, .. } => is_unknown(count, *callee),
         _ => false,
     }
@@ -118,7 +123,8 @@ fn is_during_activation(events: &[Event], request: &Request) -> bool
     ensures { result ≡ refusals.is_during_activation (reverse events.now) request.now }
 {
     match request {
-        Request::Wait { by, .. } | Request::End { by, .. } | Request::Complete { by } => !is_elaborated(events, *by),
+        Request::Wait { by, .. } | Request::End { by, .. } | Request::Complete { by } =>
+            !is_elaborated(events, *by),
         _ => false,
     }
 }
@@ -150,7 +156,10 @@ fn has_empty_list(request: &Request) -> bool
 {
     match request {
         Request::Activate { tasks, .. } | Request::Abort { tasks, .. } => tasks.is_empty(),
-        Request::Wait { tail: Tail::Delays(pauses), .. } => pauses.is_empty(),
+        Request::Wait {
+            tail: Tail::Delays(pauses),
+            ..
+        } => pauses.is_empty(),
         _ => false,
     }
 }
@@ -237,9 +246,7 @@ fn lacks_family(events: &[Event], task: TaskNo, entry: Entry) -> bool
     requires { length events.now < 2 ^ 32 }
     ensures { result ≡ refusals.lacks_family (reverse events.now) task.0 entry }
 {
-    families(events, task)
-        .get(entry.family as usize)
-        .is_none()
+    families(events, task).get(entry.family as usize).is_none()
 }
 
 fn lacks_some_family(events: &[Event], by: TaskNo, choices: &[Choice]) -> bool
@@ -312,9 +319,7 @@ fn nests_some_family(events: &[Event], by: TaskNo, choices: &[Choice]) -> bool
     requires { length events.now < 2 ^ 32 }
     ensures { result ≡ list_any (λ (c : ChoiceValue). list_any (refusals.is_rendezvous_for (reverse events.now) c.entry.family) (nests.nest (reverse events.now) by.0)) choices.now }
 {
-    choices
-        .iter()
-        .any(|choice| is_in_rendezvous_for(events, by, choice.entry.family))
+    choices.iter().any(|choice| is_in_rendezvous_for(events, by, choice.entry.family))
 }
 
 #[tactic(auto, unfolding(ada_events::specs::Refusals::nests_same_family))]
@@ -334,7 +339,11 @@ fn terminates_in_accept(events: &[Event], request: &Request) -> bool
     ensures { result ≡ refusals.terminates_in_accept (reverse events.now) request.now }
 {
     match request {
-        Request::Wait { by, tail: Tail::Terminate(_), .. } => is_in_rendezvous(events, *by),
+        Request::Wait {
+            by,
+            tail: Tail::Terminate(_),
+            ..
+        } => is_in_rendezvous(events, *by),
         _ => false,
     }
 }

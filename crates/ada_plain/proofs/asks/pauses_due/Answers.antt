@@ -6,4 +6,4 @@ use Rattle.ada_plain.proofs.asks.pauses_due.Goals as goal
 pub returns : goal.returns
 returns c =
     all_dues c.args.now _ c.args.pauses.now c.loop-pause.dues c.loop-pause.pause-index
-        (to_z-of_z w64 c.args.now c.ranges.now) c.loop-pause.invariant.0 c.loop-pause-test.false
+    (to_z-of_z w64 c.args.now c.ranges.now) c.loop-pause.invariant.0 c.loop-pause-test.false

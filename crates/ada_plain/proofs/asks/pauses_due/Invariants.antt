@@ -9,5 +9,5 @@ use Rattle.ada_plain.proofs.asks.pauses_due.Given as goal
 abbrev pub invariant-loop-pause : goal.invariant-loop-pause
 invariant-loop-pause l =
     (list_any (λ (d : Pause). d.guard && int_lt last_moment (due_after l.now d.duration)) l.pauses ≡ false
-        → l.dues ≡ map (pause_due l.now) (take l.pause-index l.pauses))
+    → l.dues ≡ map (pause_due l.now) (take l.pause-index l.pauses))
     × (length l.dues ≤ l.pause-index)
