@@ -66,10 +66,12 @@ impl Model for PlainKernel {
 }
 
 impl PlainKernel {
-    /// A kernel with an empty journal. Its events will lie in memory of `alloc`.
+    /// A kernel with an empty journal, whose events will lie in memory of `alloc`. Fails with
+    /// `OutOfMemory` alone.
     #[tactic(auto, using(crate::proofs::Resting::empty_is_settled))]
     pub fn new(alloc: Global) -> Result<Self, Refusal>
-        ensures { IfOk result (λ kernel. kernel ≡ []) }
+        ensures ok { IfOk result (λ kernel. kernel ≡ []) }
+        ensures err { IfErr result (λ cause. cause ≡ Refusal.OutOfMemory) }
     {
         Ok(PlainKernel {
             journal: Journal::new(alloc),

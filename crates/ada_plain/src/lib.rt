@@ -17,3 +17,5 @@ pub mod says;
 pub mod tasks;
 pub mod termination;
 pub mod waits;
+
+pub use kernel::PlainKernel;
