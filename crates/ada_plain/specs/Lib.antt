@@ -1,0 +1,4 @@
+pub mod Causes
+pub mod Frames
+pub mod Late
+pub mod Makings
