@@ -16,11 +16,12 @@ pub record IsSuspendedAt (journal : List Event) (task position : ℕ) : Type 0 w
   pub unreleased : is_released journal position ≡ false
   pub live : has_ended journal task ≡ false
 
--- a task is suspended exactly where it's suspended at some position
+-- a suspended task is suspended at some position
 abbrev pub SuspendedAtSomePosition : Type 0
 SuspendedAtSomePosition =
     (journal : List Event) (task : ℕ) → is_suspended journal task ≡ true → (position : ℕ) × IsSuspendedAt journal task position
 
+-- a task that is suspended at a position is suspended
 abbrev pub SuspendedThere : Type 0
 SuspendedThere = (journal : List Event) (task position : ℕ) → IsSuspendedAt journal task position → is_suspended journal task ≡ true
 
