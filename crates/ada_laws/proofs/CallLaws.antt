@@ -14,21 +14,25 @@ use Rattle.ada_events.specs.Phases.{is_released, has_ended, is_abnormal}
 use Rattle.ada_events.specs.Calls.{is_open_at, is_met, queue}
 use Rattle.ada_events.specs.Waits.{front_of, fronts, taken_call}
 use Rattle.ada_events.specs.Forced.{is_pending, is_to_fail, failed, met_at, met}
-use Rattle.ada_laws.specs.Calls.{IsCallAt, OneOpenCallEach, OpenCallsSuspend, OpenCallsAreJoinedOrQueued, QueuesRise, FrontsAreMet, OneMeetingForAJoinedCall, NoOpenCallToAFinishedTask, NoAcceptorWaitsAtAQueuedChoice}
+use Rattle.ada_laws.specs.Calls.{IsCallAt, OneOpenCallEach, OpenCallsSuspend, CallsThatSuspendAreOpen, OpenCallsAreJoinedOrQueued, QueuesRise, FrontsAreMet, OneMeetingForAJoinedCall, NoOpenCallToAFinishedTask, NoAcceptorWaitsAtAQueuedChoice}
 use Rattle.ada_laws.proofs.Gathering.{first_given-none, filter_map-empty}
-use Rattle.ada_laws.proofs.Holding.{Holds, held_once, is_suspended-from}
-use Rattle.ada_laws.proofs.Queueing.{open_call_holds, is_open_at-from, queue-found, queue-from, queue-rises}
+use Rattle.ada_laws.specs.Suspension.{IsSuspendedAt}
+use Rattle.ada_laws.proofs.Suspending.{suspended_once}
+use Rattle.ada_laws.proofs.Queueing.{open_call_suspends, is_open_at-from, queue-found, queue-from, queue-rises}
 use Rattle.ada_laws.proofs.Rows.{settled_at_rest}
 use Rattle.ada_laws.proofs.Meeting.{is_met-found, met_once, meeting_at, taking_before, taken_front}
 
 pub one_open_call_each : OneOpenCallEach
 one_open_call_each journal c d p q lawful opened_c opened_d same =
-    held_once journal c.by p q lawful opened_c.live (open_call_holds journal c p opened_c)
-    (subst (λ (t : ℕ). Holds journal t q) (sym same) (open_call_holds journal d q opened_d))
+    suspended_once journal c.by p q lawful (open_call_suspends journal c p opened_c)
+    (subst (λ (t : ℕ). IsSuspendedAt journal t q) (sym same) (open_call_suspends journal d q opened_d))
 
 pub open_calls_suspend : OpenCallsSuspend
-open_calls_suspend journal call position lawful opened =
-    is_suspended-from journal call.by position (open_call_holds journal call position opened) opened.live
+open_calls_suspend journal call position opened = open_call_suspends journal call position opened
+
+pub calls_that_suspend_are_open : CallsThatSuspendAreOpen
+calls_that_suspend_are_open journal call position stands suspended =
+    record { stands = stands; unreleased = suspended.unreleased; live = suspended.live }
 
 -- two calls at one position are one
 same_call : (journal : List Event) (c d : Call) (position : ℕ) → IsCallAt journal c position → IsCallAt journal d position → c ≡ d

@@ -1,6 +1,6 @@
 -- What is gathered from a journal, and what a map that leaves some out keeps.
 use Rattle.std.proofs.Common.{◌≡◌, ℕ, zero, suc, ◌<◌, ◌≤◌, Option, Some, None, List, [], ◌∷◌, ◌++◌, length, get_or, sym, refl, ap, ◌∙◌, arith, subst, inl, inr}
-use Rattle.std.specs.Option.{option_or, option_to_list}
+use Rattle.std.specs.Option.{option_to_list}
 use Rattle.std.specs.List.{AllPairs, All, Contains, filter_map, slice_get, cons_option}
 use Rattle.std.proofs.lemmas.List.Elements.{Contains-append_left, Contains-append_right, Contains-append_cases, All-append, All-cons, All-nil, All-weaker}
 use Rattle.std.proofs.lemmas.List.Quantifiers.{all_pairs_push}
@@ -8,7 +8,7 @@ use Rattle.std.proofs.lemmas.List.{append-nil}
 use Rattle.std.proofs.lemmas.Option.{same_Some, none-some}
 use Rattle.ada_events.specs.declared.event.Event.{Event}
 use Rattle.ada_events.specs.Search.{first_given, gathered, event_at}
-use Rattle.ada_laws.proofs.Searching.{event_at-cases, event_at-newest, event_at-older}
+use Rattle.ada_laws.proofs.Searching.{option_or-none, event_at-cases, event_at-newest, event_at-older}
 
 pub Contains-first : {A : Type 0} (x : A) (xs : List A) → Contains (x ∷ xs) x
 Contains-first x xs = (0, omega arith, refl)
@@ -101,16 +101,12 @@ filter_map-empty h [] x empty (k, below, same) = absurd (omega arith)
 filter_map-empty h (y ∷ xs) x empty (zero, below, same) = ap h (sym same) ∙ (none_kept (h y) (filter_map h xs) empty).0
 filter_map-empty h (y ∷ xs) x empty (suc k, below, same) = filter_map-empty h xs x (none_kept (h y) (filter_map h xs) empty).1 (k, omega arith, same)
 
-neither : {A : Type 0} (a b : Option A) → option_or a b ≡ None → (a ≡ None) × (b ≡ None)
-neither None b none = (refl, none)
-neither (Some x) b none = absurd (none-some x (sym none))
-
 -- where nothing is given first, nothing is given
 pub first_given-none : {A : Type 0} (give : ℕ → Event → Option A) (journal : List Event) (p : ℕ) (e : Event) → first_given give journal ≡ None → event_at journal p ≡ Some e → give p e ≡ None
 unfolding first_given event_at
 first_given-none give [] p e none at = absurd (none-some e at)
 first_given-none give (event ∷ before) p e none at =
-    let both = neither (first_given give before) (give (suc (length before)) event) none in
+    let both = option_or-none (first_given give before) (give (suc (length before)) event) none in
     elim (event_at-cases event before p e at) [
       | inl newest ↦ rw (newest.0, ← newest.1) both.1
       | inr older ↦ first_given-none give before p e both.0 older

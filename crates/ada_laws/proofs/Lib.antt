@@ -6,7 +6,7 @@ pub mod Growing
 pub mod Accepting
 pub mod Rows
 pub mod Stepping
-pub mod Holding
+pub mod Suspending
 pub mod Sums
 pub mod Working
 pub mod LimitLaws

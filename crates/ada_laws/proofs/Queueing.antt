@@ -12,11 +12,11 @@ use Rattle.ada_events.specs.Says.{Call, call_in}
 use Rattle.ada_events.specs.Entries.{same_entry, same_index}
 use Rattle.ada_events.specs.Phases.{is_released, has_ended}
 use Rattle.ada_events.specs.Calls.{is_met, is_open_at, is_queued_at, is_call_of, queue}
+use Rattle.ada_laws.specs.Suspension.{IsSuspendedAt}
 use Rattle.ada_laws.specs.Calls.{IsOpenCallAt}
 use Rattle.ada_laws.proofs.Searching.{then_some-some, option_map_or-true}
 use Rattle.ada_laws.proofs.Gathering.{gathered-found, gathered-from, gathered-rises}
 use Rattle.ada_laws.proofs.Saying.{held_in-call}
-use Rattle.ada_laws.proofs.Holding.{Holds}
 
 int_le-same : (i : ℤ) → int_le i i ≡ true
 int_le-same (pos n) = le-leb n n (omega arith)
@@ -48,13 +48,14 @@ is_open_at-call journal position event at opened =
       },
     )
 
--- an open call holds its caller up
-pub open_call_holds : (journal : List Event) (call : Call) (position : ℕ) → IsOpenCallAt journal call position → Holds journal call.by position
-open_call_holds journal call position opened = record {
+-- the caller of an open call is suspended at it
+pub open_call_suspends : (journal : List Event) (call : Call) (position : ℕ) → IsOpenCallAt journal call position → IsSuspendedAt journal call.by position
+open_call_suspends journal call position opened = record {
   event = opened.stands.event;
   stands = opened.stands.stands;
   holds = held_in-call opened.stands.event call opened.stands.says;
   unreleased = opened.unreleased;
+  live = opened.live;
 }
 
 -- what stands in a queue: an open call of that entry, with which no rendezvous began

@@ -1,5 +1,5 @@
 -- What a journal forces, row by row: the step with the conditions under which it is forced.
-use Rattle.std.proofs.Common.{◌≡◌, ℕ, ◌<◌, Bool, true, not, ◌&&◌, Option, Some, None, List, [], ◌∷◌, sym, refl, subst, inl, inr}
+use Rattle.std.proofs.Common.{◌≡◌, ℕ, ◌<◌, Bool, true, not, ◌&&◌, Option, Some, None, List, [], ◌∷◌, refl, subst, inl, inr}
 use Rattle.std.specs.Option.{option_or, option_map, option_and_then}
 use Rattle.std.specs.Bool.{then_some}
 use Rattle.std.specs.List.{list_any, list_all}
@@ -17,7 +17,7 @@ use Rattle.ada_events.specs.Tasks.{task_count, moment}
 use Rattle.ada_events.specs.Phases.{has_failed}
 use Rattle.ada_events.specs.Waits.{taken_call, way_of}
 use Rattle.ada_events.specs.Forced.{task_no, is_done_activating, is_pending, is_to_halt, halted, is_to_fail, failed, met_at, met, is_to_cancel, cancelled, passed_at, passed, is_to_wake, woken, activated_at, activated, is_to_go, gone, is_to_quit, quit_body, quit_block, is_to_leave, left, first_of_all, forced}
-use Rattle.ada_laws.proofs.Searching.{option_or-some, then_some-some, if_some, option_map-some, first_given-found, first_below-found}
+use Rattle.ada_laws.proofs.Searching.{option_or-some, option_or-none, then_some-some, if_some, option_map-some, first_given-found, first_below-found}
 
 -- a step with its conditions
 pub data IsRow (journal : List Event) : Event → Type 0 where
@@ -158,15 +158,11 @@ abbrev AllNone : List (Option Event) → Type 0
 AllNone [] = Unit {0}
 AllNone (step ∷ rest) = (step ≡ None) × AllNone rest
 
-neither : (a b : Option Event) → option_or a b ≡ None → (a ≡ None) × (b ≡ None)
-neither None b none = (refl, none)
-neither (Some e) b none = absurd (none-some e (sym none))
-
 all_none : (steps : List (Option Event)) → first_of_all steps ≡ None → AllNone steps
 unfolding first_of_all
 all_none [] none = tt
 all_none (step ∷ rest) none =
-    let both = neither step (first_of_all rest) none in
+    let both = option_or-none step (first_of_all rest) none in
     (both.0, all_none rest both.1)
 
 pub settled_at_rest : (journal : List Event) → forced journal ≡ None → IsAtRest journal

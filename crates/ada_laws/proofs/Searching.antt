@@ -18,6 +18,10 @@ pub option_or-some : {A : Type 0} (a b : Option A) (x : A) → option_or a b ≡
 option_or-some None b x same = inr same
 option_or-some (Some y) b x same = inl same
 
+pub option_or-none : {A : Type 0} (a b : Option A) → option_or a b ≡ None → (a ≡ None) × (b ≡ None)
+option_or-none None b none = (refl, none)
+option_or-none (Some x) b none = absurd (none-some x (sym none))
+
 pub then_some-some : {A : Type 0} (b : Bool) (y x : A) → then_some b y ≡ Some x → (b ≡ true) × (y ≡ x)
 then_some-some true y x same = (refl, same_Some y x same)
 then_some-some false y x same = absurd (none-some x same)

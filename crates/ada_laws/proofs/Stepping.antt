@@ -15,6 +15,7 @@ use Rattle.ada_events.specs.Masters.{depends_on}
 use Rattle.ada_events.specs.Phases.{is_completed, is_terminated, has_ended, is_abnormal, is_released}
 use Rattle.ada_events.specs.Calls.{is_open_at, is_queued_at, is_met, is_caller_in_rendezvous}
 use Rattle.ada_events.specs.Forced.{task_no, all_terminated, is_complete, is_abandoned, is_ready_to_quit, is_conditional, is_due, is_pending, is_to_halt, is_to_fail, is_to_cancel, is_to_wake, is_to_go, is_to_quit, is_to_leave, forced}
+use Rattle.ada_laws.specs.Suspension.{IsSuspendedAt}
 use Rattle.ada_laws.proofs.Searching.{three_parts, option_map_or-true, all_below-fails}
 use Rattle.ada_laws.proofs.Saying.{held_in-call, held_in-wait, held_in-delay, held_in-start, held_in-closing}
 use Rattle.ada_laws.proofs.Growing.{is_terminated-gone, is_terminated-quit}
@@ -24,7 +25,7 @@ use Rattle.ada_laws.proofs.Rows.IsRow.{halts, fails, meets, cancels, passes, wak
 -- what comes nearer to the end
 pub data Progress (journal : List Event) (event : Event) : Type 0 where
   completes : (task : ℕ) → task < task_count journal → has_ended journal task ≡ false → completed_in event ≡ Some task → Progress journal event
-  releases : (position task : ℕ) (held : Event) → event_at journal position ≡ Some held → held_in held ≡ Some task → is_released journal position ≡ false → has_ended journal task ≡ false → released_in event ≡ Some position → Progress journal event
+  releases : (position task : ℕ) → IsSuspendedAt journal task position → released_in event ≡ Some position → Progress journal event
   terminates : (task : ℕ) → task < task_count journal → is_terminated journal task ≡ false → is_terminated (event ∷ journal) task ≡ true → Progress journal event
 
 pub record IsStep (journal : List Event) (event : Event) : Type 0 where
@@ -41,7 +42,7 @@ pending_parts journal position task pending =
 -- the step that releases the position of a pending hold
 release : (journal : List Event) (position task : ℕ) (held event : Event) → event_at journal position ≡ Some held → held_in held ≡ Some task → (is_released journal position ≡ false) × (has_ended journal task ≡ false) → released_in event ≡ Some position → creation_in event ≡ None → held_in event ≡ None → IsStep journal event
 release journal position task held event at holds pending frees makes_none holds_none =
-    record { progress = releases position task held at holds pending.0 pending.1 frees; makes_none = makes_none; holds_none = holds_none }
+    record { progress = releases position task (record { event = held; stands = at; holds = holds; unreleased = pending.0; live = pending.1 }) frees; makes_none = makes_none; holds_none = holds_none }
 
 -- the step that releases an open call
 release_call : (journal : List Event) (position : ℕ) (held event : Event) → event_at journal position ≡ Some held → is_open_at journal position held ≡ true → released_in event ≡ Some position → creation_in event ≡ None → held_in event ≡ None → IsStep journal event

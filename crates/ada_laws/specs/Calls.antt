@@ -8,10 +8,11 @@ use Rattle.ada_events.specs.declared.names.Choice.{Choice}
 use Rattle.ada_events.specs.Search.{event_at}
 use Rattle.ada_events.specs.Says.{Call, Wait, call_in, wait_in}
 use Rattle.ada_events.specs.Entries.{same_entry}
-use Rattle.ada_events.specs.Phases.{is_released, has_ended, is_abnormal, is_suspended}
+use Rattle.ada_events.specs.Phases.{is_released, has_ended, is_abnormal}
 use Rattle.ada_events.specs.Calls.{is_met, queue}
 use Rattle.ada_events.specs.Waits.{front_of}
 use Rattle.ada_events.specs.Lawful.{IsLawful, IsSettled}
+use Rattle.ada_laws.specs.Suspension.{IsSuspendedAt}
 
 -- an entry call stands at the position
 pub record IsCallAt (journal : List Event) (call : Call) (position : ℕ) : Type 0 where
@@ -37,11 +38,16 @@ OneOpenCallEach =
     (journal : List Event) (c d : Call) (p q : ℕ) → IsLawful journal
     → IsOpenCallAt journal c p → IsOpenCallAt journal d q → c.by ≡ d.by → p ≡ q
 
--- the caller of an open call is suspended
+-- the caller of an open call is suspended at it
 abbrev pub OpenCallsSuspend : Type 0
 OpenCallsSuspend =
-    (journal : List Event) (call : Call) (position : ℕ) → IsLawful journal
-    → IsOpenCallAt journal call position → is_suspended journal call.by ≡ true
+    (journal : List Event) (call : Call) (position : ℕ) → IsOpenCallAt journal call position → IsSuspendedAt journal call.by position
+
+-- a task that is suspended at a call has it open
+abbrev pub CallsThatSuspendAreOpen : Type 0
+CallsThatSuspendAreOpen =
+    (journal : List Event) (call : Call) (position : ℕ) → IsCallAt journal call position → IsSuspendedAt journal call.by position
+    → IsOpenCallAt journal call position
 
 -- an open call is joined, and then stands in no queue, or it stands in the queue of its entry and in no
 -- other

@@ -1,11 +1,12 @@
 //! Laws of entry calls (9.5).
-ghost use Rattle.ada_laws.specs.Calls.{OneOpenCallEach, OpenCallsSuspend, OpenCallsAreJoinedOrQueued, QueuesRise, FrontsAreMet, OneMeetingForAJoinedCall, NoOpenCallToAFinishedTask, NoAcceptorWaitsAtAQueuedChoice};
+ghost use Rattle.ada_laws.specs.Calls.{OneOpenCallEach, OpenCallsSuspend, CallsThatSuspendAreOpen, OpenCallsAreJoinedOrQueued, QueuesRise, FrontsAreMet, OneMeetingForAJoinedCall, NoOpenCallToAFinishedTask, NoAcceptorWaitsAtAQueuedChoice};
 
-/// One open call each: a task has one open call at most and is suspended while it has one. An open
-/// call is joined in a rendezvous or stands in exactly one queue, that of its entry.
+/// One open call each: a task has one open call at most, exactly where it is suspended at that call.
+/// An open call is joined in a rendezvous or stands in exactly one queue, that of its entry.
 pub fn one_open_call_each()
     ensures one { OneOpenCallEach }
     ensures suspends { OpenCallsSuspend }
+    ensures open_at { CallsThatSuspendAreOpen }
     ensures joined_or_queued { OpenCallsAreJoinedOrQueued }
 {}
 

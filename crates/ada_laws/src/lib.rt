@@ -8,3 +8,4 @@ pub mod calls;
 pub mod dependents;
 pub mod limits;
 pub mod requests;
+pub mod suspension;
