@@ -1,0 +1,5 @@
+pub mod Parts
+pub mod Numbers
+pub mod Found
+pub mod Repeat
+pub mod Choices

@@ -1,0 +1,5 @@
+pub mod Text
+pub mod Number
+pub mod Spelling
+pub mod Scope
+pub mod Reading

@@ -1,0 +1,19 @@
+//! Scripts of requests to the tasking kernel: reading them, naming what they name, and printing what
+//! the kernel answers.
+#![tactic(auto)]
+
+mod cursor;
+pub mod fault;
+pub mod meaning;
+pub mod name;
+pub mod names;
+mod number;
+mod reading;
+pub mod statement;
+mod verb;
+
+pub use fault::{Cause, ScriptFault};
+pub use meaning::{EntryNames, Made, Meaning};
+pub use name::Name;
+pub use names::Names;
+pub use statement::{Alternative, Declaration, EntryName, Statement};
