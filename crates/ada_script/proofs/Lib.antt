@@ -3,3 +3,7 @@ pub mod Numbers
 pub mod Found
 pub mod Repeat
 pub mod Choices
+pub mod Taken
+pub mod TakenLists
+pub mod TakenSelect
+pub mod TakenStatements
