@@ -7,3 +7,4 @@ pub mod Taken
 pub mod TakenLists
 pub mod TakenSelect
 pub mod TakenStatements
+pub mod Lines

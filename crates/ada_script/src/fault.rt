@@ -1,6 +1,7 @@
 //! Why a text is no script.
 
 ghost use Rattle.std.specs.Prelude.{◌≡◌};
+ghost use Rattle.ada_script.specs.Fault.{cause_of};
 ghost use Rattle.ada_script.specs.declared.fault.Cause.TheVariants.{OutOfMemory};
 
 use std::alloc::{AllocError, AllocFailed};
@@ -42,6 +43,19 @@ pub enum Fault {
     BadNumber,
     UnknownName,
     DoubleName,
+}
+
+impl From<Fault> for Cause {
+    ghost from_gives = { λ fault cause. cause ≡ cause_of fault };
+
+    fn from(fault: Fault) -> Cause {
+        match fault {
+            Fault::BadStatement => Cause::BadStatement,
+            Fault::BadNumber => Cause::BadNumber,
+            Fault::UnknownName => Cause::UnknownName,
+            Fault::DoubleName => Cause::DoubleName,
+        }
+    }
 }
 
 impl From<AllocError> for Cause {

@@ -9,11 +9,16 @@ pub mod name;
 pub mod names;
 mod number;
 mod reading;
+pub mod script;
 pub mod statement;
+#[cfg(test)]
+mod tests;
 mod verb;
 
 pub use fault::{Cause, ScriptFault};
 pub use meaning::{EntryNames, Made, Meaning};
 pub use name::Name;
 pub use names::Names;
+pub use reading::read;
+pub use script::{Line, Script};
 pub use statement::{Alternative, Declaration, EntryName, Statement};

@@ -1,8 +1,8 @@
 //! The names of a script, and what they are bound to.
 
-ghost use Rattle.std.specs.Prelude.{◌≡◌, Ok, Err, IfOk, OnOk, OnErr, IsOkUnless, option_copied};
+ghost use Rattle.std.specs.Prelude.{◌≡◌, ◌≤◌, Ok, Err, length, map, IfOk, OnOk, OnErr, IsOkUnless, option_copied};
 
-use crate::{Cause, Made, Meaning, Name};
+use crate::{Cause, Declaration, EntryNames, Made, Meaning, Name, Statement};
 use ada_events::{Bounded, TaskNo};
 use indexmap::IndexMap;
 use std::alloc::Global;
@@ -24,7 +24,7 @@ impl Model for Names {
 }
 
 impl Names {
-    ghost use Rattle.ada_script.specs.Scope.{main_alone, meaning_of, is_declared, is_task, has_entry, declare};
+    ghost use Rattle.ada_script.specs.Scope.{main_alone, meaning_of, is_declared, is_task, has_entry, declare, with_name};
 
     /// The main program alone.
     pub fn new(alloc: Global) -> Result<Self, Cause>
@@ -70,4 +70,49 @@ impl Names {
             _ => false,
         }
     }
+
+    /// Declares the name that a statement declares, if it declares one, with nothing bound to it. An
+    /// `Err` leaves the names as they were.
+    pub(crate) fn declare(&mut self, statement: &Statement) -> Result<(), Cause>
+        ensures ok { OnOk result (self.new ≡ declare self.old statement.now) }
+        ensures err { OnErr result (self.new ≡ self.old) }
+        ensures memory { IsOkUnless result Cause.OutOfMemory }
+    {
+        match statement {
+            Statement::Open { block, .. } => self.insert(block, Meaning::Block { opened: None }),
+            Statement::Create { task, families, .. } => {
+                let entries = names_of(families.as_slice());
+                self.insert(
+                    task,
+                    Meaning::Task {
+                        entries,
+                        made: None,
+                    },
+                )
+            }
+            _ => Ok(()),
+        }
+    }
+
+    /// Declares a name. An `Err` leaves the names as they were.
+    fn insert(&mut self, name: &Name, meaning: Meaning) -> Result<(), Cause>
+        ensures ok { OnOk result (self.new ≡ with_name self.old name.now meaning) }
+        ensures err { OnErr result (self.new ≡ self.old) }
+        ensures memory { IsOkUnless result Cause.OutOfMemory }
+    {
+        self.table.insert(name.copy(), meaning)?;
+        Ok(())
+    }
+}
+
+/// The names of some families.
+fn names_of(families: &[Declaration]) -> EntryNames
+    requires { length families.now ≤ 16 }
+    ensures { result ≡ map (λ f. f.name) families.now }
+{
+    let mut names = Bounded::new();
+    for family in families {
+        names.push(family.name.copy());
+    }
+    names
 }
