@@ -8,3 +8,4 @@ pub mod TakenLists
 pub mod TakenSelect
 pub mod TakenStatements
 pub mod Lines
+pub mod Bound

@@ -4,4 +4,5 @@ pub mod Number
 pub mod Spelling
 pub mod Scope
 pub mod Reading
+pub mod Binding
 pub mod Script

@@ -9,6 +9,7 @@ pub mod name;
 pub mod names;
 mod number;
 mod reading;
+mod requests;
 pub mod script;
 pub mod statement;
 #[cfg(test)]
@@ -20,5 +21,6 @@ pub use meaning::{EntryNames, Made, Meaning};
 pub use name::Name;
 pub use names::Names;
 pub use reading::read;
+pub use requests::request;
 pub use script::{Line, Script};
 pub use statement::{Alternative, Declaration, EntryName, Statement};

@@ -1,5 +1,7 @@
 //! What the names of a script stand for.
 
+ghost use Rattle.std.specs.Prelude.{◌≡◌};
+
 use crate::Name;
 use ada_events::{Bounded, TaskNo};
 
@@ -25,4 +27,28 @@ pub enum Meaning {
     },
     /// A block, and the position of its opening once it is open.
     Block { opened: Option<u32> },
+}
+
+impl Meaning {
+    ghost use Rattle.ada_script.specs.Binding.{with_made, with_opened};
+
+    /// Binds a task. A block stays as it is.
+    pub(crate) fn set_made(&mut self, task: Made)
+        ensures { self.new ≡ with_made task self.old }
+    {
+        match self {
+            Meaning::Task { made, .. } => *made = Some(task),
+            Meaning::Block { .. } => {}
+        }
+    }
+
+    /// Binds a block. A task stays as it is.
+    pub(crate) fn set_opened(&mut self, at: u32)
+        ensures { self.new ≡ with_opened at self.old }
+    {
+        match self {
+            Meaning::Task { .. } => {}
+            Meaning::Block { opened } => *opened = Some(at),
+        }
+    }
 }

@@ -1,12 +1,10 @@
 //! Texts that are scripts, and texts that aren't.
 
 use crate::{Cause, Script, ScriptFault, read};
-use std::alloc::Global;
 use std::process::Abort;
-use std::test::Fail;
 
-fn cause_of(rt: &impl Abort, result: Result<Script, ScriptFault>, line: u32) -> Option<Cause> {
-    match result {
+fn cause_of(rt: &impl Abort, answer: Result<Script, ScriptFault>, line: u32) -> Option<Cause> {
+    match answer {
         Ok(_) => None,
         Err(fault) => {
             assert_eq!(rt; fault.line, line);
