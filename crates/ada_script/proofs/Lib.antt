@@ -1,0 +1,11 @@
+pub mod Parts
+pub mod Numbers
+pub mod Found
+pub mod Repeat
+pub mod Choices
+pub mod Taken
+pub mod TakenLists
+pub mod TakenSelect
+pub mod TakenStatements
+pub mod Lines
+pub mod Bound

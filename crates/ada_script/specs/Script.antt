@@ -1,0 +1,60 @@
+-- Which texts are scripts, and what they say.
+use Rattle.std.specs.Prelude.{◌≡◌, ℕ, ◌+◌, ◌≤◌, ◌<◌, ◌⊎◌, Bool, true, false, ◌==◌, IsTrue, List, [], ◌∷◌, ◌++◌, length, fold, All}
+use Rattle.ada_script.specs.declared.fault.Cause.{Cause}
+use Rattle.ada_script.specs.declared.fault.Cause.TheVariants.{NotAscii, LineTooLong, BadStatement, BadNumber, UnknownName, DoubleName, TooManyLines, OutOfMemory}
+use Rattle.ada_script.specs.declared.fault.ScriptFault.{ScriptFault}
+use Rattle.ada_script.specs.declared.script.Line.{Line}
+use Rattle.ada_script.specs.declared.statement.Statement.{Statement}
+use Rattle.ada_script.specs.Text.{lines_of, words_in, number_sign}
+use Rattle.ada_script.specs.Spelling.{words_of}
+use Rattle.ada_script.specs.Scope.{Scope, main_alone, declare, MayStand}
+
+-- the names that are declared behind some lines
+abbrev pub scope_of : List Line → Scope
+scope_of lines = fold (λ names line. declare names line.statement) main_alone lines
+
+-- a line's number, length and bytes are in their ranges
+abbrev pub IsPrintable : List ℕ → Type 0
+IsPrintable line = All (λ b. (32 ≤ b) × (b ≤ 126)) line
+
+abbrev pub IsPlain : ℕ → List ℕ → Type 0
+IsPlain number line = (number ≤ 4096) × (length line ≤ 200) × IsPrintable line
+
+-- why a line's number, length and bytes aren't
+abbrev pub IsUnplain : ℕ → List ℕ → Cause → Type 0
+IsUnplain number line TooManyLines = 4096 < number
+IsUnplain number line LineTooLong = (number ≤ 4096) × (200 < length line)
+IsUnplain number line NotAscii = (number ≤ 4096) × (length line ≤ 200) × ¬ IsPrintable line
+IsUnplain number line BadStatement = ⊥
+IsUnplain number line BadNumber = ⊥
+IsUnplain number line UnknownName = ⊥
+IsUnplain number line DoubleName = ⊥
+IsUnplain number line OutOfMemory = ⊥
+
+-- a line without words, or one whose first word begins with a number sign
+abbrev pub begins_comment : List ℕ → Bool
+begins_comment [] = false
+begins_comment (b ∷ bytes) = b == number_sign
+
+abbrev pub is_skipped : List (List ℕ) → Bool
+is_skipped [] = true
+is_skipped (word ∷ words) = begins_comment word
+
+-- the words are those of a statement that may stand behind these lines
+pub record Says (before : List Line) (words : List (List ℕ)) (statement : Statement) : Type 0 where
+  pub stands : MayStand (scope_of before) statement
+  pub spelled : words_of statement ≡ words
+
+-- what an acceptable line adds to the lines before it: nothing, or its statement
+abbrev pub Adds : List Line → ℕ → List ℕ → List Line → Type 0
+Adds before number line added = IsPlain number line
+  × ((IsTrue (is_skipped (words_in line)) × (added ≡ [])) ⊎ ((statement : Statement) × Says before (words_in line) statement × (added ≡ record { line = number; statement = statement } ∷ [])))
+
+-- lines, of which the first has this number, add to the lines before them what makes all of these
+abbrev pub Reads : List Line → ℕ → List (List ℕ) → List Line → Type 0
+Reads before number [] all = all ≡ before
+Reads before number (line ∷ lines) all = (added : List Line) × Adds before number line added × Reads (before ++ added) (number + 1) lines all
+
+-- a text is a script of these lines
+abbrev pub IsScript : List ℕ → List Line → Type 0
+IsScript text all = Reads [] 1 (lines_of text) all

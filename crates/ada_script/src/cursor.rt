@@ -1,0 +1,118 @@
+//! Going over the lines of a text and the words of a line, with no memory.
+
+ghost use Rattle.std.specs.Prelude.{◌≡◌, ◌<◌, ℕ, List, ◌∷◌, [], length, MatchOption, IfSome, IfNone};
+ghost use Rattle.ada_script.specs.Text.{parts_of};
+
+use std::marker::Model;
+
+/// The part before the first byte that separates, and what stands behind that byte. There is none
+/// where no bytes are left.
+fn cut(bytes: &[u8], separator: u8) -> Option<(&[u8], &[u8])>
+    ensures parts { MatchOption result (parts_of separator bytes.now ≡ [])
+        (λ p. parts_of separator bytes.now ≡ p.0.now ∷ parts_of separator p.1.now) }
+    ensures shorter { IfSome result (λ p. length p.1.now < length bytes.now) }
+{
+    if bytes.is_empty() {
+        return None;
+    }
+    for (i, byte) in bytes.iter().enumerate() {
+        if *byte == separator {
+            return Some((&bytes[..i], &bytes[i + 1..]));
+        }
+    }
+    Some((bytes, &bytes[bytes.len()..]))
+}
+
+/// The lines of a text that are left. Contracts see them as the list of the lines.
+#[derive(Drop)]
+pub struct Lines<'a> {
+    rest: &'a [u8],
+}
+
+impl<'a> Model for Lines<'a> {
+    ghost use Rattle.std.specs.Prelude.{List, ℕ};
+    ghost use Rattle.ada_script.specs.Text.{lines_of};
+
+    ghost Value = { List (List ℕ) };
+
+    ghost view = { λ l. lines_of l.rest.now };
+}
+
+impl<'a> Lines<'a> {
+    ghost use Rattle.ada_script.specs.Text.{lines_of};
+
+    /// The lines of the text.
+    pub fn new(text: &'a [u8]) -> Self
+        ensures { result ≡ lines_of text.now }
+    {
+        Lines { rest: text }
+    }
+
+    /// Takes the next line.
+    pub fn next(&mut self) -> Option<&'a [u8]>
+        ensures { MatchOption result (self.old ≡ []) (λ line. self.old ≡ line.now ∷ self.new) }
+    {
+        match cut(self.rest, b'\n') {
+            None => None,
+            Some((line, rest)) => {
+                self.rest = rest;
+                Some(line)
+            }
+        }
+    }
+}
+
+/// The words of a line that are left. Contracts see them as the list of the words.
+#[derive(Drop)]
+pub struct Words<'a> {
+    rest: &'a [u8],
+}
+
+impl<'a> Model for Words<'a> {
+    ghost use Rattle.std.specs.Prelude.{List, ℕ};
+    ghost use Rattle.ada_script.specs.Text.{words_in};
+
+    ghost Value = { List (List ℕ) };
+
+    ghost view = { λ w. words_in w.rest.now };
+}
+
+impl<'a> Words<'a> {
+    ghost use Rattle.ada_script.specs.Text.{words_in};
+    ghost use Rattle.ada_script.specs.Reading.{is_over};
+
+    /// The words of the line.
+    pub fn new(line: &'a [u8]) -> Self
+        ensures { result ≡ words_in line.now }
+    {
+        Words { rest: line }
+    }
+
+    /// Takes the next word.
+    pub fn next(&mut self) -> Option<&'a [u8]>
+        ensures word { MatchOption result (self.old ≡ []) (λ word. self.old ≡ word.now ∷ self.new) }
+        ensures none { IfNone result (self.new ≡ []) }
+    {
+        while let Some((part, rest)) = cut(self.rest, b' ') {
+            self.rest = rest;
+            if !part.is_empty() {
+                return Some(part);
+            }
+        }
+        None
+    }
+
+    /// The next word, which is left where it is.
+    pub fn peek(&self) -> Option<&'a [u8]>
+        ensures { MatchOption result (self.now ≡ []) (λ word. (rest : List (List ℕ)) × (self.now ≡ word.now ∷ rest)) }
+    {
+        Words { rest: self.rest }.next()
+    }
+
+    /// Whether no word is left.
+    pub fn is_over(&self) -> bool
+        ensures { result ≡ is_over self.now }
+    {
+        self.peek().is_none()
+    }
+}

@@ -1,0 +1,26 @@
+//! Scripts of requests to the tasking kernel: reading them, naming what they name, and printing what
+//! the kernel answers.
+#![tactic(auto)]
+
+mod cursor;
+pub mod fault;
+pub mod meaning;
+pub mod name;
+pub mod names;
+mod number;
+mod reading;
+mod requests;
+pub mod script;
+pub mod statement;
+#[cfg(test)]
+mod tests;
+mod verb;
+
+pub use fault::{Cause, ScriptFault};
+pub use meaning::{EntryNames, Made, Meaning};
+pub use name::Name;
+pub use names::Names;
+pub use reading::read;
+pub use requests::request;
+pub use script::{Line, Script};
+pub use statement::{Alternative, Declaration, EntryName, Statement};

@@ -1,0 +1,202 @@
+//! The names of a script, and what they are bound to.
+
+ghost use Rattle.std.specs.Prelude.{◌≡◌, ◌≤◌, Ok, Err, length, map, IfOk, OnOk, OnErr, IsOkUnless, option_copied};
+ghost use Rattle.ada_script.specs.Binding.{place_of as found_place};
+
+use crate::{Cause, Declaration, EntryName, EntryNames, Made, Meaning, Name, Statement};
+use ada_events::{Bounded, Entry, Master, TaskNo};
+use indexmap::IndexMap;
+use std::alloc::Global;
+use std::marker::Model;
+
+/// The names that a script declares, each with what it stands for. Contracts see them as the list of
+/// these pairs, in the order of their declaration.
+#[derive(Drop)]
+pub struct Names {
+    table: IndexMap<Name, Meaning>,
+}
+
+impl Model for Names {
+    ghost use Rattle.ada_script.specs.Scope.{Scope};
+
+    ghost Value = { Scope };
+
+    ghost view = { λ n. n.table.entries };
+}
+
+impl Names {
+    ghost use Rattle.ada_script.specs.Binding.{task_of, master_of, family_number, entry_of, bind};
+    ghost use Rattle.ada_script.specs.Scope.{main_alone, meaning_of, is_declared, is_task, has_entry, declare, with_name};
+
+    /// The main program alone.
+    pub fn new(alloc: Global) -> Result<Self, Cause>
+        ensures main { IfOk result (λ names. names ≡ main_alone) }
+        ensures memory { IsOkUnless result Cause.OutOfMemory }
+    {
+        let mut table = IndexMap::new(alloc);
+        let main = Meaning::Task {
+            entries: Bounded::new(),
+            made: Some(Made { task: TaskNo(0), at: 0 }),
+        };
+        table.insert(Name::from_bytes(b"main"), main)?;
+        Ok(Names { table })
+    }
+
+    /// What a name stands for, if it is declared.
+    pub fn meaning(&self, name: &Name) -> Option<&Meaning>
+        ensures { option_copied result ≡ meaning_of self.now name.now }
+    {
+        self.table.get(name)
+    }
+
+    /// Whether the name is declared.
+    pub fn is_declared(&self, name: &Name) -> bool
+        ensures { result ≡ is_declared self.now name.now }
+    {
+        self.meaning(name).is_some()
+    }
+
+    /// Whether the name is a task's.
+    pub fn is_task(&self, name: &Name) -> bool
+        ensures { result ≡ is_task self.now name.now }
+    {
+        matches!(self.meaning(name), Some(Meaning::Task { .. }))
+    }
+
+    /// Whether the task of this name has an entry of that name.
+    pub fn has_entry(&self, task: &Name, entry: &Name) -> bool
+        ensures { result ≡ has_entry self.now task.now entry.now }
+    {
+        match self.meaning(task) {
+            Some(Meaning::Task { entries, .. }) => entries.as_slice().contains(entry),
+            _ => false,
+        }
+    }
+
+    /// The task that a name is bound to, or number 65,535, which no task has.
+    pub fn task(&self, name: &Name) -> TaskNo
+        ensures { result ≡ task_of self.now name.now }
+    {
+        match self.meaning(name) {
+            Some(Meaning::Task {
+                made: Some(made), ..
+            }) => made.task,
+            _ => NO_TASK,
+        }
+    }
+
+    /// The master that a name is bound to: the body of a task, or a block. A block that isn't bound
+    /// stands for position 0, where no block is.
+    pub fn master(&self, name: &Name) -> Master
+        ensures { result ≡ master_of self.now name.now }
+    {
+        match self.meaning(name) {
+            Some(Meaning::Task { made, .. }) => match made {
+                Some(made) => Master::Body(made.task),
+                None => Master::Body(NO_TASK),
+            },
+            Some(Meaning::Block { opened }) => Master::Block(opened.unwrap_or(0)),
+            None => Master::Block(0),
+        }
+    }
+
+    /// The place of a family in its task's declaration, or 255 where it isn't there.
+    fn family_number(&self, task: &Name, family: &Name) -> u8
+        ensures { result ≡ family_number self.now task.now family.now }
+    {
+        match self.meaning(task) {
+            Some(Meaning::Task { entries, .. }) => place_of(family, entries),
+            _ => 255,
+        }
+    }
+
+    /// The entry of this name in a task. An index that is left out is 0.
+    pub fn entry(&self, task: &Name, entry: &EntryName) -> Entry
+        ensures { result ≡ entry_of self.now task.now entry.now }
+    {
+        Entry {
+            family: self.family_number(task, &entry.family),
+            index: entry.index.unwrap_or(0),
+        }
+    }
+
+    /// Binds the name of a `create` to the task that it made and the one of an `open` to the position
+    /// of its event. `at` is the position of the statement's event; other statements bind nothing.
+    pub fn bind(&mut self, statement: &Statement, at: u32, made: TaskNo)
+        ensures { self.new ≡ bind self.old statement.now at made }
+    {
+        match statement {
+            Statement::Create { task, .. } => {
+                if let Some(meaning) = self.table.get_mut(task) {
+                    meaning.set_made(Made { task: made, at });
+                }
+            }
+            Statement::Open { block, .. } => {
+                if let Some(meaning) = self.table.get_mut(block) {
+                    meaning.set_opened(at);
+                }
+            }
+            _ => {}
+        }
+    }
+
+    /// Declares the name that a statement declares, if it declares one, with nothing bound to it. An
+    /// `Err` leaves the names as they were.
+    pub(crate) fn declare(&mut self, statement: &Statement) -> Result<(), Cause>
+        ensures ok { OnOk result (self.new ≡ declare self.old statement.now) }
+        ensures err { OnErr result (self.new ≡ self.old) }
+        ensures memory { IsOkUnless result Cause.OutOfMemory }
+    {
+        match statement {
+            Statement::Open { block, .. } => self.insert(block, Meaning::Block { opened: None }),
+            Statement::Create { task, families, .. } => {
+                let entries = names_of(families.as_slice());
+                self.insert(
+                    task,
+                    Meaning::Task {
+                        entries,
+                        made: None,
+                    },
+                )
+            }
+            _ => Ok(()),
+        }
+    }
+
+    /// Declares a name. An `Err` leaves the names as they were.
+    fn insert(&mut self, name: &Name, meaning: Meaning) -> Result<(), Cause>
+        ensures ok { OnOk result (self.new ≡ with_name self.old name.now meaning) }
+        ensures err { OnErr result (self.new ≡ self.old) }
+        ensures memory { IsOkUnless result Cause.OutOfMemory }
+    {
+        self.table.insert(name.copy(), meaning)?;
+        Ok(())
+    }
+}
+
+/// The number of a name that isn't bound to a task.
+const NO_TASK: TaskNo = TaskNo(65_535);
+
+/// The place of a name among others, or 255.
+fn place_of(name: &Name, names: &EntryNames) -> u8
+    ensures { result ≡ found_place name.now names.now }
+{
+    for (i, other) in names.as_slice().iter().enumerate() {
+        if name == other {
+            return i as u8;
+        }
+    }
+    255
+}
+
+/// The names of some families.
+fn names_of(families: &[Declaration]) -> EntryNames
+    requires { length families.now ≤ 16 }
+    ensures { result ≡ map (λ f. f.name) families.now }
+{
+    let mut names = Bounded::new();
+    for family in families {
+        names.push(family.name.copy());
+    }
+    names
+}

@@ -1,0 +1,101 @@
+//! Reading a text as a script.
+
+mod lists;
+mod parts;
+mod select;
+mod statements;
+
+ghost use Rattle.std.specs.Prelude.{◌≡◌, ◌↔◌, ◌≤◌, ◌++◌, List, IsTrue, OnOk, IfOk, IfErr};
+ghost use Rattle.ada_script.specs.Text.{words_in};
+ghost use Rattle.ada_script.specs.Script.{IsPrintable, IsPlain, IsUnplain, is_skipped as skipped, scope_of, Adds, IsScript};
+ghost use Rattle.ada_script.specs.declared.script.Line.{Line};
+
+use crate::cursor::{Lines, Words};
+use crate::{Cause, Line, Names, Script, ScriptFault};
+use statements::read_statement;
+use std::alloc::Global;
+
+/// Whether each byte is in 32 to 126.
+fn is_printable(line: &[u8]) -> bool
+    ensures { IsTrue result ↔ IsPrintable line.now }
+{
+    line.iter().all(|b| 32 <= *b && *b <= 126)
+}
+
+/// Checks the number of a line, its length and its bytes, in this order.
+fn check_line(number: u32, line: &[u8]) -> Result<(), Cause>
+    ensures ok { OnOk result (IsPlain number line.now) }
+    ensures err { IfErr result (IsUnplain number line.now) }
+{
+    if number > 4096 {
+        return Err(Cause::TooManyLines);
+    }
+    if line.len() > 200 {
+        return Err(Cause::LineTooLong);
+    }
+    if !is_printable(line) {
+        return Err(Cause::NotAscii);
+    }
+    Ok(())
+}
+
+/// Whether the line has no word, or its first word begins with a number sign.
+fn is_skipped(line: &[u8]) -> bool
+    ensures { result ≡ skipped (words_in line.now) }
+{
+    match Words::new(line).next() {
+        None => true,
+        Some([first, ..]) => *first == b'#',
+        Some([]) => false,
+    }
+}
+
+/// Reads a line behind others, and keeps what it says and the name that it declares.
+fn read_line(
+    lines: &mut Vec<Line>,
+    names: &mut Names,
+    number: u32,
+    line: &[u8],
+) -> Result<(), Cause>
+    requires { names.old ≡ scope_of lines.old.items }
+    ensures number { OnOk result (number ≤ 4096) }
+    ensures names { OnOk result (names.new ≡ scope_of lines.new.items) }
+    ensures lines { OnOk result ((added : List Line) × Adds lines.old.items number line.now added × (lines.new.items ≡ lines.old.items ++ added)) }
+{
+    check_line(number, line)?;
+    if is_skipped(line) {
+        return Ok(());
+    }
+    let statement = read_statement(names, line)?;
+    names.declare(&statement)?;
+    lines.push(Line {
+        line: number,
+        statement,
+    })?;
+    Ok(())
+}
+
+/// Reads a text as a script. It is one where each line is blank, a comment or a statement whose names
+/// are declared by the lines before it; else the fault names the first line that isn't. Its cause is
+/// `OutOfMemory` where a growth was refused before such a line was met.
+pub fn read(alloc: Global, text: &[u8]) -> Result<Script, ScriptFault>
+    ensures ok { IfOk result (λ script. IsScript text.now script) }
+{
+    let mut number = 1;
+    let mut lines = Vec::new(alloc);
+    let mut names = Names::new(alloc).map_err(|cause| ScriptFault {
+        line: number,
+        cause,
+    })?;
+    let mut rest = Lines::new(text);
+    while let Some(line) = rest.next() {
+        if let Err(cause) = read_line(&mut lines, &mut names, number, line) {
+            return Err(ScriptFault {
+                line: number,
+                cause,
+            });
+        }
+        number += 1;
+    }
+    Ok(Script::new(lines))
+}

@@ -1,0 +1,58 @@
+//! Scripts that were read.
+
+ghost use Rattle.std.specs.Prelude.{◌≡◌, IfOk, IsOkUnless};
+
+use crate::{Cause, Names, Statement};
+use std::marker::Model;
+
+/// A line of a script that isn't skipped: its number, from 1, and what it says.
+#[derive(Debug, Drop, PartialEq, Eq)]
+pub struct Line {
+    pub line: u32,
+    pub statement: Statement,
+}
+
+/// A script: its lines that aren't skipped, in their order. Contracts see it as the list of them.
+#[derive(Drop)]
+pub struct Script {
+    lines: Vec<Line>,
+}
+
+impl Model for Script {
+    ghost use Rattle.std.specs.Prelude.{List};
+    ghost use Rattle.ada_script.specs.declared.script.Line.{Line};
+
+    ghost Value = { List Line };
+
+    ghost view = { λ s. s.lines.items };
+}
+
+impl Script {
+    ghost use Rattle.ada_script.specs.Script.{scope_of};
+
+    /// The script of these lines.
+    pub(crate) fn new(lines: Vec<Line>) -> Self
+        ensures { result ≡ lines.items }
+    {
+        Script { lines }
+    }
+
+    /// The lines in their order.
+    pub fn lines(&self) -> &[Line]
+        ensures { result.now ≡ self.now }
+    {
+        &self.lines
+    }
+
+    /// The names that the script declares, of which the main program's alone is bound.
+    pub fn names(&self) -> Result<Names, Cause>
+        ensures names { IfOk result (λ names. names ≡ scope_of self.now) }
+        ensures memory { IsOkUnless result Cause.OutOfMemory }
+    {
+        let mut names = Names::new(*self.lines.allocator())?;
+        for line in self.lines() {
+            names.declare(&line.statement)?;
+        }
+        Ok(names)
+    }
+}
