@@ -1,0 +1,11 @@
+-- What is read of an input.
+use Rattle.std.specs.Prelude.{ℕ, List, take}
+
+-- the most bytes that a script has: 4,096 lines of 200 bytes and a line feed, and one byte more, with
+-- which it is none
+abbrev pub most_bytes : ℕ
+most_bytes = 823297
+
+-- the part of an input that is read
+abbrev pub text_of : List ℕ → List ℕ
+text_of bytes = take most_bytes bytes

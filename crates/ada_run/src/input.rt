@@ -1,0 +1,44 @@
+//! Reading an input whole.
+ghost use Rattle.std.specs.Prelude.{◌≡◌, ℕ, ◌+◌, ◌<◌, ◌≤◌, ◌++◌, List, IfOk, IfErr, IfSome, OnErr, vec_len, length};
+ghost use Rattle.std.specs.Io.KnownBytes.{Consumes, IsAtEnd};
+ghost use Rattle.ada_run.specs.Input.{text_of};
+
+use crate::RunFault;
+use std::alloc::Global;
+use std::io::Read;
+
+/// The most bytes that are read: a longer input is no script.
+pub const MOST_BYTES: usize = 823_297;
+
+/// How many bytes are asked for at a time.
+const PIECE: usize = 4096;
+
+// Reads once, and appends what was read; 0 at the end of the input.
+fn read_piece<R: Read>(reader: &mut R, text: &mut Vec<u8>) -> Result<usize, RunFault>
+    requires { vec_len text.old < 823297 }
+    ensures bytes { IfOk result (λ n. (bytes : List ℕ) × Consumes (R.remaining reader.old) (R.remaining reader.new) bytes × (text.new.items ≡ text.old.items ++ bytes) × (length bytes ≡ n)) }
+    ensures bound { IfOk result (λ n. (vec_len text.new ≡ vec_len text.old + n) × (vec_len text.new ≤ 823297)) }
+    ensures end { IfOk result (λ n. n ≡ 0 → IsAtEnd (R.remaining reader.new)) }
+{
+    let mut piece = [0u8; PIECE];
+    let room = PIECE.min(MOST_BYTES - text.len());
+    let read = reader
+        .read(&mut piece[..room])
+        .map_err(|_| RunFault::Read)?;
+    text.extend_from_slice(&piece[..read])
+        .map_err(|_| RunFault::Memory)?;
+    Ok(read)
+}
+
+/// Reads an input to its end, or its first 823,297 bytes. Any error of the reader is `Read`.
+pub fn read_input<R: Read>(alloc: Global, reader: &mut R) -> Result<Vec<u8>, RunFault>
+    ensures { IfOk result (λ text. IfSome (R.remaining reader.old) (λ bytes. text.items ≡ text_of bytes)) }
+{
+    let mut text = Vec::new(alloc);
+    let mut more = true;
+    while more && text.len() < MOST_BYTES {
+        let read = read_piece(reader, &mut text)?;
+        more = read > 0;
+    }
+    Ok(text)
+}

@@ -1,0 +1,8 @@
+//! Playing scripts of requests on a kernel.
+#![tactic(auto)]
+
+pub mod fault;
+pub mod input;
+pub mod output;
+
+pub use fault::{Ending, RunFault, status_of};
