@@ -5,4 +5,5 @@ pub mod Spelling
 pub mod Scope
 pub mod Reading
 pub mod Binding
+pub mod Texts
 pub mod Script
