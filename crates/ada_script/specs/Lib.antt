@@ -2,6 +2,7 @@ pub mod Fault
 pub mod Text
 pub mod Number
 pub mod Spelling
+pub mod Writing
 pub mod Scope
 pub mod Reading
 pub mod Binding

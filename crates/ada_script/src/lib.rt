@@ -12,10 +12,12 @@ pub mod printing;
 mod reading;
 mod requests;
 pub mod script;
+pub mod spelling;
 pub mod statement;
 #[cfg(test)]
 mod tests;
 mod verb;
+pub mod word;
 
 pub use fault::{Cause, ScriptFault};
 pub use meaning::{EntryNames, Made, Meaning};
@@ -25,4 +27,6 @@ pub use printing::{Value, write_event, write_refusal, write_shown};
 pub use reading::read;
 pub use requests::request;
 pub use script::{Line, Script};
+pub use spelling::words;
 pub use statement::{Alternative, Declaration, EntryName, Statement};
+pub use word::Word;

@@ -37,7 +37,9 @@ pub enum Meaning {
         made: Option<Made>,
     },
     /// A block, and the position of its opening once it is open.
-    Block { opened: Option<u32> },
+    Block {
+        opened: Option<u32>,
+    },
 }
 
 impl Meaning {
@@ -71,13 +73,15 @@ impl Meaning {
         match (self, bound) {
             (
                 Meaning::Task {
-                    made: Some(made), ..
+                    made: Some(made),
+                    ..
                 },
                 Bound::Task(task),
             ) => made.task == task,
             (
                 Meaning::Task {
-                    made: Some(made), ..
+                    made: Some(made),
+                    ..
                 },
                 Bound::Made(at),
             ) => made.at == at,

@@ -38,7 +38,10 @@ impl Names {
         let mut table = IndexMap::new(alloc);
         let main = Meaning::Task {
             entries: Bounded::new(),
-            made: Some(Made { task: TaskNo(0), at: 0 }),
+            made: Some(Made {
+                task: TaskNo(0),
+                at: 0,
+            }),
         };
         table.insert(Name::from_bytes(b"main"), main)?;
         Ok(Names { table })
@@ -80,9 +83,12 @@ impl Names {
         ensures { result ≡ task_of self.now name.now }
     {
         match self.meaning(name) {
-            Some(Meaning::Task {
-                made: Some(made), ..
-            }) => made.task,
+            Some(
+                Meaning::Task {
+                    made: Some(made),
+                    ..
+                },
+            ) => made.task,
             _ => NO_TASK,
         }
     }

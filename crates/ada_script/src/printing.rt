@@ -21,12 +21,7 @@ pub enum Value {
 
 /// Appends the line of the event at a position of the journal. An `Err`, which is `OutOfMemory`,
 /// leaves what was written as it was.
-pub fn write_event(
-    at: u32,
-    event: &Event,
-    names: &Names,
-    out: &mut Vec<u8>,
-) -> Result<(), Cause>
+pub fn write_event(at: u32, event: &Event, names: &Names, out: &mut Vec<u8>) -> Result<(), Cause>
     ensures ok { OnOk result (out.new.items ≡ out.old.items ++ event_line names.now at event.now) }
     ensures err { OnErr result (out.new.items ≡ out.old.items) }
     ensures memory { IsOkUnless result Cause.OutOfMemory }

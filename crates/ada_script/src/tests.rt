@@ -30,10 +30,22 @@ fn finds_the_first_fault(rt: HostRuntime) {
         (b"tick -9223372036854775808", 1, None),
         (b"tick 9223372036854775808", 1, Some(Cause::BadNumber)),
         (b"main: select 4294967295 else", 1, None),
-        (b"main: create S under main E\nmain: call S E within", 2, Some(Cause::BadStatement)),
-        (b"main: create S under main F 1", 1, Some(Cause::BadStatement)),
+        (
+            b"main: create S under main E\nmain: call S E within",
+            2,
+            Some(Cause::BadStatement),
+        ),
+        (
+            b"main: create S under main F 1",
+            1,
+            Some(Cause::BadStatement),
+        ),
         (b"main:\tup", 1, Some(Cause::NotAscii)),
-        (b"# a comment\n\n   \nGhost: jump", 4, Some(Cause::UnknownName)),
+        (
+            b"# a comment\n\n   \nGhost: jump",
+            4,
+            Some(Cause::UnknownName),
+        ),
         (b"tick up", 1, Some(Cause::BadNumber)),
         (b"tick: up", 1, Some(Cause::UnknownName)),
     ];

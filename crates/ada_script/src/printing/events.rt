@@ -128,12 +128,7 @@ fn put_list(
     put_tasks(out, tasks, names)
 }
 
-fn put_elaborated(
-    out: &mut Vec<u8>,
-    by: TaskNo,
-    ok: bool,
-    names: &Names,
-) -> Result<(), AllocError>
+fn put_elaborated(out: &mut Vec<u8>, by: TaskNo, ok: bool, names: &Names) -> Result<(), AllocError>
     ensures { OnOk result (out.new.items ≡ out.old.items ++ event_text names.now 0 (events.Elaborated by ok)) }
 {
     put_task(out, by, names)?;
@@ -144,12 +139,7 @@ fn put_elaborated(
     }
 }
 
-fn put_paused(
-    out: &mut Vec<u8>,
-    by: TaskNo,
-    due: i64,
-    names: &Names,
-) -> Result<(), AllocError>
+fn put_paused(out: &mut Vec<u8>, by: TaskNo, due: i64, names: &Names) -> Result<(), AllocError>
     ensures { OnOk result (out.new.items ≡ out.old.items ++ event_text names.now 0 (events.Paused by due)) }
 {
     put_task(out, by, names)?;
@@ -175,12 +165,7 @@ fn put_ended(
     put_number(out, call)
 }
 
-fn put_closed(
-    out: &mut Vec<u8>,
-    by: TaskNo,
-    block: u32,
-    names: &Names,
-) -> Result<(), AllocError>
+fn put_closed(out: &mut Vec<u8>, by: TaskNo, block: u32, names: &Names) -> Result<(), AllocError>
     ensures { OnOk result (out.new.items ≡ out.old.items ++ event_text names.now 0 (events.Closed by block)) }
 {
     put_task(out, by, names)?;
@@ -196,12 +181,7 @@ fn put_ticked(out: &mut Vec<u8>, now: i64) -> Result<(), AllocError>
 }
 
 /// Appends what happened to a task.
-fn put_fate(
-    out: &mut Vec<u8>,
-    fate: &[u8],
-    task: TaskNo,
-    names: &Names,
-) -> Result<(), AllocError>
+fn put_fate(out: &mut Vec<u8>, fate: &[u8], task: TaskNo, names: &Names) -> Result<(), AllocError>
     ensures { OnOk result (out.new.items ≡ out.old.items ++ (fate.now ++ task_text names.now task)) }
 {
     put(out, fate)?;
@@ -245,12 +225,7 @@ fn put_quit(out: &mut Vec<u8>, master: Master, names: &Names) -> Result<(), Allo
 }
 
 /// Appends the text of the event at a position.
-pub fn put_event(
-    out: &mut Vec<u8>,
-    at: u32,
-    event: &Event,
-    names: &Names,
-) -> Result<(), AllocError>
+pub fn put_event(out: &mut Vec<u8>, at: u32, event: &Event, names: &Names) -> Result<(), AllocError>
     ensures { OnOk result (out.new.items ≡ out.old.items ++ event_text names.now at event.now) }
 {
     match event {

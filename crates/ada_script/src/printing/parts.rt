@@ -188,11 +188,7 @@ pub fn put_until(out: &mut Vec<u8>, due: Option<i64>) -> Result<(), AllocError>
 fn put_guard(out: &mut Vec<u8>, guard: bool) -> Result<(), AllocError>
     ensures { OnOk result (out.new.items ≡ out.old.items ++ guard_text guard) }
 {
-    if guard {
-        Ok(())
-    } else {
-        put(out, b" closed")
-    }
+    if guard { Ok(()) } else { put(out, b" closed") }
 }
 
 /// Appends an accept alternative.
