@@ -41,4 +41,3 @@ module _ (names : Scope) (by : List ℕ) where
         → choices_at names by (suc room) before words ≡ choices_at names by room (before ++ choice ∷ []) behind
     unfolding choices_at
     choice_goes_on choice behind found = rw (reads, accept, found) refl
-

@@ -1,6 +1,7 @@
 -- The first of some values that passes a test.
-use Rattle.std.proofs.Common.{◌≡◌, ℕ, suc, ◌+◌, ◌<◌, Bool, true, false, cond, List, [], ◌∷◌, length, get_or, drop, find, Option, Some, None, refl, sym, ap, ◌∙◌, arith, add-one}
+use Rattle.std.proofs.Common.{◌≡◌, ℕ, suc, ◌+◌, ◌<◌, Bool, true, false, cond, List, [], ◌∷◌, length, get_or, drop, find, slice_get, zero, ◌≤◌, Option, Some, None, refl, sym, ap, ◌∙◌, arith, add-one}
 use Rattle.std.proofs.Math.Seq.{drop-cons}
+use Rattle.std.proofs.Math.ListN.{drop_of_length-le}
 
 -- one that doesn't pass is passed over
 pub find-drop-passed : {X : Type 0} (test : X → Bool) (xs : List X) (i : ℕ) (d : X) → i < length xs → test (get_or xs i d) ≡ false → find test (drop (i + 1) xs) ≡ find test (drop i xs)
@@ -17,3 +18,24 @@ found_passes test (y ∷ ys) x e = by (found_passes test ys x) (test y) refl e
     by : (find test ys ≡ Some x → test x ≡ true) → (t : Bool) → test y ≡ t → cond t (Some y) (find test ys) ≡ Some x → test x ≡ true
     by later true p e = let same : y ≡ x = cc in rw (← same) p
     by later false p e = later e
+
+module _ {X : Type 0} (test : X → Bool) where
+  -- what stands at a place
+  at_place : (xs : List X) (i : ℕ) (x : X) → slice_get xs i ≡ Some x → drop i xs ≡ x ∷ drop (suc i) xs
+  at_place [] i x e = absurd cc
+  at_place (y ∷ ys) zero x e = let same : y ≡ x = cc in ap (λ (z : X). z ∷ ys) same
+  at_place (y ∷ ys) (suc i) x e = at_place ys i x e
+
+  pub find_missing : (xs : List X) (i : ℕ) → slice_get xs i ≡ None → find test (drop i xs) ≡ None
+  find_missing [] i e = ap (find test) (drop_of_length-le [] (omega arith))
+  find_missing (y ∷ ys) zero e = absurd cc
+  find_missing (y ∷ ys) (suc i) e = find_missing ys i e
+
+  pub find_at : (xs : List X) (i : ℕ) (x : X) → slice_get xs i ≡ Some x → test x ≡ true → find test (drop i xs) ≡ Some x
+  find_at xs i x at passes = ap (find test) (at_place xs i x at) ∙ ap (λ t. cond t (Some x) (find test (drop (suc i) xs))) passes
+
+  pub find_behind : (xs : List X) (i : ℕ) (x : X) → slice_get xs i ≡ Some x → test x ≡ false → find test (drop (i + 1) xs) ≡ find test (drop i xs)
+  find_behind xs i x at fails = rw add-one (sym (ap (find test) (at_place xs i x at) ∙ ap (λ t. cond t (Some x) (find test (drop (suc i) xs))) fails))
+
+  pub find_past : (xs : List X) (i : ℕ) → length xs ≤ i → find test (drop i xs) ≡ None
+  find_past xs i past = ap (find test) (drop_of_length-le xs past)

@@ -7,5 +7,6 @@ pub mod Taken
 pub mod TakenLists
 pub mod TakenSelect
 pub mod TakenStatements
+pub mod Written
 pub mod Lines
 pub mod Bound

@@ -21,7 +21,7 @@ parts_of-cut separator (b ∷ bytes) zero within none found =
     ap (λ t. cond t ([] ∷ parts_of separator bytes) (with_first b (parts_of separator bytes))) (eq-eqb b separator found)
 parts_of-cut separator (b ∷ bytes) (suc i) within none found =
     let rest : parts_of separator bytes ≡ take i bytes ∷ parts_of separator (drop (suc i) bytes)
-          = parts_of-cut separator bytes i (omega arith) (λ k lt. none (suc k) (omega arith)) found in
+    = parts_of-cut separator bytes i (omega arith) (λ k lt. none (suc k) (omega arith)) found in
     parts_of-cons separator b bytes (none 0 (omega arith)) ∙ ap (with_first b) rest
 
 -- all of them where none separates

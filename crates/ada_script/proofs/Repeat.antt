@@ -36,4 +36,4 @@ module _ {X : Type 0} (step : List X → List (List ℕ) → Read X) where
 
 -- a list that isn't full has room
 pub room_left : (n limit : ℕ) → n ≤ limit → eqb n limit ≡ false → n < limit
-room_left n limit le differs = elim (cases_lt n limit) [ | inl lt ↦ lt | inr ge ↦ absurd (eqb-false n limit differs (omega arith)) ]
+room_left n limit le differs = elim (cases_lt n limit) [ inl lt ↦ lt | inr ge ↦ absurd (eqb-false n limit differs (omega arith)) ]

@@ -42,10 +42,10 @@ kind_reads word branch e =
     elim (chosen (bytes_eq word (codes "accept")) _ _ (done branch) e) [
       | inl a ↦ (bytes_eq-Decides word (codes "accept")).0 a.0 ∙ ap branch_word (ok_is branches.Accept branch a.1)
       | inr a ↦ elim (chosen (bytes_eq word (codes "delay")) _ _ (done branch) a.1) [
-          | inl b ↦ (bytes_eq-Decides word (codes "delay")).0 b.0 ∙ ap branch_word (ok_is branches.Delay branch b.1)
-          | inr b ↦ let c = if_ok (bytes_eq word (codes "terminate")) _ _ branch b.1 in
-                    (bytes_eq-Decides word (codes "terminate")).0 c.0 ∙ ap branch_word (ok_is branches.Terminate branch c.1)
-        ]
+        | inl b ↦ (bytes_eq-Decides word (codes "delay")).0 b.0 ∙ ap branch_word (ok_is branches.Delay branch b.1)
+        | inr b ↦ let c = if_ok (bytes_eq word (codes "terminate")) _ _ branch b.1 in
+            (bytes_eq-Decides word (codes "terminate")).0 c.0 ∙ ap branch_word (ok_is branches.Terminate branch c.1)
+      ]
     ]
 
 guarded : (closed : Bool) (words rest : List (List ℕ)) → words ≡ cond closed (codes "closed" ∷ rest) rest → words ≡ guard_words (not closed) ++ rest
@@ -75,7 +75,7 @@ pause_reads guard words x e =
     let a = bind_ok (moment_at words) _ x e in
     let moment = moment_reads words a.0 a.1 in
     subst (PauseRead guard words) (ok_is (record { guard = guard; duration = a.0.0 }, a.0.1) x a.2)
-        (ap (λ (r : List (List ℕ)). guard_words guard ++ (codes "delay" ∷ r)) moment.0 ∙ sym (append_assoc (guard_words guard) (codes "delay" ∷ signed_decimal a.0.0 ∷ []) a.0.1), moment.1)
+    (ap (λ (r : List (List ℕ)). guard_words guard ++ (codes "delay" ∷ r)) moment.0 ∙ sym (append_assoc (guard_words guard) (codes "delay" ∷ signed_decimal a.0.0 ∷ []) a.0.1), moment.1)
 
 abbrev or_pause : Pause → List (List ℕ)
 or_pause pause = codes "or" ∷ pause_words pause
@@ -111,10 +111,11 @@ pauses_read guard words x e =
     let a = bind_ok (pause_at guard words) _ x e in
     let first = pause_reads guard words a.0 a.1 in
     let r = repeat_reads (λ before rest. next_pause_at rest) or_pause (λ before pause. IsMoment pause.duration) (λ before rest y found. next_pause_reads rest y found) 7 (a.0.0 ∷ []) a.0.1 x a.2 in
-    let all : x.0 ≡ a.0.0 ∷ r.more = r.all in
-    (first.0 ∙ ap (λ (w : List (List ℕ)). pause_words a.0.0 ++ w) r.words_are ∙ sym (joined_pauses a.0.0 r.more) ∙ ap (λ (ps : List Pause). joined_by_or (map pause_words ps)) (sym all),
-     r.over,
-     rw all (omega arith, omega (arith, r.fits), (first.1, moments_of_chain (a.0.0 ∷ []) r.more r.chain)))
+    let all : x.0 ≡ a.0.0 ∷ r.more = r.all in (
+      first.0 ∙ ap (λ (w : List (List ℕ)). pause_words a.0.0 ++ w) r.words_are ∙ sym (joined_pauses a.0.0 r.more) ∙ ap (λ (ps : List Pause). joined_by_or (map pause_words ps)) (sym all),
+      r.over,
+      rw all (omega arith, omega (arith, r.fits), (first.1, moments_of_chain (a.0.0 ∷ []) r.more r.chain)),
+    )
 
 -- ---- what ends the wait
 
@@ -134,10 +135,10 @@ tail_reads branches.Delay guard words x e =
     let p = pauses_read guard words a.0 a.1 in
     let joined = joined_by_or (map pause_words a.0.0) in
     subst (TailRead branches.Delay guard words) (ok_is (tails.Delays a.0.0, a.0.1) x a.2)
-        (p.0 ∙ sym (append-nil joined) ∙ sym (append-nil (joined ++ [])) ∙ ap (λ (r : List (List ℕ)). (joined ++ []) ++ r) (sym p.1), omega (arith, p.2.0, length-map-pauses a.0.0), p.2)
+    (p.0 ∙ sym (append-nil joined) ∙ sym (append-nil (joined ++ [])) ∙ ap (λ (r : List (List ℕ)). (joined ++ []) ++ r) (sym p.1), omega (arith, p.2.0, length-map-pauses a.0.0), p.2)
 tail_reads branches.Terminate guard words x e =
     subst (TailRead branches.Terminate guard words) (ok_is (tails.Terminate guard, words) x e)
-        (sym (append_assoc (guard_words guard) (codes "terminate" ∷ []) words) ∙ ap (λ (r : List (List ℕ)). r ++ words) (sym (append-nil (guard_words guard ++ codes "terminate" ∷ []))), omega arith, tt)
+    (sym (append_assoc (guard_words guard) (codes "terminate" ∷ []) words) ∙ ap (λ (r : List (List ℕ)). r ++ words) (sym (append-nil (guard_words guard ++ codes "terminate" ∷ []))), omega arith, tt)
 
 -- what follows an accept alternative
 abbrev LinkRead : List (List ℕ) → Option Tail × List (List ℕ) → Type 0
@@ -152,7 +153,7 @@ link_reads (word ∷ words) x e =
     elim (chosen (bytes_eq word (codes "or")) _ _ (done a.0) a.1) [
       | inl b ↦ subst (LinkRead (word ∷ words)) (ap (λ (o : Option Tail). (o, words)) (ok_is None a.0 b.1) ∙ ok_is (a.0, words) x a.2) (ap (λ (w : List ℕ). w ∷ words) ((bytes_eq-Decides word (codes "or")).0 b.0))
       | inr b ↦ let c = if_ok (bytes_eq word (codes "else")) _ _ a.0 b.1 in
-                subst (LinkRead (word ∷ words)) (ap (λ (o : Option Tail). (o, words)) (ok_is (Some tails.Otherwise) a.0 c.1) ∙ ok_is (a.0, words) x a.2) (ap (λ (w : List ℕ). w ∷ words) ((bytes_eq-Decides word (codes "else")).0 c.0), refl, tt)
+          subst (LinkRead (word ∷ words)) (ap (λ (o : Option Tail). (o, words)) (ok_is (Some tails.Otherwise) a.0 c.1) ∙ ok_is (a.0, words) x a.2) (ap (λ (w : List ℕ). w ∷ words) ((bytes_eq-Decides word (codes "else")).0 c.0), refl, tt)
     ]
 
 -- ---- accept alternatives
@@ -181,7 +182,7 @@ module _ (names : Scope) (by : List ℕ) where
       let b = bind_ok (link_at a.0.1) _ x a.2 in
       let entry = entry_reads names by words a.0 a.1 in
       subst (ChoiceRead guard words) (ok_is ((record { guard = guard; entry = a.0.0 }, b.0.0), b.0.1) x b.2)
-          (a.0.1, ap (λ (r : List (List ℕ)). guard_words guard ++ (codes "accept" ∷ r)) entry.0 ∙ sym (append_assoc (guard_words guard) (codes "accept" ∷ entry_words a.0.0) a.0.1), link_reads a.0.1 b.0 b.1, entry.1)
+      (a.0.1, ap (λ (r : List (List ℕ)). guard_words guard ++ (codes "accept" ∷ r)) entry.0 ∙ sym (append_assoc (guard_words guard) (codes "accept" ∷ entry_words a.0.0) a.0.1), link_reads a.0.1 b.0 b.1, entry.1)
 
   pub record ChoicesRead (room : ℕ) (before : List Alternative) (words : List (List ℕ)) (x : (List Alternative × Tail) × List (List ℕ)) : Type 0 where
     pub more : List Alternative
@@ -199,7 +200,7 @@ module _ (names : Scope) (by : List ℕ) where
       let a = bind_ok (tail_from branch guard rest) _ x e in
       let t = tail_reads branch guard rest a.0 a.1 in
       subst (ChoicesRead room before words) (ok_is ((before, a.0.0), a.0.1) x a.2)
-          (record { more = []; all = sym (append-nil before); words_are = w ∙ t.0; some = t.1; each = tt; fits = omega arith; tail = t.2 })
+      (record { more = []; all = sym (append-nil before); words_are = w ∙ t.0; some = t.1; each = tt; fits = omega arith; tail = t.2 })
 
   -- the wait ends behind an accept alternative
   choices_last : (room : ℕ) (before : List Alternative) (words behind : List (List ℕ)) (choice : Alternative) (tail : Tail) (rest : List (List ℕ)) → words ≡ choice_words choice ++ behind

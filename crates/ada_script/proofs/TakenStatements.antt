@@ -76,10 +76,10 @@ module _ (names : Scope) (by : List ℕ) (known : IsTaskName names by) where
       let under = master_reads names b.0.1 d.0 d.1 in
       let families = families_read d.0.1 f.0 f.1 in
       let spelled : words ≡ a.0.0 ∷ codes "under" ∷ d.0.0 ∷ flat_map family_words f.0.0 =
-          task.0 ∙ ap (λ (r : List (List ℕ)). a.0.0 ∷ r) (keyword ∙ ap (λ (r : List (List ℕ)). codes "under" ∷ r) (under.0 ∙ ap (λ (r : List (List ℕ)). d.0.0 ∷ r) families.0)) in
+      task.0 ∙ ap (λ (r : List (List ℕ)). a.0.0 ∷ r) (keyword ∙ ap (λ (r : List (List ℕ)). codes "under" ∷ r) (under.0 ∙ ap (λ (r : List (List ℕ)). d.0.0 ∷ r) families.0)) in
       let made = Create by a.0.0 d.0.0 f.0.0 in
       subst (ActRead names by verbs.Create words) (ok_is (made, f.0.1) x f.2)
-          (behind verbs.Create words _ spelled ∙ sym (append-nil (words_of made)) ∙ ap (λ (r : List (List ℕ)). words_of made ++ r) (sym families.1), (known, task.1, under.1, families.2))
+      (behind verbs.Create words _ spelled ∙ sym (append-nil (words_of made)) ∙ ap (λ (r : List (List ℕ)). words_of made ++ r) (sym families.1), (known, task.1, under.1, families.2))
 
   activate_reads : (words : List (List ℕ)) (x : Statement × List (List ℕ)) → activate_at names by words ≡ Ok x → ActRead names by verbs.Activate words x
   unfolding activate_at
@@ -88,7 +88,7 @@ module _ (names : Scope) (by : List ℕ) (known : IsTaskName names by) where
       let tasks = tasks_read names words a.0 a.1 in
       let made = Activate by a.0.0 in
       subst (ActRead names by verbs.Activate words) (ok_is (made, a.0.1) x a.2)
-          (behind verbs.Activate words _ tasks.0 ∙ sym (append-nil (words_of made)) ∙ ap (λ (r : List (List ℕ)). words_of made ++ r) (sym tasks.1), (known, tasks.2))
+      (behind verbs.Activate words _ tasks.0 ∙ sym (append-nil (words_of made)) ∙ ap (λ (r : List (List ℕ)). words_of made ++ r) (sym tasks.1), (known, tasks.2))
 
   abort_reads : (words : List (List ℕ)) (x : Statement × List (List ℕ)) → abort_at names by words ≡ Ok x → ActRead names by verbs.Abort words x
   unfolding abort_at
@@ -97,7 +97,7 @@ module _ (names : Scope) (by : List ℕ) (known : IsTaskName names by) where
       let tasks = tasks_read names words a.0 a.1 in
       let made = Abort by a.0.0 in
       subst (ActRead names by verbs.Abort words) (ok_is (made, a.0.1) x a.2)
-          (behind verbs.Abort words _ tasks.0 ∙ sym (append-nil (words_of made)) ∙ ap (λ (r : List (List ℕ)). words_of made ++ r) (sym tasks.1), (known, tasks.2))
+      (behind verbs.Abort words _ tasks.0 ∙ sym (append-nil (words_of made)) ∙ ap (λ (r : List (List ℕ)). words_of made ++ r) (sym tasks.1), (known, tasks.2))
 
   call_reads : (words : List (List ℕ)) (x : Statement × List (List ℕ)) → call_at names by words ≡ Ok x → ActRead names by verbs.Call words x
   unfolding call_at
@@ -116,7 +116,7 @@ module _ (names : Scope) (by : List ℕ) (known : IsTaskName names by) where
             let duration = moment_reads d.0.1 f.0 f.1 in
             let tail : b.0.1 ≡ (codes "within" ∷ signed_decimal f.0.0 ∷ []) ++ f.0.1 = keyword ∙ ap (λ (r : List (List ℕ)). codes "within" ∷ r) duration.0 in
             let timed : words ≡ a.0.0 ∷ ((entry_words b.0.0 ++ (codes "within" ∷ signed_decimal f.0.0 ∷ [])) ++ f.0.1) =
-                spelled ∙ ap (λ (r : List (List ℕ)). a.0.0 ∷ (entry_words b.0.0 ++ r)) tail ∙ ap (λ (r : List (List ℕ)). a.0.0 ∷ r) (sym (append_assoc (entry_words b.0.0) (codes "within" ∷ signed_decimal f.0.0 ∷ []) f.0.1)) in
+            spelled ∙ ap (λ (r : List (List ℕ)). a.0.0 ∷ (entry_words b.0.0 ++ r)) tail ∙ ap (λ (r : List (List ℕ)). a.0.0 ∷ r) (sym (append_assoc (entry_words b.0.0) (codes "within" ∷ signed_decimal f.0.0 ∷ []) f.0.1)) in
             subst (ActRead names by verbs.Call words) (ok_is (CallWithin by a.0.0 b.0.0 f.0.0, f.0.1) x f.2) (behind verbs.Call words _ timed, (known, callee.1, entry.1, duration.1))
       ]
 
@@ -151,7 +151,7 @@ module _ (names : Scope) (by : List ℕ) (known : IsTaskName names by) where
       let pick = pick_reads words a.0 a.1 in
       let wait = select_reads names by a.0.1 b.0 b.1 in
       subst (ActRead names by verbs.Select words) (ok_is (Select by a.0.0 b.0.0.0 b.0.0.1, b.0.1) x b.2)
-          (behind verbs.Select words _ (pick.0 ∙ ap (λ (r : List (List ℕ)). decimal a.0.0 ∷ r) wait.0), (known, pick.1, wait.1, wait.2))
+      (behind verbs.Select words _ (pick.0 ∙ ap (λ (r : List (List ℕ)). decimal a.0.0 ∷ r) wait.0), (known, pick.1, wait.1, wait.2))
 
   show_reads : (words : List (List ℕ)) (x : Statement × List (List ℕ)) → show_at names by words ≡ Ok x → ActRead names by verbs.Show words x
   unfolding show_at
@@ -165,18 +165,18 @@ module _ (names : Scope) (by : List ℕ) (known : IsTaskName names by) where
             let attribute = (bytes_eq-Decides a.0.0 (codes "callable")).0 b.0 in
             subst (ActRead names by verbs.Show words) (ok_is (ShowCallable by d.0.0, d.0.1) x d.2) (behind verbs.Show words _ (word ∙ ap (λ (w : List ℕ). w ∷ a.0.1) attribute ∙ ap (λ (r : List (List ℕ)). codes "callable" ∷ r) task.0), (known, task.1))
         | inr b ↦ elim (chosen (bytes_eq a.0.0 (codes "terminated")) _ _ (done x) b.1) [
-            | inl f ↦
-                let d = bind_ok (task_at names a.0.1) _ x f.1 in
-                let task = task_reads names a.0.1 d.0 d.1 in
-                let attribute = (bytes_eq-Decides a.0.0 (codes "terminated")).0 f.0 in
-                subst (ActRead names by verbs.Show words) (ok_is (ShowTerminated by d.0.0, d.0.1) x d.2) (behind verbs.Show words _ (word ∙ ap (λ (w : List ℕ). w ∷ a.0.1) attribute ∙ ap (λ (r : List (List ℕ)). codes "terminated" ∷ r) task.0), (known, task.1))
-            | inr f ↦
-                let g = if_ok (bytes_eq a.0.0 (codes "count")) _ _ x f.1 in
-                let d = bind_ok (entry_at names by a.0.1) _ x g.1 in
-                let entry = entry_reads names by a.0.1 d.0 d.1 in
-                let attribute = (bytes_eq-Decides a.0.0 (codes "count")).0 g.0 in
-                subst (ActRead names by verbs.Show words) (ok_is (ShowCount by d.0.0, d.0.1) x d.2) (behind verbs.Show words _ (word ∙ ap (λ (w : List ℕ). w ∷ a.0.1) attribute ∙ ap (λ (r : List (List ℕ)). codes "count" ∷ r) entry.0), (known, entry.1))
-          ]
+          | inl f ↦
+              let d = bind_ok (task_at names a.0.1) _ x f.1 in
+              let task = task_reads names a.0.1 d.0 d.1 in
+              let attribute = (bytes_eq-Decides a.0.0 (codes "terminated")).0 f.0 in
+              subst (ActRead names by verbs.Show words) (ok_is (ShowTerminated by d.0.0, d.0.1) x d.2) (behind verbs.Show words _ (word ∙ ap (λ (w : List ℕ). w ∷ a.0.1) attribute ∙ ap (λ (r : List (List ℕ)). codes "terminated" ∷ r) task.0), (known, task.1))
+          | inr f ↦
+              let g = if_ok (bytes_eq a.0.0 (codes "count")) _ _ x f.1 in
+              let d = bind_ok (entry_at names by a.0.1) _ x g.1 in
+              let entry = entry_reads names by a.0.1 d.0 d.1 in
+              let attribute = (bytes_eq-Decides a.0.0 (codes "count")).0 g.0 in
+              subst (ActRead names by verbs.Show words) (ok_is (ShowCount by d.0.0, d.0.1) x d.2) (behind verbs.Show words _ (word ∙ ap (λ (w : List ℕ). w ∷ a.0.1) attribute ∙ ap (λ (r : List (List ℕ)). codes "count" ∷ r) entry.0), (known, entry.1))
+        ]
       ]
 
   act_reads : (verb : Verb) (words : List (List ℕ)) (x : Statement × List (List ℕ)) → act_at names by verb words ≡ Ok x → ActRead names by verb words x

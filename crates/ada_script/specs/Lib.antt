@@ -2,7 +2,9 @@ pub mod Fault
 pub mod Text
 pub mod Number
 pub mod Spelling
+pub mod Writing
 pub mod Scope
 pub mod Reading
 pub mod Binding
+pub mod Texts
 pub mod Script

@@ -324,7 +324,7 @@ choices_at names by (suc room) before words = do
 
 unfoldable pub alternatives_at : Scope → List ℕ → List (List ℕ) → Read (List Alternative × Tail)
 alternatives_at names by words =
-  if is_over words then Ok (([], tails.Nothing), words) else (if (passed_over (codes "else") words).0 then Ok (([], tails.Otherwise), (passed_over (codes "else") words).1) else choices_at names by 16 [] (passed_over (codes "else") words).1)
+    if is_over words then Ok (([], tails.Nothing), words) else (if (passed_over (codes "else") words).0 then Ok (([], tails.Otherwise), (passed_over (codes "else") words).1) else choices_at names by 16 [] (passed_over (codes "else") words).1)
 
 unfoldable pub select_at : Scope → List ℕ → List (List ℕ) → Read Statement
 select_at names by words = do

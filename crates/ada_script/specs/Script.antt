@@ -48,7 +48,7 @@ pub record Says (before : List Line) (words : List (List ℕ)) (statement : Stat
 -- what an acceptable line adds to the lines before it: nothing, or its statement
 abbrev pub Adds : List Line → ℕ → List ℕ → List Line → Type 0
 Adds before number line added = IsPlain number line
-  × ((IsTrue (is_skipped (words_in line)) × (added ≡ [])) ⊎ ((statement : Statement) × Says before (words_in line) statement × (added ≡ record { line = number; statement = statement } ∷ [])))
+    × ((IsTrue (is_skipped (words_in line)) × (added ≡ [])) ⊎ ((statement : Statement) × Says before (words_in line) statement × (added ≡ record { line = number; statement = statement } ∷ [])))
 
 -- lines, of which the first has this number, add to the lines before them what makes all of these
 abbrev pub Reads : List Line → ℕ → List (List ℕ) → List Line → Type 0

@@ -16,6 +16,17 @@ pub struct Made {
     pub at: u32,
 }
 
+/// What a name may be bound to.
+#[derive(Clone, Copy, Debug, PartialEq, Eq)]
+pub enum Bound {
+    /// The task of this number.
+    Task(TaskNo),
+    /// The task that was made at this position.
+    Made(u32),
+    /// The block that was opened at this position.
+    Opened(u32),
+}
+
 /// What a name of a script stands for: a task, with the names of its entries, or a block. A name is
 /// bound once its statement is accepted.
 #[derive(Debug, Drop, PartialEq, Eq)]
@@ -26,11 +37,14 @@ pub enum Meaning {
         made: Option<Made>,
     },
     /// A block, and the position of its opening once it is open.
-    Block { opened: Option<u32> },
+    Block {
+        opened: Option<u32>,
+    },
 }
 
 impl Meaning {
     ghost use Rattle.ada_script.specs.Binding.{with_made, with_opened};
+    ghost use Rattle.ada_script.specs.Texts.{is_bound_to};
 
     /// Binds a task. A block stays as it is.
     pub(crate) fn set_made(&mut self, task: Made)
@@ -49,6 +63,35 @@ impl Meaning {
         match self {
             Meaning::Task { .. } => {}
             Meaning::Block { opened } => *opened = Some(at),
+        }
+    }
+
+    /// Whether this is bound so.
+    pub(crate) fn is_bound_to(&self, bound: Bound) -> bool
+        ensures { result ≡ is_bound_to bound self.now }
+    {
+        match (self, bound) {
+            (
+                Meaning::Task {
+                    made: Some(made),
+                    ..
+                },
+                Bound::Task(task),
+            ) => made.task == task,
+            (
+                Meaning::Task {
+                    made: Some(made),
+                    ..
+                },
+                Bound::Made(at),
+            ) => made.at == at,
+            (
+                Meaning::Block {
+                    opened: Some(opened),
+                },
+                Bound::Opened(at),
+            ) => *opened == at,
+            _ => false,
         }
     }
 }

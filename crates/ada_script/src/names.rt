@@ -1,8 +1,9 @@
 //! The names of a script, and what they are bound to.
 
-ghost use Rattle.std.specs.Prelude.{◌≡◌, ◌≤◌, Ok, Err, length, map, IfOk, OnOk, OnErr, IsOkUnless, option_copied};
+ghost use Rattle.std.specs.Prelude.{◌≡◌, ◌≤◌, Ok, Err, length, map, option_map, IfOk, OnOk, OnErr, IsOkUnless, option_copied};
 ghost use Rattle.ada_script.specs.Binding.{place_of as found_place};
 
+use crate::meaning::Bound;
 use crate::{Cause, Declaration, EntryName, EntryNames, Made, Meaning, Name, Statement};
 use ada_events::{Bounded, Entry, Master, TaskNo};
 use indexmap::IndexMap;
@@ -26,6 +27,7 @@ impl Model for Names {
 
 impl Names {
     ghost use Rattle.ada_script.specs.Binding.{task_of, master_of, family_number, entry_of, bind};
+    ghost use Rattle.ada_script.specs.Texts.{bound_to, families_in};
     ghost use Rattle.ada_script.specs.Scope.{main_alone, meaning_of, is_declared, is_task, has_entry, declare, with_name};
 
     /// The main program alone.
@@ -36,7 +38,10 @@ impl Names {
         let mut table = IndexMap::new(alloc);
         let main = Meaning::Task {
             entries: Bounded::new(),
-            made: Some(Made { task: TaskNo(0), at: 0 }),
+            made: Some(Made {
+                task: TaskNo(0),
+                at: 0,
+            }),
         };
         table.insert(Name::from_bytes(b"main"), main)?;
         Ok(Names { table })
@@ -78,9 +83,12 @@ impl Names {
         ensures { result ≡ task_of self.now name.now }
     {
         match self.meaning(name) {
-            Some(Meaning::Task {
-                made: Some(made), ..
-            }) => made.task,
+            Some(
+                Meaning::Task {
+                    made: Some(made),
+                    ..
+                },
+            ) => made.task,
             _ => NO_TASK,
         }
     }
@@ -117,6 +125,31 @@ impl Names {
         Entry {
             family: self.family_number(task, &entry.family),
             index: entry.index.unwrap_or(0),
+        }
+    }
+
+    /// The first name that is bound so, and what it stands for.
+    pub(crate) fn bound_to(&self, bound: Bound) -> Option<(&Name, &Meaning)>
+        ensures { option_map (λ p. (p.0.now, p.1.now)) result ≡ bound_to self.now bound }
+    {
+        for place in 0..self.table.len() {
+            let Some((name, meaning)) = self.table.get_index(place) else {
+                return None;
+            };
+            if meaning.is_bound_to(bound) {
+                return Some((name, meaning));
+            }
+        }
+        None
+    }
+
+    /// The names of the families of the task that is bound so, none where there is no such task.
+    pub(crate) fn families(&self, bound: Bound) -> &[Name]
+        ensures { result.now ≡ families_in (bound_to self.now bound) }
+    {
+        match self.bound_to(bound) {
+            Some((_, Meaning::Task { entries, .. })) => entries.as_slice(),
+            _ => &[],
         }
     }
 

@@ -5,9 +5,7 @@ ghost use Rattle.ada_script.specs.Binding.{task_of, family_of, choice_of, called
 
 use crate::statement::{Alternatives, Declarations, EntryName, TaskNames};
 use crate::{Name, Names, Statement};
-use ada_events::{
-    Bounded, Choice, Choices, Families, Family, Patience, Request, Tail, Tasks,
-};
+use ada_events::{Bounded, Choice, Choices, Families, Family, Patience, Request, Tail, Tasks};
 
 /// The tasks of these names.
 fn tasks_of(tasks: &TaskNames, names: &Names) -> Tasks
@@ -58,7 +56,13 @@ fn copy_of(tail: &Tail) -> Tail
 }
 
 /// The call of an entry.
-fn call_of(by: &Name, callee: &Name, entry: &EntryName, patience: Patience, names: &Names) -> Request
+fn call_of(
+    by: &Name,
+    callee: &Name,
+    entry: &EntryName,
+    patience: Patience,
+    names: &Names,
+) -> Request
     ensures { result ≡ called names.now by.now callee.now entry.now patience }
 {
     Request::Call {
@@ -94,9 +98,7 @@ pub fn request(statement: &Statement, names: &Names) -> Option<Request>
 {
     match statement {
         Statement::Tick { now } => Some(Request::Tick { now: *now }),
-        Statement::Open { by, .. } => Some(Request::Open {
-            by: names.task(by),
-        }),
+        Statement::Open { by, .. } => Some(Request::Open { by: names.task(by) }),
         Statement::Create {
             by,
             under,
@@ -151,16 +153,12 @@ pub fn request(statement: &Statement, names: &Names) -> Option<Request>
             by: names.task(by),
             raised: true,
         }),
-        Statement::Close { by } => Some(Request::Close {
-            by: names.task(by),
-        }),
+        Statement::Close { by } => Some(Request::Close { by: names.task(by) }),
         Statement::Delay { by, duration } => Some(Request::Delay {
             by: names.task(by),
             duration: *duration,
         }),
-        Statement::Complete { by } => Some(Request::Complete {
-            by: names.task(by),
-        }),
+        Statement::Complete { by } => Some(Request::Complete { by: names.task(by) }),
         Statement::Abort { by, tasks } => Some(Request::Abort {
             by: names.task(by),
             tasks: tasks_of(tasks, names),

@@ -39,9 +39,14 @@ pub type Alternatives = Bounded<Alternative, 16>;
 #[derive(Debug, Drop, PartialEq, Eq)]
 pub enum Statement {
     /// Moves the moment.
-    Tick { now: i64 },
+    Tick {
+        now: i64,
+    },
     /// Opens a block of this name (5.6).
-    Open { by: Name, block: Name },
+    Open {
+        by: Name,
+        block: Name,
+    },
     /// Makes a task of this name, which depends on the body of the task `under`, or on the block
     /// `under` (9.1, 9.4).
     Create {
@@ -51,11 +56,18 @@ pub enum Statement {
         families: Declarations,
     },
     /// Activates tasks (9.3).
-    Activate { by: Name, tasks: TaskNames },
+    Activate {
+        by: Name,
+        tasks: TaskNames,
+    },
     /// Ends the task's own activation (9.3).
-    Up { by: Name },
+    Up {
+        by: Name,
+    },
     /// Ends the task's own activation by an exception (9.3).
-    Fail { by: Name },
+    Fail {
+        by: Name,
+    },
     /// Calls an entry (9.5).
     Call {
         by: Name,
@@ -76,7 +88,10 @@ pub enum Statement {
         entry: EntryName,
     },
     /// Waits for a call of one entry (9.5).
-    Accept { by: Name, entry: EntryName },
+    Accept {
+        by: Name,
+        entry: EntryName,
+    },
     /// Waits selectively (9.7.1).
     Select {
         by: Name,
@@ -85,21 +100,44 @@ pub enum Statement {
         tail: Tail,
     },
     /// Ends the innermost accept statement (9.5).
-    End { by: Name },
+    End {
+        by: Name,
+    },
     /// Ends the innermost accept statement by an exception (11.5).
-    Raise { by: Name },
+    Raise {
+        by: Name,
+    },
     /// Leaves the innermost block (9.4).
-    Close { by: Name },
+    Close {
+        by: Name,
+    },
     /// Delays the task (9.6).
-    Delay { by: Name, duration: i64 },
+    Delay {
+        by: Name,
+        duration: i64,
+    },
     /// Completes the task's body (9.4).
-    Complete { by: Name },
+    Complete {
+        by: Name,
+    },
     /// Aborts tasks (9.10).
-    Abort { by: Name, tasks: TaskNames },
+    Abort {
+        by: Name,
+        tasks: TaskNames,
+    },
     /// Shows the attribute CALLABLE of a task (9.9).
-    ShowCallable { by: Name, task: Name },
+    ShowCallable {
+        by: Name,
+        task: Name,
+    },
     /// Shows the attribute TERMINATED of a task (9.9).
-    ShowTerminated { by: Name, task: Name },
+    ShowTerminated {
+        by: Name,
+        task: Name,
+    },
     /// Shows the attribute COUNT of an entry of the speaker (9.9).
-    ShowCount { by: Name, entry: EntryName },
+    ShowCount {
+        by: Name,
+        entry: EntryName,
+    },
 }

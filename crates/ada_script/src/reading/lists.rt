@@ -31,7 +31,10 @@ pub fn read_tasks(names: &Names, words: &mut Words) -> Result<TaskNames, Fault>
 fn is_family(families: &Declarations, name: &Name) -> bool
     ensures { result ≡ list_any (λ family. bytes_eq name.now family.name) families.now }
 {
-    families.as_slice().iter().any(|family| *name == family.name)
+    families
+        .as_slice()
+        .iter()
+        .any(|family| *name == family.name)
 }
 
 /// Takes a family of entries, which has another name than those before it.

@@ -167,11 +167,7 @@ fn read_tail(branch: Branch, guard: bool, words: &mut Words) -> Result<Tail, Fau
 }
 
 /// Takes alternatives, of which one stands next, at most 16 of them accept alternatives.
-fn read_choices(
-    names: &Names,
-    by: &Name,
-    words: &mut Words,
-) -> Result<(Alternatives, Tail), Fault>
+fn read_choices(names: &Names, by: &Name, words: &mut Words) -> Result<(Alternatives, Tail), Fault>
     ensures { Gives result words.new (choices_at names.now by.now 16 [] words.old) }
 {
     let mut choices = Bounded::new();

@@ -6,8 +6,8 @@ ghost use Rattle.ada_script.specs.Reading.{Gives, verb_at, open_at, create_at, a
 
 use super::lists::{read_families, read_tasks};
 use super::parts::{
-    is_name, read_end, read_entry, read_keyword, read_master, read_moment, read_new_name, read_pick,
-    read_task, read_word,
+    is_name, read_end, read_entry, read_keyword, read_master, read_moment, read_new_name,
+    read_pick, read_task, read_word,
 };
 use super::select::read_alternatives;
 use crate::cursor::Words;
@@ -151,12 +151,7 @@ fn read_show(names: &Names, by: Name, words: &mut Words) -> Result<Statement, Fa
 
 /// Takes what the speaker does behind its verb.
 #[tactic(auto, unfolding(crate::specs::Reading::act_at))]
-fn read_act(
-    names: &Names,
-    by: Name,
-    verb: Verb,
-    words: &mut Words,
-) -> Result<Statement, Fault>
+fn read_act(names: &Names, by: Name, verb: Verb, words: &mut Words) -> Result<Statement, Fault>
     ensures { Gives result words.new (act_at names.now by verb words.old) }
 {
     match verb {

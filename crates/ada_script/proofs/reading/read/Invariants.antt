@@ -8,7 +8,7 @@ abbrev pub invariant-loop-line : goal.invariant-loop-line
 invariant-loop-line l = record {
   fits : l.number ≤ 4097;
   known : l.names ≡ scope_of l.lines.items;
-  reads : (all : List Line) → Reads l.lines.items l.number l.rest all → Reads [] 1 (lines_of l.text) all
+  reads : (all : List Line) → Reads l.lines.items l.number l.rest all → Reads [] 1 (lines_of l.text) all;
 }
 
 abbrev pub decreases-loop-line : goal.decreases-loop-line

@@ -20,7 +20,7 @@ loop-families-preserved c =
     let room = room_left _ 16 c.loop-families.invariant.fits (sym c.is_full.ensures.value ∙ c.if-is_full.false) in
     rw c.push.ensures record {
       fits = omega (arith, length-append c.loop-families.families (c.in_ok-family.family ∷ []));
-      reads = sym (repeat_step family_at 16 c.loop-families.families c.loop-families.words c.in_ok-family.family c.read_family.new.words (sym c.is_over.ensures ∙ c.loop-families-test.true) room c.in_ok-family.ensures) ∙ c.loop-families.invariant.reads
+      reads = sym (repeat_step family_at 16 c.loop-families.families c.loop-families.words c.in_ok-family.family c.read_family.new.words (sym c.is_over.ensures ∙ c.loop-families-test.true) room c.in_ok-family.ensures) ∙ c.loop-families.invariant.reads;
     }
 
 pub returns : goal.returns

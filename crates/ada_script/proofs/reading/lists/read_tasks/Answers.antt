@@ -20,7 +20,7 @@ loop-tasks-preserved c =
     let room = room_left _ 256 c.loop-tasks.invariant.fits (sym c.is_full.ensures.value ∙ c.if-is_full.false) in
     rw c.push.ensures record {
       fits = omega (arith, length-append c.loop-tasks.tasks (c.in_ok-task.task ∷ []));
-      reads = sym (repeat_step (λ before rest. task_at c.args.names.now rest) 256 c.loop-tasks.tasks c.loop-tasks.words c.in_ok-task.task c.read_task.new.words (sym c.is_over.ensures ∙ c.loop-tasks-test.true) room c.in_ok-task.ensures) ∙ c.loop-tasks.invariant.reads
+      reads = sym (repeat_step (λ before rest. task_at c.args.names.now rest) 256 c.loop-tasks.tasks c.loop-tasks.words c.in_ok-task.task c.read_task.new.words (sym c.is_over.ensures ∙ c.loop-tasks-test.true) room c.in_ok-task.ensures) ∙ c.loop-tasks.invariant.reads;
     }
 
 pub returns : goal.returns

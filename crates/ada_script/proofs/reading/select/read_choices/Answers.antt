@@ -16,19 +16,19 @@ pub returns-in_err-tail : goal.returns-in_err-tail
 returns-in_err-tail c =
     let p = err_from_is_err_and c.from_residual-in_err-tail.result c.from_residual-in_err-tail.ensures.1 in
     let step : choices_at c.args.names.now c.args.by.now (16 - length c.alternatives.choices) c.alternatives.choices c.alternatives.words ≡ with_tail c.alternatives.choices (tail_from c.in_ok-guard.branch c.in_ok-guard.guard c.read_branch.new.words) =
-        elim c.then-not-is_accept.branch [
-          | then-not-is_accept-via-then-not-is_accept w ↦ choices_end c.args.names.now c.args.by.now (16 - length c.alternatives.choices) c.alternatives.choices c.alternatives.words c.in_ok-guard.guard c.in_ok-guard.branch c.read_branch.new.words c.in_ok-guard.ensures (sym c.is_accept.ensures ∙ w.if-not-is_accept.true)
-          | then-not-is_accept-via-else-not-is_accept+then-is_full w ↦ choices_full c.args.names.now c.args.by.now (16 - length c.alternatives.choices) c.alternatives.choices c.alternatives.words c.in_ok-guard.guard c.in_ok-guard.branch c.read_branch.new.words c.in_ok-guard.ensures (omega (arith, eqb-true _ _ (sym w.is_full.ensures.value ∙ w.if-is_full.true)))
-        ] in
+    elim c.then-not-is_accept.branch [
+      | then-not-is_accept-via-then-not-is_accept w ↦ choices_end c.args.names.now c.args.by.now (16 - length c.alternatives.choices) c.alternatives.choices c.alternatives.words c.in_ok-guard.guard c.in_ok-guard.branch c.read_branch.new.words c.in_ok-guard.ensures (sym c.is_accept.ensures ∙ w.if-not-is_accept.true)
+      | then-not-is_accept-via-else-not-is_accept+then-is_full w ↦ choices_full c.args.names.now c.args.by.now (16 - length c.alternatives.choices) c.alternatives.choices c.alternatives.words c.in_ok-guard.guard c.in_ok-guard.branch c.read_branch.new.words c.in_ok-guard.ensures (omega (arith, eqb-true _ _ (sym w.is_full.ensures.value ∙ w.if-is_full.true)))
+    ] in
     rw (p.1, p.2) (sym c.alternatives.invariant.reads ∙ step ∙ ap (with_tail c.alternatives.choices) c.in_err-tail.ensures)
 
 pub returns-then-not-is_accept : goal.returns-then-not-is_accept
 returns-then-not-is_accept c =
     let step : choices_at c.args.names.now c.args.by.now (16 - length c.alternatives.choices) c.alternatives.choices c.alternatives.words ≡ with_tail c.alternatives.choices (tail_from c.in_ok-guard.branch c.in_ok-guard.guard c.read_branch.new.words) =
-        elim c.then-not-is_accept.branch [
-          | then-not-is_accept-via-then-not-is_accept w ↦ choices_end c.args.names.now c.args.by.now (16 - length c.alternatives.choices) c.alternatives.choices c.alternatives.words c.in_ok-guard.guard c.in_ok-guard.branch c.read_branch.new.words c.in_ok-guard.ensures (sym c.is_accept.ensures ∙ w.if-not-is_accept.true)
-          | then-not-is_accept-via-else-not-is_accept+then-is_full w ↦ choices_full c.args.names.now c.args.by.now (16 - length c.alternatives.choices) c.alternatives.choices c.alternatives.words c.in_ok-guard.guard c.in_ok-guard.branch c.read_branch.new.words c.in_ok-guard.ensures (omega (arith, eqb-true _ _ (sym w.is_full.ensures.value ∙ w.if-is_full.true)))
-        ] in
+    elim c.then-not-is_accept.branch [
+      | then-not-is_accept-via-then-not-is_accept w ↦ choices_end c.args.names.now c.args.by.now (16 - length c.alternatives.choices) c.alternatives.choices c.alternatives.words c.in_ok-guard.guard c.in_ok-guard.branch c.read_branch.new.words c.in_ok-guard.ensures (sym c.is_accept.ensures ∙ w.if-not-is_accept.true)
+      | then-not-is_accept-via-else-not-is_accept+then-is_full w ↦ choices_full c.args.names.now c.args.by.now (16 - length c.alternatives.choices) c.alternatives.choices c.alternatives.words c.in_ok-guard.guard c.in_ok-guard.branch c.read_branch.new.words c.in_ok-guard.ensures (omega (arith, eqb-true _ _ (sym w.is_full.ensures.value ∙ w.if-is_full.true)))
+    ] in
     sym c.alternatives.invariant.reads ∙ step ∙ ap (with_tail c.alternatives.choices) c.in_ok-tail.ensures
 
 pub returns-in_err-choice : goal.returns-in_err-choice
@@ -56,5 +56,5 @@ alternatives-preserved c =
     let found : choice_at c.args.names.now c.args.by.now c.in_ok-guard.guard c.read_branch.new.words ≡ Ok ((c.in_ok-choice.choice, None), c.read_choice.new.words) = rw (← none) c.in_ok-choice.ensures in
     rw c.push.ensures record {
       fits = omega (arith, length-append c.alternatives.choices (c.in_ok-choice.choice ∷ []));
-      reads = sym (choice_goes_on c.args.names.now c.args.by.now (16 - length (c.alternatives.choices ++ c.in_ok-choice.choice ∷ [])) c.alternatives.choices c.alternatives.words c.in_ok-guard.guard c.in_ok-guard.branch c.read_branch.new.words c.in_ok-guard.ensures accept c.in_ok-choice.choice c.read_choice.new.words found) ∙ rw (← one) c.alternatives.invariant.reads
+      reads = sym (choice_goes_on c.args.names.now c.args.by.now (16 - length (c.alternatives.choices ++ c.in_ok-choice.choice ∷ [])) c.alternatives.choices c.alternatives.words c.in_ok-guard.guard c.in_ok-guard.branch c.read_branch.new.words c.in_ok-guard.ensures accept c.in_ok-choice.choice c.read_choice.new.words found) ∙ rw (← one) c.alternatives.invariant.reads;
     }

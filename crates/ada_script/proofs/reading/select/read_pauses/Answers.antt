@@ -20,7 +20,7 @@ loop-pauses-preserved c =
     let room = room_left _ 8 c.loop-pauses.invariant.fits (sym c.is_full.ensures.value ∙ c.if-is_full.false) in
     rw c.push-in-loop-pauses.ensures record {
       fits = omega (arith, length-append c.loop-pauses.pauses (c.in_ok-pause.pause ∷ []));
-      reads = sym (repeat_step (λ before rest. next_pause_at rest) 8 c.loop-pauses.pauses c.loop-pauses.words c.in_ok-pause.pause c.read_next_pause.new.words (sym c.is_over.ensures ∙ c.loop-pauses-test.true) room c.in_ok-pause.ensures) ∙ c.loop-pauses.invariant.reads
+      reads = sym (repeat_step (λ before rest. next_pause_at rest) 8 c.loop-pauses.pauses c.loop-pauses.words c.in_ok-pause.pause c.read_next_pause.new.words (sym c.is_over.ensures ∙ c.loop-pauses-test.true) room c.in_ok-pause.ensures) ∙ c.loop-pauses.invariant.reads;
     }
 
 pub returns : goal.returns

@@ -1,0 +1,6 @@
+use Rattle.std.proofs.Common.{◌≡◌, ◌++◌, drop}
+use Rattle.ada_script.specs.Texts.{bounds_text}
+use Rattle.ada_script.proofs.printing.parts.put_families.Given as goal
+
+abbrev pub invariant-loop-place : goal.invariant-loop-place
+invariant-loop-place l = l.out.items ++ bounds_text l.declared l.place (drop l.place l.families) ≡ l.initial.out.items ++ bounds_text l.declared 0 l.families

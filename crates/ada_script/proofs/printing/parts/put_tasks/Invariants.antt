@@ -1,0 +1,7 @@
+use Rattle.std.proofs.Common.{◌≡◌, ◌++◌, take}
+use Rattle.std.specs.List.{flat_map}
+use Rattle.ada_script.specs.Texts.{listed_text}
+use Rattle.ada_script.proofs.printing.parts.put_tasks.Given as goal
+
+abbrev pub invariant-loop-task : goal.invariant-loop-task
+invariant-loop-task l = l.out.items ≡ l.initial.out.items ++ flat_map (listed_text l.names) (take l.task-index l.tasks)
