@@ -4,5 +4,6 @@
 pub mod fault;
 pub mod input;
 pub mod output;
+pub mod play;
 
 pub use fault::{Ending, RunFault, status_of};

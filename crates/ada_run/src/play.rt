@@ -1,0 +1,61 @@
+//! Playing the lines of a script on a kernel.
+ghost use Rattle.std.specs.Prelude.{◌≡◌, ℕ, ◌≤◌, ◌++◌, [], length, IfOk, IfErr, OnOk, OnErr};
+ghost use Rattle.ada_events.specs.Lawful.{IsLawful, IsSettled};
+ghost use Rattle.ada_run.specs.Play.{group_text, SaysRequest};
+ghost use Rattle.ada_script.specs.Texts.{refusal_text};
+ghost use Rattle.ada_events.specs.Tasks.{task_count as count_of_tasks};
+
+use crate::RunFault;
+use ada_events::{Journal, Refusal, Request, TaskNo};
+use ada_kernel::Kernel;
+use ada_plain::tasks::task_count;
+use ada_script::{Line, Names, write_event, write_refusal};
+use std::alloc::Global;
+
+// The lines of all events behind the first `from`, in their order.
+#[tactic(auto, using(crate::proofs::Groups::group_text_more, crate::proofs::Groups::group_text_none))]
+fn print_group(alloc: Global, journal: &Journal, names: &Names, from: u32) -> Result<Vec<u8>, RunFault>
+    requires { from ≤ length journal.now.events }
+    ensures ok { IfOk result (λ text. text.items ≡ group_text names.now from journal.now.events) }
+    ensures err { IfErr result (λ fault. fault ≡ RunFault.Memory) }
+{
+    let mut text = Vec::new(alloc);
+    let events = journal.as_slice();
+    for at in from as usize..events.len() {
+        write_event(at as u32 + 1, &events[at], names, &mut text).map_err(|_| RunFault::Memory)?;
+    }
+    Ok(text)
+}
+
+fn print_refusal(alloc: Global, line: u32, cause: Refusal) -> Result<Vec<u8>, RunFault>
+    ensures ok { IfOk result (λ text. text.items ≡ refusal_text line cause) }
+    ensures err { IfErr result (λ fault. fault ≡ RunFault.Memory) }
+{
+    let mut text = Vec::new(alloc);
+    write_refusal(line, cause, &mut text).map_err(|_| RunFault::Memory)?;
+    Ok(text)
+}
+
+// How many tasks the kernel has, which is the number of the task that it makes next.
+fn next_task(kernel: &Kernel) -> TaskNo
+    ensures { result.0 ≡ count_of_tasks kernel.now }
+{
+    TaskNo(task_count(kernel.journal().as_slice()) as u16)
+}
+
+// Makes a request of the kernel, and gives what the line prints.
+fn say_request(alloc: Global, kernel: &mut Kernel, names: &mut Names, line: &Line, request: Request) -> Result<Vec<u8>, RunFault>
+    ensures ok { IfOk result (λ text. SaysRequest line.now (record { journal = kernel.old; names = names.old }) text.items (record { journal = kernel.new; names = names.new }) request) }
+    ensures err { IfErr result (λ fault. fault ≡ RunFault.Memory) }
+{
+    let from = kernel.journal().len();
+    let made = next_task(kernel);
+    match kernel.step(request) {
+        Ok(at) => {
+            names.bind(&line.statement, at, made);
+            print_group(alloc, kernel.journal(), names, from)
+        }
+        Err(Refusal::OutOfMemory) => Err(RunFault::Memory),
+        Err(cause) => print_refusal(alloc, line.line, cause),
+    }
+}
