@@ -5,3 +5,4 @@ mod Waiting
 mod Termination
 mod Abort
 mod Refused
+mod Asked

@@ -11,5 +11,9 @@ pub mod Waits
 pub mod Forced
 pub mod Asks
 pub mod Refusals
+pub mod Outcomes
+pub mod Attributes
+pub mod Slots
 pub mod Lawful
+pub mod Boards
 pub mod Steps

@@ -94,8 +94,8 @@ impl Journal {
     }
 }
 
-// The event at a position of a list in the order of arrival.
-fn event_in(events: &[Event], at: u32) -> Option<&Event>
+/// The event at a position of a list in the order of arrival, from 1; none at 0 and past the end.
+pub fn event_in(events: &[Event], at: u32) -> Option<&Event>
     ensures { option_copied result ≡ event_at (reverse events.now) at }
 {
     if at == 0 {

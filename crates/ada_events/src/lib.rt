@@ -4,6 +4,7 @@
 //! list of its events with the newest first, and a moment as a whole number of milliseconds.
 #![tactic(auto)]
 
+pub mod board;
 pub mod bounded;
 pub mod event;
 pub mod journal;
@@ -12,6 +13,7 @@ pub mod outcome;
 pub mod refusal;
 pub mod request;
 
+pub use board::Board;
 pub use bounded::Bounded;
 pub use event::{Event, EventTail, Way};
 pub use journal::Journal;

@@ -2,6 +2,7 @@ pub mod CauseParts
 pub mod Chains
 pub mod Doubles
 pub mod Dues
+pub mod Latest
 pub mod Lists
 pub mod Loops
 pub mod Members

@@ -11,6 +11,7 @@ pub mod kernel;
 pub mod limits;
 pub mod masters;
 pub mod nests;
+pub mod outcomes;
 pub mod phases;
 pub mod refusals;
 pub mod says;

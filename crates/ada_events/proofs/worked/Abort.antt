@@ -9,7 +9,7 @@ use Rattle.ada_events.proofs.worked.Turns.{Turn, accepted, after, IsPlayed, ever
 use Rattle.ada_events.proofs.worked.Rendezvous.{preamble_turns}
 
 -- a task within two rendezvous aborts itself
-abbrev self_abort_turns : List Turn
+abbrev pub self_abort_turns : List Turn
 self_abort_turns =
     accepted (Call (task 2) (task 1) (entry 0 (pos 0)) Simple)
     (Called (task 2) (task 1) (entry 0 (pos 0)) Simple None ∷ []) ∷
@@ -30,7 +30,7 @@ unfolding everything
 self_abort = refl
 
 -- the abort of a caller in a rendezvous
-abbrev abort_in_rendezvous_turns : List Turn
+abbrev pub abort_in_rendezvous_turns : List Turn
 abort_in_rendezvous_turns =
     accepted (Wait (task 1) (open_choice (entry 0 (pos 0)) ∷ []) Nothing 0)
     (Waiting (task 1) (open_choice (entry 0 (pos 0)) ∷ []) NoTail 0 ∷ []) ∷

@@ -72,7 +72,7 @@ unfolding everything
 preamble = refl
 
 -- calls are taken in the order of their arrival
-abbrev order_of_arrival_turns : List Turn
+abbrev pub order_of_arrival_turns : List Turn
 order_of_arrival_turns =
     accepted (Wait (task 1) (open_choice (entry 0 (pos 0)) ∷ []) Nothing 0)
     (Waiting (task 1) (open_choice (entry 0 (pos 0)) ∷ []) NoTail 0 ∷ []) ∷
@@ -173,7 +173,7 @@ unfolding everything
 picks_the_first = refl
 
 -- of two selectable choices number 1
-abbrev picks_the_second_turns : List Turn
+abbrev pub picks_the_second_turns : List Turn
 picks_the_second_turns =
     accepted (Call (task 2) (task 1) (entry 0 (pos 0)) Simple)
     (Called (task 2) (task 1) (entry 0 (pos 0)) Simple None ∷ []) ∷
@@ -203,7 +203,7 @@ unfolding everything
 picks_by_remainder = refl
 
 -- a closed choice isn't selectable
-abbrev picks_open_choices_turns : List Turn
+abbrev pub picks_open_choices_turns : List Turn
 picks_open_choices_turns =
     accepted (Call (task 2) (task 1) (entry 0 (pos 0)) Simple)
     (Called (task 2) (task 1) (entry 0 (pos 0)) Simple None ∷ []) ∷
@@ -218,7 +218,7 @@ unfolding everything
 picks_open_choices = refl
 
 -- an exception ends a rendezvous
-abbrev raised_turns : List Turn
+abbrev pub raised_turns : List Turn
 raised_turns =
     accepted (Wait (task 1) (open_choice (entry 0 (pos 0)) ∷ []) Nothing 0)
     (Waiting (task 1) (open_choice (entry 0 (pos 0)) ∷ []) NoTail 0 ∷ []) ∷

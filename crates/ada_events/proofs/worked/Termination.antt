@@ -9,7 +9,7 @@ use Rattle.ada_events.specs.declared.refusal.Refusal.TheVariants.{NotRunning}
 use Rattle.ada_events.proofs.worked.Turns.{Turn, accepted, refused, after, IsPlayed, everything, asks_end, ended, main, task, body, block, single, entry, open_choice, closed_choice}
 
 -- one of two activations fails
-abbrev failed_activation_turns : List Turn
+abbrev pub failed_activation_turns : List Turn
 failed_activation_turns =
     accepted (Create main (body main) [])
     (Created main (body main) (body main) [] ∷ []) ∷

@@ -11,7 +11,7 @@ use Rattle.ada_events.proofs.worked.Turns.{Turn, accepted, refused, after, IsPla
 use Rattle.ada_events.proofs.worked.Rendezvous.{preamble_turns}
 
 -- closed choices, an else part, delay alternatives
-abbrev guards_and_delays_turns : List Turn
+abbrev pub guards_and_delays_turns : List Turn
 guards_and_delays_turns =
     accepted (Wait (task 1) (closed_choice (entry 0 (pos 0)) ∷ []) Nothing 0)
     (Waiting (task 1) (closed_choice (entry 0 (pos 0)) ∷ []) NoTail 0 ∷ Passed 9 ProgramError ∷ []) ∷
