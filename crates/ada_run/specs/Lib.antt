@@ -1,3 +1,4 @@
 pub mod Statuses
 pub mod Input
 pub mod Play
+pub mod Ends

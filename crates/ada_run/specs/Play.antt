@@ -1,17 +1,25 @@
 -- The play of a script: what its lines print, one after another, each over the journal and the bindings
 -- that the lines before it left.
-use Rattle.std.specs.Prelude.{◌≡◌, ◌⊎◌, ℕ, suc, ◌+◌, nat_lt, if◌then◌else◌, Some, None, Option, List, [], ◌∷◌, ◌++◌, length, MatchOption}
+use Rattle.std.specs.Prelude.{◌≡◌, ◌⊎◌, ℕ, suc, ◌+◌, nat_lt, nat_le, ◌||◌, Bool, Result, Ok, Err, if◌then◌else◌, Some, None, Option, List, [], ◌∷◌, ◌++◌, length, MatchOption}
 use Rattle.ada_events.specs.declared.event.Event.{Event}
 use Rattle.ada_events.specs.declared.request.Request.{Request}
 use Rattle.ada_events.specs.declared.refusal.Refusal.{Refusal}
+use Rattle.ada_events.specs.declared.refusal.Refusal.TheVariants.{UnknownTask}
+use Rattle.ada_events.specs.declared.names.TaskNo.{TaskNo}
+use Rattle.ada_events.specs.Attributes.{is_callable, own_count}
+use Rattle.ada_events.specs.Phases.{is_terminated}
 use Rattle.ada_events.specs.Tasks.{task_count}
 use Rattle.ada_events.specs.Forced.{task_no}
 use Rattle.ada_events.specs.Refusals.{refusal}
 use Rattle.ada_events.specs.Lawful.{After}
 use Rattle.ada_script.specs.declared.script.Line.{Line}
 use Rattle.ada_script.specs.Scope.{Scope}
-use Rattle.ada_script.specs.Binding.{bind, request_of}
-use Rattle.ada_script.specs.Texts.{event_line, refusal_text}
+use Rattle.ada_script.specs.Binding.{bind, request_of, task_of, entry_of}
+use Rattle.ada_script.specs.declared.statement.Statement.{Statement}
+use Rattle.ada_script.specs.declared.statement.Statement.TheVariants.{ShowCallable, ShowTerminated, ShowCount}
+use Rattle.ada_script.specs.declared.printing.Value.{Value}
+use Rattle.ada_script.specs.declared.printing.Value.TheVariants.{Truth, Number}
+use Rattle.ada_script.specs.Texts.{event_line, refusal_text, shown_text}
 
 -- what a play has come to: the journal, the newest event first, and what names are bound to
 pub record State : Type 0 where
@@ -40,3 +48,41 @@ pub record SaysRefusal (line : Line) (request : Request) (old : State) (text : L
 
 abbrev pub SaysRequest : Line → State → List ℕ → State → Request → Type 0
 SaysRequest line old text new request = SaysGroup line request old text new ⊎ SaysRefusal line request old text new
+
+-- an attribute of a task, where the task that asks and the one that is asked about exist
+abbrev pub attribute : List Event → TaskNo → TaskNo → (List Event → ℕ → Bool) → Result Value Refusal
+attribute journal by task test =
+    if nat_le (task_count journal) by.0 || nat_le (task_count journal) task.0
+    then Err UnknownTask
+    else Ok (Truth (test journal task.0))
+
+abbrev pub counted : Result ℕ Refusal → Result Value Refusal
+counted (Ok count) = Ok (Number count)
+counted (Err cause) = Err cause
+
+-- the attribute that a statement shows (9.9), or the cause for which it isn't shown; of no account for
+-- statements that show nothing
+abbrev pub shown : Scope → List Event → Statement → Result Value Refusal
+shown names journal (ShowCallable by task) = attribute journal (task_of names by) (task_of names task) is_callable
+shown names journal (ShowTerminated by task) = attribute journal (task_of names by) (task_of names task) is_terminated
+shown names journal (ShowCount by entry) = counted (own_count journal (task_of names by).0 (entry_of names by entry))
+shown names journal _ = Err UnknownTask
+
+abbrev pub show_text : ℕ → Result Value Refusal → List ℕ
+show_text line (Ok value) = shown_text line value
+show_text line (Err cause) = refusal_text line cause
+
+-- a line that shows an attribute prints its value, or why it isn't shown, and changes nothing
+pub record SaysShown (line : Line) (old : State) (text : List ℕ) (new : State) : Type 0 where
+  pub unchanged : new ≡ old
+  pub printed : text ≡ show_text line.line (shown old.names old.journal line.statement)
+
+-- what a line prints
+abbrev pub Says : Line → State → List ℕ → State → Type 0
+Says line old text new = MatchOption (request_of old.names line.statement) (SaysShown line old text new) (SaysRequest line old text new)
+
+-- what some lines print, one after another
+abbrev pub Plays : List Line → State → List ℕ → State → Type 0
+Plays [] old text new = (text ≡ []) × (new ≡ old)
+Plays (line ∷ lines) old text new =
+    (mid : State) × (said : List ℕ) × (rest : List ℕ) × Says line old said mid × Plays lines mid rest new × (text ≡ said ++ rest)

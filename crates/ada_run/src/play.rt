@@ -1,16 +1,19 @@
 //! Playing the lines of a script on a kernel.
 ghost use Rattle.std.specs.Prelude.{◌≡◌, ℕ, ◌≤◌, ◌++◌, [], length, IfOk, IfErr, OnOk, OnErr};
 ghost use Rattle.ada_events.specs.Lawful.{IsLawful, IsSettled};
-ghost use Rattle.ada_run.specs.Play.{group_text, SaysRequest};
+ghost use Rattle.ada_run.specs.Play.{group_text, SaysRequest, Says, Plays};
+ghost use Rattle.ada_run.specs.Ends.{state, IsShortage, IsWritten, IsCutShort};
 ghost use Rattle.ada_script.specs.Texts.{refusal_text};
 ghost use Rattle.ada_events.specs.Tasks.{task_count as count_of_tasks};
 
 use crate::RunFault;
+use crate::output::write_output;
 use ada_events::{Journal, Refusal, Request, TaskNo};
 use ada_kernel::Kernel;
 use ada_plain::tasks::task_count;
-use ada_script::{Line, Names, write_event, write_refusal};
+use ada_script::{Line, Names, request, write_event, write_refusal};
 use std::alloc::Global;
+use std::io::Write;
 
 // The lines of all events behind the first `from`, in their order.
 #[tactic(auto, using(crate::proofs::Groups::group_text_more, crate::proofs::Groups::group_text_none))]
@@ -45,7 +48,7 @@ fn next_task(kernel: &Kernel) -> TaskNo
 
 // Makes a request of the kernel, and gives what the line prints.
 fn say_request(alloc: Global, kernel: &mut Kernel, names: &mut Names, line: &Line, request: Request) -> Result<Vec<u8>, RunFault>
-    ensures ok { IfOk result (λ text. SaysRequest line.now (record { journal = kernel.old; names = names.old }) text.items (record { journal = kernel.new; names = names.new }) request) }
+    ensures ok { IfOk result (λ text. SaysRequest line.now (state kernel.old names.old) text.items (state kernel.new names.new) request) }
     ensures err { IfErr result (λ fault. fault ≡ RunFault.Memory) }
 {
     let from = kernel.journal().len();
@@ -58,4 +61,42 @@ fn say_request(alloc: Global, kernel: &mut Kernel, names: &mut Names, line: &Lin
         Err(Refusal::OutOfMemory) => Err(RunFault::Memory),
         Err(cause) => print_refusal(alloc, line.line, cause),
     }
+}
+
+// What a line prints: what its request leads to, or the attribute that it shows.
+fn say(alloc: Global, kernel: &mut Kernel, names: &mut Names, line: &Line) -> Result<Vec<u8>, RunFault>
+    ensures ok { IfOk result (λ text. Says line.now (state kernel.old names.old) text.items (state kernel.new names.new)) }
+    ensures err { IfErr result (λ fault. fault ≡ RunFault.Memory) }
+{
+    match request(&line.statement, names) {
+        Some(request) => say_request(alloc, kernel, names, line, request),
+        None => Err(RunFault::Memory),
+    }
+}
+
+// Plays a line, and writes what it prints.
+fn play_line<W: Write>(alloc: Global, kernel: &mut Kernel, names: &mut Names, line: &Line, writer: &mut W) -> Result<(), RunFault>
+    ensures ok { OnOk result (IsWritten (Says line.now (state kernel.old names.old)) (W.contents writer.old) (W.contents writer.new) (state kernel.new names.new)) }
+    ensures err { IfErr result (λ fault. IsShortage fault × IsCutShort (Says line.now (state kernel.old names.old)) (W.contents writer.old) (W.contents writer.new)) }
+    ensures at_rest { IsLawful kernel.old × IsSettled kernel.old }
+{
+    let _journal = kernel.journal();
+    match say(alloc, kernel, names, line) {
+        Ok(text) => write_output(writer, &text),
+        Err(fault) => Err(fault),
+    }
+}
+
+/// Plays some lines, one after another, and writes what each prints. Where memory or the output is
+/// refused, a beginning of what they print was written.
+pub fn play<W: Write>(alloc: Global, kernel: &mut Kernel, names: &mut Names, lines: &[Line], writer: &mut W) -> Result<(), RunFault>
+    ensures ok { OnOk result (IsWritten (Plays lines.now (state kernel.old names.old)) (W.contents writer.old) (W.contents writer.new) (state kernel.new names.new)) }
+    ensures err { IfErr result (λ fault. IsShortage fault × IsCutShort (Plays lines.now (state kernel.old names.old)) (W.contents writer.old) (W.contents writer.new)) }
+{
+    for line in lines {
+        if let Err(fault) = play_line(alloc, kernel, names, line, writer) {
+            return Err(fault);
+        }
+    }
+    Ok(())
 }
