@@ -15,7 +15,7 @@ pub appends_more : (old mid new : Option (List ℕ)) (bytes : List ℕ) (n m : �
 appends_more old mid new bytes n m first second =
     let rest : take (length bytes - n) (drop n bytes) ≡ drop n bytes = take_all (length bytes - n) (drop n bytes) (omega (arith, length-drop n bytes)) in
     let both : Appends old new (take n bytes ++ take m (drop n bytes)) =
-        appends_both old mid new (take n bytes) (take m (drop n bytes)) first (subst (λ bs. Appends mid new (take m bs)) rest second) in
+    appends_both old mid new (take n bytes) (take m (drop n bytes)) first (subst (λ bs. Appends mid new (take m bs)) rest second) in
     subst (λ bs. Appends old new bs) (sym (take-add n m bytes)) both
 
 -- what was consumed, up to the end or to a bound, is the input's beginning up to that bound

@@ -35,9 +35,9 @@ plays-append (first ∷ lines) more old mid new text rest (next, a, b, first_say
 
 request_at_rest : (line : Line) (request : Request) (old new : State) (text : List ℕ) → IsAtRest old → SaysRequest line old text new request → IsAtRest new
 request_at_rest line request old new text rest (inl group) = record {
-    lawful = stays_lawful old.journal request new.journal rest.lawful rest.settled group.unrefused group.after;
-    settled = group.after.settled
-  }
+  lawful = stays_lawful old.journal request new.journal rest.lawful rest.settled group.unrefused group.after;
+  settled = group.after.settled;
+}
 request_at_rest line request old new text rest (inr refused) = subst IsAtRest (sym refused.unchanged) rest
 
 at_rest : (line : Line) (asked : Option Request) (old new : State) (text : List ℕ) → IsAtRest old → MatchOption asked (SaysShown line old text new) (SaysRequest line old text new) → IsAtRest new
@@ -56,25 +56,25 @@ pub record Said (line : Line) (asked : Option Request) (old : State) : Type 0 wh
 
 refused_or_not : (line : Line) (request : Request) (old : State) → IsAtRest old → (answer : Option Refusal) → refusal old.journal request ≡ answer → Said line (Some request) old
 refused_or_not line request old rest (Some cause) is = record {
-    text = refusal_text line.line cause;
-    new = old;
-    says = inr (record { cause = cause; refused = is; unchanged = refl; printed = refl })
-  }
+  text = refusal_text line.line cause;
+  new = old;
+  says = inr (record { cause = cause; refused = is; unchanged = refl; printed = refl });
+}
 refused_or_not line request old rest None is =
     let (journal, after) = leads_to_a_journal old.journal request rest.lawful rest.settled is in
     let names = bind old.names line.statement (length old.journal + 1) (task_no (task_count old.journal)) in
     record {
       text = group_text names (length old.journal) journal;
       new = record { journal = journal; names = names };
-      says = inl (record { unrefused = is; after = after; bound = refl; printed = refl })
+      says = inl (record { unrefused = is; after = after; bound = refl; printed = refl });
     }
 
 said : (line : Line) (asked : Option Request) (old : State) → IsAtRest old → Said line asked old
 said line None old rest = record {
-    text = show_text line.line (shown old.names old.journal line.statement);
-    new = old;
-    says = record { unchanged = refl; printed = refl }
-  }
+  text = show_text line.line (shown old.names old.journal line.statement);
+  new = old;
+  says = record { unchanged = refl; printed = refl };
+}
 said line (Some request) old rest = refused_or_not line request old rest (refusal old.journal request) refl
 
 -- each line says something
@@ -96,5 +96,5 @@ lines_play (line ∷ lines) old rest =
     record {
       text = first.text ++ others.text;
       new = others.new;
-      plays = (first.new, first.text, others.text, first.says, others.plays, refl)
+      plays = (first.new, first.text, others.text, first.says, others.plays, refl);
     }

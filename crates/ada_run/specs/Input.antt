@@ -1,5 +1,7 @@
 -- What is read of an input.
-use Rattle.std.specs.Prelude.{ℕ, List, take}
+use Rattle.std.specs.Prelude.{◌≡◌, ◌⊎◌, ℕ, List, take}
+use Rattle.ada_run.specs.declared.fault.RunFault.{RunFault}
+use Rattle.ada_run.specs.declared.fault.RunFault.TheVariants.{Memory, Read}
 
 -- the most bytes that a script has: 4,096 lines of 200 bytes and a line feed, and one byte more, with
 -- which it is none
@@ -9,3 +11,7 @@ most_bytes = 823297
 -- the part of an input that is read
 abbrev pub text_of : List ℕ → List ℕ
 text_of bytes = take most_bytes bytes
+
+-- memory was refused, or the input
+abbrev pub IsInputFault : RunFault → Type 0
+IsInputFault fault = (fault ≡ Memory) ⊎ (fault ≡ Read)

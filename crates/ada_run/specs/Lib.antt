@@ -2,3 +2,4 @@ pub mod Statuses
 pub mod Input
 pub mod Play
 pub mod Ends
+pub mod Replay

@@ -1,7 +1,7 @@
 //! Reading an input whole.
-ghost use Rattle.std.specs.Prelude.{◌≡◌, ℕ, ◌+◌, ◌<◌, ◌≤◌, ◌++◌, List, IfOk, IfErr, IfSome, OnErr, vec_len, length};
+ghost use Rattle.std.specs.Prelude.{◌≡◌, ℕ, ◌+◌, ◌<◌, ◌≤◌, ◌++◌, List, IfOk, IfErr, IfSome, vec_len, length};
 ghost use Rattle.std.specs.Io.KnownBytes.{Consumes, IsAtEnd};
-ghost use Rattle.ada_run.specs.Input.{text_of};
+ghost use Rattle.ada_run.specs.Input.{text_of, IsInputFault};
 
 use crate::RunFault;
 use std::alloc::Global;
@@ -19,12 +19,11 @@ fn read_piece<R: Read>(reader: &mut R, text: &mut Vec<u8>) -> Result<usize, RunF
     ensures bytes { IfOk result (λ n. (bytes : List ℕ) × Consumes (R.remaining reader.old) (R.remaining reader.new) bytes × (text.new.items ≡ text.old.items ++ bytes) × (length bytes ≡ n)) }
     ensures bound { IfOk result (λ n. (vec_len text.new ≡ vec_len text.old + n) × (vec_len text.new ≤ 823297)) }
     ensures end { IfOk result (λ n. n ≡ 0 → IsAtEnd (R.remaining reader.new)) }
+    ensures err { IfErr result IsInputFault }
 {
     let mut piece = [0u8; PIECE];
     let room = PIECE.min(MOST_BYTES - text.len());
-    let read = reader
-        .read(&mut piece[..room])
-        .map_err(|_| RunFault::Read)?;
+    let read = reader.read(&mut piece[..room]).map_err(|_| RunFault::Read)?;
     text.extend_from_slice(&piece[..read])
         .map_err(|_| RunFault::Memory)?;
     Ok(read)
@@ -32,7 +31,8 @@ fn read_piece<R: Read>(reader: &mut R, text: &mut Vec<u8>) -> Result<usize, RunF
 
 /// Reads an input to its end, or its first 823,297 bytes. Any error of the reader is `Read`.
 pub fn read_input<R: Read>(alloc: Global, reader: &mut R) -> Result<Vec<u8>, RunFault>
-    ensures { IfOk result (λ text. IfSome (R.remaining reader.old) (λ bytes. text.items ≡ text_of bytes)) }
+    ensures ok { IfOk result (λ text. IfSome (R.remaining reader.old) (λ bytes. text.items ≡ text_of bytes)) }
+    ensures err { IfErr result IsInputFault }
 {
     let mut text = Vec::new(alloc);
     let mut more = true;

@@ -5,5 +5,7 @@ pub mod fault;
 pub mod input;
 pub mod output;
 pub mod play;
+pub mod replaying;
 
 pub use fault::{Ending, RunFault, status_of};
+pub use replaying::replay;

@@ -17,7 +17,12 @@ use std::io::Write;
 
 // The lines of all events behind the first `from`, in their order.
 #[tactic(auto, using(crate::proofs::Groups::group_text_more, crate::proofs::Groups::group_text_none))]
-fn print_group(alloc: Global, journal: &Journal, names: &Names, from: u32) -> Result<Vec<u8>, RunFault>
+fn print_group(
+    alloc: Global,
+    journal: &Journal,
+    names: &Names,
+    from: u32,
+) -> Result<Vec<u8>, RunFault>
     requires { from ≤ length journal.now.events }
     ensures ok { IfOk result (λ text. text.items ≡ group_text names.now from journal.now.events) }
     ensures err { IfErr result (λ fault. fault ≡ RunFault.Memory) }
@@ -47,7 +52,13 @@ fn next_task(kernel: &Kernel) -> TaskNo
 }
 
 // Makes a request of the kernel, and gives what the line prints.
-fn say_request(alloc: Global, kernel: &mut Kernel, names: &mut Names, line: &Line, request: Request) -> Result<Vec<u8>, RunFault>
+fn say_request(
+    alloc: Global,
+    kernel: &mut Kernel,
+    names: &mut Names,
+    line: &Line,
+    request: Request,
+) -> Result<Vec<u8>, RunFault>
     ensures ok { IfOk result (λ text. SaysRequest line.now (state kernel.old names.old) text.items (state kernel.new names.new) request) }
     ensures err { IfErr result (λ fault. fault ≡ RunFault.Memory) }
 {
@@ -64,7 +75,12 @@ fn say_request(alloc: Global, kernel: &mut Kernel, names: &mut Names, line: &Lin
 }
 
 // What a line prints: what its request leads to, or the attribute that it shows.
-fn say(alloc: Global, kernel: &mut Kernel, names: &mut Names, line: &Line) -> Result<Vec<u8>, RunFault>
+fn say(
+    alloc: Global,
+    kernel: &mut Kernel,
+    names: &mut Names,
+    line: &Line,
+) -> Result<Vec<u8>, RunFault>
     ensures ok { IfOk result (λ text. Says line.now (state kernel.old names.old) text.items (state kernel.new names.new)) }
     ensures err { IfErr result (λ fault. fault ≡ RunFault.Memory) }
 {
@@ -75,7 +91,13 @@ fn say(alloc: Global, kernel: &mut Kernel, names: &mut Names, line: &Line) -> Re
 }
 
 // Plays a line, and writes what it prints.
-fn play_line<W: Write>(alloc: Global, kernel: &mut Kernel, names: &mut Names, line: &Line, writer: &mut W) -> Result<(), RunFault>
+fn play_line<W: Write>(
+    alloc: Global,
+    kernel: &mut Kernel,
+    names: &mut Names,
+    line: &Line,
+    writer: &mut W,
+) -> Result<(), RunFault>
     ensures ok { OnOk result (IsWritten (Says line.now (state kernel.old names.old)) (W.contents writer.old) (W.contents writer.new) (state kernel.new names.new)) }
     ensures err { IfErr result (λ fault. IsShortage fault × IsCutShort (Says line.now (state kernel.old names.old)) (W.contents writer.old) (W.contents writer.new)) }
     ensures at_rest { IsLawful kernel.old × IsSettled kernel.old }
@@ -89,7 +111,13 @@ fn play_line<W: Write>(alloc: Global, kernel: &mut Kernel, names: &mut Names, li
 
 /// Plays some lines, one after another, and writes what each prints. Where memory or the output is
 /// refused, a beginning of what they print was written.
-pub fn play<W: Write>(alloc: Global, kernel: &mut Kernel, names: &mut Names, lines: &[Line], writer: &mut W) -> Result<(), RunFault>
+pub fn play<W: Write>(
+    alloc: Global,
+    kernel: &mut Kernel,
+    names: &mut Names,
+    lines: &[Line],
+    writer: &mut W,
+) -> Result<(), RunFault>
     ensures ok { OnOk result (IsWritten (Plays lines.now (state kernel.old names.old)) (W.contents writer.old) (W.contents writer.new) (state kernel.new names.new)) }
     ensures err { IfErr result (λ fault. IsShortage fault × IsCutShort (Plays lines.now (state kernel.old names.old)) (W.contents writer.old) (W.contents writer.new)) }
 {

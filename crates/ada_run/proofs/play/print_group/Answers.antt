@@ -7,4 +7,4 @@ pub loop-at-init : goal.loop-at-init
 loop-at-init c =
     c.new-text.ensures.items
     ∙ sym (group_text_none c.args.names.now c.as_slice-events.result.now c.args.from
-        (omega (arith, c.requires, ap length c.as_slice-events.ensures.value, length-reverse c.as_slice-events.result.now)))
+    (omega (arith, c.requires, ap length c.as_slice-events.ensures.value, length-reverse c.as_slice-events.result.now)))

@@ -4,5 +4,10 @@ use Rattle.ada_run.proofs.play.say_request.Goals as goal
 
 pub print_group-requires : goal.print_group-requires
 print_group-requires c =
-    omega (arith, c.len-from.ensures, ap length c.journal.ensures.events, ap length c.journal-in-Ok.ensures.events,
-        accepted_grows c.args.kernel.now c.args.request c.in-Ok.at c.step.new.self c.in-Ok.ensures.ok)
+    omega (
+      arith,
+      c.len-from.ensures,
+      ap length c.journal.ensures.events,
+      ap length c.journal-in-Ok.ensures.events,
+      accepted_grows c.args.kernel.now c.args.request c.in-Ok.at c.step.new.self c.in-Ok.ensures.ok,
+    )

@@ -1,0 +1,71 @@
+-- What a replay promises.
+use Rattle.std.specs.Prelude.{◌≡◌, ◌⊎◌, ℕ, true, false, Option, List, [], IfSome}
+use Rattle.std.specs.Io.KnownBytes.{Appends, Keeps}
+use Rattle.ada_events.specs.declared.event.Event.{Event}
+use Rattle.ada_events.specs.Attributes.{is_finished}
+use Rattle.ada_script.specs.declared.fault.ScriptFault.{ScriptFault}
+use Rattle.ada_script.specs.declared.fault.Cause.TheVariants.{OutOfMemory}
+use Rattle.ada_script.specs.declared.script.Line.{Line}
+use Rattle.ada_script.specs.Script.{scope_of, IsScript}
+use Rattle.ada_run.specs.declared.fault.Ending.{Ending}
+use Rattle.ada_run.specs.declared.fault.Ending.TheVariants.{Finished, Unfinished}
+use Rattle.ada_run.specs.declared.fault.RunFault.{RunFault}
+use Rattle.ada_run.specs.declared.fault.RunFault.TheVariants.{Script, TooManyTasks, Memory, Read, Write, Threads}
+use Rattle.ada_run.specs.Input.{text_of}
+use Rattle.ada_run.specs.Play.{State, Plays}
+use Rattle.ada_run.specs.Ends.{IsWritten, IsCutShort}
+
+-- the state before a script's first line: an empty journal, and the main program's name alone bound
+abbrev pub beginning : List Line → State
+beginning script = record { journal = []; names = scope_of script }
+
+-- the ending says whether the main program is terminated
+abbrev pub Tells : Ending → List Event → Type 0
+Tells Finished journal = is_finished journal ≡ true
+Tells Unfinished journal = is_finished journal ≡ false
+
+-- a script's play was written
+pub record IsScriptReplayed (ending : Ending) (script : List Line) (before after : Option (List ℕ)) : Type 0 where
+  pub new : State
+  pub written : IsWritten (Plays script (beginning script)) before after new
+  pub tells : Tells ending new.journal
+
+-- the text is a script, and its play was written
+pub record IsReplayed (ending : Ending) (text : List ℕ) (before after : Option (List ℕ)) : Type 0 where
+  pub script : List Line
+  pub reads : IsScript text script
+  pub replayed : IsScriptReplayed ending script before after
+
+-- the text is a script, and a beginning of its play was written
+pub record IsBrokenOff (text : List ℕ) (before after : Option (List ℕ)) : Type 0 where
+  pub script : List Line
+  pub reads : IsScript text script
+  pub cut : IsCutShort (Plays script (beginning script)) before after
+
+-- want of memory, or a fault of a script, which isn't want of memory
+abbrev pub IsReadingFault : RunFault → Type 0
+IsReadingFault (Script fault) = fault.cause ≡ OutOfMemory → ⊥
+IsReadingFault TooManyTasks = ⊥
+IsReadingFault Memory = Unit {0}
+IsReadingFault Read = ⊥
+IsReadingFault Write = ⊥
+IsReadingFault Threads = ⊥
+
+-- what a fault says of what was written of a text's play: nothing where the text is no script, and where
+-- memory or the output was refused nothing or a beginning of the play
+abbrev pub BreaksText : RunFault → List ℕ → Option (List ℕ) → Option (List ℕ) → Type 0
+BreaksText (Script fault) text before after = Keeps before after × (fault.cause ≡ OutOfMemory → ⊥)
+BreaksText TooManyTasks text before after = ⊥
+BreaksText Memory text before after = Keeps before after ⊎ IsBrokenOff text before after
+BreaksText Read text before after = ⊥
+BreaksText Write text before after = IsBrokenOff text before after
+BreaksText Threads text before after = ⊥
+
+-- the same of an input, where its bytes are known; nothing was written where it wasn't read
+abbrev pub Breaks : RunFault → Option (List ℕ) → Option (List ℕ) → Option (List ℕ) → Type 0
+Breaks (Script fault) input before after = Keeps before after × (fault.cause ≡ OutOfMemory → ⊥)
+Breaks TooManyTasks input before after = ⊥
+Breaks Memory input before after = Keeps before after ⊎ IfSome input (λ bytes. IsBrokenOff (text_of bytes) before after)
+Breaks Read input before after = Keeps before after
+Breaks Write input before after = IfSome input (λ bytes. IsBrokenOff (text_of bytes) before after)
+Breaks Threads input before after = ⊥
