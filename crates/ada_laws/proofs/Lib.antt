@@ -18,3 +18,5 @@ pub mod Framing
 pub mod Reaching
 pub mod Depending
 pub mod DependentLaws
+pub mod Counting
+pub mod SlotLaws

@@ -4,3 +4,4 @@ pub mod Limits
 pub mod Suspension
 pub mod Calls
 pub mod Dependents
+pub mod Slots

@@ -8,4 +8,5 @@ pub mod calls;
 pub mod dependents;
 pub mod limits;
 pub mod requests;
+pub mod slots;
 pub mod suspension;

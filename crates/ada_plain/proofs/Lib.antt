@@ -2,6 +2,7 @@ pub mod CauseParts
 pub mod Chains
 pub mod Doubles
 pub mod Dues
+pub mod Few
 pub mod Latest
 pub mod Lists
 pub mod Loops
@@ -9,4 +10,4 @@ pub mod Members
 pub mod Numbers
 pub mod Resting
 pub mod Settled
-pub mod Slots
+pub mod SlotSums

@@ -131,7 +131,14 @@ pub fn is_call_of(task: TaskNo, entry: Entry, event: &Event) -> bool
     }
 }
 
-fn is_queued_for(events: &[Event], task: TaskNo, entry: Entry, position: u32, event: &Event) -> bool
+/// The event at a position is a call queued at the entry.
+pub fn is_queued_for(
+    events: &[Event],
+    task: TaskNo,
+    entry: Entry,
+    position: u32,
+    event: &Event,
+) -> bool
     requires { length events.now < 2 ^ 32 }
     ensures { result ≡ (calls.is_call_of task.0 entry event.now && calls.is_queued_at (reverse events.now) position event.now) }
 {

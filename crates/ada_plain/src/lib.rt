@@ -5,6 +5,7 @@
 #![tactic(auto)]
 
 pub mod asks;
+pub mod attributes;
 pub mod calls;
 pub mod forced;
 pub mod kernel;

@@ -109,7 +109,7 @@ pub fn entry_count(family: Family) -> u64
 }
 
 /// How many entries some families have, at most 2^64 - 1.
-#[tactic(auto, unfolding(ada_events::specs::Entries::entries_in), using(crate::proofs::Slots::entries_in_more))]
+#[tactic(auto, unfolding(ada_events::specs::Entries::entries_in), using(crate::proofs::SlotSums::entries_in_more))]
 pub fn entries_in(families: &[Family]) -> u64
     ensures { result ≡ min (entries.entries_in families.now) (2 ^ 64 - 1) }
 {
@@ -132,7 +132,7 @@ fn slots_in(event: &Event) -> u64
 }
 
 /// How many entries all tasks have, at most 2^64 - 1.
-#[tactic(auto, unfolding(ada_events::specs::Refusals::slot_count), using(crate::proofs::Slots::slot_count_more))]
+#[tactic(auto, unfolding(ada_events::specs::Refusals::slot_count), using(crate::proofs::SlotSums::slot_count_more))]
 pub fn slot_count(events: &[Event]) -> u64
     ensures { result ≡ min (refusals.slot_count (reverse events.now)) (2 ^ 64 - 1) }
 {

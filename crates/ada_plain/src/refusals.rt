@@ -241,8 +241,9 @@ fn has_no_accept(request: &Request) -> bool
     }
 }
 
+/// The family of an entry isn't declared by the task (9.5).
 #[tactic(auto, unfolding(ada_events::specs::Refusals::lacks_family))]
-fn lacks_family(events: &[Event], task: TaskNo, entry: Entry) -> bool
+pub fn lacks_family(events: &[Event], task: TaskNo, entry: Entry) -> bool
     requires { length events.now < 2 ^ 32 }
     ensures { result ≡ refusals.lacks_family (reverse events.now) task.0 entry }
 {
@@ -270,14 +271,16 @@ fn names_no_family(events: &[Event], request: &Request) -> bool
     }
 }
 
-fn is_in_range(family: Family, index: i32) -> bool
+/// The index lies in the family's range.
+pub fn is_in_range(family: Family, index: i32) -> bool
     ensures { result ≡ entries.is_in_range family index }
 {
     family.low <= index && index <= family.high
 }
 
+/// The index of an entry lies outside its family's range (9.5).
 #[tactic(auto, unfolding(ada_events::specs::Refusals::is_outside))]
-fn is_outside(events: &[Event], task: TaskNo, entry: Entry) -> bool
+pub fn is_outside(events: &[Event], task: TaskNo, entry: Entry) -> bool
     requires { length events.now < 2 ^ 32 }
     ensures { result ≡ refusals.is_outside (reverse events.now) task.0 entry }
 {

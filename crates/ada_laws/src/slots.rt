@@ -1,0 +1,26 @@
+//! Laws of slots and queues (9.5, 9.9).
+ghost use Rattle.ada_laws.specs.Slots.{SlotsAreFew, QueuesAreShort, SlotsAreNumbered, SlotsAreOfTasks};
+
+/// A lawful journal has at most 1,024 entries over all tasks.
+#[tactic(auto, using(crate::proofs::SlotLaws::slots_are_few))]
+pub fn slots_are_few()
+    ensures { SlotsAreFew }
+{}
+
+/// In a lawful journal at most 256 calls are queued at an entry: each is of a task of its own.
+#[tactic(auto, using(crate::proofs::Counting::queues_are_short))]
+pub fn queues_are_short()
+    ensures { QueuesAreShort }
+{}
+
+/// The slots are the numbers below the number of entries.
+#[tactic(auto, using(crate::proofs::SlotLaws::slots_are_numbered))]
+pub fn slots_are_numbered()
+    ensures { SlotsAreNumbered }
+{}
+
+/// The entry at a slot is that of a task that exists.
+#[tactic(auto, using(crate::proofs::SlotLaws::slots_are_of_tasks))]
+pub fn slots_are_of_tasks()
+    ensures { SlotsAreOfTasks }
+{}
