@@ -40,7 +40,7 @@ module _ {E : Type 0} where
 value_of_decimal : (n : ℕ) (word : List ℕ) → n < 2 ^ 64 → decimal n ≡ word → digits_value 10 word ≡ n
 value_of_decimal n word lt e = subst (λ w. digits_value 10 w ≡ n) e (decimal_is_IsNumeral n lt).1
 
-natural_of-spelled : (n : ℕ) (word : List ℕ) → n < 2 ^ 64 → decimal n ≡ word → natural_of word ≡ Some n
+pub natural_of-spelled : (n : ℕ) (word : List ℕ) → n < 2 ^ 64 → decimal n ≡ word → natural_of word ≡ Some n
 unfolding natural_of
 natural_of-spelled n word lt e =
     let value : digits_value 10 word ≡ n = value_of_decimal n word lt e in

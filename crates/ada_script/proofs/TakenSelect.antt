@@ -77,7 +77,7 @@ pause_reads guard words x e =
     subst (PauseRead guard words) (ok_is (record { guard = guard; duration = a.0.0 }, a.0.1) x a.2)
     (ap (λ (r : List (List ℕ)). guard_words guard ++ (codes "delay" ∷ r)) moment.0 ∙ sym (append_assoc (guard_words guard) (codes "delay" ∷ signed_decimal a.0.0 ∷ []) a.0.1), moment.1)
 
-abbrev or_pause : Pause → List (List ℕ)
+abbrev pub or_pause : Pause → List (List ℕ)
 or_pause pause = codes "or" ∷ pause_words pause
 
 next_pause_by : (words behind rest : List (List ℕ)) (guard : Bool) (branch : Branch) (x : Pause × List (List ℕ)) → words ≡ codes "or" ∷ behind → behind ≡ guard_words guard ++ (branch_word branch ∷ rest)
@@ -93,7 +93,7 @@ next_pause_reads words x e =
     let b = bind_ok (branch_at a.0.1) _ x a.2 in
     next_pause_by words a.0.1 b.0.1 b.0.0.0 b.0.0.1 x (keyword_reads (codes "or") words a.0 a.1) (branch_reads a.0.1 b.0 b.1) b.2
 
-joined_pauses : (first : Pause) (more : List Pause) → joined_by_or (map pause_words (first ∷ more)) ≡ pause_words first ++ flat_map or_pause more
+pub joined_pauses : (first : Pause) (more : List Pause) → joined_by_or (map pause_words (first ∷ more)) ≡ pause_words first ++ flat_map or_pause more
 joined_pauses first [] = sym (append-nil (pause_words first))
 joined_pauses first (second ∷ more) =
     ap (λ (r : List (List ℕ)). pause_words first ++ (codes "or" ∷ r)) (joined_pauses second more) ∙ ap (λ (r : List (List ℕ)). pause_words first ++ r) (sym (flat_map-cons or_pause second more))
@@ -158,7 +158,7 @@ link_reads (word ∷ words) x e =
 
 -- ---- accept alternatives
 
-joined_cons : (first : List (List ℕ)) (others : List (List (List ℕ))) → 0 < length others → joined_by_or (first ∷ others) ≡ first ++ (codes "or" ∷ joined_by_or others)
+pub joined_cons : (first : List (List ℕ)) (others : List (List (List ℕ))) → 0 < length others → joined_by_or (first ∷ others) ≡ first ++ (codes "or" ∷ joined_by_or others)
 joined_cons first [] some = absurd (omega arith)
 joined_cons first (second ∷ others) some = refl
 
