@@ -1,15 +1,13 @@
 -- What is spelled to the end of a line is read again.
-use Rattle.std.proofs.Common.{◌≡◌, ℕ, zero, suc, ◌+◌, ◌<◌, ◌≤◌, Bool, true, false, List, [], ◌∷◌, ◌++◌, length, map, Result, Ok, Err, refl, sym, ap, subst, ◌∙◌, arith, append_assoc}
-use Rattle.std.specs.Prelude.{IsTrue}
+use Rattle.std.proofs.Common.{◌≡◌, ℕ, zero, suc, ◌≤◌, false, List, [], ◌∷◌, ◌++◌, length, map, Ok, refl, sym, ap, ◌∙◌, arith, append_assoc}
 use Rattle.std.specs.List.{flat_map, list_any, AllByRecursion}
 use Rattle.std.specs.Str.{bytes_eq}
 use Rattle.std.proofs.lemmas.List.{append-nil}
 use Rattle.std.proofs.lemmas.List.Concat.{flat_map-cons}
-use Rattle.ada_script.specs.declared.fault.Fault.{Fault}
 use Rattle.ada_script.specs.declared.statement.Declaration.{Declaration}
 use Rattle.ada_script.specs.Spelling.{family_words, bounds_words}
 use Rattle.ada_script.specs.Scope.{Scope, IsTaskName, AreTaskNames, IsFamily, AreFamilies, AreApart}
-use Rattle.ada_script.specs.Reading.{◌>>=◌, Read, repeat_at, task_at, tasks_at, family_at, families_at, name_at, bounds_at, is_over, number_is_next}
+use Rattle.ada_script.specs.Reading.{Read, repeat_at, task_at, tasks_at, family_at, families_at, is_over, number_is_next}
 use Rattle.ada_script.proofs.AgainParts.{task_again, name_again, bounds_again, name_begins}
 use Rattle.ada_script.proofs.TakenLists.{Chain, flat_map-single, list_any-names, map-push}
 
@@ -52,7 +50,7 @@ pub tasks_again : (names : Scope) (tasks : List (List ℕ)) → AreTaskNames nam
 tasks_again names tasks known =
     ap (tasks_at names) (sym (flat_map-single tasks))
     ∙ repeat_again (λ before rest. task_at names rest) (λ task. task ∷ []) (λ before task. IsTaskName names task)
-        (λ before task rest p. (refl, name_begins task p.0)) (λ before task rest p next. task_again names task rest p) 256 [] tasks (chain_of_each (IsTaskName names) [] tasks known.1) known.0
+    (λ before task rest p. (refl, name_begins task p.0)) (λ before task rest p next. task_again names task rest p) 256 [] tasks (chain_of_each (IsTaskName names) [] tasks known.1) known.0
 
 -- ---- families
 

@@ -1,22 +1,21 @@
 -- What is spelled is read again: words, numbers, names and entries.
-use Rattle.std.proofs.Common.{◌≡◌, ◌≢◌, ℕ, zero, suc, ◌+◌, ◌^◌, ◌<◌, ◌≤◌, Bool, true, false, cond, eqb, leb, ltb, ◌||◌, ◌&&◌, List, [], ◌∷◌, ◌++◌, length, get_or, Option, Some, None, Result, Ok, Err, ℤ, pos, negsuc, FitsSigned, w32, w64, refl, sym, ap, subst, ◌∙◌, arith, inl, inr}
-use Rattle.std.specs.Prelude.{IsTrue, IfSome, codes, decimal, option_and_then}
+use Rattle.std.proofs.Common.{◌≡◌, ℕ, suc, ◌^◌, ◌<◌, ◌≤◌, Bool, true, false, eqb, leb, ◌||◌, ◌&&◌, List, [], ◌∷◌, ◌++◌, length, get_or, Option, Some, None, Ok, ℤ, pos, negsuc, refl, sym, arith, inl, inr}
+use Rattle.std.specs.Prelude.{IsTrue, IfSome, decimal}
 use Rattle.std.specs.Fmt.{signed_decimal}
 use Rattle.std.specs.List.{list_all}
 use Rattle.std.specs.Str.{bytes_eq}
 use Rattle.std.proofs.lemmas.Slice.Eq.{bytes_eq-Decides}
-use Rattle.std.proofs.lemmas.Bool.{ltb-true, lt-ltb, true≢false, le-leb, lt-leb, leb-true, ne_eqb}
+use Rattle.std.proofs.lemmas.Bool.{lt-ltb, le-leb, lt-leb, leb-true, ne_eqb}
 use Rattle.std.proofs.lemmas.Bool.Decides.{eqb_tells}
-use Rattle.std.proofs.lemmas.Fmt.{decimal_is_IsNumeral, first_decimal, decimal_nonempty, decimal_digit}
+use Rattle.std.proofs.lemmas.Fmt.{decimal_is_IsNumeral, decimal_nonempty}
 use Rattle.std.proofs.lemmas.Str.Parse.{digit_at}
 use Rattle.ada_events.specs.declared.names.Family.{Family}
-use Rattle.ada_script.specs.declared.fault.Fault.{Fault}
 use Rattle.ada_script.specs.declared.statement.EntryName.{EntryName}
 use Rattle.ada_script.specs.Text.{is_name, is_digit, is_letter, is_name_byte}
-use Rattle.ada_script.specs.Number.{natural_of, positive, negative, integer_of}
+use Rattle.ada_script.specs.Number.{integer_of}
 use Rattle.ada_script.specs.Spelling.{index_words, entry_words, bounds_words}
-use Rattle.ada_script.specs.Scope.{Scope, is_task, is_declared, has_entry, IsTaskName, IsMasterName, IsNewName, IsEntryName, IsIndex, IsMoment}
-use Rattle.ada_script.specs.Reading.{◌>>=◌, Read, word_at, keyword_at, number_from, moment_at, index_at, below_2_32, pick_at, begins_number, optional_index_at, number_is_next, bounds_at, family_bounds_at, name_at, task_at, master_at, new_name_at, entry_at}
+use Rattle.ada_script.specs.Scope.{Scope, IsTaskName, IsMasterName, IsNewName, IsEntryName, IsIndex, IsMoment}
+use Rattle.ada_script.specs.Reading.{keyword_at, moment_at, index_at, pick_at, begins_number, optional_index_at, number_is_next, bounds_at, name_at, task_at, master_at, new_name_at, entry_at}
 use Rattle.ada_script.proofs.Numbers.{natural_of-spelled, IsInteger}
 
 -- ---- words and names
@@ -130,7 +129,11 @@ second_of true true r e = refl
 second_of true false r e = e
 second_of false q r e = absurd cc
 
+-- a name's first byte
+pub name_letter : (b : ℕ) (bytes : List ℕ) → IsTrue (is_name (b ∷ bytes)) → 58 ≤ b
+name_letter b bytes form =
+    high_letter b (leb 65 b) (leb b 90) (leb 97 b) (leb b 122) refl refl (second_of (leb (length bytes) 15) (is_letter b) (list_all is_name_byte bytes) form)
+
 pub name_begins : (name : List ℕ) → IsTrue (is_name name) → begins_number name ≡ false
 name_begins [] form = absurd cc
-name_begins (b ∷ bytes) form =
-    not_begun b (high_letter b (leb 65 b) (leb b 90) (leb 97 b) (leb b 122) refl refl (second_of (leb (length bytes) 15) (is_letter b) (list_all is_name_byte bytes) form))
+name_begins (b ∷ bytes) form = not_begun b (name_letter b bytes form)

@@ -1,20 +1,18 @@
 -- A selective wait that is spelled is read again.
-use Rattle.std.proofs.Common.{◌≡◌, ℕ, zero, suc, ◌+◌, ◌<◌, ◌≤◌, Bool, true, false, List, [], ◌∷◌, ◌++◌, length, map, Option, Some, None, Result, Ok, Err, refl, sym, ap, subst, ◌∙◌, arith, append_assoc}
+use Rattle.std.proofs.Common.{◌≡◌, ℕ, zero, suc, ◌<◌, ◌≤◌, Bool, true, false, List, [], ◌∷◌, ◌++◌, length, map, Option, Some, None, Ok, refl, sym, ap, subst, ◌∙◌, arith, append_assoc}
 use Rattle.std.specs.Prelude.{codes}
 use Rattle.std.specs.Fmt.{signed_decimal}
 use Rattle.std.specs.List.{flat_map, AllByRecursion}
 use Rattle.std.proofs.lemmas.List.{append-nil}
-use Rattle.std.proofs.lemmas.List.Concat.{flat_map-cons}
 use Rattle.ada_events.specs.declared.names.Pause.{Pause}
 use Rattle.ada_events.specs.declared.request.Tail.{Tail}
 use Rattle.ada_events.specs.declared.request.Tail.TheVariants as tails
-use Rattle.ada_script.specs.declared.fault.Fault.{Fault}
 use Rattle.ada_script.specs.declared.reading.select.Branch.{Branch}
 use Rattle.ada_script.specs.declared.reading.select.Branch.TheVariants as branches
 use Rattle.ada_script.specs.declared.statement.Alternative.{Alternative}
 use Rattle.ada_script.specs.Spelling.{entry_words, guard_words, choice_words, pause_words, tail_alternatives, else_words, joined_by_or, select_words}
 use Rattle.ada_script.specs.Scope.{Scope, IsEntryName, IsMoment, IsTail, AreChoices}
-use Rattle.ada_script.specs.Reading.{◌>>=◌, Read, moment_at, entry_at, number_is_next, kind_of, branch_at, tail_of, link_at, pause_at, next_pause_at, pauses_at, choice_at, tail_from, choices_at, alternatives_at, is_over, passed_over}
+use Rattle.ada_script.specs.Reading.{number_is_next, kind_of, branch_at, tail_of, link_at, pause_at, next_pause_at, pauses_at, choice_at, tail_from, choices_at, alternatives_at, is_over, passed_over}
 use Rattle.ada_script.proofs.AgainParts.{keyword_again, moment_again, entry_again}
 use Rattle.ada_script.proofs.AgainLists.{repeat_again, chain_of_each}
 use Rattle.ada_script.proofs.TakenSelect.{branch_word, or_pause, joined_pauses, joined_cons}
@@ -46,8 +44,8 @@ pauses_again : (first : Pause) (more : List Pause) → AllByRecursion (λ pause.
 unfolding pauses_at
 pauses_again first more each fits =
     rw (pause_again first (flat_map or_pause more) each.0)
-        (repeat_again (λ before rest. next_pause_at rest) or_pause (λ before pause. IsMoment pause.duration) (λ before pause rest p. (refl, refl)) (λ before pause rest p next. next_pause_again pause rest p)
-            7 (first ∷ []) more (chain_of_each (λ pause. IsMoment pause.duration) (first ∷ []) more each.1) (omega arith))
+    (repeat_again (λ before rest. next_pause_at rest) or_pause (λ before pause. IsMoment pause.duration) (λ before pause rest p. (refl, refl)) (λ before pause rest p next. next_pause_again pause rest p)
+    7 (first ∷ []) more (chain_of_each (λ pause. IsMoment pause.duration) (first ∷ []) more each.1) (omega arith))
 
 -- ---- accept alternatives
 
@@ -129,7 +127,7 @@ module _ (names : Scope) (by : List ℕ) where
           let some_more : 0 < length (map choice_words cs ++ tail_alternatives tail) = rw is (omega arith) in
           let joined = joined_by_or (map choice_words cs ++ tail_alternatives tail) in
           let words : select_words (c ∷ cs) tail ≡ choice_words c ++ (codes "or" ∷ select_words cs tail) =
-              ap (λ (r : List (List ℕ)). r ++ else_words tail) (joined_cons (choice_words c) (map choice_words cs ++ tail_alternatives tail) some_more) ∙ append_assoc (choice_words c) (codes "or" ∷ joined) (else_words tail) in
+          ap (λ (r : List (List ℕ)). r ++ else_words tail) (joined_cons (choice_words c) (map choice_words cs ++ tail_alternatives tail) some_more) ∙ append_assoc (choice_words c) (codes "or" ∷ joined) (else_words tail) in
           ap (choices_at names by (suc room) before) words ∙ first_again room before c (select_words cs tail) each.0 ∙ rest some_more ∙ ap (λ (b : List Alternative). Ok ((b, tail), [])) (append_assoc before (c ∷ []) cs)
 
 -- ---- whole waits
@@ -144,16 +142,22 @@ joined_cut first (second ∷ others) = (codes "or" ∷ joined_by_or (second ∷ 
 
 select_begins : (choices : List Alternative) (tail : Tail) → 0 < length (map choice_words choices ++ tail_alternatives tail) → Begins (select_words choices tail)
 select_begins (c ∷ cs) tail some =
-    let cut = joined_cut (choice_words c) (map choice_words cs ++ tail_alternatives tail) in
-    (c.guard, branches.Accept, entry_words c.entry ++ (cut.0 ++ else_words tail),
-     ap (λ (r : List (List ℕ)). r ++ else_words tail) cut.1 ∙ append_assoc (choice_words c) cut.0 (else_words tail) ∙ choice_apart c (cut.0 ++ else_words tail))
+    let cut = joined_cut (choice_words c) (map choice_words cs ++ tail_alternatives tail) in (
+      c.guard,
+      branches.Accept,
+      entry_words c.entry ++ (cut.0 ++ else_words tail),
+      ap (λ (r : List (List ℕ)). r ++ else_words tail) cut.1 ∙ append_assoc (choice_words c) cut.0 (else_words tail) ∙ choice_apart c (cut.0 ++ else_words tail),
+    )
 select_begins [] tails.Nothing some = absurd (omega arith)
 select_begins [] tails.Otherwise some = absurd (omega arith)
 select_begins [] (tails.Delays []) some = absurd (omega arith)
 select_begins [] (tails.Delays (p ∷ ps)) some =
-    let cut = joined_cut (pause_words p) (map pause_words ps) in
-    (p.guard, branches.Delay, signed_decimal p.duration ∷ (cut.0 ++ []),
-     ap (λ (r : List (List ℕ)). r ++ []) cut.1 ∙ append_assoc (pause_words p) cut.0 [] ∙ pause_apart p (cut.0 ++ []))
+    let cut = joined_cut (pause_words p) (map pause_words ps) in (
+      p.guard,
+      branches.Delay,
+      signed_decimal p.duration ∷ (cut.0 ++ []),
+      ap (λ (r : List (List ℕ)). r ++ []) cut.1 ∙ append_assoc (pause_words p) cut.0 [] ∙ pause_apart p (cut.0 ++ []),
+    )
 select_begins [] (tails.Terminate guard) some = (guard, branches.Terminate, [], append-nil (guard_words guard ++ (codes "terminate" ∷ [])))
 
 alternative_first : (words : List (List ℕ)) (guard : Bool) (branch : Branch) (rest : List (List ℕ)) → words ≡ guard_words guard ++ (branch_word branch ∷ rest)

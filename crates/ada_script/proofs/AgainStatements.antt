@@ -1,13 +1,12 @@
 -- A statement that may stand is read again from its words.
-use Rattle.std.proofs.Common.{◌≡◌, ℕ, zero, suc, ◌+◌, ◌-◌, ◌<◌, ◌≤◌, Bool, true, false, cond, eqb, List, [], ◌∷◌, ◌++◌, length, take, get_or, Option, Some, None, Result, Ok, Err, refl, sym, ap, subst, ◌∙◌, arith, append_assoc, length-append, ℤ}
-use Rattle.std.specs.Prelude.{IsTrue, codes, decimal}
+use Rattle.std.proofs.Common.{◌≡◌, ℕ, ◌-◌, Bool, true, false, List, [], ◌∷◌, ◌++◌, length, take, get_or, Some, Ok, refl, sym, ap, ◌∙◌, arith, length-append, ℤ}
+use Rattle.std.specs.Prelude.{codes, decimal}
 use Rattle.std.specs.Fmt.{signed_decimal}
 use Rattle.std.specs.List.{flat_map}
 use Rattle.std.specs.Str.{bytes_eq}
-use Rattle.std.proofs.lemmas.List.{append-nil, take_at}
+use Rattle.std.proofs.lemmas.List.{append-nil}
 use Rattle.std.proofs.lemmas.Slice.Eq.{bytes_eq-Decides}
 use Rattle.ada_events.specs.declared.request.Tail.{Tail}
-use Rattle.ada_script.specs.declared.fault.Fault.{Fault}
 use Rattle.ada_script.specs.declared.verb.Verb.{Verb}
 use Rattle.ada_script.specs.declared.verb.Verb.TheVariants as verbs
 use Rattle.ada_script.specs.declared.statement.Statement.{Statement}
@@ -15,11 +14,10 @@ use Rattle.ada_script.specs.declared.statement.Statement.TheVariants.{Tick, Open
 use Rattle.ada_script.specs.declared.statement.Declaration.{Declaration}
 use Rattle.ada_script.specs.declared.statement.EntryName.{EntryName}
 use Rattle.ada_script.specs.declared.statement.Alternative.{Alternative}
-use Rattle.ada_script.specs.Text.{is_name}
-use Rattle.ada_script.specs.Spelling.{speaker, entry_words, index_words, family_words, select_words, words_of}
-use Rattle.ada_script.specs.Scope.{Scope, is_task, IsTaskName, IsEntryName, MayStand}
-use Rattle.ada_script.specs.Reading.{◌>>=◌, Read, word_at, end_at, keyword_at, moment_at, pick_at, task_at, new_name_at, master_at, entry_at, tasks_at, families_at, alternatives_at, is_over, verb_word, all_verbs, verb_of, verb_from, verb_at, tick_at, open_at, create_at, activate_at, abort_at, call_at, call_within_at, try_at, accept_at, delay_at, select_at, show_at, act_at, before_colon, speaker_from, speaker_of, speech_at, statement_at, statement_of}
-use Rattle.ada_script.proofs.AgainParts.{bytes_same, keyword_again, task_again, master_again, new_name_again, moment_again, pick_again, entry_again}
+use Rattle.ada_script.specs.Spelling.{speaker, entry_words, family_words, select_words, words_of}
+use Rattle.ada_script.specs.Scope.{Scope, IsTaskName, IsEntryName, MayStand}
+use Rattle.ada_script.specs.Reading.{entry_at, verb_word, verb_of, verb_at, tick_at, open_at, create_at, activate_at, abort_at, call_at, try_at, accept_at, delay_at, select_at, show_at, act_at, before_colon, speaker_of, speech_at, statement_at, statement_of}
+use Rattle.ada_script.proofs.AgainParts.{keyword_again, task_again, master_again, new_name_again, moment_again, pick_again, entry_again}
 use Rattle.ada_script.proofs.AgainLists.{tasks_again, families_again}
 use Rattle.ada_script.proofs.AgainSelect.{select_again}
 
@@ -85,8 +83,12 @@ module _ (names : Scope) where
   create_again : (by task under : List ℕ) (families : List Declaration) → MayStand names (Create by task under families) → ActAgain by verbs.Create (Create by task under families) (task ∷ codes "under" ∷ under ∷ flat_map family_words families)
   unfolding act_at create_at
   create_again by task under families stands =
-      rw (new_name_again names task (codes "under" ∷ under ∷ flat_map family_words families) stands.1, keyword_again (codes "under") (under ∷ flat_map family_words families),
-          master_again names under (flat_map family_words families) stands.2, families_again families stands.3) refl
+      rw (
+        new_name_again names task (codes "under" ∷ under ∷ flat_map family_words families) stands.1,
+        keyword_again (codes "under") (under ∷ flat_map family_words families),
+        master_again names under (flat_map family_words families) stands.2,
+        families_again families stands.3,
+      ) refl
 
   activate_again : (by : List ℕ) (tasks : List (List ℕ)) → MayStand names (Activate by tasks) → ActAgain by verbs.Activate (Activate by tasks) tasks
   unfolding act_at activate_at
@@ -107,8 +109,12 @@ module _ (names : Scope) where
   call_within_again : (by callee : List ℕ) (entry : EntryName) (duration : ℤ) → MayStand names (CallWithin by callee entry duration) → ActAgain by verbs.Call (CallWithin by callee entry duration) (callee ∷ (entry_words entry ++ codes "within" ∷ signed_decimal duration ∷ []))
   unfolding act_at call_at
   call_within_again by callee entry duration stands =
-      rw (task_again names callee (entry_words entry ++ codes "within" ∷ signed_decimal duration ∷ []) stands.1, entry_again names callee entry (codes "within" ∷ signed_decimal duration ∷ []) stands.2 refl,
-          keyword_again (codes "within") (signed_decimal duration ∷ []), moment_again duration [] stands.3) refl
+      rw (
+        task_again names callee (entry_words entry ++ codes "within" ∷ signed_decimal duration ∷ []) stands.1,
+        entry_again names callee entry (codes "within" ∷ signed_decimal duration ∷ []) stands.2 refl,
+        keyword_again (codes "within") (signed_decimal duration ∷ []),
+        moment_again duration [] stands.3,
+      ) refl
 
   try_again : (by callee : List ℕ) (entry : EntryName) → MayStand names (Try by callee entry) → ActAgain by verbs.Try (Try by callee entry) (callee ∷ entry_words entry)
   unfolding act_at try_at

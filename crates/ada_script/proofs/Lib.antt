@@ -13,4 +13,5 @@ pub mod AgainSelect
 pub mod AgainStatements
 pub mod Written
 pub mod Lines
+pub mod Once
 pub mod Bound

@@ -1,5 +1,5 @@
 -- Reading lines one after the other, as a loop does.
-use Rattle.std.proofs.Common.{◌≡◌, ℕ, ◌+◌, List, [], ◌∷◌, ◌++◌, false, Result, Ok, Err, refl, sym, ap, subst, ◌∙◌, inl, inr}
+use Rattle.std.proofs.Common.{◌≡◌, ℕ, ◌+◌, List, ◌∷◌, ◌++◌, false, Ok, Err, refl, sym, ap, subst, ◌∙◌, inl, inr}
 use Rattle.ada_script.specs.declared.fault.Cause.{Cause}
 use Rattle.ada_script.specs.declared.fault.Fault.{Fault}
 use Rattle.ada_script.specs.declared.fault.Fault.TheVariants.{BadStatement, BadNumber, UnknownName, DoubleName}
@@ -33,12 +33,14 @@ reads_on before after number line lines behind first adds all others =
 
 -- a fault of the words, which are skipped for no reason
 pub says_nothing : (names : Scope) (before : List Line) (words : List (List ℕ)) (fault : Fault) → names ≡ scope_of before → Err fault ≡ statement_of names words → is_skipped words ≡ false → SaysNothing before words
-says_nothing names before words fault known read skipped =
-    (skipped, λ statement said.
-        let stands : MayStand names statement = subst (λ (n : Scope). MayStand n statement) (sym known) said.stands in
-        let again : statement_of names words ≡ Ok statement = ap (statement_of names) (sym said.spelled) ∙ statement_again names statement stands in
-        let both : Err fault ≡ Ok statement = read ∙ again in
-        absurd cc)
+says_nothing names before words fault known read skipped = (
+  skipped,
+  λ statement said.
+      let stands : MayStand names statement = subst (λ (n : Scope). MayStand n statement) (sym known) said.stands in
+      let again : statement_of names words ≡ Ok statement = ap (statement_of names) (sym said.spelled) ∙ statement_again names statement stands in
+      let both : Err fault ≡ Ok statement = read ∙ again in
+      absurd cc,
+)
 
 pub of_words : (fault : Fault) → IsOfWords (cause_of fault)
 of_words BadStatement = tt

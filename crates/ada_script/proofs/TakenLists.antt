@@ -1,16 +1,15 @@
 -- What is read to the end of a line is spelled so, and has its form.
-use Rattle.std.proofs.Common.{◌≡◌, ℕ, zero, suc, ◌+◌, ◌<◌, ◌≤◌, Bool, true, false, List, [], ◌∷◌, ◌++◌, length, Result, Ok, Err, refl, sym, ap, subst, ◌∙◌, arith, append_assoc, length-append}
-use Rattle.std.specs.Prelude.{IsTrue, map, codes}
+use Rattle.std.proofs.Common.{◌≡◌, ℕ, zero, suc, ◌≤◌, false, List, [], ◌∷◌, ◌++◌, length, Ok, refl, sym, ap, subst, ◌∙◌, arith, append_assoc}
+use Rattle.std.specs.Prelude.{map}
 use Rattle.std.specs.List.{flat_map, list_any, AllByRecursion}
 use Rattle.std.specs.Str.{bytes_eq}
 use Rattle.std.proofs.lemmas.List.{append-nil}
 use Rattle.std.proofs.lemmas.List.Concat.{flat_map-cons}
-use Rattle.ada_script.specs.declared.fault.Fault.{Fault}
 use Rattle.ada_script.specs.declared.statement.Declaration.{Declaration}
 use Rattle.ada_script.specs.Spelling.{family_words}
 use Rattle.ada_script.specs.Scope.{Scope, IsTaskName, AreTaskNames, IsFamily, AreFamilies, AreApart}
-use Rattle.ada_script.specs.Reading.{◌>>=◌, Read, repeat_at, task_at, tasks_at, family_at, families_at, name_at, bounds_at}
-use Rattle.ada_script.proofs.Taken.{bind_ok, unless_ok, ok_is, done, task_reads, name_reads, bounds_reads}
+use Rattle.ada_script.specs.Reading.{Read, repeat_at, task_at, tasks_at, family_at, families_at, name_at, bounds_at}
+use Rattle.ada_script.proofs.Taken.{bind_ok, unless_ok, ok_is, task_reads, name_reads, bounds_reads}
 
 -- each of them stands behind those before it
 abbrev pub Chain : {X : Type 0} → (List X → X → Type 0) → List X → List X → Type 0

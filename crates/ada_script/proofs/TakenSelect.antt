@@ -1,6 +1,6 @@
 -- A selective wait that is read is spelled so, and has its form.
-use Rattle.std.proofs.Common.{◌≡◌, ℕ, zero, suc, ◌+◌, ◌<◌, ◌≤◌, Bool, true, false, cond, not, List, [], ◌∷◌, ◌++◌, length, Option, Some, None, Result, Ok, Err, refl, sym, ap, subst, ◌∙◌, arith, append_assoc, length-append, inl, inr, ◌⊎◌}
-use Rattle.std.specs.Prelude.{IsTrue, map, codes}
+use Rattle.std.proofs.Common.{◌≡◌, ℕ, zero, suc, ◌<◌, ◌≤◌, Bool, true, false, cond, not, List, [], ◌∷◌, ◌++◌, length, Option, Some, None, Ok, refl, sym, ap, subst, ◌∙◌, arith, append_assoc, inl, inr}
+use Rattle.std.specs.Prelude.{map, codes}
 use Rattle.std.specs.Fmt.{signed_decimal}
 use Rattle.std.specs.List.{flat_map, AllByRecursion}
 use Rattle.std.specs.Str.{bytes_eq}
@@ -10,14 +10,13 @@ use Rattle.std.proofs.lemmas.Slice.Eq.{bytes_eq-Decides}
 use Rattle.ada_events.specs.declared.names.Pause.{Pause}
 use Rattle.ada_events.specs.declared.request.Tail.{Tail}
 use Rattle.ada_events.specs.declared.request.Tail.TheVariants as tails
-use Rattle.ada_script.specs.declared.fault.Fault.{Fault}
 use Rattle.ada_script.specs.declared.reading.select.Branch.{Branch}
 use Rattle.ada_script.specs.declared.reading.select.Branch.TheVariants as branches
 use Rattle.ada_script.specs.declared.statement.Alternative.{Alternative}
 use Rattle.ada_script.specs.Spelling.{entry_words, guard_words, choice_words, pause_words, tail_alternatives, else_words, joined_by_or, select_words}
 use Rattle.ada_script.specs.Scope.{Scope, IsEntryName, IsMoment, IsTail, AreChoices}
-use Rattle.ada_script.specs.Reading.{◌>>=◌, Read, word_at, keyword_at, moment_at, entry_at, is_over, repeat_at, passed_over, kind_of, branch_at, tail_of, link_at, pause_at, pause_from, next_pause_at, pauses_at, choice_at, tail_from, is_accept, with_tail, ended_by, choices_at, alternatives_at}
-use Rattle.ada_script.proofs.Taken.{bind_ok, if_ok, chosen, ok_is, done, word_reads, keyword_reads, moment_reads, entry_reads, EntryRead}
+use Rattle.ada_script.specs.Reading.{word_at, keyword_at, moment_at, entry_at, is_over, passed_over, kind_of, branch_at, tail_of, link_at, pause_at, pause_from, next_pause_at, pauses_at, choice_at, tail_from, is_accept, with_tail, ended_by, choices_at, alternatives_at}
+use Rattle.ada_script.proofs.Taken.{bind_ok, if_ok, chosen, ok_is, done, word_reads, keyword_reads, moment_reads, entry_reads}
 use Rattle.ada_script.proofs.TakenLists.{Chain, repeat_reads}
 
 -- ---- the words between the parts

@@ -84,7 +84,7 @@ IsFault before number line cause = IsUnplain number line cause ⊎ (IsOfWords ca
 abbrev pub Stops : List Line → ℕ → List (List ℕ) → ScriptFault → Type 0
 Stops before number [] fault = ⊥
 Stops before number (line ∷ lines) fault = ((fault.line ≡ number) × IsFault before number line fault.cause)
-  ⊎ ((added : List Line) × Adds before number line added × Stops (before ++ added) (number + 1) lines fault)
+    ⊎ ((added : List Line) × Adds before number line added × Stops (before ++ added) (number + 1) lines fault)
 
 -- the first line of a text that isn't acceptable
 abbrev pub IsFirstFault : List ℕ → ScriptFault → Type 0
