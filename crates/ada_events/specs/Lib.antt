@@ -1,0 +1,15 @@
+pub mod Journals
+pub mod Search
+pub mod Says
+pub mod Entries
+pub mod Tasks
+pub mod Masters
+pub mod Phases
+pub mod Calls
+pub mod Nests
+pub mod Waits
+pub mod Forced
+pub mod Asks
+pub mod Refusals
+pub mod Lawful
+pub mod Steps

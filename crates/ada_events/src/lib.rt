@@ -6,15 +6,19 @@
 
 pub mod bounded;
 pub mod event;
+pub mod journal;
 pub mod names;
+pub mod outcome;
 pub mod refusal;
 pub mod request;
 
 pub use bounded::Bounded;
 pub use event::{Event, EventTail, Way};
+pub use journal::Journal;
 pub use names::{
     Choice, Choices, Dues, Entry, Families, Family, Master, Member, Nest, Patience, Pause, Pauses,
     TaskNo, Tasks,
 };
+pub use outcome::Outcome;
 pub use refusal::Refusal;
 pub use request::{Request, Tail};

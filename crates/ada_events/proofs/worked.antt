@@ -1,0 +1,7 @@
+-- Worked journals: scripts played by the definitions alone, each event and each refusal as it has to be.
+mod Turns
+mod Rendezvous
+mod Waiting
+mod Termination
+mod Abort
+mod Refused

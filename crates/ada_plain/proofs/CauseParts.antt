@@ -1,0 +1,27 @@
+-- The first cause, from the four parts of the causes.
+use Rattle.std.proofs.Common.{◌≡◌, Bool, true, false, Option, Some, List, [], ◌∷◌, ◌++◌, refl, ap, ◌∙◌}
+use Rattle.std.specs.Prelude.{if◌then◌else◌}
+use Rattle.std.specs.Option.{option_or}
+use Rattle.ada_events.specs.declared.event.Event.{Event}
+use Rattle.ada_events.specs.declared.refusal.Refusal.{Refusal}
+use Rattle.ada_events.specs.declared.request.Request.{Request}
+use Rattle.ada_events.specs.Refusals.{Cause, first_cause, causes, refusal}
+use Rattle.ada_plain.specs.Causes.{causes_by_name, causes_by_entry, causes_by_nest, causes_by_limit}
+
+if-option_or : (b : Bool) (name : Refusal) (x y : Option Refusal) → (if b then Some name else option_or x y) ≡ option_or (if b then Some name else x) y
+if-option_or true name x y = refl
+if-option_or false name x y = refl
+
+first_cause-append : (xs ys : List Cause) → first_cause (xs ++ ys) ≡ option_or (first_cause xs) (first_cause ys)
+unfolding first_cause
+first_cause-append [] ys = refl
+first_cause-append (c ∷ xs) ys =
+    ap (λ r. if c.applies then Some c.name else r) (first_cause-append xs ys) ∙ if-option_or c.applies c.name (first_cause xs) (first_cause ys)
+
+pub first_cause_in_parts : (journal : List Event) (request : Request) → refusal journal request ≡ option_or (first_cause (causes_by_name journal request)) (option_or (first_cause (causes_by_entry journal request)) (option_or (first_cause (causes_by_nest journal request)) (first_cause (causes_by_limit journal request))))
+unfolding refusal causes
+first_cause_in_parts journal request =
+    first_cause-append (causes_by_name journal request) (causes_by_entry journal request ++ (causes_by_nest journal request ++ causes_by_limit journal request))
+    ∙ ap (option_or (first_cause (causes_by_name journal request)))
+    (first_cause-append (causes_by_entry journal request) (causes_by_nest journal request ++ causes_by_limit journal request)
+    ∙ ap (option_or (first_cause (causes_by_entry journal request))) (first_cause-append (causes_by_nest journal request) (causes_by_limit journal request)))

@@ -1,0 +1,11 @@
+pub mod CauseParts
+pub mod Chains
+pub mod Doubles
+pub mod Dues
+pub mod Lists
+pub mod Loops
+pub mod Members
+pub mod Numbers
+pub mod Resting
+pub mod Settled
+pub mod Slots

@@ -1,0 +1,65 @@
+-- Appending what a request leads to, in a journal that has room for it.
+use Rattle.std.proofs.Common.{◌≡◌, ◌+◌, ◌<◌, ◌≤◌, false, Some, None, List, ◌∷◌, length, reverse, sym, ap, ◌∙◌, subst, arith, inl}
+use Rattle.ada_events.specs.declared.event.Event.{Event}
+use Rattle.ada_events.specs.declared.request.Request.{Request}
+use Rattle.ada_events.specs.Journals.{Kept}
+use Rattle.ada_events.specs.Tasks.{task_count}
+use Rattle.ada_events.specs.Forced.{forced}
+use Rattle.ada_events.specs.Refusals.{refusal, is_too_late}
+use Rattle.ada_events.specs.Asks.{asked_event}
+use Rattle.ada_events.specs.Lawful.{IsLawful, IsSettled, Forces, nothing, one_more, After}
+use Rattle.ada_laws.specs.Work.{work_left}
+use Rattle.ada_laws.proofs.LimitLaws.{tasks_are_few, steps_lessen_the_work, work_left-most, asked_lawful, events_are_few}
+use Rattle.ada_laws.proofs.RequestLaws.{stays_lawful}
+use Rattle.ada_laws.proofs.Accepting.{is_accepted}
+use Rattle.ada_plain.specs.Settling.{IsSettling}
+
+pub few_tasks : (events journal : List Event) → reverse events ≡ journal → IsLawful journal → task_count (reverse events) ≤ 256
+few_tasks events journal same lawful = rw same (tasks_are_few journal lawful)
+
+-- the step that a search gave is the one that the journal forces
+pub forced_step : (events journal : List Event) (step : Event) → reverse events ≡ journal → Some step ≡ forced (reverse events) → forced journal ≡ Some step
+forced_step events journal step same found = sym (rw same at found)
+
+pub forced_none : (events journal : List Event) → reverse events ≡ journal → None ≡ forced (reverse events) → forced journal ≡ None
+forced_none events journal same found = sym (rw same at found)
+
+pub room_left : (from : List Event) (journal : Kept) (step : Event) → IsSettling from journal → forced journal.events ≡ Some step → 0 < journal.spare
+room_left from journal step settling found =
+    omega (arith, steps_lessen_the_work journal.events step settling.lawful found, settling.room)
+
+pub less_work : (old new : Kept) (step : Event) → IsLawful old.events → forced old.events ≡ Some step → new.events ≡ step ∷ old.events → work_left new.events < work_left old.events
+less_work old new step lawful found appended = rw appended (steps_lessen_the_work old.events step lawful found)
+
+pub settling_more : (from : List Event) (old new : Kept) (step : Event) → IsSettling from old → forced old.events ≡ Some step → new.events ≡ step ∷ old.events → old.spare ≤ new.spare + 1 → IsSettling from new
+settling_more from old new step settling found appended spare = record {
+  forces = subst (λ j. Forces from j) (sym appended) (one_more settling.forces found);
+  lawful = subst (λ j. IsLawful j) (sym appended) (settling.lawful, inl found);
+  room = omega (arith, less_work old new step settling.lawful found appended, settling.room);
+}
+
+pub settling_begins : (journal : Kept) → IsLawful journal.events → work_left journal.events ≤ journal.spare → IsSettling journal.events journal
+settling_begins journal lawful room = record { forces = nothing; lawful = lawful; room = room }
+
+pub has_places : (journal : List Event) → IsLawful journal → length journal + 1024 < 4294967296
+has_places journal lawful = omega (arith, events_are_few journal lawful)
+
+pub in_time : (events journal : List Event) (request : Request) → reverse events ≡ journal → refusal journal request ≡ None → is_too_late (reverse events) request ≡ false
+in_time events journal request same unrefused = rw same ((is_accepted journal request unrefused).in_time)
+
+-- with the event of a request appended, the journal is lawful and the work left finds room
+pub asked_room : (old : List Event) (request : Request) (before after : Kept) (event : Event) → IsLawful old → IsSettled old → refusal old request ≡ None → before.events ≡ old → 1024 ≤ before.spare → before.spare ≤ after.spare + 1 → event ≡ asked_event old request → after.events ≡ event ∷ before.events → IsLawful after.events × (work_left after.events ≤ after.spare)
+asked_room old request before after event lawful settled unrefused same room spare is appended =
+    let asked : IsLawful (asked_event old request ∷ old) = asked_lawful old request lawful settled unrefused in
+    let whole : after.events ≡ asked_event old request ∷ old = appended ∙ ap (λ e. e ∷ before.events) is ∙ ap (λ j. asked_event old request ∷ j) same in
+    let after_lawful : IsLawful after.events = subst (λ j. IsLawful j) (sym whole) asked in
+    (after_lawful, omega (arith, work_left-most after.events after_lawful))
+
+pub leads_to : (old : List Event) (request : Request) (asked new : List Event) → asked ≡ asked_event old request ∷ old → Forces asked new → IsSettled new → After old request new
+leads_to old request asked new is forces settled = record {
+  forces = subst (λ j. Forces j new) is forces;
+  settled = settled;
+}
+
+pub stays : (old : List Event) (request : Request) (new : List Event) → IsLawful old → IsSettled old → refusal old request ≡ None → After old request new → IsLawful new
+stays = stays_lawful

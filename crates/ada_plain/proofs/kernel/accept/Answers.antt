@@ -1,0 +1,24 @@
+use Rattle.std.proofs.Common.{◌∙◌, ap, arith, length}
+use Rattle.ada_events.specs.Asks.{asked_event}
+use Rattle.ada_plain.proofs.Settled.{has_places, in_time, asked_room}
+use Rattle.ada_plain.proofs.kernel.accept.Goals as goal
+
+pub reserve-requires : goal.reserve-requires
+reserve-requires c = has_places c.args.journal.now.events c.requires.lawful
+
+pub overflow_add-at : goal.overflow_add-at
+overflow_add-at c =
+    omega (arith, has_places c.args.journal.now.events c.requires.lawful, c.len-at.ensures, ap length c.in_ok-reserve.ensures.events)
+
+pub asked_event-event-requires-clause-in_time : goal.asked_event-event-requires-clause-in_time
+asked_event-event-requires-clause-in_time c =
+    in_time c.as_slice.result.now c.args.journal.now.events c.args.request
+    (c.as_slice.ensures.value ∙ c.in_ok-reserve.ensures.events) c.requires.unrefused
+
+pub settle-requires-clause-room : goal.settle-requires-clause-room
+settle-requires-clause-room c =
+    (asked_room c.args.journal.now.events c.args.request c.reserve.new.self c.push_reserved.new.self c.asked_event-event.result
+    c.requires.lawful c.requires.settled c.requires.unrefused c.in_ok-reserve.ensures.events c.in_ok-reserve.ensures.ok
+    c.push_reserved.ensures.spare
+    (c.asked_event-event.ensures ∙ ap (λ j. asked_event j c.args.request) (c.as_slice.ensures.value ∙ c.in_ok-reserve.ensures.events))
+    c.push_reserved.ensures.events).1

@@ -1,0 +1,5 @@
+pub mod Causes
+pub mod Frames
+pub mod Late
+pub mod Makings
+pub mod Settling

@@ -1,0 +1,139 @@
+//! The event that a request becomes when it is accepted.
+ghost use Rattle.std.specs.Prelude.{◌≡◌, ◌<◌, ◌≤◌, ◌^◌, ◌&&◌, ◌++◌, ◌∷◌, [], false, length, reverse, int_lt, map};
+ghost use Rattle.std.specs.List.{list_any};
+ghost use Rattle.ada_events.specs.Asks as asks;
+ghost use Rattle.ada_events.specs.Nests as nests;
+ghost use Rattle.ada_events.specs.Refusals as refusals;
+ghost use Rattle.ada_events.specs.declared.names.Pause.{Pause as PauseValue};
+ghost use Rattle.ada_plain.specs.Late.{is_late_tail, is_late_call};
+
+use crate::nests::{frame, innermost};
+use crate::tasks::moment;
+use ada_events::{Dues, Event, EventTail, Member, Patience, Pause, Pauses, Request, Tail, TaskNo};
+
+/// The moment at which a duration is over, unless it is behind the last moment.
+#[tactic(auto, unfolding(ada_events::specs::Asks::due_after))]
+fn due_after(now: i64, duration: i64) -> i64
+    ensures { int_lt refusals.last_moment (asks.due_after now duration) ≡ false → result ≡ asks.due_after now duration }
+{
+    now.saturating_add(duration.max(0))
+}
+
+fn pause_due(now: i64, pause: Pause) -> Option<i64>
+    ensures { (pause.guard && int_lt refusals.last_moment (asks.due_after now pause.duration)) ≡ false → result ≡ asks.pause_due now pause }
+{
+    if pause.guard {
+        Some(due_after(now, pause.duration))
+    } else {
+        None
+    }
+}
+
+// The moments at which delay alternatives are due.
+fn pauses_due(now: i64, pauses: &[Pause]) -> Dues
+    requires { length pauses.now ≤ 8 }
+    ensures { list_any (λ (d : PauseValue). d.guard && int_lt refusals.last_moment (asks.due_after now d.duration)) pauses.now ≡ false → result ≡ map (asks.pause_due now) pauses.now }
+{
+    let mut dues = Dues::new();
+    for pause in pauses {
+        dues.push(pause_due(now, *pause));
+    }
+    dues
+}
+
+fn asked_tail(now: i64, tail: Tail) -> EventTail
+    ensures { is_late_tail now tail ≡ false → result ≡ asks.asked_tail now tail }
+{
+    match tail {
+        Tail::Nothing => EventTail::Nothing,
+        Tail::Otherwise => EventTail::Otherwise,
+        Tail::Delays(pauses) => EventTail::Delays(pauses_due(now, pauses.as_slice())),
+        Tail::Terminate(guard) => EventTail::Terminate(guard),
+    }
+}
+
+fn call_due(now: i64, patience: Patience) -> Option<i64>
+    ensures { is_late_call now patience ≡ false → result ≡ asks.call_due now patience }
+{
+    match patience {
+        Patience::Timed(duration) => Some(due_after(now, duration)),
+        _ => None,
+    }
+}
+
+fn innermost_position(events: &[Event], task: TaskNo) -> u32
+    requires { length events.now < 2 ^ 32 }
+    ensures { result ≡ asks.member_position (nests.innermost (nests.nest (reverse events.now) task.0)) }
+{
+    match innermost(events, task) {
+        Some(Member::Block(position)) | Some(Member::Rendezvous(position)) => position,
+        None => 0,
+    }
+}
+
+/// The event that a request becomes when it is accepted: the same, with each duration replaced by the
+/// moment at which it is over.
+#[tactic(auto, unfolding(ada_events::specs::Asks::asked_event, ada_events::specs::Refusals::is_too_late))]
+pub fn asked_event(events: &[Event], request: Request) -> Event
+    requires short { length events.now < 2 ^ 32 }
+    requires in_time { refusals.is_too_late (reverse events.now) request ≡ false }
+    ensures { result ≡ asks.asked_event (reverse events.now) request }
+{
+    match request {
+        Request::Open { by } => Event::Opened {
+            by,
+            under: frame(events, by),
+        },
+        Request::Create {
+            by,
+            master,
+            families,
+        } => Event::Created {
+            by,
+            under: frame(events, by),
+            master,
+            families,
+        },
+        Request::Activate { by, tasks } => Event::Started { by, tasks },
+        Request::Elaborated { by, ok } => Event::Elaborated { by, ok },
+        Request::Call {
+            by,
+            callee,
+            entry,
+            patience,
+        } => Event::Called {
+            by,
+            callee,
+            entry,
+            patience,
+            due: call_due(moment(events), patience),
+        },
+        Request::Wait {
+            by,
+            choices,
+            tail,
+            pick,
+        } => Event::Waiting {
+            by,
+            choices,
+            tail: asked_tail(moment(events), tail),
+            pick,
+        },
+        Request::Delay { by, duration } => Event::Paused {
+            by,
+            due: due_after(moment(events), duration),
+        },
+        Request::End { by, raised } => Event::Ended {
+            by,
+            call: innermost_position(events, by),
+            raised,
+        },
+        Request::Close { by } => Event::Closed {
+            by,
+            block: innermost_position(events, by),
+        },
+        Request::Complete { by } => Event::Completed { by },
+        Request::Abort { by, tasks } => Event::Aborted { by, tasks },
+        Request::Tick { now } => Event::Ticked { now },
+    }
+}

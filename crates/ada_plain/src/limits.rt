@@ -1,0 +1,177 @@
+//! The causes that have to do with moments and limits.
+ghost use Rattle.std.specs.Prelude.{◌≡◌, ◌<◌, ◌≤◌, ◌^◌, ◌+◌, ◌-◌, ◌&&◌, nat_le, nat_lt, false, length, reverse, int_lt, min};
+ghost use Rattle.std.specs.List.{list_any};
+ghost use Rattle.ada_events.specs.declared.names.Pause.{Pause as PauseValue};
+ghost use Rattle.ada_events.specs.Entries as entries;
+ghost use Rattle.std.specs.Option.{option_map_or};
+ghost use Rattle.ada_events.specs.Says as said;
+ghost use Rattle.ada_events.specs.Asks as asks;
+ghost use Rattle.ada_events.specs.Refusals as refusals;
+ghost use Rattle.ada_events.specs.Tasks.{task_count as count_of_tasks};
+
+use crate::nests::depth;
+use crate::tasks::{moment, task_count};
+use ada_events::{Event, Family, Patience, Pause, Request, Tail};
+
+/// The last moment, in milliseconds.
+pub const LAST_MOMENT: i64 = 9_000_000_000_000;
+
+/// The most tasks, the main program counted.
+pub const MOST_TASKS: u64 = 256;
+
+/// The most entries over all tasks.
+pub const MOST_SLOTS: u64 = 1024;
+
+/// The most members of a task's nest.
+pub const MOST_MEMBERS: u32 = 32;
+
+/// The most events that a journal holds.
+pub const MOST_EVENTS: u64 = 65_536;
+
+/// The most events that one request appends.
+pub const MOST_APPENDED: u64 = 769;
+
+/// A duration from a moment on ends behind the last moment.
+#[tactic(auto, unfolding(ada_events::specs::Asks::due_after))]
+pub fn ends_too_late(now: i64, duration: i64) -> bool
+    ensures { result ≡ int_lt refusals.last_moment (asks.due_after now duration) }
+{
+    now.saturating_add(duration.max(0)) > LAST_MOMENT
+}
+
+fn is_open_too_late(now: i64, pause: Pause) -> bool
+    ensures { result ≡ (pause.guard && int_lt refusals.last_moment (asks.due_after now pause.duration)) }
+{
+    pause.guard && ends_too_late(now, pause.duration)
+}
+
+/// An open delay alternative ends behind the last moment.
+pub fn has_open_too_late(now: i64, pauses: &[Pause]) -> bool
+    ensures { result ≡ list_any (λ (d : PauseValue). d.guard && int_lt refusals.last_moment (asks.due_after now d.duration)) pauses.now }
+{
+    pauses.iter().any(|pause| is_open_too_late(now, *pause))
+}
+
+/// A tick to less than the moment.
+#[tactic(auto, unfolding(ada_events::specs::Refusals::moves_back))]
+pub fn moves_back(events: &[Event], request: &Request) -> bool
+    ensures { result ≡ refusals.moves_back (reverse events.now) request.now }
+{
+    match request {
+        Request::Tick { now } => *now < moment(events),
+        _ => false,
+    }
+}
+
+/// A tick, or the due moment of a timed call, a delay or an open delay alternative, behind the last
+/// moment.
+#[tactic(auto, unfolding(ada_events::specs::Refusals::is_too_late))]
+pub fn is_too_late(events: &[Event], request: &Request) -> bool
+    ensures { result ≡ refusals.is_too_late (reverse events.now) request.now }
+{
+    match request {
+        Request::Tick { now } => LAST_MOMENT < *now,
+        Request::Call {
+            patience: Patience::Timed(duration),
+            ..
+        } => ends_too_late(moment(events), *duration),
+        Request::Delay { duration, .. } => ends_too_late(moment(events), *duration),
+        Request::Wait {
+            tail: Tail::Delays(pauses),
+            ..
+        } => has_open_too_late(moment(events), pauses.as_slice()),
+        _ => false,
+    }
+}
+
+/// A creation where the limit of tasks is reached.
+#[tactic(auto, unfolding(ada_events::specs::Refusals::makes_too_many_tasks))]
+pub fn makes_too_many_tasks(events: &[Event], request: &Request) -> bool
+    requires { length events.now < 2 ^ 32 }
+    ensures { result ≡ refusals.makes_too_many_tasks (reverse events.now) request.now }
+{
+    match request {
+        Request::Create { .. } => MOST_TASKS <= task_count(events),
+        _ => false,
+    }
+}
+
+/// How many entries a family has.
+#[tactic(auto, unfolding(ada_events::specs::Entries::entry_count))]
+pub fn entry_count(family: Family) -> u64
+    ensures { result ≡ entries.entry_count family }
+{
+    if family.low <= family.high {
+        (i64::from(family.high) - i64::from(family.low)).unsigned_abs() + 1
+    } else {
+        0
+    }
+}
+
+/// How many entries some families have, at most 2^64 - 1.
+#[tactic(auto, unfolding(ada_events::specs::Entries::entries_in), using(crate::proofs::Slots::entries_in_more))]
+pub fn entries_in(families: &[Family]) -> u64
+    ensures { result ≡ min (entries.entries_in families.now) (2 ^ 64 - 1) }
+{
+    let mut total = 0u64;
+    for family in families {
+        total = total.saturating_add(entry_count(*family));
+    }
+    total
+}
+
+// How many entries the task has that an event makes, at most 2^64 - 1.
+#[tactic(auto, unfolding(ada_events::specs::Says::creation_in))]
+fn slots_in(event: &Event) -> u64
+    ensures { result ≡ min (option_map_or (λ (c : said.Creation). entries.entries_in c.families) (said.creation_in event.now) 0) (2 ^ 64 - 1) }
+{
+    match event {
+        Event::Created { families, .. } => entries_in(families.as_slice()),
+        _ => 0,
+    }
+}
+
+/// How many entries all tasks have, at most 2^64 - 1.
+#[tactic(auto, unfolding(ada_events::specs::Refusals::slot_count), using(crate::proofs::Slots::slot_count_more))]
+pub fn slot_count(events: &[Event]) -> u64
+    ensures { result ≡ min (refusals.slot_count (reverse events.now)) (2 ^ 64 - 1) }
+{
+    let mut total = 0u64;
+    for event in events {
+        total = slots_in(event).saturating_add(total);
+    }
+    total
+}
+
+/// A creation whose entries would pass the limit.
+#[tactic(auto, unfolding(ada_events::specs::Refusals::makes_too_many_slots))]
+pub fn makes_too_many_slots(events: &[Event], request: &Request) -> bool
+    ensures { result ≡ refusals.makes_too_many_slots (reverse events.now) request.now }
+{
+    match request {
+        Request::Create { families, .. } => MOST_SLOTS
+            < slot_count(events).saturating_add(entries_in(families.as_slice())),
+        _ => false,
+    }
+}
+
+/// An opening or a wait in a nest that has its most members.
+#[tactic(auto, unfolding(ada_events::specs::Refusals::is_too_deep))]
+pub fn is_too_deep(events: &[Event], request: &Request) -> bool
+    requires { length events.now < 2 ^ 32 }
+    ensures { result ≡ refusals.is_too_deep (reverse events.now) request.now }
+{
+    match request {
+        Request::Open { by } | Request::Wait { by, .. } => MOST_MEMBERS <= depth(events, *by),
+        _ => false,
+    }
+}
+
+/// The journal hasn't room for the most events that one request appends.
+#[tactic(auto, unfolding(ada_events::specs::Refusals::is_full), using(crate::proofs::Loops::length_reversed))]
+pub fn is_full(events: &[Event]) -> bool
+    requires { length events.now < 2 ^ 32 }
+    ensures { result ≡ refusals.is_full (reverse events.now) }
+{
+    MOST_EVENTS < events.len() as u64 + MOST_APPENDED
+}
