@@ -1,13 +1,11 @@
 -- Reading the alternatives of a selective wait one after the other, as a loop does.
-use Rattle.std.proofs.Common.{◌≡◌, ℕ, zero, suc, ◌+◌, ◌-◌, ◌<◌, ◌≤◌, Bool, true, false, cond, List, [], ◌∷◌, ◌++◌, length, Option, Some, None, Result, Ok, Err, refl, sym, ap, ◌∙◌, arith, length-append}
+use Rattle.std.proofs.Common.{◌≡◌, ℕ, zero, suc, Bool, true, false, List, [], ◌∷◌, ◌++◌, Some, None, Ok, Err, refl, arith}
 use Rattle.ada_events.specs.declared.request.Tail.{Tail}
 use Rattle.ada_script.specs.declared.fault.Fault.{Fault}
-use Rattle.ada_script.specs.declared.fault.Fault.TheVariants.{BadStatement}
 use Rattle.ada_script.specs.declared.reading.select.Branch.{Branch}
-use Rattle.ada_script.specs.declared.reading.select.Branch.TheVariants as branches
 use Rattle.ada_script.specs.declared.statement.Alternative.{Alternative}
 use Rattle.ada_script.specs.Scope.{Scope}
-use Rattle.ada_script.specs.Reading.{◌>>=◌, Read, branch_at, choice_at, choices_at, tail_from, with_tail, is_accept}
+use Rattle.ada_script.specs.Reading.{branch_at, choice_at, choices_at, tail_from, with_tail, is_accept}
 
 module _ (names : Scope) (by : List ℕ) where
   pub choices_fail : (room : ℕ) (before : List Alternative) (words : List (List ℕ)) (e : Fault) → branch_at words ≡ Err e → choices_at names by room before words ≡ Err e

@@ -7,6 +7,11 @@ pub mod Taken
 pub mod TakenLists
 pub mod TakenSelect
 pub mod TakenStatements
+pub mod AgainParts
+pub mod AgainLists
+pub mod AgainSelect
+pub mod AgainStatements
 pub mod Written
 pub mod Lines
+pub mod Once
 pub mod Bound

@@ -1,11 +1,17 @@
 -- Reading lines one after the other, as a loop does.
-use Rattle.std.proofs.Common.{◌≡◌, ℕ, ◌+◌, List, [], ◌∷◌, ◌++◌, Ok, refl, sym, subst, ◌∙◌}
+use Rattle.std.proofs.Common.{◌≡◌, ℕ, ◌+◌, List, ◌∷◌, ◌++◌, false, Ok, Err, refl, sym, ap, subst, ◌∙◌, inl, inr}
+use Rattle.ada_script.specs.declared.fault.Cause.{Cause}
+use Rattle.ada_script.specs.declared.fault.Fault.{Fault}
+use Rattle.ada_script.specs.declared.fault.Fault.TheVariants.{BadStatement, BadNumber, UnknownName, DoubleName}
+use Rattle.ada_script.specs.declared.fault.ScriptFault.{ScriptFault}
 use Rattle.ada_script.specs.declared.script.Line.{Line}
 use Rattle.ada_script.specs.declared.statement.Statement.{Statement}
 use Rattle.ada_script.specs.Scope.{Scope, MayStand}
-use Rattle.ada_script.specs.Script.{Adds, Reads, Says, scope_of}
+use Rattle.ada_script.specs.Script.{Adds, Reads, Says, SaysNothing, IsFault, IsOfWords, Stops, is_skipped, scope_of}
 use Rattle.ada_script.specs.Reading.{statement_of}
+use Rattle.ada_script.specs.Fault.{cause_of}
 use Rattle.ada_script.proofs.TakenStatements.{statement_reads}
+use Rattle.ada_script.proofs.AgainStatements.{statement_again}
 
 -- a statement that was read is what the line says
 pub says : (names : Scope) (before : List Line) (words : List (List ℕ)) (statement : Statement) → names ≡ scope_of before → Ok statement ≡ statement_of names words → Says before words statement
@@ -22,3 +28,34 @@ pub reads_on : (before after : List Line) (number : ℕ) (line : List ℕ) (line
     → (all : List Line) → Reads after (number + 1) behind all → Reads before number lines all
 reads_on before after number line lines behind first adds all others =
     subst (λ (ls : List (List ℕ)). Reads before number ls all) (sym first) (adds.0, adds.1, subst (λ (a : List Line). Reads a (number + 1) behind all) adds.2 others)
+
+-- ---- faults
+
+-- a fault of the words, which are skipped for no reason
+pub says_nothing : (names : Scope) (before : List Line) (words : List (List ℕ)) (fault : Fault) → names ≡ scope_of before → Err fault ≡ statement_of names words → is_skipped words ≡ false → SaysNothing before words
+says_nothing names before words fault known read skipped = (
+  skipped,
+  λ statement said.
+      let stands : MayStand names statement = subst (λ (n : Scope). MayStand n statement) (sym known) said.stands in
+      let again : statement_of names words ≡ Ok statement = ap (statement_of names) (sym said.spelled) ∙ statement_again names statement stands in
+      let both : Err fault ≡ Ok statement = read ∙ again in
+      absurd cc,
+)
+
+pub of_words : (fault : Fault) → IsOfWords (cause_of fault)
+of_words BadStatement = tt
+of_words BadNumber = tt
+of_words UnknownName = tt
+of_words DoubleName = tt
+
+-- the first of the lines is at fault
+pub stops_here : (before : List Line) (number : ℕ) (line : List ℕ) (lines behind : List (List ℕ)) (cause : Cause) → lines ≡ line ∷ behind → IsFault before number line cause
+    → Stops before number lines (record { line = number; cause = cause })
+stops_here before number line lines behind cause first fault =
+    subst (λ (ls : List (List ℕ)). Stops before number ls (record { line = number; cause = cause })) (sym first) (inl (refl, fault))
+
+-- a line behind it is
+pub stops_on : (before after : List Line) (number : ℕ) (line : List ℕ) (lines behind : List (List ℕ)) → lines ≡ line ∷ behind → AddsTo before number line after
+    → (fault : ScriptFault) → Stops after (number + 1) behind fault → Stops before number lines fault
+stops_on before after number line lines behind first adds fault others =
+    subst (λ (ls : List (List ℕ)). Stops before number ls fault) (sym first) (inr (adds.0, adds.1, subst (λ (a : List Line). Stops a (number + 1) behind fault) adds.2 others))

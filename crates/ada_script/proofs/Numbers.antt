@@ -1,15 +1,15 @@
 -- Numbers and their spellings.
-use Rattle.std.proofs.Common.{◌≡◌, ℕ, zero, suc, ◌^◌, ◌<◌, ◌≤◌, ◌&&◌, Bool, true, false, cond, ltb, List, [], ◌∷◌, Option, Some, None, Result, Ok, Err, ℤ, pos, negsuc, FitsSigned, to_z, of_z, w32, w64, refl, sym, ap, subst, ◌∙◌, arith, inl, inr}
+use Rattle.std.proofs.Common.{◌≡◌, ℕ, zero, suc, ◌^◌, ◌<◌, ◌&&◌, Bool, true, false, cond, ltb, List, [], ◌∷◌, Option, Some, None, Result, Ok, Err, ℤ, pos, negsuc, FitsSigned, to_z, of_z, w32, w64, refl, sym, ap, subst, ◌∙◌, arith, inl, inr}
 use Rattle.std.specs.Prelude.{MatchOption, IfSome, decimal, option_and_then}
 use Rattle.std.specs.Fmt.{signed_decimal}
 use Rattle.std.specs.Str.{bytes_eq}
 use Rattle.std.specs.Str.Parse.{digits_value, ParsesUnsigned}
 use Rattle.std.specs.Str.{IsUtf8}
-use Rattle.std.proofs.lemmas.Bool.{true≢false, false≢true, lt-ltb, ltb-true}
+use Rattle.std.proofs.lemmas.Bool.{true≢false, lt-ltb, ltb-true}
 use Rattle.std.proofs.lemmas.Bool.Decides.{eqb_tells}
 use Rattle.std.proofs.lemmas.Int.{to_z-of_z}
 use Rattle.std.proofs.lemmas.Slice.Eq.{bytes_eq-Decides}
-use Rattle.std.proofs.lemmas.Fmt.{decimal_is_IsNumeral, parse-decimal, IsAscii-decimal, decimal_injective}
+use Rattle.std.proofs.lemmas.Fmt.{decimal_is_IsNumeral, parse-decimal, IsAscii-decimal}
 use Rattle.std.proofs.lemmas.Str.{IsUtf8-from_ascii}
 use Rattle.ada_script.specs.Number.{natural_of, positive, negative, integer_of}
 
@@ -40,7 +40,7 @@ module _ {E : Type 0} where
 value_of_decimal : (n : ℕ) (word : List ℕ) → n < 2 ^ 64 → decimal n ≡ word → digits_value 10 word ≡ n
 value_of_decimal n word lt e = subst (λ w. digits_value 10 w ≡ n) e (decimal_is_IsNumeral n lt).1
 
-natural_of-spelled : (n : ℕ) (word : List ℕ) → n < 2 ^ 64 → decimal n ≡ word → natural_of word ≡ Some n
+pub natural_of-spelled : (n : ℕ) (word : List ℕ) → n < 2 ^ 64 → decimal n ≡ word → natural_of word ≡ Some n
 unfolding natural_of
 natural_of-spelled n word lt e =
     let value : digits_value 10 word ≡ n = value_of_decimal n word lt e in

@@ -1,9 +1,9 @@
 -- The first part of some bytes, and the words behind it.
-use Rattle.std.proofs.Common.{◌≡◌, ◌≢◌, ℕ, zero, suc, ◌+◌, ◌-◌, add-one, length-drop, ◌<◌, ◌≤◌, Bool, true, false, cond, eqb, List, [], ◌∷◌, length, get_or, take, drop, refl, sym, ap, ◌∙◌, arith, inl, inr}
+use Rattle.std.proofs.Common.{◌≡◌, ◌≢◌, ℕ, zero, suc, ◌+◌, ◌-◌, add-one, length-drop, ◌<◌, false, cond, eqb, List, [], ◌∷◌, length, get_or, take, drop, ap, ◌∙◌, arith, inl, inr}
 use Rattle.std.proofs.lemmas.Bool.{eq-eqb, true≢false}
 use Rattle.std.proofs.lemmas.Bool.Decides.{eqb_tells}
 use Rattle.std.proofs.Math.Seq.{take-length}
-use Rattle.ada_script.specs.Text.{parts_of, with_first, words_in, space, is_empty}
+use Rattle.ada_script.specs.Text.{parts_of, with_first}
 
 -- a byte that doesn't separate begins the first part
 parts_of-cons : (separator b : ℕ) (bytes : List ℕ) → b ≢ separator → parts_of separator (b ∷ bytes) ≡ with_first b (parts_of separator bytes)

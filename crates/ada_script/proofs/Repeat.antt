@@ -1,9 +1,9 @@
 -- Reading something again and again, as a loop does.
-use Rattle.std.proofs.Common.{◌≡◌, ℕ, zero, suc, ◌+◌, ◌-◌, ◌<◌, ◌≤◌, Bool, true, false, List, [], ◌∷◌, ◌++◌, length, Result, Ok, Err, refl, sym, ap, ◌∙◌, arith, length-append, eqb, inl, inr}
+use Rattle.std.proofs.Common.{◌≡◌, ℕ, suc, ◌-◌, ◌<◌, ◌≤◌, true, false, List, [], ◌∷◌, ◌++◌, length, Ok, Err, refl, arith, length-append, eqb, inl, inr}
 use Rattle.std.proofs.lemmas.Bool.{true≢false, false≢true, cases_lt, eqb-false}
 use Rattle.ada_script.specs.declared.fault.Fault.{Fault}
 use Rattle.ada_script.specs.declared.fault.Fault.TheVariants.{BadStatement}
-use Rattle.ada_script.specs.Reading.{◌>>=◌, Read, repeat_at, is_over}
+use Rattle.ada_script.specs.Reading.{Read, repeat_at, is_over}
 
 module _ {X : Type 0} (step : List X → List (List ℕ) → Read X) where
   pub repeat_step : (limit : ℕ) (before : List X) (words : List (List ℕ)) (x : X) (rest : List (List ℕ)) → is_over words ≡ false → length before < limit → step before words ≡ Ok (x, rest)

@@ -1,6 +1,6 @@
 -- What is read is spelled so, and has its form.
-use Rattle.std.proofs.Common.{◌≡◌, ℕ, zero, suc, ◌+◌, ◌^◌, ◌<◌, ◌≤◌, Bool, true, false, cond, T, not, eqb, ltb, List, [], ◌∷◌, ◌++◌, length, take, Option, Some, None, Result, Ok, Err, ℤ, FitsSigned, w32, w64, refl, sym, ap, subst, ◌∙◌, arith, append_assoc, inl, inr, ◌⊎◌}
-use Rattle.std.specs.Prelude.{IsTrue, IfSome, codes, decimal}
+use Rattle.std.proofs.Common.{◌≡◌, ℕ, ◌^◌, ◌<◌, Bool, true, false, cond, ltb, List, [], ◌∷◌, ◌++◌, Option, Some, None, Result, Ok, Err, ℤ, refl, ap, subst, ◌∙◌, inl, inr, ◌⊎◌}
+use Rattle.std.specs.Prelude.{IsTrue, IfSome, decimal}
 use Rattle.std.specs.Fmt.{signed_decimal}
 use Rattle.std.specs.Str.{bytes_eq}
 use Rattle.std.proofs.lemmas.Slice.Eq.{bytes_eq-Decides}
@@ -12,7 +12,7 @@ use Rattle.ada_script.specs.Text.{is_name}
 use Rattle.ada_script.specs.Number.{natural_of, integer_of}
 use Rattle.ada_script.specs.Spelling.{index_words, entry_words, bounds_words}
 use Rattle.ada_script.specs.Scope.{Scope, is_task, is_declared, has_entry, IsTaskName, IsMasterName, IsNewName, IsEntryName, IsIndex, IsMoment}
-use Rattle.ada_script.specs.Reading.{◌>>=◌, Read, word_at, keyword_at, number_from, moment_at, index_at, below_2_32, pick_at, optional_index_at, number_is_next, bounds_at, family_bounds_at, name_at, task_at, master_at, new_name_at, entry_at}
+use Rattle.ada_script.specs.Reading.{◌>>=◌, word_at, keyword_at, number_from, moment_at, index_at, below_2_32, pick_at, optional_index_at, number_is_next, bounds_at, name_at, task_at, master_at, new_name_at, entry_at}
 use Rattle.ada_script.proofs.Numbers.{integer_of-reads, natural_of-reads, FitsSigned-32, FitsSigned-64}
 
 -- the value of a step that did not fail

@@ -1,16 +1,15 @@
 -- What is read to the end of a line is spelled so, and has its form.
-use Rattle.std.proofs.Common.{◌≡◌, ℕ, zero, suc, ◌+◌, ◌<◌, ◌≤◌, Bool, true, false, List, [], ◌∷◌, ◌++◌, length, Result, Ok, Err, refl, sym, ap, subst, ◌∙◌, arith, append_assoc, length-append}
-use Rattle.std.specs.Prelude.{IsTrue, map, codes}
+use Rattle.std.proofs.Common.{◌≡◌, ℕ, zero, suc, ◌≤◌, false, List, [], ◌∷◌, ◌++◌, length, Ok, refl, sym, ap, subst, ◌∙◌, arith, append_assoc}
+use Rattle.std.specs.Prelude.{map}
 use Rattle.std.specs.List.{flat_map, list_any, AllByRecursion}
 use Rattle.std.specs.Str.{bytes_eq}
 use Rattle.std.proofs.lemmas.List.{append-nil}
 use Rattle.std.proofs.lemmas.List.Concat.{flat_map-cons}
-use Rattle.ada_script.specs.declared.fault.Fault.{Fault}
 use Rattle.ada_script.specs.declared.statement.Declaration.{Declaration}
 use Rattle.ada_script.specs.Spelling.{family_words}
 use Rattle.ada_script.specs.Scope.{Scope, IsTaskName, AreTaskNames, IsFamily, AreFamilies, AreApart}
-use Rattle.ada_script.specs.Reading.{◌>>=◌, Read, repeat_at, task_at, tasks_at, family_at, families_at, name_at, bounds_at}
-use Rattle.ada_script.proofs.Taken.{bind_ok, unless_ok, ok_is, done, task_reads, name_reads, bounds_reads}
+use Rattle.ada_script.specs.Reading.{Read, repeat_at, task_at, tasks_at, family_at, families_at, name_at, bounds_at}
+use Rattle.ada_script.proofs.Taken.{bind_ok, unless_ok, ok_is, task_reads, name_reads, bounds_reads}
 
 -- each of them stands behind those before it
 abbrev pub Chain : {X : Type 0} → (List X → X → Type 0) → List X → List X → Type 0
@@ -48,7 +47,7 @@ module _ {X : Type 0} (step : List X → List (List ℕ) → Read X) (spelled : 
 
 -- ---- tasks
 
-flat_map-single : (xs : List (List ℕ)) → flat_map (λ x. x ∷ []) xs ≡ xs
+pub flat_map-single : (xs : List (List ℕ)) → flat_map (λ x. x ∷ []) xs ≡ xs
 flat_map-single [] = refl
 flat_map-single (x ∷ xs) = flat_map-cons (λ (y : List ℕ). y ∷ []) x xs ∙ ap (λ (ys : List (List ℕ)). x ∷ ys) (flat_map-single xs)
 
@@ -83,11 +82,11 @@ family_reads before words x e =
     let bounds = bounds_reads a.0.1 d.0 d.1 in
     subst (FamilyRead before words) (ok_is (record { name = a.0.0; bounds = d.0.0 }, d.0.1) x d.2) (name.0 ∙ ap (λ (r : List (List ℕ)). a.0.0 ∷ r) bounds.0, ((name.1, bounds.1), b.0))
 
-list_any-names : (name : List ℕ) (families : List Declaration) → list_any (bytes_eq name) (map (λ f. f.name) families) ≡ list_any (λ other. bytes_eq name other.name) families
+pub list_any-names : (name : List ℕ) (families : List Declaration) → list_any (bytes_eq name) (map (λ f. f.name) families) ≡ list_any (λ other. bytes_eq name other.name) families
 list_any-names name [] = refl
 list_any-names name (f ∷ fs) = rw (list_any-names name fs) refl
 
-map-push : (families : List Declaration) (family : Declaration) → map (λ f. f.name) (families ++ family ∷ []) ≡ map (λ f. f.name) families ++ family.name ∷ []
+pub map-push : (families : List Declaration) (family : Declaration) → map (λ f. f.name) (families ++ family ∷ []) ≡ map (λ f. f.name) families ++ family.name ∷ []
 map-push [] family = refl
 map-push (f ∷ fs) family = ap (λ (ns : List (List ℕ)). f.name ∷ ns) (map-push fs family)
 

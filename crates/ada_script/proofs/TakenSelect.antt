@@ -1,6 +1,6 @@
 -- A selective wait that is read is spelled so, and has its form.
-use Rattle.std.proofs.Common.{◌≡◌, ℕ, zero, suc, ◌+◌, ◌<◌, ◌≤◌, Bool, true, false, cond, not, List, [], ◌∷◌, ◌++◌, length, Option, Some, None, Result, Ok, Err, refl, sym, ap, subst, ◌∙◌, arith, append_assoc, length-append, inl, inr, ◌⊎◌}
-use Rattle.std.specs.Prelude.{IsTrue, map, codes}
+use Rattle.std.proofs.Common.{◌≡◌, ℕ, zero, suc, ◌<◌, ◌≤◌, Bool, true, false, cond, not, List, [], ◌∷◌, ◌++◌, length, Option, Some, None, Ok, refl, sym, ap, subst, ◌∙◌, arith, append_assoc, inl, inr}
+use Rattle.std.specs.Prelude.{map, codes}
 use Rattle.std.specs.Fmt.{signed_decimal}
 use Rattle.std.specs.List.{flat_map, AllByRecursion}
 use Rattle.std.specs.Str.{bytes_eq}
@@ -10,14 +10,13 @@ use Rattle.std.proofs.lemmas.Slice.Eq.{bytes_eq-Decides}
 use Rattle.ada_events.specs.declared.names.Pause.{Pause}
 use Rattle.ada_events.specs.declared.request.Tail.{Tail}
 use Rattle.ada_events.specs.declared.request.Tail.TheVariants as tails
-use Rattle.ada_script.specs.declared.fault.Fault.{Fault}
 use Rattle.ada_script.specs.declared.reading.select.Branch.{Branch}
 use Rattle.ada_script.specs.declared.reading.select.Branch.TheVariants as branches
 use Rattle.ada_script.specs.declared.statement.Alternative.{Alternative}
 use Rattle.ada_script.specs.Spelling.{entry_words, guard_words, choice_words, pause_words, tail_alternatives, else_words, joined_by_or, select_words}
 use Rattle.ada_script.specs.Scope.{Scope, IsEntryName, IsMoment, IsTail, AreChoices}
-use Rattle.ada_script.specs.Reading.{◌>>=◌, Read, word_at, keyword_at, moment_at, entry_at, is_over, repeat_at, passed_over, kind_of, branch_at, tail_of, link_at, pause_at, pause_from, next_pause_at, pauses_at, choice_at, tail_from, is_accept, with_tail, ended_by, choices_at, alternatives_at}
-use Rattle.ada_script.proofs.Taken.{bind_ok, if_ok, chosen, ok_is, done, word_reads, keyword_reads, moment_reads, entry_reads, EntryRead}
+use Rattle.ada_script.specs.Reading.{word_at, keyword_at, moment_at, entry_at, is_over, passed_over, kind_of, branch_at, tail_of, link_at, pause_at, pause_from, next_pause_at, pauses_at, choice_at, tail_from, is_accept, with_tail, ended_by, choices_at, alternatives_at}
+use Rattle.ada_script.proofs.Taken.{bind_ok, if_ok, chosen, ok_is, done, word_reads, keyword_reads, moment_reads, entry_reads}
 use Rattle.ada_script.proofs.TakenLists.{Chain, repeat_reads}
 
 -- ---- the words between the parts
@@ -77,7 +76,7 @@ pause_reads guard words x e =
     subst (PauseRead guard words) (ok_is (record { guard = guard; duration = a.0.0 }, a.0.1) x a.2)
     (ap (λ (r : List (List ℕ)). guard_words guard ++ (codes "delay" ∷ r)) moment.0 ∙ sym (append_assoc (guard_words guard) (codes "delay" ∷ signed_decimal a.0.0 ∷ []) a.0.1), moment.1)
 
-abbrev or_pause : Pause → List (List ℕ)
+abbrev pub or_pause : Pause → List (List ℕ)
 or_pause pause = codes "or" ∷ pause_words pause
 
 next_pause_by : (words behind rest : List (List ℕ)) (guard : Bool) (branch : Branch) (x : Pause × List (List ℕ)) → words ≡ codes "or" ∷ behind → behind ≡ guard_words guard ++ (branch_word branch ∷ rest)
@@ -93,7 +92,7 @@ next_pause_reads words x e =
     let b = bind_ok (branch_at a.0.1) _ x a.2 in
     next_pause_by words a.0.1 b.0.1 b.0.0.0 b.0.0.1 x (keyword_reads (codes "or") words a.0 a.1) (branch_reads a.0.1 b.0 b.1) b.2
 
-joined_pauses : (first : Pause) (more : List Pause) → joined_by_or (map pause_words (first ∷ more)) ≡ pause_words first ++ flat_map or_pause more
+pub joined_pauses : (first : Pause) (more : List Pause) → joined_by_or (map pause_words (first ∷ more)) ≡ pause_words first ++ flat_map or_pause more
 joined_pauses first [] = sym (append-nil (pause_words first))
 joined_pauses first (second ∷ more) =
     ap (λ (r : List (List ℕ)). pause_words first ++ (codes "or" ∷ r)) (joined_pauses second more) ∙ ap (λ (r : List (List ℕ)). pause_words first ++ r) (sym (flat_map-cons or_pause second more))
@@ -158,7 +157,7 @@ link_reads (word ∷ words) x e =
 
 -- ---- accept alternatives
 
-joined_cons : (first : List (List ℕ)) (others : List (List (List ℕ))) → 0 < length others → joined_by_or (first ∷ others) ≡ first ++ (codes "or" ∷ joined_by_or others)
+pub joined_cons : (first : List (List ℕ)) (others : List (List (List ℕ))) → 0 < length others → joined_by_or (first ∷ others) ≡ first ++ (codes "or" ∷ joined_by_or others)
 joined_cons first [] some = absurd (omega arith)
 joined_cons first (second ∷ others) some = refl
 

@@ -1,28 +1,24 @@
 -- A statement that is read is spelled so, and may stand there.
-use Rattle.std.proofs.Common.{◌≡◌, ℕ, zero, suc, ◌+◌, ◌-◌, ◌<◌, ◌≤◌, Bool, true, false, cond, List, [], ◌∷◌, ◌++◌, length, take, drop, get_or, eqb, find, Option, Some, None, Result, Ok, Err, refl, sym, ap, subst, ◌∙◌, arith, append_assoc, inl, inr, ◌⊎◌, add-one}
-use Rattle.std.specs.Prelude.{IsTrue, codes, decimal}
+use Rattle.std.proofs.Common.{◌≡◌, ℕ, ◌-◌, cond, List, [], ◌∷◌, ◌++◌, length, take, get_or, eqb, Option, Some, None, Ok, refl, sym, ap, subst, ◌∙◌, arith, append_assoc, inl, inr}
+use Rattle.std.specs.Prelude.{codes, decimal}
 use Rattle.std.specs.Fmt.{signed_decimal}
 use Rattle.std.specs.List.{flat_map}
 use Rattle.std.specs.Str.{bytes_eq}
 use Rattle.std.proofs.lemmas.Bool.{eqb-true}
-use Rattle.std.proofs.lemmas.List.{append-nil, take-append-drop}
+use Rattle.std.proofs.lemmas.List.{append-nil}
 use Rattle.std.proofs.lemmas.Slice.Eq.{bytes_eq-Decides}
-use Rattle.std.proofs.Math.Seq.{drop-cons}
-use Rattle.ada_events.specs.declared.request.Tail.{Tail}
-use Rattle.ada_script.specs.declared.fault.Fault.{Fault}
 use Rattle.ada_script.specs.declared.verb.Verb.{Verb}
 use Rattle.ada_script.specs.declared.verb.Verb.TheVariants as verbs
 use Rattle.ada_script.specs.declared.statement.Statement.{Statement}
 use Rattle.ada_script.specs.declared.statement.Statement.TheVariants.{Tick, Open, Create, Activate, Up, Fail, Call, CallWithin, Try, Accept, Select, End, Raise, Close, Delay, Complete, Abort, ShowCallable, ShowTerminated, ShowCount}
-use Rattle.ada_script.specs.declared.statement.EntryName.{EntryName}
 use Rattle.ada_script.specs.Text.{is_name}
 use Rattle.ada_script.specs.Spelling.{speaker, entry_words, family_words, words_of}
-use Rattle.ada_script.specs.Scope.{Scope, is_task, IsTaskName, IsEntryName, MayStand}
-use Rattle.ada_script.specs.Reading.{◌>>=◌, Read, word_at, end_at, keyword_at, moment_at, pick_at, task_at, new_name_at, master_at, entry_at, tasks_at, families_at, alternatives_at, is_over, verb_word, all_verbs, verb_of, verb_from, verb_at, tick_at, open_at, create_at, activate_at, abort_at, call_at, call_within_at, try_at, accept_at, delay_at, select_at, show_at, act_at, before_colon, speaker_from, speaker_of, speech_at, statement_at, statement_of}
+use Rattle.ada_script.specs.Scope.{Scope, is_task, IsTaskName, MayStand}
+use Rattle.ada_script.specs.Reading.{word_at, end_at, keyword_at, moment_at, pick_at, task_at, new_name_at, master_at, entry_at, tasks_at, families_at, alternatives_at, is_over, verb_word, all_verbs, verb_of, verb_from, verb_at, tick_at, open_at, create_at, activate_at, abort_at, call_at, try_at, accept_at, delay_at, select_at, show_at, act_at, before_colon, speaker_from, speaker_of, speech_at, statement_at, statement_of}
 use Rattle.ada_script.proofs.Found.{found_passes}
 use Rattle.ada_script.proofs.Taken.{bind_ok, if_ok, chosen, ok_is, done, word_reads, keyword_reads, moment_reads, pick_reads, task_reads, master_reads, new_name_reads, entry_reads}
 use Rattle.ada_script.proofs.TakenLists.{tasks_read, families_read}
-use Rattle.ada_script.proofs.TakenSelect.{select_reads, nothing_left}
+use Rattle.ada_script.proofs.TakenSelect.{select_reads}
 
 -- ---- verbs
 

@@ -1,5 +1,5 @@
 -- What names are bound to, and the requests that statements make.
-use Rattle.std.specs.Prelude.{ℕ, ℤ, pos, Bool, true, false, if◌then◌else◌, List, [], ◌∷◌, map, ◌+◌, Option, Some, None, unwrap_or}
+use Rattle.std.specs.Prelude.{ℕ, pos, true, false, if◌then◌else◌, List, [], ◌∷◌, map, ◌+◌, Option, Some, None, unwrap_or}
 use Rattle.std.specs.Str.{bytes_eq}
 use Rattle.ada_events.specs.declared.names.TaskNo.{TaskNo}
 use Rattle.ada_events.specs.declared.names.Master.{Master}

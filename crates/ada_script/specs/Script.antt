@@ -58,3 +58,34 @@ Reads before number (line ∷ lines) all = (added : List Line) × Adds before nu
 -- a text is a script of these lines
 abbrev pub IsScript : List ℕ → List Line → Type 0
 IsScript text all = Reads [] 1 (lines_of text) all
+
+-- ---- texts that aren't scripts
+
+-- the causes that a line's words may be at fault for
+abbrev pub IsOfWords : Cause → Type 0
+IsOfWords NotAscii = ⊥
+IsOfWords LineTooLong = ⊥
+IsOfWords BadStatement = Unit {0}
+IsOfWords BadNumber = Unit {0}
+IsOfWords UnknownName = Unit {0}
+IsOfWords DoubleName = Unit {0}
+IsOfWords TooManyLines = ⊥
+IsOfWords OutOfMemory = ⊥
+
+-- the words are neither skipped nor those of a statement that may stand behind these lines
+abbrev pub SaysNothing : List Line → List (List ℕ) → Type 0
+SaysNothing before words = (is_skipped words ≡ false) × ((statement : Statement) → Says before words statement → ⊥)
+
+-- why a line behind these isn't acceptable: its number, its length or its bytes, and else its words
+abbrev pub IsFault : List Line → ℕ → List ℕ → Cause → Type 0
+IsFault before number line cause = IsUnplain number line cause ⊎ (IsOfWords cause × IsPlain number line × SaysNothing before (words_in line))
+
+-- of lines behind others, of which the first has this number, the first that isn't acceptable
+abbrev pub Stops : List Line → ℕ → List (List ℕ) → ScriptFault → Type 0
+Stops before number [] fault = ⊥
+Stops before number (line ∷ lines) fault = ((fault.line ≡ number) × IsFault before number line fault.cause)
+    ⊎ ((added : List Line) × Adds before number line added × Stops (before ++ added) (number + 1) lines fault)
+
+-- the first line of a text that isn't acceptable
+abbrev pub IsFirstFault : List ℕ → ScriptFault → Type 0
+IsFirstFault text fault = Stops [] 1 (lines_of text) fault

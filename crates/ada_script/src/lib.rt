@@ -4,6 +4,7 @@
 
 mod cursor;
 pub mod fault;
+pub mod laws;
 pub mod meaning;
 pub mod name;
 pub mod names;

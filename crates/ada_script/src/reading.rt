@@ -5,9 +5,9 @@ mod parts;
 mod select;
 mod statements;
 
-ghost use Rattle.std.specs.Prelude.{◌≡◌, ◌↔◌, ◌≤◌, ◌++◌, List, IsTrue, OnOk, IfOk, IfErr};
+ghost use Rattle.std.specs.Prelude.{◌≡◌, ◌↔◌, ◌≤◌, ◌++◌, ◌⊎◌, List, IsTrue, OnOk, IfOk, IfErr};
 ghost use Rattle.ada_script.specs.Text.{words_in};
-ghost use Rattle.ada_script.specs.Script.{IsPrintable, IsPlain, IsUnplain, is_skipped as skipped, scope_of, Adds, IsScript};
+ghost use Rattle.ada_script.specs.Script.{IsPrintable, IsPlain, IsUnplain, is_skipped as skipped, scope_of, Adds, IsScript, IsFault, IsFirstFault};
 ghost use Rattle.ada_script.specs.declared.script.Line.{Line};
 
 use crate::cursor::{Lines, Words};
@@ -61,6 +61,7 @@ fn read_line(
     ensures number { OnOk result (number ≤ 4096) }
     ensures names { OnOk result (names.new ≡ scope_of lines.new.items) }
     ensures lines { OnOk result ((added : List Line) × Adds lines.old.items number line.now added × (lines.new.items ≡ lines.old.items ++ added)) }
+    ensures err { IfErr result (λ cause. (cause ≡ Cause.OutOfMemory) ⊎ IsFault lines.old.items number line.now cause) }
 {
     check_line(number, line)?;
     if is_skipped(line) {
@@ -80,6 +81,7 @@ fn read_line(
 /// `OutOfMemory` where a growth was refused before such a line was met.
 pub fn read(alloc: Global, text: &[u8]) -> Result<Script, ScriptFault>
     ensures ok { IfOk result (λ script. IsScript text.now script) }
+    ensures err { IfErr result (λ fault. (fault.cause ≡ Cause.OutOfMemory) ⊎ IsFirstFault text.now fault) }
 {
     let mut number = 1;
     let mut lines = Vec::new(alloc);

@@ -168,10 +168,8 @@ fn prints_a_rendezvous(rt: HostRuntime) -> Result<(), Fail> {
         },
     ];
     let mut out = Vec::new(alloc);
-    let mut at = 0;
-    for event in &events {
-        at += 1;
-        write_event(at, event, &names, &mut out)?;
+    for (i, event) in events.iter().enumerate() {
+        write_event(i as u32 + 1, event, &names, &mut out)?;
     }
     let expected = b"1 main created S under main with E(0..0)
 2 main created C under main

@@ -1,5 +1,4 @@
-use Rattle.std.proofs.Common.{◌≡◌, ◌+◌, ◌-◌, ◌<◌, length, take, drop, List, ℕ, [], ◌∷◌, refl, sym, ap, ◌∙◌, arith}
-use Rattle.ada_script.specs.Text.{parts_of}
+use Rattle.std.proofs.Common.{sym, ◌∙◌, arith}
 use Rattle.ada_script.proofs.Parts.{parts_behind, parts_of-whole}
 use Rattle.ada_script.proofs.cursor.cut.Goals as goal
 

@@ -1,5 +1,4 @@
-use Rattle.std.proofs.Common.{◌≡◌, ◌<◌, ◌≤◌, length, sym, ap, ◌∙◌, [], arith}
-use Rattle.std.specs.Str.{bytes_eq}
+use Rattle.std.proofs.Common.{◌<◌, length, sym, ◌∙◌}
 use Rattle.ada_script.proofs.Bound.{place_found, place_passed, place_over}
 use Rattle.ada_script.proofs.names.place_of.Goals as goal
 

@@ -1,4 +1,4 @@
-use Rattle.std.proofs.Common.{◌≡◌, ◌++◌, ◌==◌, ◌&&◌, map, drop, true}
+use Rattle.std.proofs.Common.{◌≡◌, ◌++◌, ◌==◌, ◌&&◌, map, drop}
 use Rattle.ada_script.specs.Spelling.{pause_words}
 use Rattle.ada_script.specs.Writing.{linked_by_or}
 use Rattle.ada_script.proofs.spelling.put_pauses.Given as goal

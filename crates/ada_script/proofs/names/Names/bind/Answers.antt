@@ -1,7 +1,7 @@
-use Rattle.std.proofs.Common.{◌≡◌, sym, ap, ◌∙◌}
+use Rattle.std.proofs.Common.{sym, ap, ◌∙◌}
 use Rattle.std.specs.Map.{set_value}
 use Rattle.std.specs.Str.{bytes_eq}
-use Rattle.ada_script.specs.Binding.{bind, with_made, with_opened}
+use Rattle.ada_script.specs.Binding.{with_made, with_opened}
 use Rattle.ada_script.proofs.Bound.{set_value-changed, with_meaning-absent}
 use Rattle.ada_script.proofs.names.Names.bind.Goals as goal
 

@@ -1,5 +1,5 @@
-use Rattle.std.proofs.Common.{◌≡◌, sym, ap, ◌∙◌}
-use Rattle.ada_script.specs.Texts.{is_bound_to, bound_to}
+use Rattle.std.proofs.Common.{sym, ◌∙◌}
+use Rattle.ada_script.specs.Texts.{is_bound_to}
 use Rattle.ada_script.proofs.Found.{find_at, find_behind, find_past, find_missing}
 use Rattle.ada_script.proofs.names.Names.bound_to.Goals as goal
 

@@ -1,4 +1,4 @@
-use Rattle.std.proofs.Common.{sym, ◌∙◌, ◌≤◌, ◌+◌, ◌-◌, length, length-append, [], ◌∷◌, ◌++◌, arith}
+use Rattle.std.proofs.Common.{sym, ◌∙◌, ◌-◌, length, length-append, [], ◌∷◌, arith}
 use Rattle.std.proofs.lemmas.Bool.{eqb-true}
 use Rattle.std.proofs.lemmas.Result.{err_from_is_err_and}
 use Rattle.ada_script.specs.Reading.{task_at}

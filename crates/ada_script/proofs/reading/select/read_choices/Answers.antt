@@ -1,4 +1,4 @@
-use Rattle.std.proofs.Common.{◌≡◌, ℕ, suc, Some, None, Ok, Err, sym, ap, ◌∙◌, ◌≤◌, ◌<◌, ◌+◌, ◌-◌, length, length-append, [], ◌∷◌, ◌++◌, arith}
+use Rattle.std.proofs.Common.{◌≡◌, suc, Some, None, Ok, sym, ap, ◌∙◌, ◌-◌, length, length-append, [], ◌∷◌, ◌++◌, arith}
 use Rattle.std.proofs.lemmas.Bool.{eqb-true}
 use Rattle.std.proofs.lemmas.Result.{err_from_is_err_and}
 use Rattle.ada_script.specs.Reading.{choices_at, choice_at, with_tail, tail_from}
