@@ -6,6 +6,7 @@ pub mod input;
 pub mod output;
 pub mod play;
 pub mod replaying;
+pub mod shows;
 
 pub use fault::{Ending, RunFault, status_of};
 pub use replaying::replay;

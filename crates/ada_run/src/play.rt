@@ -1,17 +1,18 @@
 //! Playing the lines of a script on a kernel.
 ghost use Rattle.std.specs.Prelude.{◌≡◌, ℕ, ◌≤◌, ◌++◌, [], length, IfOk, IfErr, OnOk, OnErr};
 ghost use Rattle.ada_events.specs.Lawful.{IsLawful, IsSettled};
-ghost use Rattle.ada_run.specs.Play.{group_text, SaysRequest, Says, Plays};
+ghost use Rattle.ada_run.specs.Play.{group_text, SaysRequest, SaysShown, Says, Plays};
 ghost use Rattle.ada_run.specs.Ends.{state, IsShortage, IsWritten, IsCutShort};
-ghost use Rattle.ada_script.specs.Texts.{refusal_text};
+ghost use Rattle.ada_script.specs.Texts.{refusal_text, shown_text};
 ghost use Rattle.ada_events.specs.Tasks.{task_count as count_of_tasks};
 
 use crate::RunFault;
 use crate::output::write_output;
+use crate::shows::shown;
 use ada_events::{Journal, Refusal, Request, TaskNo};
 use ada_kernel::Kernel;
 use ada_plain::tasks::task_count;
-use ada_script::{Line, Names, request, write_event, write_refusal};
+use ada_script::{Line, Names, Value, request, write_event, write_refusal, write_shown};
 use std::alloc::Global;
 use std::io::Write;
 
@@ -41,6 +42,15 @@ fn print_refusal(alloc: Global, line: u32, cause: Refusal) -> Result<Vec<u8>, Ru
 {
     let mut text = Vec::new(alloc);
     write_refusal(line, cause, &mut text).map_err(|_| RunFault::Memory)?;
+    Ok(text)
+}
+
+fn print_value(alloc: Global, line: u32, value: Value) -> Result<Vec<u8>, RunFault>
+    ensures ok { IfOk result (λ text. text.items ≡ shown_text line value) }
+    ensures err { IfErr result (λ fault. fault ≡ RunFault.Memory) }
+{
+    let mut text = Vec::new(alloc);
+    write_shown(line, value, &mut text).map_err(|_| RunFault::Memory)?;
     Ok(text)
 }
 
@@ -74,6 +84,22 @@ fn say_request(
     }
 }
 
+// What a line prints that shows an attribute.
+fn say_shown(
+    alloc: Global,
+    kernel: &Kernel,
+    names: &Names,
+    line: &Line,
+) -> Result<Vec<u8>, RunFault>
+    ensures ok { IfOk result (λ text. SaysShown line.now (state kernel.now names.now) text.items (state kernel.now names.now)) }
+    ensures err { IfErr result (λ fault. fault ≡ RunFault.Memory) }
+{
+    match shown(kernel, names, &line.statement) {
+        Ok(value) => print_value(alloc, line.line, value),
+        Err(cause) => print_refusal(alloc, line.line, cause),
+    }
+}
+
 // What a line prints: what its request leads to, or the attribute that it shows.
 fn say(
     alloc: Global,
@@ -86,7 +112,7 @@ fn say(
 {
     match request(&line.statement, names) {
         Some(request) => say_request(alloc, kernel, names, line, request),
-        None => Err(RunFault::Memory),
+        None => say_shown(alloc, kernel, names, line),
     }
 }
 
