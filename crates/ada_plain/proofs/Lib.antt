@@ -8,6 +8,7 @@ pub mod Lists
 pub mod Loops
 pub mod Members
 pub mod Numbers
+pub mod Places
 pub mod Resting
 pub mod Settled
 pub mod SlotSums

@@ -16,6 +16,7 @@ pub mod outcomes;
 pub mod phases;
 pub mod refusals;
 pub mod says;
+pub mod slots;
 pub mod tasks;
 pub mod termination;
 pub mod waits;
