@@ -19,6 +19,12 @@ use Rattle.ada_plain.proofs.Loops.{gathered_more}
 pub queue_is_short : (journal : List Event) (task : ℕ) (entry : Entry) → IsLawful journal → count_of journal task entry ≤ 256
 queue_is_short = queues_are_short
 
+pub few_tasks : (journal : List Event) → IsLawful journal → task_count journal ≤ 256
+few_tasks = tasks_are_few
+
+pub few_slots : (journal : List Event) → IsLawful journal → slot_count journal ≤ 1024
+few_slots = slots_are_few
+
 -- the entry at a slot is of a task whose number fits
 pub task_fits : (journal : List Event) (slot : ℕ) (place : Place) → IsLawful journal → Some place ≡ entry_at journal slot → place.task < 256
 task_fits journal slot place lawful found =

@@ -3,6 +3,7 @@ pub mod Chains
 pub mod Doubles
 pub mod Dues
 pub mod Few
+pub mod Filling
 pub mod Latest
 pub mod Lists
 pub mod Loops

@@ -6,6 +6,7 @@
 
 pub mod asks;
 pub mod attributes;
+pub mod boards;
 pub mod calls;
 pub mod forced;
 pub mod kernel;
