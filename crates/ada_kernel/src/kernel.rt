@@ -1,9 +1,16 @@
 //! The kernel, on the plain program's searches over the journal.
-ghost use Rattle.std.specs.Prelude.{◌≡◌, [], IfOk, IfErr};
+ghost use Rattle.std.specs.Prelude.{◌≡◌, [], nat_lt, IfOk, IfErr};
+ghost use Rattle.std.specs.Bool.{then_some};
 ghost use Rattle.ada_events.specs.Lawful.{IsLawful, IsSettled};
 ghost use Rattle.ada_events.specs.Steps.{IsAccepted, IsRefused};
+ghost use Rattle.ada_events.specs.Tasks.{task_count};
+ghost use Rattle.ada_events.specs.Phases.{is_terminated, is_running};
+ghost use Rattle.ada_events.specs.Outcomes.{outcome_of};
+ghost use Rattle.ada_events.specs.Attributes.{is_callable, own_count, is_finished};
+ghost use Rattle.ada_events.specs.Slots.{slot_of};
+ghost use Rattle.ada_events.specs.Boards.{board_of};
 
-use ada_events::{Journal, Refusal, Request};
+use ada_events::{Board, Entry, Journal, Outcome, Refusal, Request, TaskNo};
 use ada_plain::PlainKernel;
 use std::alloc::Global;
 use std::marker::Model;
@@ -54,5 +61,64 @@ impl Kernel {
         ensures settled { IsSettled self.now }
     {
         self.plain.journal()
+    }
+
+    /// The outcome of a task; none where there is no such task.
+    pub fn outcome(&self, task: TaskNo) -> Option<Outcome>
+        ensures { result ≡ then_some (nat_lt task.0 (task_count self.now)) (outcome_of self.now task.0) }
+    {
+        self.plain.outcome(task)
+    }
+
+    /// The attribute CALLABLE of a task (9.9); none where there is no such task.
+    pub fn callable(&self, task: TaskNo) -> Option<bool>
+        ensures { result ≡ then_some (nat_lt task.0 (task_count self.now)) (is_callable self.now task.0) }
+    {
+        self.plain.callable(task)
+    }
+
+    /// The attribute TERMINATED of a task (9.9); none where there is no such task.
+    pub fn terminated(&self, task: TaskNo) -> Option<bool>
+        ensures { result ≡ then_some (nat_lt task.0 (task_count self.now)) (is_terminated self.now task.0) }
+    {
+        self.plain.terminated(task)
+    }
+
+    /// Whether a task is running: started, not ended, and not suspended. None where there is no such
+    /// task.
+    pub fn running(&self, task: TaskNo) -> Option<bool>
+        ensures { result ≡ then_some (nat_lt task.0 (task_count self.now)) (is_running self.now task.0) }
+    {
+        self.plain.running(task)
+    }
+
+    /// The attribute COUNT of an entry of the asking task's own (9.9), at most 256. Refused for the first
+    /// that applies of `UnknownTask`, `NotRunning`, `NoSuchFamily` and `ConstraintError`.
+    pub fn count(&self, by: TaskNo, entry: Entry) -> Result<u16, Refusal>
+        ensures { result ≡ own_count self.now by.0 entry }
+    {
+        self.plain.count(by, entry)
+    }
+
+    /// The slot of an entry, below 1,024: all entries of all tasks are numbered from 0 in order of task,
+    /// family and index. None where there is no such task or entry.
+    pub fn slot(&self, task: TaskNo, entry: Entry) -> Option<u16>
+        ensures { result ≡ slot_of self.now task.0 entry }
+    {
+        self.plain.slot(task, entry)
+    }
+
+    /// The attributes of all tasks and entries.
+    pub fn board(&self) -> Board
+        ensures { result ≡ board_of self.now }
+    {
+        self.plain.board()
+    }
+
+    /// Whether the main program is terminated.
+    pub fn finished(&self) -> bool
+        ensures { result ≡ is_finished self.now }
+    {
+        self.plain.finished()
     }
 }

@@ -3,11 +3,13 @@ pub mod Chains
 pub mod Doubles
 pub mod Dues
 pub mod Few
+pub mod Filling
 pub mod Latest
 pub mod Lists
 pub mod Loops
 pub mod Members
 pub mod Numbers
+pub mod Places
 pub mod Resting
 pub mod Settled
 pub mod SlotSums

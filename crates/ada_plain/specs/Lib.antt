@@ -2,4 +2,5 @@ pub mod Causes
 pub mod Frames
 pub mod Late
 pub mod Makings
+pub mod Places
 pub mod Settling

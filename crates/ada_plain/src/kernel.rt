@@ -1,15 +1,27 @@
 //! The plain kernel: a journal, and each request answered by searches over it.
-ghost use Rattle.std.specs.Prelude.{◌≡◌, ◌+◌, ◌<◌, ◌≤◌, ◌^◌, [], None, length, reverse, IfOk, IfErr};
+ghost use Rattle.std.specs.Prelude.{◌≡◌, ◌+◌, ◌<◌, ◌≤◌, ◌^◌, [], None, length, reverse, nat_lt, IfOk, IfErr};
+ghost use Rattle.std.specs.Bool.{then_some};
 ghost use Rattle.ada_events.specs.Lawful.{IsLawful, IsSettled, Forces};
 ghost use Rattle.ada_events.specs.Refusals.{refusal as refusal_of};
 ghost use Rattle.ada_events.specs.Steps.{IsAccepted, IsRefused};
 ghost use Rattle.ada_events.specs.Asks.{asked_event as asked_of};
+ghost use Rattle.ada_events.specs.Tasks.{task_count};
+ghost use Rattle.ada_events.specs.Phases.{is_terminated, is_running};
+ghost use Rattle.ada_events.specs.Outcomes.{outcome_of};
+ghost use Rattle.ada_events.specs.Attributes.{is_callable, own_count as count_asked, is_finished as finished_in};
+ghost use Rattle.ada_events.specs.Slots.{slot_of};
+ghost use Rattle.ada_events.specs.Boards.{board_of};
 ghost use Rattle.ada_laws.specs.Work.{work_left};
 
 use crate::asks::asked_event;
+use crate::attributes::{
+    is_finished, known_callable, known_outcome, known_running, known_terminated, own_count,
+};
+use crate::boards::board;
 use crate::forced::forced;
 use crate::refusals::refusal;
-use ada_events::{Journal, Refusal, Request};
+use crate::slots::slot;
+use ada_events::{Board, Entry, Journal, Outcome, Refusal, Request, TaskNo};
 use std::alloc::Global;
 use std::marker::Model;
 
@@ -100,5 +112,64 @@ impl PlainKernel {
         ensures settled { IsSettled self.now }
     {
         &self.journal
+    }
+
+    /// The outcome of a task; none where there is no such task.
+    pub fn outcome(&self, task: TaskNo) -> Option<Outcome>
+        ensures { result ≡ then_some (nat_lt task.0 (task_count self.now)) (outcome_of self.now task.0) }
+    {
+        known_outcome(self.journal.as_slice(), task)
+    }
+
+    /// The attribute CALLABLE of a task (9.9); none where there is no such task.
+    pub fn callable(&self, task: TaskNo) -> Option<bool>
+        ensures { result ≡ then_some (nat_lt task.0 (task_count self.now)) (is_callable self.now task.0) }
+    {
+        known_callable(self.journal.as_slice(), task)
+    }
+
+    /// The attribute TERMINATED of a task (9.9); none where there is no such task.
+    pub fn terminated(&self, task: TaskNo) -> Option<bool>
+        ensures { result ≡ then_some (nat_lt task.0 (task_count self.now)) (is_terminated self.now task.0) }
+    {
+        known_terminated(self.journal.as_slice(), task)
+    }
+
+    /// Whether a task is running: started, not ended, and not suspended. None where there is no such
+    /// task.
+    pub fn running(&self, task: TaskNo) -> Option<bool>
+        ensures { result ≡ then_some (nat_lt task.0 (task_count self.now)) (is_running self.now task.0) }
+    {
+        known_running(self.journal.as_slice(), task)
+    }
+
+    /// The attribute COUNT of an entry of the asking task's own (9.9), at most 256. Refused for the first
+    /// that applies of `UnknownTask`, `NotRunning`, `NoSuchFamily` and `ConstraintError`.
+    pub fn count(&self, by: TaskNo, entry: Entry) -> Result<u16, Refusal>
+        ensures { result ≡ count_asked self.now by.0 entry }
+    {
+        own_count(self.journal.as_slice(), by, entry)
+    }
+
+    /// The slot of an entry, below 1,024: all entries of all tasks are numbered from 0 in order of task,
+    /// family and index. None where there is no such task or entry.
+    pub fn slot(&self, task: TaskNo, entry: Entry) -> Option<u16>
+        ensures { result ≡ slot_of self.now task.0 entry }
+    {
+        slot(self.journal.as_slice(), task, entry)
+    }
+
+    /// The attributes of all tasks and entries.
+    pub fn board(&self) -> Board
+        ensures { result ≡ board_of self.now }
+    {
+        board(self.journal.as_slice())
+    }
+
+    /// Whether the main program is terminated.
+    pub fn finished(&self) -> bool
+        ensures { result ≡ finished_in self.now }
+    {
+        is_finished(self.journal.as_slice())
     }
 }

@@ -6,6 +6,7 @@
 
 pub mod asks;
 pub mod attributes;
+pub mod boards;
 pub mod calls;
 pub mod forced;
 pub mod kernel;
@@ -16,6 +17,7 @@ pub mod outcomes;
 pub mod phases;
 pub mod refusals;
 pub mod says;
+pub mod slots;
 pub mod tasks;
 pub mod termination;
 pub mod waits;

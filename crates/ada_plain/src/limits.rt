@@ -120,9 +120,9 @@ pub fn entries_in(families: &[Family]) -> u64
     total
 }
 
-// How many entries the task has that an event makes, at most 2^64 - 1.
+/// How many entries the task has that an event makes, at most 2^64 - 1.
 #[tactic(auto, unfolding(ada_events::specs::Says::creation_in))]
-fn slots_in(event: &Event) -> u64
+pub fn slots_in(event: &Event) -> u64
     ensures { result ≡ min (option_map_or (λ (c : said.Creation). entries.entries_in c.families) (said.creation_in event.now) 0) (2 ^ 64 - 1) }
 {
     match event {
