@@ -9,9 +9,7 @@ ghost use Rattle.ada_run.specs.Replay.{beginning, Tells, IsScriptReplayed, IsRep
 use crate::input::read_input;
 use crate::play::play;
 use crate::{Ending, RunFault};
-use ada_events::TaskNo;
 use ada_kernel::Kernel;
-use ada_plain::phases::is_terminated;
 use ada_script::{Cause, Script, ScriptFault, read};
 use std::alloc::Global;
 use std::io::{Read, Write};
@@ -54,11 +52,10 @@ fn read_script(alloc: Global, text: &[u8]) -> Result<Script, RunFault>
 }
 
 // Whether the main program is terminated.
-#[tactic(auto, unfolding(ada_events::specs::Attributes::is_finished))]
 fn ending_of(kernel: &Kernel) -> Ending
     ensures { Tells result kernel.now }
 {
-    if is_terminated(kernel.journal().as_slice(), TaskNo(0)) {
+    if kernel.finished() {
         Ending::Finished
     } else {
         Ending::Unfinished

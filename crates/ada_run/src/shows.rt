@@ -1,24 +1,28 @@
 //! The attributes that lines show (9.9).
-ghost use Rattle.std.specs.Prelude.{◌≡◌, IfOk, IfErr, ◌<◌, ◌^◌, length, reverse};
-ghost use Rattle.ada_events.specs.Attributes.{is_callable, own_count as own_count_of};
+ghost use Rattle.std.specs.Prelude.{◌≡◌, Ok, Err, MatchOption};
+ghost use Rattle.ada_events.specs.Attributes.{is_callable, own_count};
 ghost use Rattle.ada_events.specs.Phases.{is_terminated as terminated_in};
 ghost use Rattle.ada_run.specs.Play.{attribute, counted, shown as shown_of};
 
 use ada_events::{Entry, Refusal, TaskNo};
 use ada_kernel::Kernel;
-use ada_plain::attributes::{exists, known_callable, known_terminated, own_count};
 use ada_script::{Names, Statement, Value};
+
+fn truth_of(value: Option<bool>) -> Result<Value, Refusal>
+    ensures { MatchOption value (result ≡ Err Refusal.UnknownTask) (λ truth. result ≡ Ok (Value.Truth truth)) }
+{
+    match value {
+        Some(value) => Ok(Value::Truth(value)),
+        None => Err(Refusal::UnknownTask),
+    }
+}
 
 // CALLABLE of a task, where it and the asking task exist.
 fn shown_callable(kernel: &Kernel, by: TaskNo, task: TaskNo) -> Result<Value, Refusal>
     ensures { result ≡ attribute kernel.now by task is_callable }
 {
-    let events = kernel.journal().as_slice();
-    if !exists(events, by) {
-        return Err(Refusal::UnknownTask);
-    }
-    match known_callable(events, task) {
-        Some(value) => Ok(Value::Truth(value)),
+    match kernel.callable(by) {
+        Some(_) => truth_of(kernel.callable(task)),
         None => Err(Refusal::UnknownTask),
     }
 }
@@ -27,21 +31,17 @@ fn shown_callable(kernel: &Kernel, by: TaskNo, task: TaskNo) -> Result<Value, Re
 fn shown_terminated(kernel: &Kernel, by: TaskNo, task: TaskNo) -> Result<Value, Refusal>
     ensures { result ≡ attribute kernel.now by task terminated_in }
 {
-    let events = kernel.journal().as_slice();
-    if !exists(events, by) {
-        return Err(Refusal::UnknownTask);
-    }
-    match known_terminated(events, task) {
-        Some(value) => Ok(Value::Truth(value)),
+    match kernel.terminated(by) {
+        Some(_) => truth_of(kernel.terminated(task)),
         None => Err(Refusal::UnknownTask),
     }
 }
 
 // COUNT of an entry of the asking task's own.
 fn shown_count(kernel: &Kernel, by: TaskNo, entry: Entry) -> Result<Value, Refusal>
-    ensures { result ≡ counted (own_count_of kernel.now by.0 entry) }
+    ensures { result ≡ counted (own_count kernel.now by.0 entry) }
 {
-    match own_count(kernel.journal().as_slice(), by, entry) {
+    match kernel.count(by, entry) {
         Ok(count) => Ok(Value::Number(count)),
         Err(cause) => Err(cause),
     }

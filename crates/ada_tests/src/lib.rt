@@ -1,0 +1,24 @@
+//! Tests that cross crates: worked scripts byte for byte, faults of scripts, and readers and writers that
+//! come in pieces or fail.
+#![tactic(auto)]
+
+#[cfg(test)]
+mod abort;
+#[cfg(test)]
+mod activation;
+#[cfg(test)]
+mod calls;
+#[cfg(test)]
+mod pieces;
+#[cfg(test)]
+mod playing;
+#[cfg(test)]
+mod refused;
+#[cfg(test)]
+mod scripts;
+#[cfg(test)]
+mod streams;
+#[cfg(test)]
+mod termination;
+#[cfg(test)]
+mod waits;

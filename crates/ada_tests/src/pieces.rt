@@ -1,0 +1,114 @@
+//! Replays over readers in pieces, and over readers and writers that fail.
+
+use crate::streams::{Bytes, End, Pieces};
+use ada_run::{replay, status_of};
+use std::process::Abort;
+use std::test::Fail;
+
+/// A server, a client and one rendezvous, to the end.
+const SCRIPT: &[u8] = b"main: create S under main E
+main: create C under main
+main: activate S C
+S: up
+C: up
+C: call S E
+S: accept E
+S: end
+C: complete
+S: complete
+main: complete
+";
+
+const PRINTED: &[u8] = b"1 main created S under main with E(0..0)
+2 main created C under main
+3 main started S C
+4 S up
+5 C up
+6 activated 3 ok
+7 C called S.E(0)
+8 S waits 0 accept E(0)
+9 met 7 8
+10 S ended 7
+11 C completed
+12 gone C
+13 S completed
+14 gone S
+15 main completed
+16 gone main
+";
+
+/// Read in pieces of so many bytes, the script prints what it prints.
+fn reads_in_pieces<R: Abort + AllocGlobal>(rt: &R, size: usize) -> Result<(), Fail> {
+    let mut reader = Pieces {
+        text: SCRIPT,
+        size,
+        reads_left: usize::MAX,
+    };
+    let mut output = Vec::new(rt.alloc());
+    let outcome = replay(rt.alloc(), &mut reader, &mut output);
+    assert_eq!(rt; status_of(&outcome), 0);
+    assert_eq!(rt; output.as_slice(), PRINTED);
+    Ok(())
+}
+
+#[test]
+fn pieces_of_1_2_and_7_bytes(rt: HostRuntime) -> Result<(), Fail> {
+    reads_in_pieces(&rt, 1)?;
+    reads_in_pieces(&rt, 2)?;
+    reads_in_pieces(&rt, 7)
+}
+
+// A reader that fails at its k-th read, for each k: the status is 4, and nothing is written.
+#[test]
+fn reads_that_fail(rt: HostRuntime) -> Result<(), Fail> {
+    let reads = SCRIPT.len() / 7 + 2;
+    for reads_left in 0..reads {
+        let mut reader = Pieces {
+            text: SCRIPT,
+            size: 7,
+            reads_left,
+        };
+        let mut output = Vec::new(rt.alloc());
+        let outcome = replay(rt.alloc(), &mut reader, &mut output);
+        assert_eq!(rt; status_of(&outcome), 4);
+        assert!(rt; output.is_empty());
+    }
+    Ok(())
+}
+
+/// A writer that comes to its end after so many bytes: exactly these are written, and the status is 4.
+fn writes_until<R: Abort + AllocGlobal>(rt: &R, room: usize, end: End) -> Result<(), Fail> {
+    let mut writer = Bytes {
+        taken: Vec::new(rt.alloc()),
+        room,
+        end,
+    };
+    let mut input = SCRIPT;
+    let outcome = replay(rt.alloc(), &mut input, &mut writer);
+    assert_eq!(rt; status_of(&outcome), 4);
+    assert_eq!(rt; Some(writer.taken.as_slice()), PRINTED.get(..room));
+    Ok(())
+}
+
+#[test]
+fn writes_that_fail(rt: HostRuntime) -> Result<(), Fail> {
+    for room in 0..PRINTED.len() {
+        writes_until(&rt, room, End::Fails)?;
+        writes_until(&rt, room, End::TakesNothing)?;
+    }
+    Ok(())
+}
+
+#[test]
+fn a_byte_at_each_write(rt: HostRuntime) -> Result<(), Fail> {
+    let mut writer = Bytes {
+        taken: Vec::new(rt.alloc()),
+        room: usize::MAX,
+        end: End::Fails,
+    };
+    let mut input = SCRIPT;
+    let outcome = replay(rt.alloc(), &mut input, &mut writer);
+    assert_eq!(rt; status_of(&outcome), 0);
+    assert_eq!(rt; writer.taken.as_slice(), PRINTED);
+    Ok(())
+}

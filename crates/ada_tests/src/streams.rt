@@ -1,0 +1,62 @@
+//! A reader that comes in pieces or fails, and a writer that takes a byte at a time and fails.
+
+use std::io;
+use std::io::ErrorKind;
+
+/// Gives a text in pieces of so many bytes, and fails once so many reads were made.
+#[derive(Drop)]
+pub struct Pieces<'a> {
+    pub text: &'a [u8],
+    pub size: usize,
+    pub reads_left: usize,
+}
+
+impl io::Read for Pieces<'_> {
+    fn read(&mut self, buf: &mut [u8]) -> io::Result<usize> {
+        if self.reads_left == 0 {
+            return Err(io::Error::from(ErrorKind::Other));
+        }
+        self.reads_left -= 1;
+        let count = buf.len().min(self.text.len()).min(self.size);
+        buf[..count].copy_from_slice(&self.text[..count]);
+        self.text = &self.text[count..];
+        Ok(count)
+    }
+}
+
+/// What a writer does once it has taken its bytes.
+#[derive(Clone, Copy, PartialEq, Eq)]
+pub enum End {
+    Fails,
+    TakesNothing,
+}
+
+/// Takes a byte at each write, so many in all, and then comes to its end.
+#[derive(Drop)]
+pub struct Bytes {
+    pub taken: Vec<u8>,
+    pub room: usize,
+    pub end: End,
+}
+
+impl io::Write for Bytes {
+    fn write(&mut self, buf: &[u8]) -> io::Result<usize> {
+        if self.taken.len() < self.room {
+            return match buf.first() {
+                Some(byte) => {
+                    self.taken.push(*byte).map_err(|_| io::Error::from(ErrorKind::Other))?;
+                    Ok(1)
+                }
+                None => Ok(0),
+            };
+        }
+        match self.end {
+            End::Fails => Err(io::Error::from(ErrorKind::Other)),
+            End::TakesNothing => Ok(0),
+        }
+    }
+
+    fn flush(&mut self) -> io::Result<()> {
+        Ok(())
+    }
+}
