@@ -34,23 +34,16 @@ fn one_rendezvous(rt: HostRuntime) -> Result<(), Fail> {
 // A script without statements prints nothing.
 #[test]
 fn empty_script(rt: HostRuntime) -> Result<(), Fail> {
-    let script: [&str; 0] = [
-    ];
-    let printed: [&str; 0] = [
-    ];
+    let script: [&str; 0] = [];
+    let printed: [&str; 0] = [];
     prints(&rt, &script, &printed, 3)
 }
 
 // The main program completes (9.4).
 #[test]
 fn main_alone(rt: HostRuntime) -> Result<(), Fail> {
-    let script: [&str; 1] = [
-        "main: complete",
-    ];
-    let printed: [&str; 2] = [
-        "1 main completed",
-        "2 gone main",
-    ];
+    let script: [&str; 1] = ["main: complete"];
+    let printed: [&str; 2] = ["1 main completed", "2 gone main"];
     prints(&rt, &script, &printed, 0)
 }
 

@@ -1,5 +1,5 @@
-//! Tests that cross crates: worked scripts byte for byte, faults of scripts, and readers and writers that
-//! come in pieces or fail.
+//! Tests that cross crates: worked scripts byte for byte, faults of scripts, limits of the kernel, and
+//! readers and writers that come in pieces or fail.
 #![tactic(auto)]
 
 #[cfg(test)]
@@ -7,7 +7,11 @@ mod abort;
 #[cfg(test)]
 mod activation;
 #[cfg(test)]
+mod asking;
+#[cfg(test)]
 mod calls;
+#[cfg(test)]
+mod kernel;
 #[cfg(test)]
 mod pieces;
 #[cfg(test)]

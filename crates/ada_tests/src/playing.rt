@@ -17,7 +17,12 @@ pub fn joined(alloc: Global, lines: &[&str]) -> Result<Vec<u8>, AllocError> {
 }
 
 /// A script prints these lines and ends with this status.
-pub fn prints<R: Abort + AllocGlobal>(rt: &R, script: &[&str], printed: &[&str], status: u8) -> Result<(), Fail> {
+pub fn prints<R: Abort + AllocGlobal>(
+    rt: &R,
+    script: &[&str],
+    printed: &[&str],
+    status: u8,
+) -> Result<(), Fail> {
     let text = joined(rt.alloc(), script)?;
     let wanted = joined(rt.alloc(), printed)?;
     let mut output = Vec::new(rt.alloc());
@@ -28,7 +33,12 @@ pub fn prints<R: Abort + AllocGlobal>(rt: &R, script: &[&str], printed: &[&str],
 }
 
 /// A text is no script: its fault is in this line and for this cause, and nothing is printed.
-pub fn is_faulty<R: Abort + AllocGlobal>(rt: &R, text: &[u8], line: u32, cause: Cause) -> Result<(), Fail> {
+pub fn is_faulty<R: Abort + AllocGlobal>(
+    rt: &R,
+    text: &[u8],
+    line: u32,
+    cause: Cause,
+) -> Result<(), Fail> {
     let mut input = text;
     let mut output = Vec::new(rt.alloc());
     let outcome = replay(rt.alloc(), &mut input, &mut output);

@@ -22,8 +22,18 @@ fn bad_statements(rt: HostRuntime) -> Result<(), Fail> {
     is_faulty(&rt, b"main: create", 1, Cause::BadStatement)?;
     is_faulty(&rt, b"main: jump", 1, Cause::BadStatement)?;
     is_faulty(&rt, b"main: up up", 1, Cause::BadStatement)?;
-    is_faulty(&rt, b"main: create S under main F 1", 1, Cause::BadStatement)?;
-    is_faulty(&rt, b"main: create S under main E\nmain: call S E within\n", 2, Cause::BadStatement)
+    is_faulty(
+        &rt,
+        b"main: create S under main F 1",
+        1,
+        Cause::BadStatement,
+    )?;
+    is_faulty(
+        &rt,
+        b"main: create S under main E\nmain: call S E within\n",
+        2,
+        Cause::BadStatement,
+    )
 }
 
 #[test]
@@ -42,8 +52,18 @@ fn a_tab_is_a_fault(rt: HostRuntime) -> Result<(), Fail> {
 #[test]
 fn accepted_lines(rt: HostRuntime) -> Result<(), Fail> {
     prints(&rt, &["main: activate"], &["refused line 1: EmptyList"], 3)?;
-    prints(&rt, &["tick 9223372036854775807"], &["refused line 1: MomentTooLarge"], 3)?;
-    prints(&rt, &["main: select 4294967295 else"], &["refused line 1: NoAccept"], 3)
+    prints(
+        &rt,
+        &["tick 9223372036854775807"],
+        &["refused line 1: MomentTooLarge"],
+        3,
+    )?;
+    prints(
+        &rt,
+        &["main: select 4294967295 else"],
+        &["refused line 1: NoAccept"],
+        3,
+    )
 }
 
 #[test]

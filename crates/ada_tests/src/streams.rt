@@ -44,7 +44,9 @@ impl io::Write for Bytes {
         if self.taken.len() < self.room {
             return match buf.first() {
                 Some(byte) => {
-                    self.taken.push(*byte).map_err(|_| io::Error::from(ErrorKind::Other))?;
+                    self.taken
+                        .push(*byte)
+                        .map_err(|_| io::Error::from(ErrorKind::Other))?;
                     Ok(1)
                 }
                 None => Ok(0),
