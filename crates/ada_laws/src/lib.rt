@@ -5,7 +5,10 @@
 #![tactic(auto)]
 
 pub mod calls;
+pub mod choosing;
 pub mod dependents;
+pub mod groups;
+pub mod lasting;
 pub mod limits;
 pub mod requests;
 pub mod slots;
