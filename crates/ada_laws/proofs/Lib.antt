@@ -23,3 +23,4 @@ pub mod SlotLaws
 pub mod LastingLaws
 pub mod GroupLaws
 pub mod ChoosingLaws
+pub mod ShowingLaws

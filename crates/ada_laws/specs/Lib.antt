@@ -8,3 +8,4 @@ pub mod Slots
 pub mod Lasting
 pub mod Groups
 pub mod Choosing
+pub mod Showing

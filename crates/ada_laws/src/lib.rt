@@ -11,5 +11,6 @@ pub mod groups;
 pub mod lasting;
 pub mod limits;
 pub mod requests;
+pub mod showing;
 pub mod slots;
 pub mod suspension;
