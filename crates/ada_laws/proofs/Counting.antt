@@ -17,7 +17,7 @@ use Rattle.ada_events.specs.Tasks.{task_count}
 use Rattle.ada_events.specs.Calls.{queue, count_of}
 use Rattle.ada_events.specs.Lawful.{IsLawful}
 use Rattle.ada_laws.specs.Calls.{IsCallAt}
-use Rattle.ada_laws.specs.Slots.{QueuesAreShort}
+use Rattle.ada_laws.specs.Slots.{QueuesAreShort, QueuesHoldOneCallOfEach}
 use Rattle.ada_laws.proofs.Suspending.{suspended_exists}
 use Rattle.ada_laws.proofs.Queueing.{queue-found, queue-rises}
 use Rattle.ada_laws.proofs.CallLaws.{one_open_call_each, open_calls_suspend}
@@ -66,3 +66,12 @@ queues_are_short journal task entry lawful =
     (λ q found. caller_exists journal task entry q lawful (Contains-from_any eqb-true q callers found)) in
     let most : task_count journal ≤ 256 = tasks_are_few journal lawful in
     omega (arith, length-map xs (caller_at journal))
+
+pub queues_hold_one_call_of_each : QueuesHoldOneCallOfEach
+queues_hold_one_call_of_each journal task entry c d p q lawful has_p has_q at_p at_q same =
+    let a = queue-found journal task entry p has_p in
+    let b = queue-found journal task entry q has_q in
+    let callers : a.call.by ≡ b.call.by =
+    sym (caller_at-call journal a.call p a.opened.stands) ∙ caller_at-call journal c p at_p ∙ same
+    ∙ sym (caller_at-call journal d q at_q) ∙ caller_at-call journal b.call q b.opened.stands in
+    one_open_call_each journal a.call b.call p q lawful a.opened b.opened callers

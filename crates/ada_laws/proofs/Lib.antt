@@ -20,3 +20,7 @@ pub mod Depending
 pub mod DependentLaws
 pub mod Counting
 pub mod SlotLaws
+pub mod LastingLaws
+pub mod GroupLaws
+pub mod ChoosingLaws
+pub mod ShowingLaws

@@ -5,3 +5,7 @@ pub mod Suspension
 pub mod Calls
 pub mod Dependents
 pub mod Slots
+pub mod Lasting
+pub mod Groups
+pub mod Choosing
+pub mod Showing

@@ -5,8 +5,12 @@
 #![tactic(auto)]
 
 pub mod calls;
+pub mod choosing;
 pub mod dependents;
+pub mod groups;
+pub mod lasting;
 pub mod limits;
 pub mod requests;
+pub mod showing;
 pub mod slots;
 pub mod suspension;

@@ -1,5 +1,5 @@
 //! Laws of slots and queues (9.5, 9.9).
-ghost use Rattle.ada_laws.specs.Slots.{SlotsAreFew, QueuesAreShort, SlotsAreNumbered, SlotsAreOfTasks};
+ghost use Rattle.ada_laws.specs.Slots.{SlotsAreFew, QueuesAreShort, QueuesHoldOneCallOfEach, SlotsAreNumbered, SlotsAreOfTasks};
 
 /// A lawful journal has at most 1,024 entries over all tasks.
 #[tactic(auto, using(crate::proofs::SlotLaws::slots_are_few))]
@@ -11,6 +11,11 @@ pub fn slots_are_few()
 #[tactic(auto, using(crate::proofs::Counting::queues_are_short))]
 pub fn queues_are_short()
     ensures { QueuesAreShort }
+{}
+
+/// In a lawful journal a queue doesn't hold two calls of one task.
+pub fn queues_hold_one_call_of_each()
+    ensures { QueuesHoldOneCallOfEach }
 {}
 
 /// The slots are the numbers below the number of entries.
