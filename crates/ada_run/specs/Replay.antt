@@ -6,7 +6,7 @@ use Rattle.ada_events.specs.Attributes.{is_finished}
 use Rattle.ada_script.specs.declared.fault.ScriptFault.{ScriptFault}
 use Rattle.ada_script.specs.declared.fault.Cause.TheVariants.{OutOfMemory}
 use Rattle.ada_script.specs.declared.script.Line.{Line}
-use Rattle.ada_script.specs.Script.{scope_of, IsScript}
+use Rattle.ada_script.specs.Script.{scope_of, IsScript, IsFirstFault}
 use Rattle.ada_run.specs.declared.fault.Ending.{Ending}
 use Rattle.ada_run.specs.declared.fault.Ending.TheVariants.{Finished, Unfinished}
 use Rattle.ada_run.specs.declared.fault.RunFault.{RunFault}
@@ -42,19 +42,23 @@ pub record IsBrokenOff (text : List ℕ) (before after : Option (List ℕ)) : Ty
   pub reads : IsScript text script
   pub cut : IsCutShort (Plays script (beginning script)) before after
 
--- want of memory, or a fault of a script, which isn't want of memory
-abbrev pub IsReadingFault : RunFault → Type 0
-IsReadingFault (Script fault) = fault.cause ≡ OutOfMemory → ⊥
-IsReadingFault TooManyTasks = ⊥
-IsReadingFault Memory = Unit {0}
-IsReadingFault Read = ⊥
-IsReadingFault Write = ⊥
-IsReadingFault Threads = ⊥
+-- a fault that names the first line of a text that isn't acceptable, and isn't want of memory
+abbrev pub IsFaultOf : List ℕ → ScriptFault → Type 0
+IsFaultOf text fault = IsFirstFault text fault × (fault.cause ≡ OutOfMemory → ⊥)
+
+-- want of memory, or a fault of a text that is no script
+abbrev pub IsReadingFault : List ℕ → RunFault → Type 0
+IsReadingFault text (Script fault) = IsFaultOf text fault
+IsReadingFault text TooManyTasks = ⊥
+IsReadingFault text Memory = Unit {0}
+IsReadingFault text Read = ⊥
+IsReadingFault text Write = ⊥
+IsReadingFault text Threads = ⊥
 
 -- what a fault says of what was written of a text's play: nothing where the text is no script, and where
 -- memory or the output was refused nothing or a beginning of the play
 abbrev pub BreaksText : RunFault → List ℕ → Option (List ℕ) → Option (List ℕ) → Type 0
-BreaksText (Script fault) text before after = Keeps before after × (fault.cause ≡ OutOfMemory → ⊥)
+BreaksText (Script fault) text before after = Keeps before after × IsFaultOf text fault
 BreaksText TooManyTasks text before after = ⊥
 BreaksText Memory text before after = Keeps before after ⊎ IsBrokenOff text before after
 BreaksText Read text before after = ⊥
@@ -63,7 +67,7 @@ BreaksText Threads text before after = ⊥
 
 -- the same of an input, where its bytes are known; nothing was written where it wasn't read
 abbrev pub Breaks : RunFault → Option (List ℕ) → Option (List ℕ) → Option (List ℕ) → Type 0
-Breaks (Script fault) input before after = Keeps before after × (fault.cause ≡ OutOfMemory → ⊥)
+Breaks (Script fault) input before after = Keeps before after × IfSome input (λ bytes. IsFaultOf (text_of bytes) fault)
 Breaks TooManyTasks input before after = ⊥
 Breaks Memory input before after = Keeps before after ⊎ IfSome input (λ bytes. IsBrokenOff (text_of bytes) before after)
 Breaks Read input before after = Keeps before after

@@ -37,7 +37,7 @@ pub fn replay<R: Read, W: Write>(
 // Reads a text as a script. Want of memory isn't a fault of the script.
 fn read_script(alloc: Global, text: &[u8]) -> Result<Script, RunFault>
     ensures ok { IfOk result (λ script. IsScript text.now script) }
-    ensures err { IfErr result IsReadingFault }
+    ensures err { IfErr result (IsReadingFault text.now) }
 {
     match read(alloc, text) {
         Ok(script) => Ok(script),
