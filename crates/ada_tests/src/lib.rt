@@ -17,6 +17,8 @@ mod pieces;
 #[cfg(test)]
 mod playing;
 #[cfg(test)]
+mod queries;
+#[cfg(test)]
 mod refused;
 #[cfg(test)]
 mod scripts;
