@@ -24,3 +24,4 @@ pub mod LastingLaws
 pub mod GroupLaws
 pub mod ChoosingLaws
 pub mod ShowingLaws
+pub mod SlotPlaces
