@@ -25,3 +25,4 @@ pub mod GroupLaws
 pub mod ChoosingLaws
 pub mod ShowingLaws
 pub mod SlotPlaces
+pub mod SlotOrder

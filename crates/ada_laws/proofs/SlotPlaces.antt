@@ -32,7 +32,7 @@ in_range_at : (f : Family) (offset : ℕ) → offset < entry_count f → is_in_r
 unfolding entry_count
 in_range_at f offset below = grind (arith, ints)
 
-entries_in-cons : (g : Family) (fs : List Family) → entries_in (g ∷ fs) ≡ entry_count g + entries_in fs
+pub entries_in-cons : (g : Family) (fs : List Family) → entries_in (g ∷ fs) ≡ entry_count g + entries_in fs
 unfolding entries_in
 entries_in-cons g fs = sum_by-cons entry_count g fs
 
@@ -54,14 +54,14 @@ entry_within_at p (g ∷ rest) (suc k) offset f some below =
     let place : suc p + k ≡ p + suc k = omega arith in
     rw (le-ltb n (entry_count g) past, behind, ← place) (entry_within_at (suc p) rest k offset f some below)
 
-record IsEntryAt (p : ℕ) (fs : List Family) (n : ℕ) (e : Entry) : Type 0 where
-  place : ℕ
-  offset : ℕ
-  family : Family
-  stands : slice_get fs place ≡ Some family
-  below : offset < entry_count family
-  is : e ≡ record { family = p + place; index = family.low +ℤ pos offset }
-  number : n ≡ entries_in (take place fs) + offset
+pub record IsEntryAt (p : ℕ) (fs : List Family) (n : ℕ) (e : Entry) : Type 0 where
+  pub place : ℕ
+  pub offset : ℕ
+  pub family : Family
+  pub stands : slice_get fs place ≡ Some family
+  pub below : offset < entry_count family
+  pub is : e ≡ record { family = p + place; index = family.low +ℤ pos offset }
+  pub number : n ≡ entries_in (take place fs) + offset
 
 entry_later : (p : ℕ) (g : Family) (rest : List Family) (n : ℕ) (e : Entry) → entry_count g ≤ n → IsEntryAt (suc p) rest (n - entry_count g) e → IsEntryAt p (g ∷ rest) n e
 entry_later p g rest n e past found = record {
@@ -74,7 +74,7 @@ entry_later p g rest n e past found = record {
   number = omega (arith, found.number, entries_in-cons g (take found.place rest));
 }
 
-entry_within-found : (p : ℕ) (fs : List Family) (n : ℕ) (e : Entry) → entry_within p fs n ≡ Some e → IsEntryAt p fs n e
+pub entry_within-found : (p : ℕ) (fs : List Family) (n : ℕ) (e : Entry) → entry_within p fs n ≡ Some e → IsEntryAt p fs n e
 unfolding entry_within entries_in
 entry_within-found p [] n e found = absurd (none-some e found)
 entry_within-found p (g ∷ rest) n e found =
@@ -105,7 +105,7 @@ number_parts fs e n (Some f) some number =
     ∙ ap (λ i. Some (record { family = e.family; index = i })) (index_back f e.index both.0)
 
 -- the entry of a number is at that number, and the other way about
-number_is : (fs : List Family) (e : Entry) (n : ℕ) → number_within fs e ≡ Some n → entry_within 0 fs n ≡ Some e
+pub number_is : (fs : List Family) (e : Entry) (n : ℕ) → number_within fs e ≡ Some n → entry_within 0 fs n ≡ Some e
 unfolding number_within
 number_is fs e n number = number_parts fs e n (slice_get fs e.family) refl number
 
@@ -228,7 +228,7 @@ none_made (Some c) n task past same =
     absurd (omega arith)
 
 -- a task that doesn't exist has no slots
-no_slot : (journal : List Event) (task : ℕ) (entry : Entry) → task_count journal ≤ task → slot_of journal task entry ≡ None
+pub no_slot : (journal : List Event) (task : ℕ) (entry : Entry) → task_count journal ≤ task → slot_of journal task entry ≡ None
 unfolding slot_of slot_made task_count
 no_slot [] task entry past = refl
 no_slot (event ∷ before) task entry past =

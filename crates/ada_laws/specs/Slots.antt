@@ -1,5 +1,5 @@
 -- Slots and queues: how many there are, and that a slot and its entry belong together.
-use Rattle.std.specs.Prelude.{◌≡◌, ℕ, ◌<◌, ◌≤◌, ◌||◌, Some, List, is_some, is_none, nat_lt}
+use Rattle.std.specs.Prelude.{◌≡◌, ℕ, ◌<◌, ◌≤◌, ◌<ℤ◌, ◌⊎◌, ◌||◌, Some, List, is_some, is_none, nat_lt}
 use Rattle.std.specs.List.{Contains}
 use Rattle.ada_events.specs.declared.event.Event.{Event}
 use Rattle.ada_events.specs.declared.names.Entry.{Entry}
@@ -57,3 +57,16 @@ abbrev pub DeclaredEntriesHaveSlots : Type 0
 DeclaredEntriesHaveSlots =
     (journal : List Event) (task : ℕ) (entry : Entry)
     → is_none (slot_of journal task entry) ≡ (lacks_family journal task entry || is_outside journal task entry)
+
+-- an entry comes before another: its task does, or in one task its family, or in one family its index
+abbrev pub ComesBefore : Place → Place → Type 0
+ComesBefore a b =
+    (a.task < b.task)
+    ⊎ (((a.task ≡ b.task) × (a.entry.family < b.entry.family))
+    ⊎ ((a.task ≡ b.task) × (a.entry.family ≡ b.entry.family) × (a.entry.index <ℤ b.entry.index)))
+
+-- slots are in order of task, family and index
+abbrev pub SlotsAreInOrder : Type 0
+SlotsAreInOrder =
+    (journal : List Event) (a b : Place) (r s : ℕ) → slot_of journal a.task a.entry ≡ Some r → slot_of journal b.task b.entry ≡ Some s
+    → ComesBefore a b → r < s

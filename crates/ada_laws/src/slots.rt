@@ -1,5 +1,5 @@
 //! Laws of slots and queues (9.5, 9.9).
-ghost use Rattle.ada_laws.specs.Slots.{SlotsAreFew, QueuesAreShort, QueuesHoldOneCallOfEach, SlotsAreNumbered, SlotsAreOfTasks, EntriesStandAtTheirSlots, SlotsAreOfTheirEntries, SlotsAreFilled, DeclaredEntriesHaveSlots};
+ghost use Rattle.ada_laws.specs.Slots.{SlotsAreFew, QueuesAreShort, QueuesHoldOneCallOfEach, SlotsAreNumbered, SlotsAreOfTasks, EntriesStandAtTheirSlots, SlotsAreOfTheirEntries, SlotsAreFilled, DeclaredEntriesHaveSlots, SlotsAreInOrder};
 
 /// A lawful journal has at most 1,024 entries over all tasks.
 #[tactic(auto, using(crate::proofs::SlotLaws::slots_are_few))]
@@ -43,4 +43,9 @@ pub fn slots_and_entries_belong_together()
 #[tactic(auto, using(crate::proofs::SlotPlaces::declared_entries_have_slots))]
 pub fn declared_entries_have_slots()
     ensures { DeclaredEntriesHaveSlots }
+{}
+
+/// Slots are in order of task, family and index.
+pub fn slots_are_in_order()
+    ensures { SlotsAreInOrder }
 {}
