@@ -26,3 +26,4 @@ pub mod ChoosingLaws
 pub mod ShowingLaws
 pub mod SlotPlaces
 pub mod SlotOrder
+pub mod OutcomeLaws
