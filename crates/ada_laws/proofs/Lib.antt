@@ -24,3 +24,6 @@ pub mod LastingLaws
 pub mod GroupLaws
 pub mod ChoosingLaws
 pub mod ShowingLaws
+pub mod SlotPlaces
+pub mod SlotOrder
+pub mod OutcomeLaws

@@ -45,7 +45,7 @@ slots_are_few (event ∷ before) lawful =
     ]
 
 -- an index in a family's range, counted from its low bound
-offset_below : (f : Family) (index : ℤ) → is_in_range f index ≡ true → unsigned_abs (index -ℤ f.low) < entry_count f
+pub offset_below : (f : Family) (index : ℤ) → is_in_range f index ≡ true → unsigned_abs (index -ℤ f.low) < entry_count f
 unfolding entry_count
 offset_below f index in_range =
     let both = and_parts (int_le f.low index) (int_le index f.high) in_range in

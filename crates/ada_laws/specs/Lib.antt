@@ -9,3 +9,4 @@ pub mod Lasting
 pub mod Groups
 pub mod Choosing
 pub mod Showing
+pub mod Outcomes

@@ -10,6 +10,7 @@ pub mod dependents;
 pub mod groups;
 pub mod lasting;
 pub mod limits;
+pub mod outcomes;
 pub mod requests;
 pub mod showing;
 pub mod slots;

@@ -1,5 +1,5 @@
 //! Laws of slots and queues (9.5, 9.9).
-ghost use Rattle.ada_laws.specs.Slots.{SlotsAreFew, QueuesAreShort, QueuesHoldOneCallOfEach, SlotsAreNumbered, SlotsAreOfTasks};
+ghost use Rattle.ada_laws.specs.Slots.{SlotsAreFew, QueuesAreShort, QueuesHoldOneCallOfEach, SlotsAreNumbered, SlotsAreOfTasks, EntriesStandAtTheirSlots, SlotsAreOfTheirEntries, SlotsAreFilled, DeclaredEntriesHaveSlots, SlotsAreInOrder};
 
 /// A lawful journal has at most 1,024 entries over all tasks.
 #[tactic(auto, using(crate::proofs::SlotLaws::slots_are_few))]
@@ -28,4 +28,24 @@ pub fn slots_are_numbered()
 #[tactic(auto, using(crate::proofs::SlotLaws::slots_are_of_tasks))]
 pub fn slots_are_of_tasks()
     ensures { SlotsAreOfTasks }
+{}
+
+/// A slot and its entry belong together: the entry of a slot stands at it, and the slot of an entry is
+/// where it stands. An entry stands at exactly the numbers below the number of entries.
+pub fn slots_and_entries_belong_together()
+    ensures stand { EntriesStandAtTheirSlots }
+    ensures are_of { SlotsAreOfTheirEntries }
+    ensures filled { SlotsAreFilled }
+{}
+
+/// Exactly the entries that tasks declare have slots: of a task that exists, a family that it declares
+/// and an index in that family's range.
+#[tactic(auto, using(crate::proofs::SlotPlaces::declared_entries_have_slots))]
+pub fn declared_entries_have_slots()
+    ensures { DeclaredEntriesHaveSlots }
+{}
+
+/// Slots are in order of task, family and index.
+pub fn slots_are_in_order()
+    ensures { SlotsAreInOrder }
 {}
