@@ -38,7 +38,7 @@ pub enum Cause {
 
 /// What is wrong with the words of a line.
 #[derive(Clone, Copy, Debug, PartialEq, Eq)]
-pub enum Fault {
+pub(crate) enum Fault {
     BadStatement,
     BadNumber,
     UnknownName,

@@ -18,7 +18,7 @@ pub struct Made {
 
 /// What a name may be bound to.
 #[derive(Clone, Copy, Debug, PartialEq, Eq)]
-pub enum Bound {
+pub(crate) enum Bound {
     /// The task of this number.
     Task(TaskNo),
     /// The task that was made at this position.

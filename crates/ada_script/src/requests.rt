@@ -44,7 +44,7 @@ fn choices_of(choices: &Alternatives, by: &Name, names: &Names) -> Choices
 }
 
 /// Another tail of the same kind.
-fn copy_of(tail: &Tail) -> Tail
+pub fn copy_of(tail: &Tail) -> Tail
     ensures { result ≡ tail.now }
 {
     match tail {

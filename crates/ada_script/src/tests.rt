@@ -193,6 +193,7 @@ fn asks_what_is_written(rt: HostRuntime) -> Result<(), Fail> {
     let names = bound_names(&rt, &script)?;
     let lines = script.lines();
     assert!(rt; lines.len() == 8);
+    assert!(rt; lines[5].statement.copy() == lines[5].statement);
     assert_eq!(rt; lines[7].line, 8);
     let call = Request::Call {
         by: CALLER,
