@@ -11,6 +11,8 @@ mod asking;
 #[cfg(test)]
 mod calls;
 #[cfg(test)]
+mod journals;
+#[cfg(test)]
 mod kernel;
 #[cfg(test)]
 mod pieces;
