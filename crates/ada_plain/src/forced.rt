@@ -190,11 +190,11 @@ fn is_over(now: i64, patience: Patience, due: Option<i64>) -> bool
 }
 
 #[tactic(auto, unfolding(ada_events::specs::Says::call_in))]
-fn is_call_over(now: i64, event: &Event) -> bool
-    ensures { result ≡ option_map_or (λ (c : said.Call). forced.is_conditional c.patience || forced.is_due now c.due) (said.call_in event.now) false }
+fn is_call_over(events: &[Event], event: &Event) -> bool
+    ensures { result ≡ option_map_or (λ (c : said.Call). forced.is_conditional c.patience || forced.is_due (moment_of (reverse events.now)) c.due) (said.call_in event.now) false }
 {
     match event {
-        Event::Called { patience, due, .. } => is_over(now, *patience, *due),
+        Event::Called { patience, due, .. } => is_over(moment(events), *patience, *due),
         _ => false,
     }
 }
@@ -204,7 +204,7 @@ fn is_to_cancel(events: &[Event], position: u32, event: &Event) -> bool
     requires { length events.now < 2 ^ 32 }
     ensures { result ≡ forced.is_to_cancel (reverse events.now) position event.now }
 {
-    is_call_over(moment(events), event) && is_queued_at(events, position, event)
+    is_call_over(events, event) && is_queued_at(events, position, event)
 }
 
 fn cancelled_call(events: &[Event], position: u32, event: &Event) -> Option<Event>
