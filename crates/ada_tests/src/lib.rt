@@ -11,6 +11,8 @@ mod asking;
 #[cfg(test)]
 mod calls;
 #[cfg(test)]
+mod cuts;
+#[cfg(test)]
 mod journals;
 #[cfg(test)]
 mod kernel;

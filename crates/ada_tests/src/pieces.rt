@@ -6,7 +6,7 @@ use std::process::Abort;
 use std::test::Fail;
 
 /// A server, a client and one rendezvous, to the end.
-const SCRIPT: &[u8] = b"main: create S under main E
+pub const SCRIPT: &[u8] = b"main: create S under main E
 main: create C under main
 main: activate S C
 S: up

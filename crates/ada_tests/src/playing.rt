@@ -44,9 +44,12 @@ pub fn is_faulty<R: Abort + AllocGlobal>(
     let outcome = replay(rt.alloc(), &mut input, &mut output);
     assert_eq!(rt; status_of(&outcome), 1);
     assert!(rt; output.is_empty());
-    if let Err(RunFault::Script(fault)) = outcome {
-        assert_eq!(rt; fault.line, line);
-        assert_eq!(rt; fault.cause, cause);
+    match outcome {
+        Err(RunFault::Script(fault)) => {
+            assert_eq!(rt; fault.line, line);
+            assert_eq!(rt; fault.cause, cause);
+        }
+        _ => assert!(rt; false),
     }
     Ok(())
 }

@@ -3,7 +3,18 @@
 use crate::playing::{is_faulty, prints};
 use ada_run::{replay, status_of};
 use ada_script::Cause;
+use std::process::Abort;
 use std::test::Fail;
+
+/// A text is a script without a statement: it prints nothing, and the main program isn't terminated.
+fn has_no_statement<R: Abort + AllocGlobal>(rt: &R, text: &[u8]) -> Result<(), Fail> {
+    let mut input = text;
+    let mut output = Vec::new(rt.alloc());
+    let outcome = replay(rt.alloc(), &mut input, &mut output);
+    assert_eq!(rt; status_of(&outcome), 3);
+    assert!(rt; output.is_empty());
+    Ok(())
+}
 
 #[test]
 fn double_names(rt: HostRuntime) -> Result<(), Fail> {
@@ -70,12 +81,7 @@ fn accepted_lines(rt: HostRuntime) -> Result<(), Fail> {
 fn a_comment_of_200_bytes(rt: HostRuntime) -> Result<(), Fail> {
     let mut line = [b'x'; 200];
     line[0] = b'#';
-    let mut input = line.as_slice();
-    let mut output = Vec::new(rt.alloc());
-    let outcome = replay(rt.alloc(), &mut input, &mut output);
-    assert_eq!(rt; status_of(&outcome), 3);
-    assert!(rt; output.is_empty());
-    Ok(())
+    has_no_statement(&rt, line.as_slice())
 }
 
 #[test]
@@ -88,16 +94,28 @@ fn a_comment_of_201_bytes(rt: HostRuntime) -> Result<(), Fail> {
 #[test]
 fn as_many_lines_as_there_may_be(rt: HostRuntime) -> Result<(), Fail> {
     let lines = [b'\n'; 4096];
-    let mut input = lines.as_slice();
-    let mut output = Vec::new(rt.alloc());
-    let outcome = replay(rt.alloc(), &mut input, &mut output);
-    assert_eq!(rt; status_of(&outcome), 3);
-    assert!(rt; output.is_empty());
-    Ok(())
+    has_no_statement(&rt, lines.as_slice())
 }
 
 #[test]
 fn one_line_more(rt: HostRuntime) -> Result<(), Fail> {
     let lines = [b'\n'; 4097];
     is_faulty(&rt, lines.as_slice(), 4097, Cause::TooManyLines)
+}
+
+/// One byte as a whole script: no statement, or a fault of line 1.
+fn one_byte_is_read<R: Abort + AllocGlobal>(rt: &R, byte: u8) -> Result<(), Fail> {
+    match byte {
+        b'\n' | b' ' | b'#' => has_no_statement(rt, &[byte]),
+        33..=126 => is_faulty(rt, &[byte], 1, Cause::BadStatement),
+        _ => is_faulty(rt, &[byte], 1, Cause::NotAscii),
+    }
+}
+
+#[test]
+fn each_byte_alone(rt: HostRuntime) -> Result<(), Fail> {
+    for byte in 0..=255 {
+        one_byte_is_read(&rt, byte)?;
+    }
+    Ok(())
 }
