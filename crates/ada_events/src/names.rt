@@ -1,5 +1,8 @@
 //! What requests and events name: tasks, masters, entries, and the parts of a selective wait.
 
+ghost use Rattle.std.specs.Prelude.{◌≡◌};
+ghost use Rattle.ada_events.specs.declared.names.Member.TheVariants.{Block};
+
 use crate::Bounded;
 
 /// A task by its number, 0 to 255: 0 is the main program, and task `k` was made by the `k`-th
@@ -23,7 +26,7 @@ pub enum Member {
 }
 
 impl Default for Member {
-    ghost is_default = { λ _. Unit {0} };
+    ghost is_default = { λ member. member ≡ Block 0 };
 
     fn default() -> Self {
         Member::Block(0)
