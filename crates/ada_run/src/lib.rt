@@ -3,10 +3,12 @@
 
 pub mod fault;
 pub mod input;
+pub mod order;
 pub mod output;
 pub mod play;
 pub mod replaying;
 pub mod shows;
 
 pub use fault::{Ending, RunFault, status_of};
+pub use order::{Order, order_of};
 pub use replaying::replay;

@@ -11,11 +11,15 @@ mod asking;
 #[cfg(test)]
 mod calls;
 #[cfg(test)]
+mod command_line;
+#[cfg(test)]
 mod cuts;
 #[cfg(test)]
 mod journals;
 #[cfg(test)]
 mod kernel;
+#[cfg(test)]
+mod longest;
 #[cfg(test)]
 mod pieces;
 #[cfg(test)]
