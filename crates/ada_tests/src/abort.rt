@@ -1,19 +1,12 @@
 //! Worked scripts. Abort.
 
-use crate::playing::prints;
+use crate::playing::{prints, three_tasks_print};
 use std::test::Fail;
 
 // A task within two rendezvous aborts itself (9.10).
 #[test]
 fn self_abort(rt: HostRuntime) -> Result<(), Fail> {
-    let script: [&str; 13] = [
-        "main: create S under main E G",
-        "main: create A under main",
-        "main: create B under main",
-        "main: activate S A B",
-        "S: up",
-        "A: up",
-        "B: up",
+    let script = [
         "A: call S E",
         "B: call S G",
         "S: accept E",
@@ -21,15 +14,7 @@ fn self_abort(rt: HostRuntime) -> Result<(), Fail> {
         "main: call S E",
         "S: abort S",
     ];
-    let printed: [&str; 21] = [
-        "1 main created S under main with E(0..0) G(0..0)",
-        "2 main created A under main",
-        "3 main created B under main",
-        "4 main started S A B",
-        "5 S up",
-        "6 A up",
-        "7 B up",
-        "8 activated 4 ok",
+    let printed = [
         "9 A called S.E(0)",
         "10 B called S.G(0)",
         "11 S waits 0 accept E(0)",
@@ -44,20 +29,13 @@ fn self_abort(rt: HostRuntime) -> Result<(), Fail> {
         "20 failed 15",
         "21 gone S",
     ];
-    prints(&rt, &script, &printed, 3)
+    three_tasks_print(&rt, &script, &printed, 3)
 }
 
 // The abort of a caller in a rendezvous (9.10).
 #[test]
 fn abort_in_rendezvous(rt: HostRuntime) -> Result<(), Fail> {
-    let script: [&str; 14] = [
-        "main: create S under main E G",
-        "main: create A under main",
-        "main: create B under main",
-        "main: activate S A B",
-        "S: up",
-        "A: up",
-        "B: up",
+    let script = [
         "S: accept E",
         "A: call S E",
         "main: abort A",
@@ -66,15 +44,7 @@ fn abort_in_rendezvous(rt: HostRuntime) -> Result<(), Fail> {
         "S: end",
         "main: show terminated A",
     ];
-    let printed: [&str; 18] = [
-        "1 main created S under main with E(0..0) G(0..0)",
-        "2 main created A under main",
-        "3 main created B under main",
-        "4 main started S A B",
-        "5 S up",
-        "6 A up",
-        "7 B up",
-        "8 activated 4 ok",
+    let printed = [
         "9 S waits 0 accept E(0)",
         "10 A called S.E(0)",
         "11 met 10 9",
@@ -86,20 +56,13 @@ fn abort_in_rendezvous(rt: HostRuntime) -> Result<(), Fail> {
         "15 gone A",
         "shown line 14: true",
     ];
-    prints(&rt, &script, &printed, 3)
+    three_tasks_print(&rt, &script, &printed, 3)
 }
 
 // An exception ends the rendezvous of an aborted caller (9.10, 11.5).
 #[test]
 fn raised_to_halted_caller(rt: HostRuntime) -> Result<(), Fail> {
-    let script: [&str; 13] = [
-        "main: create S under main E G",
-        "main: create A under main",
-        "main: create B under main",
-        "main: activate S A B",
-        "S: up",
-        "A: up",
-        "B: up",
+    let script = [
         "S: accept E",
         "A: call S E",
         "main: abort A",
@@ -107,15 +70,7 @@ fn raised_to_halted_caller(rt: HostRuntime) -> Result<(), Fail> {
         "main: show terminated A",
         "S: raise",
     ];
-    let printed: [&str; 17] = [
-        "1 main created S under main with E(0..0) G(0..0)",
-        "2 main created A under main",
-        "3 main created B under main",
-        "4 main started S A B",
-        "5 S up",
-        "6 A up",
-        "7 B up",
-        "8 activated 4 ok",
+    let printed = [
         "9 S waits 0 accept E(0)",
         "10 A called S.E(0)",
         "11 met 10 9",
@@ -126,7 +81,7 @@ fn raised_to_halted_caller(rt: HostRuntime) -> Result<(), Fail> {
         "14 halted A",
         "15 gone A",
     ];
-    prints(&rt, &script, &printed, 3)
+    three_tasks_print(&rt, &script, &printed, 3)
 }
 
 // An abort before the activation (9.10).

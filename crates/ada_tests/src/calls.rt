@@ -1,6 +1,6 @@
 //! Worked scripts. Calls, accepts and rendezvous.
 
-use crate::playing::prints;
+use crate::playing::{prints, three_tasks_print};
 use std::test::Fail;
 
 // A server, a client and one rendezvous (9.5).
@@ -87,14 +87,7 @@ fn to_the_end(rt: HostRuntime) -> Result<(), Fail> {
 // Calls are taken in the order of their arrival; COUNT leaves out the served one (9.5, 9.9).
 #[test]
 fn order_of_arrival(rt: HostRuntime) -> Result<(), Fail> {
-    let script: [&str; 15] = [
-        "main: create S under main E G",
-        "main: create A under main",
-        "main: create B under main",
-        "main: activate S A B",
-        "S: up",
-        "A: up",
-        "B: up",
+    let script = [
         "S: accept E",
         "A: call S E",
         "B: call S E",
@@ -104,15 +97,7 @@ fn order_of_arrival(rt: HostRuntime) -> Result<(), Fail> {
         "S: accept E",
         "S: show count E",
     ];
-    let printed: [&str; 18] = [
-        "1 main created S under main with E(0..0) G(0..0)",
-        "2 main created A under main",
-        "3 main created B under main",
-        "4 main started S A B",
-        "5 S up",
-        "6 A up",
-        "7 B up",
-        "8 activated 4 ok",
+    let printed = [
         "9 S waits 0 accept E(0)",
         "10 A called S.E(0)",
         "11 met 10 9",
@@ -124,7 +109,7 @@ fn order_of_arrival(rt: HostRuntime) -> Result<(), Fail> {
         "16 met 12 15",
         "shown line 15: 1",
     ];
-    prints(&rt, &script, &printed, 3)
+    three_tasks_print(&rt, &script, &printed, 3)
 }
 
 // Indexes within and outside the ranges of families (9.5).
@@ -168,14 +153,7 @@ fn families(rt: HostRuntime) -> Result<(), Fail> {
 // A rendezvous within a rendezvous (9.5).
 #[test]
 fn nested_rendezvous(rt: HostRuntime) -> Result<(), Fail> {
-    let script: [&str; 16] = [
-        "main: create S under main E G",
-        "main: create A under main",
-        "main: create B under main",
-        "main: activate S A B",
-        "S: up",
-        "A: up",
-        "B: up",
+    let script = [
         "A: call S E",
         "B: call S G",
         "S: accept E",
@@ -186,15 +164,7 @@ fn nested_rendezvous(rt: HostRuntime) -> Result<(), Fail> {
         "S: end",
         "S: end",
     ];
-    let printed: [&str; 19] = [
-        "1 main created S under main with E(0..0) G(0..0)",
-        "2 main created A under main",
-        "3 main created B under main",
-        "4 main started S A B",
-        "5 S up",
-        "6 A up",
-        "7 B up",
-        "8 activated 4 ok",
+    let printed = [
         "9 A called S.E(0)",
         "10 B called S.G(0)",
         "11 S waits 0 accept E(0)",
@@ -207,20 +177,13 @@ fn nested_rendezvous(rt: HostRuntime) -> Result<(), Fail> {
         "16 S ended 9",
         "refused line 16: NotInAccept",
     ];
-    prints(&rt, &script, &printed, 3)
+    three_tasks_print(&rt, &script, &printed, 3)
 }
 
 // An exception ends a rendezvous (11.5).
 #[test]
 fn raised(rt: HostRuntime) -> Result<(), Fail> {
-    let script: [&str; 14] = [
-        "main: create S under main E G",
-        "main: create A under main",
-        "main: create B under main",
-        "main: activate S A B",
-        "S: up",
-        "A: up",
-        "B: up",
+    let script = [
         "S: accept E",
         "A: call S E",
         "B: call S G",
@@ -229,15 +192,7 @@ fn raised(rt: HostRuntime) -> Result<(), Fail> {
         "S: end",
         "S: raise",
     ];
-    let printed: [&str; 17] = [
-        "1 main created S under main with E(0..0) G(0..0)",
-        "2 main created A under main",
-        "3 main created B under main",
-        "4 main started S A B",
-        "5 S up",
-        "6 A up",
-        "7 B up",
-        "8 activated 4 ok",
+    let printed = [
         "9 S waits 0 accept E(0)",
         "10 A called S.E(0)",
         "11 met 10 9",
@@ -248,5 +203,5 @@ fn raised(rt: HostRuntime) -> Result<(), Fail> {
         "16 S ended 10",
         "refused line 14: NotInAccept",
     ];
-    prints(&rt, &script, &printed, 3)
+    three_tasks_print(&rt, &script, &printed, 3)
 }

@@ -44,11 +44,13 @@ fn as_many_choices_as_there_may_be(rt: HostRuntime) -> Result<(), Fail> {
     prints(&rt, &script, &printed, 3)
 }
 
+// The length of a line is looked at before its words.
 #[test]
-fn a_line_of_201_bytes(rt: HostRuntime) -> Result<(), Fail> {
-    let line = repeated(rt.alloc(), "main: select 0 accept E", " or accept E", 15)?;
-    is_faulty(&rt, &line.as_bytes()[..200], 1, Cause::UnknownName)?;
-    is_faulty(&rt, &line.as_bytes()[..201], 1, Cause::LineTooLong)
+fn a_line_too_long(rt: HostRuntime) -> Result<(), Fail> {
+    let shorter = repeated(rt.alloc(), "main: select 0 accept E", " or accept E", 14)?;
+    is_faulty(&rt, shorter.as_bytes(), 1, Cause::UnknownName)?;
+    let longer = repeated(rt.alloc(), "main: select 0 accept E", " or accept E", 15)?;
+    is_faulty(&rt, longer.as_bytes(), 1, Cause::LineTooLong)
 }
 
 // A statement that spaces fill up to 200 bytes, and to 201.

@@ -1,19 +1,12 @@
 //! Worked scripts. Refusals.
 
-use crate::playing::prints;
+use crate::playing::{prints, three_tasks_print};
 use std::test::Fail;
 
 // One refusal after another.
 #[test]
 fn refusals(rt: HostRuntime) -> Result<(), Fail> {
-    let script: [&str; 23] = [
-        "main: create S under main E G",
-        "main: create A under main",
-        "main: create B under main",
-        "main: activate S A B",
-        "S: up",
-        "A: up",
-        "B: up",
+    let script = [
         "main: activate",
         "main: activate S",
         "A: create T under B",
@@ -31,15 +24,7 @@ fn refusals(rt: HostRuntime) -> Result<(), Fail> {
         "S: accept E",
         "S: select 0 accept G or terminate",
     ];
-    let printed: [&str; 26] = [
-        "1 main created S under main with E(0..0) G(0..0)",
-        "2 main created A under main",
-        "3 main created B under main",
-        "4 main started S A B",
-        "5 S up",
-        "6 A up",
-        "7 B up",
-        "8 activated 4 ok",
+    let printed = [
         "refused line 8: EmptyList",
         "refused line 9: NotYourTask",
         "refused line 10: NotYourMaster",
@@ -59,7 +44,7 @@ fn refusals(rt: HostRuntime) -> Result<(), Fail> {
         "15 met 13 14",
         "refused line 23: TerminateInAccept",
     ];
-    prints(&rt, &script, &printed, 3)
+    three_tasks_print(&rt, &script, &printed, 3)
 }
 
 // Attributes of tasks that are not bound or not running (9.9).

@@ -1,162 +1,87 @@
 //! Worked scripts. Selective waits, timed and conditional calls, delays.
 
-use crate::playing::prints;
+use crate::playing::three_tasks_print;
 use std::test::Fail;
 
 // Of two selectable choices number 0 (9.7.1).
 #[test]
 fn picks_the_first(rt: HostRuntime) -> Result<(), Fail> {
-    let script: [&str; 10] = [
-        "main: create S under main E G",
-        "main: create A under main",
-        "main: create B under main",
-        "main: activate S A B",
-        "S: up",
-        "A: up",
-        "B: up",
+    let script = [
         "A: call S E",
         "B: call S G",
         "S: select 0 accept E or accept G",
     ];
-    let printed: [&str; 12] = [
-        "1 main created S under main with E(0..0) G(0..0)",
-        "2 main created A under main",
-        "3 main created B under main",
-        "4 main started S A B",
-        "5 S up",
-        "6 A up",
-        "7 B up",
-        "8 activated 4 ok",
+    let printed = [
         "9 A called S.E(0)",
         "10 B called S.G(0)",
         "11 S waits 0 accept E(0) accept G(0)",
         "12 met 9 11",
     ];
-    prints(&rt, &script, &printed, 3)
+    three_tasks_print(&rt, &script, &printed, 3)
 }
 
 // Of two selectable choices number 1 (9.7.1).
 #[test]
 fn picks_the_second(rt: HostRuntime) -> Result<(), Fail> {
-    let script: [&str; 10] = [
-        "main: create S under main E G",
-        "main: create A under main",
-        "main: create B under main",
-        "main: activate S A B",
-        "S: up",
-        "A: up",
-        "B: up",
+    let script = [
         "A: call S E",
         "B: call S G",
         "S: select 1 accept E or accept G",
     ];
-    let printed: [&str; 12] = [
-        "1 main created S under main with E(0..0) G(0..0)",
-        "2 main created A under main",
-        "3 main created B under main",
-        "4 main started S A B",
-        "5 S up",
-        "6 A up",
-        "7 B up",
-        "8 activated 4 ok",
+    let printed = [
         "9 A called S.E(0)",
         "10 B called S.G(0)",
         "11 S waits 1 accept E(0) accept G(0)",
         "12 met 10 11",
     ];
-    prints(&rt, &script, &printed, 3)
+    three_tasks_print(&rt, &script, &printed, 3)
 }
 
 // The largest pick takes number 1 of two (9.7.1).
 #[test]
 fn picks_by_remainder(rt: HostRuntime) -> Result<(), Fail> {
-    let script: [&str; 10] = [
-        "main: create S under main E G",
-        "main: create A under main",
-        "main: create B under main",
-        "main: activate S A B",
-        "S: up",
-        "A: up",
-        "B: up",
+    let script = [
         "A: call S E",
         "B: call S G",
         "S: select 4294967295 accept E or accept G",
     ];
-    let printed: [&str; 12] = [
-        "1 main created S under main with E(0..0) G(0..0)",
-        "2 main created A under main",
-        "3 main created B under main",
-        "4 main started S A B",
-        "5 S up",
-        "6 A up",
-        "7 B up",
-        "8 activated 4 ok",
+    let printed = [
         "9 A called S.E(0)",
         "10 B called S.G(0)",
         "11 S waits 4294967295 accept E(0) accept G(0)",
         "12 met 10 11",
     ];
-    prints(&rt, &script, &printed, 3)
+    three_tasks_print(&rt, &script, &printed, 3)
 }
 
 // A closed choice is not selectable (9.7.1).
 #[test]
 fn picks_open_choices(rt: HostRuntime) -> Result<(), Fail> {
-    let script: [&str; 10] = [
-        "main: create S under main E G",
-        "main: create A under main",
-        "main: create B under main",
-        "main: activate S A B",
-        "S: up",
-        "A: up",
-        "B: up",
+    let script = [
         "A: call S E",
         "B: call S G",
         "S: select 0 closed accept E or accept G",
     ];
-    let printed: [&str; 12] = [
-        "1 main created S under main with E(0..0) G(0..0)",
-        "2 main created A under main",
-        "3 main created B under main",
-        "4 main started S A B",
-        "5 S up",
-        "6 A up",
-        "7 B up",
-        "8 activated 4 ok",
+    let printed = [
         "9 A called S.E(0)",
         "10 B called S.G(0)",
         "11 S waits 0 closed accept E(0) accept G(0)",
         "12 met 10 11",
     ];
-    prints(&rt, &script, &printed, 3)
+    three_tasks_print(&rt, &script, &printed, 3)
 }
 
 // Closed choices, an else part, delay alternatives (9.7.1).
 #[test]
 fn guards_and_delays(rt: HostRuntime) -> Result<(), Fail> {
-    let script: [&str; 12] = [
-        "main: create S under main E G",
-        "main: create A under main",
-        "main: create B under main",
-        "main: activate S A B",
-        "S: up",
-        "A: up",
-        "B: up",
+    let script = [
         "S: select 0 closed accept E",
         "S: select 0 closed accept E else",
         "S: select 0 closed accept E or delay -5",
         "S: select 7 accept E or delay 20 or closed delay 5 or delay 20",
         "tick 20",
     ];
-    let printed: [&str; 17] = [
-        "1 main created S under main with E(0..0) G(0..0)",
-        "2 main created A under main",
-        "3 main created B under main",
-        "4 main started S A B",
-        "5 S up",
-        "6 A up",
-        "7 B up",
-        "8 activated 4 ok",
+    let printed = [
         "9 S waits 0 closed accept E(0)",
         "10 passed 9 program_error",
         "11 S waits 0 closed accept E(0) else",
@@ -167,20 +92,13 @@ fn guards_and_delays(rt: HostRuntime) -> Result<(), Fail> {
         "16 ticked 20",
         "17 passed 15 delay 2",
     ];
-    prints(&rt, &script, &printed, 3)
+    three_tasks_print(&rt, &script, &printed, 3)
 }
 
 // Timed calls and delays, up to the last moment (9.6, 9.7.3).
 #[test]
 fn timed_calls(rt: HostRuntime) -> Result<(), Fail> {
-    let script: [&str; 16] = [
-        "main: create S under main E G",
-        "main: create A under main",
-        "main: create B under main",
-        "main: activate S A B",
-        "S: up",
-        "A: up",
-        "B: up",
+    let script = [
         "A: call S E within 10",
         "tick 9",
         "tick 10",
@@ -191,15 +109,7 @@ fn timed_calls(rt: HostRuntime) -> Result<(), Fail> {
         "tick 9000000000001",
         "B: delay 0",
     ];
-    let printed: [&str; 20] = [
-        "1 main created S under main with E(0..0) G(0..0)",
-        "2 main created A under main",
-        "3 main created B under main",
-        "4 main started S A B",
-        "5 S up",
-        "6 A up",
-        "7 B up",
-        "8 activated 4 ok",
+    let printed = [
         "9 A called S.E(0) until 10",
         "10 ticked 9",
         "11 ticked 10",
@@ -213,20 +123,13 @@ fn timed_calls(rt: HostRuntime) -> Result<(), Fail> {
         "16 B paused until 9000000000000",
         "17 woken 16",
     ];
-    prints(&rt, &script, &printed, 3)
+    three_tasks_print(&rt, &script, &printed, 3)
 }
 
 // Conditional calls (9.7.2).
 #[test]
 fn conditional_calls(rt: HostRuntime) -> Result<(), Fail> {
-    let script: [&str; 14] = [
-        "main: create S under main E G",
-        "main: create A under main",
-        "main: create B under main",
-        "main: activate S A B",
-        "S: up",
-        "A: up",
-        "B: up",
+    let script = [
         "A: try S E",
         "S: accept E",
         "A: try S E",
@@ -235,15 +138,7 @@ fn conditional_calls(rt: HostRuntime) -> Result<(), Fail> {
         "S: complete",
         "A: try S E",
     ];
-    let printed: [&str; 20] = [
-        "1 main created S under main with E(0..0) G(0..0)",
-        "2 main created A under main",
-        "3 main created B under main",
-        "4 main started S A B",
-        "5 S up",
-        "6 A up",
-        "7 B up",
-        "8 activated 4 ok",
+    let printed = [
         "9 A tried S.E(0)",
         "10 cancelled 9",
         "11 S waits 0 accept E(0)",
@@ -257,87 +152,29 @@ fn conditional_calls(rt: HostRuntime) -> Result<(), Fail> {
         "19 A tried S.E(0)",
         "20 failed 19",
     ];
-    prints(&rt, &script, &printed, 3)
+    three_tasks_print(&rt, &script, &printed, 3)
 }
 
 // A negative duration counts as 0 (9.6).
 #[test]
 fn negative_duration(rt: HostRuntime) -> Result<(), Fail> {
-    let script: [&str; 8] = [
-        "main: create S under main E G",
-        "main: create A under main",
-        "main: create B under main",
-        "main: activate S A B",
-        "S: up",
-        "A: up",
-        "B: up",
-        "A: call S E within -9223372036854775808",
-    ];
-    let printed: [&str; 10] = [
-        "1 main created S under main with E(0..0) G(0..0)",
-        "2 main created A under main",
-        "3 main created B under main",
-        "4 main started S A B",
-        "5 S up",
-        "6 A up",
-        "7 B up",
-        "8 activated 4 ok",
-        "9 A called S.E(0) until 0",
-        "10 cancelled 9",
-    ];
-    prints(&rt, &script, &printed, 3)
+    let script = ["A: call S E within -9223372036854775808"];
+    let printed = ["9 A called S.E(0) until 0", "10 cancelled 9"];
+    three_tasks_print(&rt, &script, &printed, 3)
 }
 
 // The duration of a closed delay alternative is not looked at (9.7.1).
 #[test]
 fn closed_delay_unseen(rt: HostRuntime) -> Result<(), Fail> {
-    let script: [&str; 8] = [
-        "main: create S under main E G",
-        "main: create A under main",
-        "main: create B under main",
-        "main: activate S A B",
-        "S: up",
-        "A: up",
-        "B: up",
-        "S: select 0 accept E or closed delay 9223372036854775807",
-    ];
-    let printed: [&str; 9] = [
-        "1 main created S under main with E(0..0) G(0..0)",
-        "2 main created A under main",
-        "3 main created B under main",
-        "4 main started S A B",
-        "5 S up",
-        "6 A up",
-        "7 B up",
-        "8 activated 4 ok",
-        "9 S waits 0 accept E(0) closed delay",
-    ];
-    prints(&rt, &script, &printed, 3)
+    let script = ["S: select 0 accept E or closed delay 9223372036854775807"];
+    let printed = ["9 S waits 0 accept E(0) closed delay"];
+    three_tasks_print(&rt, &script, &printed, 3)
 }
 
 // The same alternative open is due too late.
 #[test]
 fn open_delay_too_late(rt: HostRuntime) -> Result<(), Fail> {
-    let script: [&str; 8] = [
-        "main: create S under main E G",
-        "main: create A under main",
-        "main: create B under main",
-        "main: activate S A B",
-        "S: up",
-        "A: up",
-        "B: up",
-        "S: select 0 accept E or delay 9223372036854775807",
-    ];
-    let printed: [&str; 9] = [
-        "1 main created S under main with E(0..0) G(0..0)",
-        "2 main created A under main",
-        "3 main created B under main",
-        "4 main started S A B",
-        "5 S up",
-        "6 A up",
-        "7 B up",
-        "8 activated 4 ok",
-        "refused line 8: MomentTooLarge",
-    ];
-    prints(&rt, &script, &printed, 3)
+    let script = ["S: select 0 accept E or delay 9223372036854775807"];
+    let printed = ["refused line 8: MomentTooLarge"];
+    three_tasks_print(&rt, &script, &printed, 3)
 }
