@@ -1,0 +1,8 @@
+//! The tables of the tasking kernel: who waits where, what depends on what, and what each task is in.
+//!
+//! Section numbers are those of the Ada 83 manual, ANSI/MIL-STD-1815A.
+#![tactic(auto)]
+
+pub mod nodes;
+
+pub use nodes::{Node, Nodes};
