@@ -1,1 +1,8 @@
+pub mod Arriving
+pub mod Chains
+pub mod Fronts
+pub mod Growing
 pub mod Keys
+pub mod Leaving
+pub mod Linking
+pub mod Steps

@@ -4,5 +4,7 @@
 #![tactic(auto)]
 
 pub mod nodes;
+pub mod queues;
 
 pub use nodes::{Node, Nodes};
+pub use queues::Queues;

@@ -1,7 +1,8 @@
 //! The nodes of queued calls, each found from its caller.
 ghost use Rattle.std.specs.Prelude.{◌≡◌, ◌+◌, ◌-◌, ◌<◌, ◌≤◌, [], ◌∷◌, ◌++◌, Some, None, IsSome, OnOk, OnErr, length, slice_set};
-ghost use Rattle.std.specs.Option.{option_map};
+ghost use Rattle.std.specs.Option.{option_map, ForSome};
 ghost use Rattle.ada_tables.specs.Nodes.{node_of, with_after, with_before};
+ghost use Rattle.ada_tables.specs.Links.{joined};
 
 use slab::Slab;
 use std::alloc::{AllocError, Global};
@@ -135,6 +136,21 @@ impl Nodes {
             if let Some(node) = self.slab.get_mut(key) {
                 node.before = before;
             }
+        }
+    }
+
+    /// Links two nodes to one another, the first before the second. Where there is only one, nothing stands
+    /// on its other side.
+    pub fn join(&mut self, before: Option<u16>, after: Option<u16>)
+        requires before { ForSome before (λ caller. IsSome (node_of self.old.nodes caller)) }
+        requires after { ForSome after (λ caller. IsSome (node_of self.old.nodes caller)) }
+        ensures { self.new ≡ record self.old { nodes = joined before after self.old.nodes } }
+    {
+        if let Some(caller) = before {
+            self.set_after(caller, after);
+        }
+        if let Some(caller) = after {
+            self.set_before(caller, before);
         }
     }
 }
