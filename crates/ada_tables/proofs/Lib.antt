@@ -1,5 +1,6 @@
 pub mod Arriving
 pub mod Chains
+pub mod Counting
 pub mod Fronts
 pub mod Growing
 pub mod Keys
