@@ -1,6 +1,6 @@
 -- Going inwards through a nest to a block, layer by layer.
 use Rattle.std.proofs.Common.{◌≡◌, ℕ, ◌+◌, ◌<◌, ◌≤◌, true, false, List, ◌∷◌, ◌++◌, length, get_or, set, take, drop, refl, ap, sym, ◌∙◌, arith}
-use Rattle.std.proofs.lemmas.List.{drop_more, drop_all, take_all, take_more_set, drop-set-lt, append_assoc, append-nil, length-set, take-append-drop, get_or-drop, drop-drop}
+use Rattle.std.proofs.lemmas.List.{drop_more, drop_all, take_all, take_more_set, drop-set-lt, append_assoc, append-nil, length-set, take-append-drop, drop-drop}
 use Rattle.ada_tables.specs.declared.layers.Layer.{Layer}
 use Rattle.ada_tables.specs.Layers.{moved, moved_to, is_block_at, live_at}
 
@@ -18,11 +18,6 @@ module _ (count : ℕ → ℕ) (block : ℕ) (old now : List Layer) (at : ℕ) w
     pub counting_ends : length now ≤ at → moved_to count block old ≡ now
     unfolding moved_to
     counting_ends past = so_far.done ∙ rw (drop_all at now past, take_all at now past) (append-nil now)
-
-    pub counting_read : (d : Layer) → at < length now → get_or now at d ≡ get_or old at d
-    counting_read d within =
-        let there : at + 0 ≡ at = omega arith in
-        rw there at (sym (get_or-drop at now 0 d) ∙ ap (λ (xs : List Layer). get_or xs 0 d) so_far.rest ∙ get_or-drop at old 0 d)
 
     module _ (read write : Layer) (within : at < length now) (read_is : read ≡ get_or now at read) (write_is : write ≡ moved count read) where
       head_is : drop at now ≡ read ∷ drop (at + 1) now

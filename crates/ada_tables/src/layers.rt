@@ -1,8 +1,12 @@
 //! The nest of one task, with the counts of its blocks.
-ghost use Rattle.std.specs.Prelude.{◌≡◌, ◌+◌, ◌-◌, ◌<◌, ◌≤◌, ◌==◌, [], ◌∷◌, ◌++◌, All, length, take, position, slice_get, if◌then◌else◌};
+ghost use Rattle.std.specs.Prelude.{◌≡◌, ◌+◌, ◌-◌, ◌<◌, ◌≤◌, ◌==◌, [], ◌∷◌, ◌++◌, length, take, position, slice_get, if◌then◌else◌};
 ghost use Rattle.std.specs.Option.{option_map};
+ghost use Rattle.std.specs.List.{list_any};
 ghost use Rattle.ada_tables.specs.Layers as nests;
+ghost use Rattle.ada_tables.specs.Dependents.{has_block, up_to};
+ghost use Rattle.ada_tables.specs.Changes.{changed};
 
+use crate::change::Change;
 use ada_events::Member;
 use arrayvec::ArrayVec;
 use std::marker::Model;
@@ -60,28 +64,13 @@ impl Layer {
         !self.is_block && self.position == call
     }
 
-    // One more live dependent, if this is a block.
-    fn raised(self) -> Layer
-        requires { self.live < 65535 }
-        ensures { result ≡ nests.moved (λ n. n + 1) self }
+    // With the count changed, if this is a block.
+    fn counted(self, change: Change) -> Layer
+        ensures { result ≡ nests.moved (changed change) self }
     {
         if self.is_block {
             Layer {
-                live: self.live + 1,
-                ..self
-            }
-        } else {
-            self
-        }
-    }
-
-    // One live dependent less, if this is a block.
-    fn lowered(self) -> Layer
-        ensures { result ≡ nests.moved (λ n. n - 1) self }
-    {
-        if self.is_block {
-            Layer {
-                live: self.live.saturating_sub(1),
+                live: change.of(self.live),
                 ..self
             }
         } else {
@@ -97,31 +86,39 @@ fn place_of(layers: &[Layer], call: u32) -> Option<usize>
     layers.iter().position(|layer| layer.is_rendezvous_at(call))
 }
 
-// Counts one more live dependent of a block and of those outside it.
-fn raise(layers: &mut [Layer], block: u32)
-    requires { All (λ layer. layer.live < 65535) layers.old }
-    ensures { layers.new ≡ nests.moved_to (λ n. n + 1) block layers.old }
+// Changes the counts of a block and of those outside it.
+fn count(layers: &mut [Layer], block: u32, change: Change)
+    ensures { layers.new ≡ nests.moved_to (changed change) block layers.old }
 {
     for layer in layers.iter_mut() {
         let before = *layer;
-        *layer = before.raised();
+        *layer = before.counted(change);
         if before.is_block_at(block) {
             break;
         }
     }
 }
 
-// Counts one live dependent less of a block and of those outside it.
-fn lower(layers: &mut [Layer], block: u32)
-    ensures { layers.new ≡ nests.moved_to (λ n. n - 1) block layers.old }
+// Whether a block stands in a nest.
+fn has_block(layers: &[Layer], block: u32) -> bool
+    ensures { result ≡ list_any (nests.is_block_at block) layers.now }
 {
-    for layer in layers.iter_mut() {
-        let before = *layer;
-        *layer = before.lowered();
-        if before.is_block_at(block) {
-            break;
+    layers.iter().any(|layer| layer.is_block_at(block))
+}
+
+// Whether the second block is the first or stands outside it.
+fn encloses(layers: &[Layer], inner: u32, block: u32) -> bool
+    ensures { result ≡ has_block block (up_to inner (nests.members layers.now)) }
+{
+    for layer in layers {
+        if layer.is_block_at(block) {
+            return true;
+        }
+        if layer.is_block_at(inner) {
+            return false;
         }
     }
+    false
 }
 
 // How many live dependents a block has.
@@ -208,19 +205,25 @@ impl Layers {
         }
     }
 
-    /// Counts one more live dependent of a block and of those outside it.
-    pub(crate) fn raise_to(&mut self, block: u32)
-        requires { All (λ layer. layer.live < 65535) self.old }
-        ensures { self.new ≡ nests.moved_to (λ n. n + 1) block self.old }
+    /// Changes the counts of a block and of those outside it.
+    pub(crate) fn count_to(&mut self, block: u32, change: Change)
+        ensures { self.new ≡ nests.moved_to (changed change) block self.old }
     {
-        raise(self.layers.as_mut_slice(), block);
+        count(self.layers.as_mut_slice(), block, change);
     }
 
-    /// Counts one live dependent less of a block and of those outside it.
-    pub(crate) fn lower_to(&mut self, block: u32)
-        ensures { self.new ≡ nests.moved_to (λ n. n - 1) block self.old }
+    /// Whether a block stands in the nest.
+    pub(crate) fn has_block(&self, block: u32) -> bool
+        ensures { result ≡ has_block block (nests.members self.now) }
     {
-        lower(self.layers.as_mut_slice(), block);
+        has_block(self.layers.as_slice(), block)
+    }
+
+    /// Whether the second block is the first or stands outside it.
+    pub(crate) fn encloses(&self, inner: u32, block: u32) -> bool
+        ensures { result ≡ has_block block (up_to inner (nests.members self.now)) }
+    {
+        encloses(self.layers.as_slice(), inner, block)
     }
 
     /// How many live dependents a block of the nest has.

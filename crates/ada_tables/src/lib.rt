@@ -3,10 +3,16 @@
 //! Section numbers are those of the Ada 83 manual, ANSI/MIL-STD-1815A.
 #![tactic(auto)]
 
+mod change;
 pub mod layers;
 pub mod nodes;
+pub mod phase;
 pub mod queues;
+mod task;
+pub mod tasks;
 
 pub use layers::{Layer, Layers};
 pub use nodes::{Node, Nodes};
+pub use phase::Phase;
 pub use queues::Queues;
+pub use tasks::Tasks;
