@@ -13,6 +13,8 @@ pub mod Leaving
 pub mod Linking
 pub mod Nesting
 pub mod Nests
+pub mod Numbers
 pub mod Reaching
 pub mod Steps
+pub mod Ties
 pub mod Turns

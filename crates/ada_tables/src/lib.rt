@@ -8,6 +8,8 @@ pub mod layers;
 pub mod nodes;
 pub mod phase;
 pub mod queues;
+mod slots;
+pub mod tables;
 mod task;
 pub mod tasks;
 
@@ -15,4 +17,5 @@ pub use layers::{Layer, Layers};
 pub use nodes::{Node, Nodes};
 pub use phase::Phase;
 pub use queues::Queues;
+pub use tables::Tables;
 pub use tasks::Tasks;

@@ -116,6 +116,14 @@ impl Queues {
         Ok(())
     }
 
+    /// How many slots there are, at most 65,535.
+    pub fn slots(&self) -> u16
+        requires { length self.now.queues < 65536 }
+        ensures { result ≡ length self.now.queues }
+    {
+        self.queues.len() as u16
+    }
+
     /// Makes room for one more call.
     pub fn reserve_call(&mut self) -> Result<(), AllocError>
         ensures ok { OnOk result (0 < self.new.spare) }
