@@ -18,3 +18,4 @@ pub mod Reaching
 pub mod Steps
 pub mod Ties
 pub mod Turns
+pub mod Ways

@@ -1,6 +1,7 @@
 //! The queues of calls, one for each entry, linked through their nodes.
-ghost use Rattle.std.specs.Prelude.{◌≡◌, ◌+◌, ◌-◌, ◌<◌, ◌≤◌, true, false, [], ◌++◌, Some, None, OnOk, OnErr, is_none, if◌then◌else◌, length, replicate};
+ghost use Rattle.std.specs.Prelude.{◌≡◌, ◌+◌, ◌-◌, ◌<◌, ◌≤◌, true, false, [], ◌++◌, Some, None, OnOk, OnErr, is_none, if◌then◌else◌, ◌==◌, length, replicate};
 ghost use Rattle.std.specs.Option.{option_or};
+ghost use Rattle.ada_events.specs.Search.{all_below};
 ghost use Rattle.ada_tables.specs.Queues.{queue_at, waits, with_last, without, front_call};
 
 use crate::{Node, Nodes};
@@ -187,5 +188,19 @@ impl Queues {
         ensures { result ≡ length (queue_at self.now.queues slot) }
     {
         self.queues[slot as usize].len
+    }
+
+    /// Whether no call waits at any of so many slots, from one on.
+    pub fn are_empty(&self, first: u16, many: u16) -> bool
+        requires slots { first + many ≤ length self.now.queues }
+        requires few { length self.now.queues < 65536 }
+        ensures { result ≡ all_below (λ slot. length (queue_at self.now.queues (first + slot)) == 0) many }
+    {
+        for slot in 0..many {
+            if self.queue_len(first + slot) != 0 {
+                return false;
+            }
+        }
+        true
     }
 }

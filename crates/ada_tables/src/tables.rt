@@ -1,12 +1,12 @@
 //! The tables as the kernel sees them.
-ghost use Rattle.std.specs.Prelude.{◌≡◌, ℕ, ◌+◌, ◌-◌, ◌<◌, ◌≤◌, Some, None, true, false, [], ◌∷◌, ◌++◌, OnOk, OnErr, IfOk, IfErr, IsOk, ◌↔◌, length, take, replicate};
+ghost use Rattle.std.specs.Prelude.{◌≡◌, ℕ, ◌+◌, ◌-◌, ◌<◌, ◌≤◌, Some, None, true, false, [], ◌∷◌, ◌++◌, OnOk, OnErr, IfOk, IfErr, IsOk, ◌↔◌, ◌&&◌, if◌then◌else◌, length, take, replicate};
 ghost use Rattle.std.specs.Option.{ForSome};
 ghost use Rattle.ada_events.specs.Entries.{entries_in};
 ghost use Rattle.ada_events.specs.Nests.{innermost};
 ghost use Rattle.ada_tables.specs.Layers.{members};
-ghost use Rattle.ada_tables.specs.Dependents.{task_at, made_facts, with_nest, with_phase, cut, is_terminated, live_dependents, IsOpen, IsFresh, IsIdle, Stands};
+ghost use Rattle.ada_tables.specs.Dependents.{task_at, depends_on, made_facts, with_nest, with_phase, cut, is_terminated, live_dependents, IsOpen, IsFresh, IsIdle, Stands};
 ghost use Rattle.ada_tables.specs.Queues.{queue_at, waits, with_last, without, front_call};
-ghost use Rattle.ada_tables.specs.Tables.{slot_at, slots_before, declared, HasEntry};
+ghost use Rattle.ada_tables.specs.Tables.{slot_at, slots_before, declared, has_no_calls, is_unready, unready_dependents, HasEntry};
 
 use crate::{Layers, Phase, Queues, Tasks, slots};
 use ada_events::{Entry, Families, Master, Member, Refusal, TaskNo};
@@ -47,6 +47,13 @@ fn granted(growth: Result<(), AllocError>) -> Result<(), Refusal>
         Ok(()) => Ok(()),
         Err(_) => Err(Refusal::OutOfMemory),
     }
+}
+
+// How much a test adds to a count.
+fn one_if(test: bool) -> u16
+    ensures { result ≡ (if test then 1 else 0) }
+{
+    if test { 1 } else { 0 }
 }
 
 impl Tables {
@@ -250,5 +257,48 @@ impl Tables {
         ensures { result ≡ live_dependents self.now.tasks master }
     {
         self.tasks.live_dependents(master)
+    }
+
+    // Whether no call waits at any entry of a task.
+    fn has_no_calls(&self, task: u16) -> bool
+        requires { task < length self.now.tasks }
+        ensures { result ≡ has_no_calls self.now.tasks self.now.queues task }
+    {
+        let first = self.firsts[task as usize];
+        let many = slots::entries_in(self.tasks.families(task).as_slice()) as u16;
+        self.queues.are_empty(first, many)
+    }
+
+    // Whether a task is neither terminated nor ready to quit.
+    fn is_unready(&self, task: u16) -> bool
+        requires { task < length self.now.tasks }
+        ensures { result ≡ is_unready self.now.tasks self.now.queues task }
+    {
+        match self.tasks.phase(task) {
+            Phase::Terminated => false,
+            Phase::Quittable => !self.has_no_calls(task),
+            _ => true,
+        }
+    }
+
+    // Whether a task depends on a master, and is neither terminated nor ready to quit.
+    fn is_unready_dependent(&self, task: u16, master: Master) -> bool
+        requires { task < length self.now.tasks }
+        ensures { result ≡ (is_unready self.now.tasks self.now.queues task && depends_on self.now.tasks task master) }
+    {
+        self.is_unready(task) && self.tasks.depends_on(task, master)
+    }
+
+    /// How many dependents of a master (9.4) are neither terminated nor ready to quit: suspended at a wait whose
+    /// terminate alternative is open, while no call waits at any of their entries.
+    #[tactic(auto, using(crate::proofs::Ways::counted_more, crate::proofs::Ways::count_nothing))]
+    pub fn unready_dependents(&self, master: Master) -> u16
+        ensures { result ≡ unready_dependents self.now.tasks self.now.queues master }
+    {
+        let mut count = 0;
+        for task in 0..self.tasks() {
+            count += one_if(self.is_unready_dependent(task, master));
+        }
+        count
     }
 }

@@ -2,8 +2,8 @@
 ghost use Rattle.std.specs.Prelude.{◌≡◌, false};
 ghost use Rattle.ada_tables.specs.Changes.{changed};
 ghost use Rattle.ada_tables.specs.Layers.{members, moved_to};
-ghost use Rattle.ada_tables.specs.Dependents.{holds, encloses};
-ghost use Rattle.ada_tables.specs.Counts.{counted, made};
+ghost use Rattle.ada_tables.specs.Dependents.{holds, encloses, passes, beyond};
+ghost use Rattle.ada_tables.specs.Counts.{counted, facts_of, made};
 
 use crate::change::Change;
 use crate::{Layers, Phase};
@@ -63,5 +63,31 @@ pub(crate) fn count(task: &mut Task, from: Master, change: Change)
     task.live = change.of(task.live);
     if let Master::Block(block) = from {
         task.nest.count_to(block, change);
+    }
+}
+
+// Whether a master is passed on the way from another out of the task of that number.
+pub(crate) fn passes(number: u16, task: &Task, from: Option<Master>, to: Master) -> bool
+    ensures { result ≡ passes number (facts_of task.now) from to }
+{
+    match from {
+        Some(from) => holds(number, &task.nest, from) && encloses(number, &task.nest, from, to),
+        None => false,
+    }
+}
+
+// Where the way from a master goes on outside the task of that number.
+pub(crate) fn beyond(number: u16, task: &Task, from: Option<Master>) -> Option<Master>
+    ensures { result ≡ beyond number (facts_of task.now) from }
+{
+    match from {
+        Some(master) => {
+            if holds(number, &task.nest, master) {
+                task.master
+            } else {
+                from
+            }
+        }
+        None => None,
     }
 }

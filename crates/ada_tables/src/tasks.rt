@@ -67,6 +67,24 @@ fn end(tasks: &mut [Task], task: u16)
     record.phase = Phase::Terminated;
 }
 
+// Whether a master is another, or reached from it by parents, within the first so many tasks.
+fn reaches(tasks: &[Task], made: u16, from: Option<Master>, to: Master) -> bool
+    requires { made ≤ length tasks.now }
+    ensures { result ≡ reaches (facts tasks.now) made from to }
+{
+    let mut from = from;
+    let mut left = made;
+    while left > 0 {
+        left -= 1;
+        let task = &tasks[left as usize];
+        if task::passes(left, task, from, to) {
+            return true;
+        }
+        from = task::beyond(left, task, from);
+    }
+    false
+}
+
 // How many live dependents a block has.
 fn live_in(tasks: &[Task], block: u32) -> u16
     ensures { result ≡ live_of_block block tasks.now }
@@ -250,5 +268,15 @@ impl Tasks {
             Master::Body(task) => self.tasks[task.0 as usize].live,
             Master::Block(block) => live_in(self.tasks.as_slice(), block),
         }
+    }
+
+    /// Whether a task depends on a master (9.4): it was made under it, or under one from which it is reached by
+    /// parents.
+    pub fn depends_on(&self, task: u16, master: Master) -> bool
+        requires { task < length self.now.tasks }
+        ensures { result ≡ depends_on self.now.tasks task master }
+    {
+        let made_under = self.tasks[task as usize].master;
+        reaches(self.tasks.as_slice(), task, made_under, master)
     }
 }
