@@ -14,6 +14,7 @@ pub mod Linking
 pub mod Nesting
 pub mod Nests
 pub mod Numbers
+pub mod Parents
 pub mod Reaching
 pub mod Steps
 pub mod Ties

@@ -4,6 +4,7 @@
 -- parents.
 use Rattle.std.specs.Prelude.{◌≡◌, ℕ, zero, suc, ◌<◌, Bool, true, false, not, ◌==◌, ◌+◌, ◌&&◌, ◌||◌, if◌then◌else◌, Option, Some, None, List, [], ◌∷◌, length, slice_index_or, slice_set}
 use Rattle.std.specs.List.{list_any}
+use Rattle.std.specs.Option.{option_or, option_map_or}
 use Rattle.ada_events.specs.declared.names.Family.{Family}
 use Rattle.ada_events.specs.declared.names.Master.{Master}
 use Rattle.ada_events.specs.declared.names.Master.TheVariants.{Body, Block}
@@ -143,3 +144,29 @@ pub record Stands (tasks : List Facts) (master : Master) : Type 0 where
   pub task : ℕ
   pub within : task < length tasks
   pub held : holds task (task_at tasks task).nest master ≡ true
+
+-- the block that a member is, if it is one
+abbrev pub block_of : Member → Option ℕ
+block_of (BlockMember opened) = Some opened
+block_of (Rendezvous call) = None
+
+-- the block of a nest that is next outside another, where this one stands outside the whole nest
+unfoldable pub outside : ℕ → Option ℕ → List Member → Option ℕ
+outside block before [] = None
+outside block before (member ∷ rest) =
+    if is_block block member then before else outside block (option_or (block_of member) before) rest
+
+-- the parent of a block that stands in a task's nest
+abbrev pub parent_within : ℕ → List Member → ℕ → Master
+parent_within task nest block = option_map_or Block (outside block None nest) (Body (record { 0 = task }))
+
+-- the parent of a block that stands in the nest of one of these tasks, of which the first has that number
+unfoldable pub parent_from : ℕ → List Facts → ℕ → Option Master
+parent_from task [] block = None
+parent_from task (facts ∷ rest) block =
+    if has_block block facts.nest then Some (parent_within task facts.nest block) else parent_from (suc task) rest block
+
+-- the parent of a master
+abbrev pub parent_of : List Facts → Master → Option Master
+parent_of tasks (Body t) = (task_at tasks t.0).master
+parent_of tasks (Block block) = parent_from 0 tasks block

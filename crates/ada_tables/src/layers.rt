@@ -1,9 +1,9 @@
 //! The nest of one task, with the counts of its blocks.
-ghost use Rattle.std.specs.Prelude.{◌≡◌, ◌+◌, ◌-◌, ◌<◌, ◌≤◌, ◌==◌, [], ◌∷◌, ◌++◌, length, take, position, slice_get, if◌then◌else◌};
+ghost use Rattle.std.specs.Prelude.{◌≡◌, None, ◌+◌, ◌-◌, ◌<◌, ◌≤◌, ◌==◌, [], ◌∷◌, ◌++◌, length, take, position, slice_get, if◌then◌else◌};
 ghost use Rattle.std.specs.Option.{option_map};
 ghost use Rattle.std.specs.List.{list_any};
 ghost use Rattle.ada_tables.specs.Layers as nests;
-ghost use Rattle.ada_tables.specs.Dependents.{has_block, up_to};
+ghost use Rattle.ada_tables.specs.Dependents.{has_block, up_to, block_of, outside};
 ghost use Rattle.ada_tables.specs.Changes.{changed};
 
 use crate::change::Change;
@@ -64,6 +64,17 @@ impl Layer {
         !self.is_block && self.position == call
     }
 
+    // The position of its opening, if this is a block.
+    fn block(self) -> Option<u32>
+        ensures { result ≡ block_of (nests.member_of self) }
+    {
+        if self.is_block {
+            Some(self.position)
+        } else {
+            None
+        }
+    }
+
     // With the count changed, if this is a block.
     fn counted(self, change: Change) -> Layer
         ensures { result ≡ nests.moved (changed change) self }
@@ -119,6 +130,20 @@ fn encloses(layers: &[Layer], inner: u32, block: u32) -> bool
         }
     }
     false
+}
+
+// The block that is next outside another.
+fn outside(layers: &[Layer], block: u32) -> Option<u32>
+    ensures { result ≡ outside block None (nests.members layers.now) }
+{
+    let mut before = None;
+    for layer in layers {
+        if layer.is_block_at(block) {
+            return before;
+        }
+        before = layer.block().or(before);
+    }
+    None
 }
 
 // How many live dependents a block has.
@@ -224,6 +249,13 @@ impl Layers {
         ensures { result ≡ has_block block (up_to inner (nests.members self.now)) }
     {
         encloses(self.layers.as_slice(), inner, block)
+    }
+
+    /// The block that is next outside another, if there is one.
+    pub(crate) fn outside(&self, block: u32) -> Option<u32>
+        ensures { result ≡ outside block None (nests.members self.now) }
+    {
+        outside(self.layers.as_slice(), block)
     }
 
     /// How many live dependents a block of the nest has.

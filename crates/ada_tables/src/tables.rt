@@ -4,7 +4,7 @@ ghost use Rattle.std.specs.Option.{ForSome};
 ghost use Rattle.ada_events.specs.Entries.{entries_in};
 ghost use Rattle.ada_events.specs.Nests.{innermost};
 ghost use Rattle.ada_tables.specs.Layers.{members};
-ghost use Rattle.ada_tables.specs.Dependents.{task_at, depends_on, made_facts, with_nest, with_phase, cut, is_terminated, live_dependents, IsOpen, IsFresh, IsIdle, Stands};
+ghost use Rattle.ada_tables.specs.Dependents.{task_at, depends_on, parent_of, made_facts, with_nest, with_phase, cut, is_terminated, live_dependents, IsOpen, IsFresh, IsIdle, Stands};
 ghost use Rattle.ada_tables.specs.Queues.{queue_at, waits, with_last, without, front_call};
 ghost use Rattle.ada_tables.specs.Tables.{slot_at, slots_before, declared, has_no_calls, is_unready, unready_dependents, HasEntry};
 
@@ -181,6 +181,15 @@ impl Tables {
         ensures { result ≡ (task_at self.now.tasks task.0).master }
     {
         self.tasks.master(task.0)
+    }
+
+    /// The parent of a master (9.4), which is the body of a task or a block that stands in a nest; none for the
+    /// body of the main program.
+    pub fn parent(&self, master: Master) -> Option<Master>
+        requires { Stands self.now.tasks master }
+        ensures { result ≡ parent_of self.now.tasks master }
+    {
+        self.tasks.parent(master)
     }
 
     /// The families of entries that a task declares (9.5).

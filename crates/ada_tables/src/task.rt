@@ -2,7 +2,7 @@
 ghost use Rattle.std.specs.Prelude.{◌≡◌, false};
 ghost use Rattle.ada_tables.specs.Changes.{changed};
 ghost use Rattle.ada_tables.specs.Layers.{members, moved_to};
-ghost use Rattle.ada_tables.specs.Dependents.{holds, encloses, passes, beyond};
+ghost use Rattle.ada_tables.specs.Dependents.{holds, encloses, passes, beyond, parent_within};
 ghost use Rattle.ada_tables.specs.Counts.{counted, facts_of, made};
 
 use crate::change::Change;
@@ -89,5 +89,15 @@ pub(crate) fn beyond(number: u16, task: &Task, from: Option<Master>) -> Option<M
             }
         }
         None => None,
+    }
+}
+
+// The parent of a block that stands in the nest of the task of that number.
+pub(crate) fn parent_within(number: u16, nest: &Layers, block: u32) -> Master
+    ensures { result ≡ parent_within number (members nest.now) block }
+{
+    match nest.outside(block) {
+        Some(outer) => Master::Block(outer),
+        None => Master::Body(TaskNo(number)),
     }
 }

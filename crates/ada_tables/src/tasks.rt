@@ -3,7 +3,7 @@ ghost use Rattle.std.specs.Prelude.{◌≡◌, ℕ, ◌+◌, ◌-◌, ◌<◌, �
 ghost use Rattle.std.specs.Option.{ForSome};
 ghost use Rattle.ada_events.specs.Nests.{innermost};
 ghost use Rattle.ada_tables.specs.Layers.{members};
-ghost use Rattle.ada_tables.specs.Dependents.{reaches, depends_on, task_at, made_facts, with_nest, with_phase, cut, is_terminated, live_dependents, IsOpen, IsFresh, IsIdle, Stands};
+ghost use Rattle.ada_tables.specs.Dependents.{reaches, depends_on, parent_of, parent_from, task_at, made_facts, with_nest, with_phase, cut, is_terminated, live_dependents, IsOpen, IsFresh, IsIdle, Stands};
 ghost use Rattle.ada_tables.specs.Counts.{facts, ChangesAlong, StandAlone, AreCounted, live_of_block};
 
 use crate::change::Change;
@@ -83,6 +83,19 @@ fn reaches(tasks: &[Task], made: u16, from: Option<Master>, to: Master) -> bool
         from = task::beyond(left, task, from);
     }
     false
+}
+
+// The parent of a block.
+fn parent_in(tasks: &[Task], block: u32) -> Option<Master>
+    requires { length tasks.now ≤ 256 }
+    ensures { result ≡ parent_from 0 (facts tasks.now) block }
+{
+    for (number, task) in tasks.iter().enumerate() {
+        if task.nest.has_block(block) {
+            return Some(task::parent_within(number as u16, &task.nest, block));
+        }
+    }
+    None
 }
 
 // How many live dependents a block has.
@@ -278,5 +291,17 @@ impl Tasks {
     {
         let made_under = self.tasks[task as usize].master;
         reaches(self.tasks.as_slice(), task, made_under, master)
+    }
+
+    /// The parent of a master (9.4): of a task's body the master that the task was made under, of a block the
+    /// next block outside it in its task's nest, else that task's body. The body of the main program has none.
+    pub fn parent(&self, master: Master) -> Option<Master>
+        requires { Stands self.now.tasks master }
+        ensures { result ≡ parent_of self.now.tasks master }
+    {
+        match master {
+            Master::Body(task) => self.tasks[task.0 as usize].master,
+            Master::Block(block) => parent_in(self.tasks.as_slice(), block),
+        }
     }
 }
