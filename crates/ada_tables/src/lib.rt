@@ -13,6 +13,7 @@ pub mod tables;
 mod task;
 pub mod tasks;
 
+pub use ada_events::Member;
 pub use layers::{Layer, Layers};
 pub use nodes::{Node, Nodes};
 pub use phase::Phase;

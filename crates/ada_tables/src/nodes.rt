@@ -1,5 +1,5 @@
 //! The nodes of queued calls, each found from its caller.
-ghost use Rattle.std.specs.Prelude.{◌≡◌, ◌+◌, ◌-◌, ◌<◌, ◌≤◌, [], ◌∷◌, ◌++◌, Some, None, IsSome, OnOk, OnErr, length, slice_set};
+ghost use Rattle.std.specs.Prelude.{◌≡◌, ◌+◌, ◌-◌, ◌<◌, ◌≤◌, ◌==◌, [], ◌∷◌, ◌++◌, Some, None, IsSome, OnOk, OnErr, length, slice_set};
 ghost use Rattle.std.specs.Option.{option_map, ForSome};
 ghost use Rattle.ada_tables.specs.Nodes.{node_of, with_after, with_before};
 ghost use Rattle.ada_tables.specs.Links.{joined};
@@ -61,6 +61,20 @@ impl Nodes {
     {
         self.keys.push(None)?;
         Ok(())
+    }
+
+    /// How many callers there are.
+    pub fn len(&self) -> usize
+        ensures { result ≡ length self.now.nodes }
+    {
+        self.keys.len()
+    }
+
+    /// Whether there are no callers.
+    pub fn is_empty(&self) -> bool
+        ensures { result ≡ (length self.now.nodes == 0) }
+    {
+        self.keys.is_empty()
     }
 
     /// Makes room for one more node.

@@ -117,12 +117,26 @@ impl Queues {
         Ok(())
     }
 
-    /// How many slots there are, at most 65,535.
-    pub fn slots(&self) -> u16
-        requires { length self.now.queues < 65536 }
+    /// How many slots there are.
+    pub fn slots(&self) -> usize
         ensures { result ≡ length self.now.queues }
     {
-        self.queues.len() as u16
+        self.queues.len()
+    }
+
+    /// How many tasks may call.
+    pub fn callers(&self) -> usize
+        ensures { result ≡ self.now.callers }
+    {
+        self.nodes.len()
+    }
+
+    /// Whether a call of a task is queued.
+    pub fn waits(&self, task: u16) -> bool
+        requires { task < self.now.callers }
+        ensures { result ≡ waits task self.now.queues }
+    {
+        self.nodes.get(task).is_some()
     }
 
     /// Makes room for one more call.

@@ -95,7 +95,7 @@ impl Tables {
         ensures err { IfErr result (λ cause. (cause ≡ Refusal.OutOfMemory) × (self.new ≡ self.old)) }
     {
         let number = self.tasks.len() as u16;
-        let first = self.queues.slots();
+        let first = self.queues.slots() as u16;
         let more = slots::entries_in(families.as_slice()) as u16;
         granted(self.tasks.reserve())?;
         granted(self.firsts.reserve_exact(1))?;
