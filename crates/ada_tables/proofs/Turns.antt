@@ -1,0 +1,221 @@
+-- What each call does to the records of tasks, as a contract sees them.
+use Rattle.std.proofs.Common.{◌-◌, ◌≡◌, ◌≢◌, ℕ, zero, suc, ◌+◌, ◌<◌, ◌≤◌, true, false, List, [], ◌∷◌, ◌++◌, length, get_or, set, take, Some, None, refl, ap, sym, ◌∙◌, arith, inl, inr}
+use Rattle.std.proofs.lemmas.Bool.{cases_Bool, eqb-true}
+use Rattle.std.proofs.lemmas.List.{map-set, length-map, get_or-map, get_or_default, map-append}
+use Rattle.ada_events.specs.declared.names.TaskNo.{TaskNo}
+use Rattle.ada_events.specs.declared.names.Master.{Master}
+use Rattle.ada_events.specs.declared.names.Master.TheVariants.{Body, Block}
+use Rattle.ada_events.specs.declared.names.Member.{Member}
+use Rattle.ada_events.specs.declared.names.Member.TheVariants.{Block as BlockMember, Rendezvous}
+use Rattle.ada_tables.specs.declared.task.Task.{Task}
+use Rattle.ada_tables.specs.declared.layers.Layer.{Layer}
+use Rattle.ada_tables.specs.declared.phase.Phase.{Phase}
+use Rattle.ada_tables.specs.declared.change.Change.{Change}
+use Rattle.ada_tables.specs.Layers.{members, member_of, layer_of, live_at}
+use Rattle.ada_tables.specs.Dependents.{Facts, task_at, has_block, reaches, depends_on, is_terminated, live_dependents}
+use Rattle.ada_tables.specs.Counts.{facts_of, facts, no_task, record_at, ChangesAlong, StandAlone, AreCounted}
+use Rattle.ada_tables.proofs.Reaching.{reaches_none}
+use Rattle.ada_tables.proofs.Alongs.{facts_at}
+use Rattle.std.proofs.lemmas.List.{take-append-drop, drop_more, drop_all, take-map, get_or_read}
+use Rattle.std.proofs.lemmas.Option.{slice_get-get_or}
+use Rattle.std.proofs.Common.{drop}
+use Rattle.std.specs.Option.{ForSome}
+use Rattle.ada_events.specs.Nests.{innermost}
+use Rattle.ada_events.specs.declared.names.Family.{Family}
+use Rattle.ada_tables.specs.declared.phase.Phase.TheVariants.{Unstarted, Active, Held, Quittable, Completed, Terminated}
+use Rattle.ada_tables.specs.declared.change.Change.TheVariants.{Added, Ended}
+use Rattle.ada_tables.specs.Dependents.{with_nest, with_phase, IsFresh, IsIdle, IsOpen, Stands, cut, Known}
+use Rattle.ada_tables.specs.Layers.{cut_layers}
+use Rattle.ada_tables.specs.Counts.{made, live_of_block}
+use Rattle.ada_tables.proofs.Nesting.{nest_is, pushed_rendezvous, pushed_block, popped_rendezvous, popped_block}
+use Rattle.ada_tables.proofs.Cutting.{cut_rec, cut_layers_is, members-cut_rec, cut_counted}
+use Rattle.ada_tables.proofs.Ending.{goes_on, ends}
+use Rattle.ada_tables.proofs.Alongs.{along_begins, along_same}
+use Rattle.ada_tables.proofs.Adding.{added, added_main}
+
+abbrev known_of : List Facts → ℕ → Known
+known_of tasks room = record { tasks = tasks; room = room }
+
+-- a nest that changes in a record changes in what is known
+pub facts-with_nest : (tasks : List Task) (task : ℕ) (layers : List Layer) → facts (set tasks task (record (record_at tasks task) { nest = layers })) ≡ with_nest task (members layers) (facts tasks)
+facts-with_nest tasks task layers =
+    map-set facts_of tasks task (record (record_at tasks task) { nest = layers })
+    ∙ ap (λ (f : Facts). let g : Facts = record f { nest = members layers } in set (facts tasks) task g) (sym (facts_at tasks task))
+
+pub facts-with_phase : (tasks : List Task) (task : ℕ) (phase : Phase) → facts (set tasks task (record (record_at tasks task) { phase = phase })) ≡ with_phase task phase (facts tasks)
+facts-with_phase tasks task phase =
+    map-set facts_of tasks task (record (record_at tasks task) { phase = phase })
+    ∙ ap (λ (f : Facts). let g : Facts = record f { phase = phase } in set (facts tasks) task g) (sym (facts_at tasks task))
+
+member_of-layer_of : (member : Member) → member_of (layer_of member) ≡ member
+member_of-layer_of (BlockMember block) = refl
+member_of-layer_of (Rendezvous call) = refl
+
+-- what follows for the records and for what is known
+abbrev pub Holds : List Task → List Facts → Type 0
+Holds tasks known = AreCounted tasks × (facts tasks ≡ known)
+
+-- a member comes into a nest
+pub pushed : (tasks : List Task) (task : ℕ) (read : Task) (nest : List Layer) (member : Member) → AreCounted tasks → task < length tasks → read ≡ get_or tasks task read → nest ≡ read.nest ++ layer_of member ∷ [] → IsFresh member (facts tasks)
+    → Holds (set tasks task (record read { nest = nest })) (with_nest task ((task_at (facts tasks) task).nest ++ member ∷ []) (facts tasks))
+pushed tasks task read nest member right within read_is nest_new fresh =
+    let there = get_or_read tasks task read within read_is no_task in
+    rw (nest_new, there) (
+      counted_still member fresh,
+      facts-with_nest tasks task ((record_at tasks task).nest ++ layer_of member ∷ [])
+          ∙ ap (λ ms. with_nest task ms (facts tasks)) (map-append member_of (record_at tasks task).nest (layer_of member ∷ []) ∙ ap (λ m. members (record_at tasks task).nest ++ m ∷ []) (member_of-layer_of member) ∙ ap (λ ms. ms ++ member ∷ []) (sym (nest_is tasks task))),
+    )
+  where
+    counted_still : (m : Member) → IsFresh m (facts tasks) → AreCounted (set tasks task (record (record_at tasks task) { nest = (record_at tasks task).nest ++ layer_of m ∷ [] }))
+    counted_still (BlockMember block) free = pushed_block tasks task right within block (λ other low. free other (rw length-map low))
+    counted_still (Rendezvous call) free = pushed_rendezvous tasks task right within call
+
+-- a list and its last item
+ends_with : {A : Type 0} (xs : List A) (d : A) → 0 < length xs → xs ≡ take (length xs - 1) xs ++ get_or xs (length xs - 1) d ∷ []
+ends_with xs d some =
+    let past : length xs ≤ length xs - 1 + 1 = omega arith in
+    let last : drop (length xs - 1) xs ≡ get_or xs (length xs - 1) d ∷ [] = drop_more xs (length xs - 1) d (omega arith) ∙ ap (λ rest. get_or xs (length xs - 1) d ∷ rest) (drop_all (length xs - 1 + 1) xs past) in
+    sym (take-append-drop (length xs - 1) xs) ∙ ap (λ rest. take (length xs - 1) xs ++ rest) last
+
+no_layer : Layer
+no_layer = record { position = 0; live = 0; is_block = false }
+
+-- the innermost member leaves a nest
+pub popped : (tasks : List Task) (task : ℕ) (read : Task) (nest : List Layer) → AreCounted tasks → task < length tasks → read ≡ get_or tasks task read → nest ≡ take (length read.nest - 1) read.nest → 0 < length (task_at (facts tasks) task).nest → ForSome (innermost (task_at (facts tasks) task).nest) (IsIdle (facts tasks))
+    → Holds (set tasks task (record read { nest = nest })) (with_nest task (take (length (task_at (facts tasks) task).nest - 1) (task_at (facts tasks) task).nest) (facts tasks))
+popped tasks task read nest right within read_is nest_new some idle =
+    let there = get_or_read tasks task read within read_is no_task in
+    rw (nest_new, there) (
+      counted_still (member_of last) refl (idle (member_of last) innermost_is),
+      facts-with_nest tasks task shorter ∙ ap (λ ms. with_nest task ms (facts tasks)) shorter_is,
+    )
+  where
+    old : List Layer
+    old = (record_at tasks task).nest
+
+    shorter : List Layer
+    shorter = take (length (record_at tasks task).nest - 1) (record_at tasks task).nest
+
+    last : Layer
+    last = get_or (record_at tasks task).nest (length (record_at tasks task).nest - 1) no_layer
+
+    long : length (task_at (facts tasks) task).nest ≡ length (record_at tasks task).nest
+    long = ap (λ ms. length ms) (nest_is tasks task) ∙ length-map (record_at tasks task).nest member_of
+
+    many : 0 < length (record_at tasks task).nest
+    many = omega (arith, long)
+
+    shorter_is : members (take (length (record_at tasks task).nest - 1) (record_at tasks task).nest) ≡ take (length (task_at (facts tasks) task).nest - 1) (task_at (facts tasks) task).nest
+    shorter_is = sym (take-map member_of (length (record_at tasks task).nest - 1) (record_at tasks task).nest) ∙ rw (long, nest_is tasks task) refl
+
+    innermost_is : innermost (task_at (facts tasks) task).nest ≡ Some (member_of last)
+    innermost_is =
+        ap innermost (nest_is tasks task)
+        ∙ slice_get-get_or (members (record_at tasks task).nest) (length (members (record_at tasks task).nest) - 1) (member_of last) (omega (arith, length-map (record_at tasks task).nest member_of, many))
+        ∙ ap (λ n. Some (get_or (members (record_at tasks task).nest) (n - 1) (member_of last))) (length-map (record_at tasks task).nest member_of)
+        ∙ ap Some (get_or-map member_of (record_at tasks task).nest (length (record_at tasks task).nest - 1) no_layer (member_of last) (omega (arith, many)))
+
+    counted_still : (m : Member) → member_of last ≡ m → IsIdle (facts tasks) m → AreCounted (set tasks task (record (record_at tasks task) { nest = take (length (record_at tasks task).nest - 1) (record_at tasks task).nest }))
+    counted_still (BlockMember block) is none = popped_block tasks task right within (take (length (record_at tasks task).nest - 1) (record_at tasks task).nest) last (ends_with (record_at tasks task).nest no_layer many) block is none
+    counted_still (Rendezvous call) is none = popped_rendezvous tasks task right within (take (length (record_at tasks task).nest - 1) (record_at tasks task).nest) last (ends_with (record_at tasks task).nest no_layer many) call is
+
+-- a task gets another phase, and doesn't end
+pub phased : (tasks : List Task) (task : ℕ) (read : Task) (phase : Phase) → AreCounted tasks → task < length tasks → read ≡ get_or tasks task read → is_terminated (task_at (facts tasks) task).phase ≡ false → is_terminated phase ≡ false
+    → Holds (set tasks task (record read { phase = phase })) (with_phase task phase (facts tasks))
+phased tasks task read phase right within read_is lives on =
+    let there = get_or_read tasks task read within read_is no_task in
+    rw there (goes_on tasks task phase right within lives on, facts-with_phase tasks task phase)
+
+-- a task ends
+pub ended : (tasks lowered : List Task) (task : ℕ) (d : Task) → AreCounted tasks → task < length tasks → is_terminated (task_at (facts tasks) task).phase ≡ false → ChangesAlong Ended tasks lowered (depends_on (facts tasks) task) (λ _. false)
+    → Holds (set lowered task (record (get_or lowered task d) { phase = Terminated })) (with_phase task Terminated (facts tasks))
+ended tasks lowered task d right within lives along =
+    let long : length lowered ≡ length tasks = sym (length-map lowered facts_of) ∙ ap (λ fs. length fs) along.same ∙ length-map tasks facts_of in
+    let there : get_or lowered task d ≡ record_at lowered task = get_or_default lowered task d no_task (omega (arith, long)) in
+    rw there (
+      ends tasks lowered task (depends_on (facts tasks) task) right within lives along (λ master. refl),
+      facts-with_phase lowered task Terminated ∙ ap (with_phase task Terminated) along.same,
+    )
+
+-- a task that was made under none has no masters to lower
+pub lowers_none : (change : Change) (tasks : List Task) (task : ℕ) → (task_at (facts tasks) task).master ≡ None → ChangesAlong change tasks tasks (depends_on (facts tasks) task) (λ _. false)
+lowers_none change tasks task none =
+    along_same change tasks tasks (depends_on (facts tasks) task) (depends_on (facts tasks) task) (λ _. false)
+    (λ master. sym (ap (λ m. reaches (facts tasks) task m master) none ∙ reaches_none (facts tasks) task master))
+    (along_begins change tasks (depends_on (facts tasks) task))
+
+-- a rendezvous leaves a nest
+pub cut_out : (tasks : List Task) (task call : ℕ) (read : Task) (nest : List Layer) → AreCounted tasks → task < length tasks → read ≡ get_or tasks task read → nest ≡ cut_layers call read.nest
+    → Holds (set tasks task (record read { nest = nest })) (with_nest task (cut call (task_at (facts tasks) task).nest) (facts tasks))
+cut_out tasks task call read nest right within read_is nest_new =
+    let there = get_or_read tasks task read within read_is no_task in
+    rw (nest_new, there, cut_layers_is call (record_at tasks task).nest) (
+      cut_counted tasks task right within call,
+      facts-with_nest tasks task (cut_rec call (record_at tasks task).nest)
+          ∙ ap (λ ms. with_nest task ms (facts tasks)) (members-cut_rec call (record_at tasks task).nest ∙ ap (cut call) (sym (nest_is tasks task))),
+    )
+
+-- what a contract sees, with other tasks
+pub same_known : (room : ℕ) (tasks known : List Facts) → tasks ≡ known → known_of tasks room ≡ known_of known room
+same_known room tasks known same = ap (λ ts. known_of ts room) same
+
+pub stand_alone : (tasks : List Task) → AreCounted tasks → StandAlone (facts tasks)
+stand_alone tasks right = record { alone = λ task other block low there first second. right.alone task other block (rw length-map at low) (rw length-map at there) first second }
+
+-- what is read of a record is known
+pub known_of_read : (tasks : List Task) (task : ℕ) (read : Task) → task < length tasks → read ≡ get_or tasks task read → task_at (facts tasks) task ≡ facts_of read
+known_of_read tasks task read within read_is = facts_at tasks task ∙ ap facts_of (sym (get_or_read tasks task read within read_is no_task))
+
+pub not_terminated : (phase : Phase) → phase ≢ Terminated → is_terminated phase ≡ false
+not_terminated Unstarted other = refl
+not_terminated Active other = refl
+not_terminated Held other = refl
+not_terminated Quittable other = refl
+not_terminated Completed other = refl
+not_terminated Terminated other = absurd (other refl)
+
+-- the main program is the first task
+pub main_made : (tasks new : List Task) (record_of : Task) (families : List Family) → AreCounted tasks → facts tasks ≡ [] → new ≡ tasks ++ record_of ∷ [] → record_of ≡ made None families → AreCounted new
+main_made [] new record_of families right none new_is made_is = rw (new_is, made_is) (added_main families right)
+main_made (first ∷ rest) new record_of families right none new_is made_is = absurd (cc)
+
+-- a task is made under a master
+pub task_made : (tasks raised new : List Task) (record_of : Task) (master : Master) (families : List Family) (many : ℕ) → AreCounted tasks → length (facts tasks) < 256 → IsOpen (facts tasks) master → many ≡ length tasks → ChangesAlong Added tasks raised (reaches (facts tasks) many (Some master)) (λ _. false) → new ≡ raised ++ record_of ∷ [] → record_of ≡ made (Some master) families → AreCounted new
+task_made tasks raised new record_of master families many right few is_open many_is along new_is made_is =
+    rw (new_is, made_is) (added tasks raised master families right (rw length-map at few) is_open (rw many_is at along))
+
+live_later : (block : ℕ) (tasks : List Task) (at : ℕ) (read : Task) → at < length tasks → read ≡ get_or tasks at read → drop at tasks ≡ read ∷ drop (at + 1) tasks
+live_later block tasks at read within read_is = drop_more tasks at read within ∙ ap (λ (t : Task). t ∷ drop (at + 1) tasks) (sym read_is)
+
+pub live_of_later : (block : ℕ) (tasks : List Task) (at : ℕ) (read : Task) → live_of_block block tasks ≡ live_of_block block (drop at tasks) → at < length tasks → read ≡ get_or tasks at read → has_block block (members read.nest) ≡ false → live_of_block block tasks ≡ live_of_block block (drop (at + 1) tasks)
+unfolding live_of_block
+live_of_later block tasks at read so_far within read_is free = so_far ∙ rw (live_later block tasks at read within read_is, free) refl
+
+pub live_of_here : (block : ℕ) (tasks : List Task) (at : ℕ) (read : Task) → live_of_block block tasks ≡ live_of_block block (drop at tasks) → at < length tasks → read ≡ get_or tasks at read → has_block block (members read.nest) ≡ true → live_at block read.nest ≡ live_of_block block tasks
+unfolding live_of_block
+live_of_here block tasks at read so_far within read_is held = sym (so_far ∙ rw (live_later block tasks at read within read_is, held) refl)
+
+pub live_of_none : (block : ℕ) (tasks : List Task) (at : ℕ) → live_of_block block tasks ≡ live_of_block block (drop at tasks) → length tasks ≤ at → 0 ≡ live_of_block block tasks
+unfolding live_of_block
+live_of_none block tasks at so_far past = sym (so_far ∙ rw (drop_all at tasks past) refl)
+
+-- a block's count is found in the nest that holds it
+found_count : (block : ℕ) (tasks : List Task) (task : ℕ) → task < length tasks → has_block block (members (record_at tasks task).nest) ≡ true → (at : ℕ) × (at < length tasks) × (has_block block (members (record_at tasks at).nest) ≡ true) × (live_of_block block tasks ≡ live_at block (record_at tasks at).nest)
+unfolding live_of_block
+found_count block [] task low has = absurd (omega arith)
+found_count block (first ∷ rest) zero low has = (0, omega arith, has, rw has refl)
+found_count block (first ∷ rest) (suc task) low has =
+    elim (cases_Bool (has_block block (members first.nest))) [
+      | inl here ↦ (0, omega arith, here, rw here refl)
+      | inr other ↦
+          let found = found_count block rest task (omega arith) has in
+          (suc found.0, omega (arith, found.1), found.2, rw other found.3)
+    ]
+
+pub block_count : (tasks : List Task) (block : ℕ) → AreCounted tasks → Stands (facts tasks) (Block block) → live_of_block block tasks ≡ live_dependents (facts tasks) (Block block)
+block_count tasks block right stands =
+    let found = found_count block tasks stands.task (rw length-map at stands.within) (ap (has_block block) (sym (nest_is tasks stands.task)) ∙ stands.held) in
+    found.3 ∙ right.blocks found.0 block found.1 (ap (has_block block) (nest_is tasks found.0) ∙ found.2)
+
+pub body_within : (tasks : List Task) (t : TaskNo) → Stands (facts tasks) (Body t) → t.0 < length tasks
+body_within tasks t stands = let same = eqb-true t.0 stands.task stands.held in omega (arith, stands.within, length-map tasks facts_of)

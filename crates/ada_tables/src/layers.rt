@@ -1,0 +1,267 @@
+//! The nest of one task, with the counts of its blocks.
+ghost use Rattle.std.specs.Prelude.{◌≡◌, None, ◌+◌, ◌-◌, ◌<◌, ◌≤◌, ◌==◌, [], ◌∷◌, ◌++◌, length, take, position, slice_get, if◌then◌else◌};
+ghost use Rattle.std.specs.Option.{option_map};
+ghost use Rattle.std.specs.List.{list_any};
+ghost use Rattle.ada_tables.specs.Layers as nests;
+ghost use Rattle.ada_tables.specs.Dependents.{has_block, up_to, block_of, outside};
+ghost use Rattle.ada_tables.specs.Changes.{changed};
+
+use crate::change::Change;
+use ada_events::Member;
+use arrayvec::ArrayVec;
+use std::marker::Model;
+
+/// How many members a nest has at most.
+pub const DEPTH: usize = 32;
+
+/// A member of a nest: a block by the position of its opening, with the number of its live dependents, or a
+/// rendezvous by the position of its call.
+#[derive(Clone, Copy, Default)]
+pub struct Layer {
+    position: u32,
+    live: u16,
+    is_block: bool,
+}
+
+impl Layer {
+    // A member without dependents.
+    fn of(member: Member) -> Layer
+        ensures { result ≡ nests.layer_of member }
+    {
+        match member {
+            Member::Block(position) => Layer {
+                position,
+                live: 0,
+                is_block: true,
+            },
+            Member::Rendezvous(call) => Layer {
+                position: call,
+                live: 0,
+                is_block: false,
+            },
+        }
+    }
+
+    fn member(self) -> Member
+        ensures { result ≡ nests.member_of self }
+    {
+        if self.is_block {
+            Member::Block(self.position)
+        } else {
+            Member::Rendezvous(self.position)
+        }
+    }
+
+    fn is_block_at(self, position: u32) -> bool
+        ensures { result ≡ nests.is_block_at position self }
+    {
+        self.is_block && self.position == position
+    }
+
+    fn is_rendezvous_at(self, call: u32) -> bool
+        ensures { result ≡ nests.is_rendezvous_at call self }
+    {
+        !self.is_block && self.position == call
+    }
+
+    // The position of its opening, if this is a block.
+    fn block(self) -> Option<u32>
+        ensures { result ≡ block_of (nests.member_of self) }
+    {
+        if self.is_block {
+            Some(self.position)
+        } else {
+            None
+        }
+    }
+
+    // With the count changed, if this is a block.
+    fn counted(self, change: Change) -> Layer
+        ensures { result ≡ nests.moved (changed change) self }
+    {
+        if self.is_block {
+            Layer {
+                live: change.of(self.live),
+                ..self
+            }
+        } else {
+            self
+        }
+    }
+}
+
+// The place of the rendezvous with a call.
+fn place_of(layers: &[Layer], call: u32) -> Option<usize>
+    ensures { result ≡ position (nests.is_rendezvous_at call) layers.now }
+{
+    layers.iter().position(|layer| layer.is_rendezvous_at(call))
+}
+
+// Changes the counts of a block and of those outside it.
+fn count(layers: &mut [Layer], block: u32, change: Change)
+    ensures { layers.new ≡ nests.moved_to (changed change) block layers.old }
+{
+    for layer in layers.iter_mut() {
+        let before = *layer;
+        *layer = before.counted(change);
+        if before.is_block_at(block) {
+            break;
+        }
+    }
+}
+
+// Whether a block stands in a nest.
+fn has_block(layers: &[Layer], block: u32) -> bool
+    ensures { result ≡ list_any (nests.is_block_at block) layers.now }
+{
+    layers.iter().any(|layer| layer.is_block_at(block))
+}
+
+// Whether the second block is the first or stands outside it.
+fn encloses(layers: &[Layer], inner: u32, block: u32) -> bool
+    ensures { result ≡ has_block block (up_to inner (nests.members layers.now)) }
+{
+    for layer in layers {
+        if layer.is_block_at(block) {
+            return true;
+        }
+        if layer.is_block_at(inner) {
+            return false;
+        }
+    }
+    false
+}
+
+// The block that is next outside another.
+fn outside(layers: &[Layer], block: u32) -> Option<u32>
+    ensures { result ≡ outside block None (nests.members layers.now) }
+{
+    let mut before = None;
+    for layer in layers {
+        if layer.is_block_at(block) {
+            return before;
+        }
+        before = layer.block().or(before);
+    }
+    None
+}
+
+// How many live dependents a block has.
+fn live_in(layers: &[Layer], block: u32) -> u16
+    ensures { result ≡ nests.live_at block layers.now }
+{
+    for layer in layers {
+        if layer.is_block_at(block) {
+            return layer.live;
+        }
+    }
+    0
+}
+
+/// What a task is in (9.4, 9.5), outermost first, at most 32 members. Contracts see the list of its layers.
+#[derive(Drop)]
+pub struct Layers {
+    layers: ArrayVec<Layer, DEPTH>,
+}
+
+impl Model for Layers {
+    ghost use Rattle.std.specs.Prelude.{List};
+    ghost use Rattle.ada_tables.specs.declared.layers.Layer.{Layer as LayerValue};
+
+    ghost Value = { List LayerValue };
+
+    ghost view = { λ n. n.layers.items };
+}
+
+impl Layers {
+    /// An empty nest.
+    pub fn new() -> Self
+        ensures { result ≡ [] }
+    {
+        Layers {
+            layers: ArrayVec::new(),
+        }
+    }
+
+    /// How many members there are, at most 32.
+    pub fn len(&self) -> usize
+        ensures value { result ≡ length self.now }
+        ensures fits { result ≤ 32 }
+    {
+        self.layers.len()
+    }
+
+    /// Whether there is no member.
+    pub fn is_empty(&self) -> bool
+        ensures { result ≡ (length self.now == 0) }
+    {
+        self.layers.is_empty()
+    }
+
+    /// The member at a place, 0 for the outermost.
+    pub fn get(&self, place: usize) -> Option<Member>
+        ensures { result ≡ slice_get (nests.members self.now) place }
+    {
+        let layer = self.layers.as_slice().get(place)?;
+        Some(layer.member())
+    }
+
+    /// Adds the innermost member. There must be room.
+    pub(crate) fn push(&mut self, member: Member)
+        requires { length self.old < 32 }
+        ensures { self.new ≡ self.old ++ nests.layer_of member ∷ [] }
+    {
+        self.layers.push(Layer::of(member));
+    }
+
+    /// Takes out the innermost member.
+    pub(crate) fn pop(&mut self)
+        ensures { self.new ≡ take (length self.old - 1) self.old }
+    {
+        self.layers.pop();
+    }
+
+    /// Takes out the rendezvous with a call.
+    pub(crate) fn cut(&mut self, call: u32)
+        ensures { self.new ≡ nests.cut_layers call self.old }
+    {
+        if let Some(place) = place_of(self.layers.as_slice(), call) {
+            self.layers.remove(place);
+        }
+    }
+
+    /// Changes the counts of a block and of those outside it.
+    pub(crate) fn count_to(&mut self, block: u32, change: Change)
+        ensures { self.new ≡ nests.moved_to (changed change) block self.old }
+    {
+        count(self.layers.as_mut_slice(), block, change);
+    }
+
+    /// Whether a block stands in the nest.
+    pub(crate) fn has_block(&self, block: u32) -> bool
+        ensures { result ≡ has_block block (nests.members self.now) }
+    {
+        has_block(self.layers.as_slice(), block)
+    }
+
+    /// Whether the second block is the first or stands outside it.
+    pub(crate) fn encloses(&self, inner: u32, block: u32) -> bool
+        ensures { result ≡ has_block block (up_to inner (nests.members self.now)) }
+    {
+        encloses(self.layers.as_slice(), inner, block)
+    }
+
+    /// The block that is next outside another, if there is one.
+    pub(crate) fn outside(&self, block: u32) -> Option<u32>
+        ensures { result ≡ outside block None (nests.members self.now) }
+    {
+        outside(self.layers.as_slice(), block)
+    }
+
+    /// How many live dependents a block of the nest has.
+    pub(crate) fn live_at(&self, block: u32) -> u16
+        ensures { result ≡ nests.live_at block self.now }
+    {
+        live_in(self.layers.as_slice(), block)
+    }
+}

@@ -1,0 +1,313 @@
+//! The tables as the kernel sees them.
+ghost use Rattle.std.specs.Prelude.{◌≡◌, ℕ, ◌+◌, ◌-◌, ◌<◌, ◌≤◌, Some, None, true, false, [], ◌∷◌, ◌++◌, OnOk, OnErr, IfOk, IfErr, IsOk, ◌↔◌, ◌&&◌, if◌then◌else◌, length, take, replicate};
+ghost use Rattle.std.specs.Option.{ForSome};
+ghost use Rattle.ada_events.specs.Entries.{entries_in};
+ghost use Rattle.ada_events.specs.Nests.{innermost};
+ghost use Rattle.ada_tables.specs.Layers.{members};
+ghost use Rattle.ada_tables.specs.Dependents.{task_at, depends_on, parent_of, made_facts, with_nest, with_phase, cut, is_terminated, live_dependents, IsOpen, IsFresh, IsIdle, Stands};
+ghost use Rattle.ada_tables.specs.Queues.{queue_at, waits, with_last, without, front_call};
+ghost use Rattle.ada_tables.specs.Tables.{slot_at, slots_before, declared, has_no_calls, is_unready, unready_dependents, HasEntry};
+
+use crate::{Layers, Phase, Queues, Tasks, slots};
+use ada_events::{Entry, Families, Master, Member, Refusal, TaskNo};
+use std::alloc::{AllocError, Global};
+use std::marker::Model;
+
+/// The tables of the kernel: the tasks with their masters, nests and phases, and the queues of all
+/// entries. Contracts see what is known of each task, the calls that wait at each slot, and for how many
+/// more calls there is room.
+#[derive(Drop)]
+pub struct Tables {
+    tasks: Tasks,
+    queues: Queues,
+    // The slot of each task's first entry.
+    firsts: Vec<u16>,
+}
+
+impl Model for Tables {
+    ghost use Rattle.ada_tables.specs.Tables.{State, AreTied};
+
+    ghost Value = { State };
+
+    ghost view = { λ t. record {
+      tasks = t.tasks.tasks;
+      queues = t.queues.queues;
+      spare = t.queues.spare;
+    } };
+
+    ghost invariant = { λ t. AreTied t.tasks.tasks t.queues.queues t.queues.callers t.firsts.items };
+}
+
+// Want of memory as the kernel names it.
+fn granted(growth: Result<(), AllocError>) -> Result<(), Refusal>
+    ensures ok { IsOk result ↔ IsOk growth }
+    ensures err { IfErr result (λ cause. cause ≡ Refusal.OutOfMemory) }
+{
+    match growth {
+        Ok(()) => Ok(()),
+        Err(_) => Err(Refusal::OutOfMemory),
+    }
+}
+
+// How much a test adds to a count.
+fn one_if(test: bool) -> u16
+    ensures { result ≡ (if test then 1 else 0) }
+{
+    if test { 1 } else { 0 }
+}
+
+impl Tables {
+    /// Tables with the main program alone. What they keep will lie in memory of `alloc`. Fails with
+    /// `OutOfMemory` alone.
+    #[tactic(auto, using(crate::proofs::Ties::tied_main))]
+    pub fn new(alloc: Global) -> Result<Self, Refusal>
+        ensures ok { IfOk result (λ tables. tables.tasks ≡ made_facts None [] ∷ []) }
+        ensures queues { IfOk result (λ tables. tables.queues ≡ []) }
+        ensures err { IfErr result (λ cause. cause ≡ Refusal.OutOfMemory) }
+    {
+        let mut tasks = Tasks::new(alloc);
+        let mut queues = Queues::new(alloc);
+        let mut firsts = Vec::new(alloc);
+        granted(tasks.reserve())?;
+        granted(firsts.reserve_exact(1))?;
+        granted(queues.add_caller(0))?;
+        firsts.push_reserved(0);
+        tasks.add_main_reserved();
+        Ok(Tables {
+            tasks,
+            queues,
+            firsts,
+        })
+    }
+
+    /// Adds a task that was made under a master (9.4), the body or an open block of a task that isn't
+    /// terminated, and gives its number. There are at most 256 tasks and 1,024 entries. Fails with
+    /// `OutOfMemory` alone, and then changes nothing.
+    pub fn add_task(&mut self, master: Master, families: &Families) -> Result<TaskNo, Refusal>
+        requires few { length self.old.tasks < 256 }
+        requires slots { length self.old.queues + entries_in families.now ≤ 1024 }
+        requires master { IsOpen self.old.tasks master }
+        ensures ok { OnOk result (self.new ≡ record self.old {
+          tasks = self.old.tasks ++ made_facts (Some master) families.now ∷ [];
+          queues = self.old.queues ++ replicate (entries_in families.now) [];
+        }) }
+        ensures number { IfOk result (λ task. task.0 ≡ length self.old.tasks) }
+        ensures err { IfErr result (λ cause. (cause ≡ Refusal.OutOfMemory) × (self.new ≡ self.old)) }
+    {
+        let number = self.tasks.len() as u16;
+        let first = self.queues.slots() as u16;
+        let more = slots::entries_in(families.as_slice()) as u16;
+        granted(self.tasks.reserve())?;
+        granted(self.firsts.reserve_exact(1))?;
+        granted(self.queues.add_caller(more))?;
+        self.firsts.push_reserved(first);
+        self.tasks.add_reserved(master, families);
+        Ok(TaskNo(number))
+    }
+
+    // The slot of an entry that a task has.
+    fn slot(&self, task: TaskNo, entry: Entry) -> u16
+        requires { HasEntry self.now.tasks task.0 entry }
+        ensures value { result ≡ slot_at self.now.tasks task.0 entry }
+        ensures known { result < length self.now.queues }
+    {
+        let number = slots::number_within(self.tasks.families(task.0).as_slice(), entry);
+        (u64::from(self.firsts[task.0 as usize]) + number) as u16
+    }
+
+    /// Makes room for one more queued call. Fails with `OutOfMemory` alone, and then changes nothing.
+    pub fn reserve_call(&mut self) -> Result<(), Refusal>
+        ensures ok { OnOk result (0 < self.new.spare) }
+        ensures kept { self.new ≡ record self.old { spare = self.new.spare } }
+        ensures spare { self.old.spare ≤ self.new.spare }
+        ensures err { IfErr result (λ cause. cause ≡ Refusal.OutOfMemory) }
+    {
+        granted(self.queues.reserve_call())
+    }
+
+    /// Puts a call last in the queue of an entry (9.5). There must be room, and no call of the caller may be
+    /// queued.
+    pub fn enqueue_reserved(&mut self, by: TaskNo, callee: TaskNo, entry: Entry, call: u32)
+        requires by { by.0 < length self.old.tasks }
+        requires entry { HasEntry self.old.tasks callee.0 entry }
+        requires idle { waits by.0 self.old.queues ≡ false }
+        requires reserved { 0 < self.old.spare }
+        ensures { self.new ≡ record self.old {
+          queues = with_last (slot_at self.old.tasks callee.0 entry) (record { call = call; caller = by.0 }) self.old.queues;
+          spare = self.old.spare - 1;
+        } }
+    {
+        let slot = self.slot(callee, entry);
+        self.queues.enqueue_reserved(by.0, slot, call);
+    }
+
+    /// Takes a task's call out of the queue in which it waits.
+    pub fn unlink(&mut self, by: TaskNo)
+        requires { waits by.0 self.old.queues ≡ true }
+        ensures { self.new ≡ record self.old {
+          queues = without by.0 self.old.queues;
+          spare = self.old.spare + 1;
+        } }
+    {
+        self.queues.unlink(by.0);
+    }
+
+    /// The call that has waited longest at an entry; none where none waits.
+    pub fn front(&self, task: TaskNo, entry: Entry) -> Option<u32>
+        requires { HasEntry self.now.tasks task.0 entry }
+        ensures { result ≡ front_call (queue_at self.now.queues (slot_at self.now.tasks task.0 entry)) }
+    {
+        self.queues.front(self.slot(task, entry))
+    }
+
+    /// How many calls wait at an entry, at most 256: the attribute COUNT (9.9).
+    pub fn queue_len(&self, task: TaskNo, entry: Entry) -> u16
+        requires { HasEntry self.now.tasks task.0 entry }
+        ensures { result ≡ length (queue_at self.now.queues (slot_at self.now.tasks task.0 entry)) }
+    {
+        self.queues.queue_len(self.slot(task, entry))
+    }
+
+    /// How many tasks there are, the main program counted, at most 256.
+    pub fn tasks(&self) -> u16
+        ensures { result ≡ length self.now.tasks }
+    {
+        self.tasks.len() as u16
+    }
+
+    /// The master that a task was made under (9.4); none for the main program.
+    pub fn master(&self, task: TaskNo) -> Option<Master>
+        requires { task.0 < length self.now.tasks }
+        ensures { result ≡ (task_at self.now.tasks task.0).master }
+    {
+        self.tasks.master(task.0)
+    }
+
+    /// The parent of a master (9.4), which is the body of a task or a block that stands in a nest; none for the
+    /// body of the main program.
+    pub fn parent(&self, master: Master) -> Option<Master>
+        requires { Stands self.now.tasks master }
+        ensures { result ≡ parent_of self.now.tasks master }
+    {
+        self.tasks.parent(master)
+    }
+
+    /// The families of entries that a task declares (9.5).
+    pub fn families(&self, task: TaskNo) -> &Families
+        requires { task.0 < length self.now.tasks }
+        ensures { result.now ≡ (task_at self.now.tasks task.0).families }
+    {
+        self.tasks.families(task.0)
+    }
+
+    /// What a task is in, outermost first.
+    pub fn nest(&self, task: TaskNo) -> &Layers
+        requires { task.0 < length self.now.tasks }
+        ensures { members result.now ≡ (task_at self.now.tasks task.0).nest }
+    {
+        self.tasks.nest(task.0)
+    }
+
+    /// What has become of a task.
+    pub fn phase(&self, task: TaskNo) -> Phase
+        requires { task.0 < length self.now.tasks }
+        ensures { result ≡ (task_at self.now.tasks task.0).phase }
+    {
+        self.tasks.phase(task.0)
+    }
+
+    /// Puts a task into a block or a rendezvous, the innermost member of its nest from then on. A nest has at
+    /// most 32 members, and a block stands in no other.
+    pub fn push_nest(&mut self, task: TaskNo, member: Member)
+        requires known { task.0 < length self.old.tasks }
+        requires depth { length (task_at self.old.tasks task.0).nest < 32 }
+        requires fresh { IsFresh member self.old.tasks }
+        ensures { self.new ≡ record self.old {
+          tasks = with_nest task.0 ((task_at self.old.tasks task.0).nest ++ member ∷ []) self.old.tasks;
+        } }
+    {
+        self.tasks.push_nest(task.0, member);
+    }
+
+    /// Takes a task out of the innermost member of its nest, which is no block with live dependents.
+    pub fn pop_nest(&mut self, task: TaskNo)
+        requires known { task.0 < length self.old.tasks }
+        requires inside { 0 < length (task_at self.old.tasks task.0).nest }
+        requires idle { ForSome (innermost (task_at self.old.tasks task.0).nest) (IsIdle self.old.tasks) }
+        ensures { let nest = (task_at self.old.tasks task.0).nest in
+            self.new ≡ record self.old { tasks = with_nest task.0 (take (length nest - 1) nest) self.old.tasks } }
+    {
+        self.tasks.pop_nest(task.0);
+    }
+
+    /// Takes a task out of the rendezvous with a call, wherever it stands in its nest.
+    pub fn cut_nest(&mut self, task: TaskNo, call: u32)
+        requires { task.0 < length self.old.tasks }
+        ensures { self.new ≡ record self.old {
+          tasks = with_nest task.0 (cut call (task_at self.old.tasks task.0).nest) self.old.tasks;
+        } }
+    {
+        self.tasks.cut_nest(task.0, call);
+    }
+
+    /// Sets the phase of a task that isn't terminated.
+    pub fn set_phase(&mut self, task: TaskNo, phase: Phase)
+        requires known { task.0 < length self.old.tasks }
+        requires live { is_terminated (task_at self.old.tasks task.0).phase ≡ false }
+        ensures { self.new ≡ record self.old { tasks = with_phase task.0 phase self.old.tasks } }
+    {
+        self.tasks.set_phase(task.0, phase);
+    }
+
+    /// How many dependents of a master (9.4) aren't terminated, at most 255. The master is the body of a task, or
+    /// a block that stands in a nest.
+    pub fn live_dependents(&self, master: Master) -> u16
+        requires { Stands self.now.tasks master }
+        ensures { result ≡ live_dependents self.now.tasks master }
+    {
+        self.tasks.live_dependents(master)
+    }
+
+    // Whether no call waits at any entry of a task.
+    fn has_no_calls(&self, task: u16) -> bool
+        requires { task < length self.now.tasks }
+        ensures { result ≡ has_no_calls self.now.tasks self.now.queues task }
+    {
+        let first = self.firsts[task as usize];
+        let many = slots::entries_in(self.tasks.families(task).as_slice()) as u16;
+        self.queues.are_empty(first, many)
+    }
+
+    // Whether a task is neither terminated nor ready to quit.
+    fn is_unready(&self, task: u16) -> bool
+        requires { task < length self.now.tasks }
+        ensures { result ≡ is_unready self.now.tasks self.now.queues task }
+    {
+        match self.tasks.phase(task) {
+            Phase::Terminated => false,
+            Phase::Quittable => !self.has_no_calls(task),
+            _ => true,
+        }
+    }
+
+    // Whether a task depends on a master, and is neither terminated nor ready to quit.
+    fn is_unready_dependent(&self, task: u16, master: Master) -> bool
+        requires { task < length self.now.tasks }
+        ensures { result ≡ (is_unready self.now.tasks self.now.queues task && depends_on self.now.tasks task master) }
+    {
+        self.is_unready(task) && self.tasks.depends_on(task, master)
+    }
+
+    /// How many dependents of a master (9.4) are neither terminated nor ready to quit: suspended at a wait whose
+    /// terminate alternative is open, while no call waits at any of their entries.
+    #[tactic(auto, using(crate::proofs::Ways::counted_more, crate::proofs::Ways::count_nothing))]
+    pub fn unready_dependents(&self, master: Master) -> u16
+        ensures { result ≡ unready_dependents self.now.tasks self.now.queues master }
+    {
+        let mut count = 0;
+        for task in 0..self.tasks() {
+            count += one_if(self.is_unready_dependent(task, master));
+        }
+        count
+    }
+}

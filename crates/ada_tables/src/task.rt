@@ -1,0 +1,103 @@
+//! The record of one task.
+ghost use Rattle.std.specs.Prelude.{◌≡◌, false};
+ghost use Rattle.ada_tables.specs.Changes.{changed};
+ghost use Rattle.ada_tables.specs.Layers.{members, moved_to};
+ghost use Rattle.ada_tables.specs.Dependents.{holds, encloses, passes, beyond, parent_within};
+ghost use Rattle.ada_tables.specs.Counts.{counted, facts_of, made};
+
+use crate::change::Change;
+use crate::{Layers, Phase};
+use ada_events::{Families, Master, TaskNo};
+
+/// What is kept of a task: the master that it was made under, its entries, what it is in, how many live
+/// dependents its body has, and its phase.
+#[derive(Drop)]
+pub(crate) struct Task {
+    pub(crate) master: Option<Master>,
+    pub(crate) families: Families,
+    pub(crate) nest: Layers,
+    pub(crate) live: u16,
+    pub(crate) phase: Phase,
+}
+
+impl Task {
+    // A task that has just been made.
+    pub(crate) fn of(master: Option<Master>, families: Families) -> Task
+        ensures { result ≡ made master families }
+    {
+        Task {
+            master,
+            families,
+            nest: Layers::new(),
+            live: 0,
+            phase: Phase::Unstarted,
+        }
+    }
+}
+
+// Whether the task of that number holds a master: its body, or a block of its nest.
+pub(crate) fn holds(number: u16, nest: &Layers, master: Master) -> bool
+    ensures { result ≡ holds number (members nest.now) master }
+{
+    match master {
+        Master::Body(TaskNo(task)) => task == number,
+        Master::Block(block) => nest.has_block(block),
+    }
+}
+
+// Of two masters that the task of that number holds, whether the second is the first or stands outside it.
+pub(crate) fn encloses(number: u16, nest: &Layers, from: Master, to: Master) -> bool
+    ensures { result ≡ encloses number (members nest.now) from to }
+{
+    match (from, to) {
+        (_, Master::Body(TaskNo(task))) => task == number,
+        (Master::Body(_), Master::Block(_)) => false,
+        (Master::Block(inner), Master::Block(block)) => nest.encloses(inner, block),
+    }
+}
+
+// Changes the counts of the masters that the task holds, from one of them outwards.
+pub(crate) fn count(task: &mut Task, from: Master, change: Change)
+    ensures { task.new ≡ counted change from task.old }
+{
+    task.live = change.of(task.live);
+    if let Master::Block(block) = from {
+        task.nest.count_to(block, change);
+    }
+}
+
+// Whether a master is passed on the way from another out of the task of that number.
+pub(crate) fn passes(number: u16, task: &Task, from: Option<Master>, to: Master) -> bool
+    ensures { result ≡ passes number (facts_of task.now) from to }
+{
+    match from {
+        Some(from) => holds(number, &task.nest, from) && encloses(number, &task.nest, from, to),
+        None => false,
+    }
+}
+
+// Where the way from a master goes on outside the task of that number.
+pub(crate) fn beyond(number: u16, task: &Task, from: Option<Master>) -> Option<Master>
+    ensures { result ≡ beyond number (facts_of task.now) from }
+{
+    match from {
+        Some(master) => {
+            if holds(number, &task.nest, master) {
+                task.master
+            } else {
+                from
+            }
+        }
+        None => None,
+    }
+}
+
+// The parent of a block that stands in the nest of the task of that number.
+pub(crate) fn parent_within(number: u16, nest: &Layers, block: u32) -> Master
+    ensures { result ≡ parent_within number (members nest.now) block }
+{
+    match nest.outside(block) {
+        Some(outer) => Master::Block(outer),
+        None => Master::Body(TaskNo(number)),
+    }
+}

@@ -1,0 +1,307 @@
+//! The records of all tasks, and the counts of their masters.
+ghost use Rattle.std.specs.Prelude.{◌≡◌, ℕ, ◌+◌, ◌-◌, ◌<◌, ◌≤◌, Some, None, true, false, [], ◌∷◌, ◌++◌, OnOk, length, take};
+ghost use Rattle.std.specs.Option.{ForSome};
+ghost use Rattle.ada_events.specs.Nests.{innermost};
+ghost use Rattle.ada_tables.specs.Layers.{members};
+ghost use Rattle.ada_tables.specs.Dependents.{reaches, depends_on, parent_of, parent_from, task_at, made_facts, with_nest, with_phase, cut, is_terminated, live_dependents, IsOpen, IsFresh, IsIdle, Stands};
+ghost use Rattle.ada_tables.specs.Counts.{facts, ChangesAlong, StandAlone, AreCounted, live_of_block};
+
+use crate::change::Change;
+use crate::task::{self, Task};
+use crate::{Layers, Phase};
+use ada_events::{Families, Master, Member};
+use std::alloc::{AllocError, Global};
+use std::marker::Model;
+
+// Changes the counts of all masters from one outwards that the first so many tasks hold.
+fn count(tasks: &mut [Task], made: usize, master: Master, change: Change)
+    requires few { length tasks.old ≤ 256 }
+    requires made { made ≤ length tasks.old }
+    requires alone { StandAlone (facts tasks.old) }
+    ensures { ChangesAlong change tasks.old tasks.new (reaches (facts tasks.old) made (Some master)) (λ _. false) }
+{
+    let mut from = Some(master);
+    let mut left = made;
+    while left > 0 {
+        left -= 1;
+        if let Some(master) = from {
+            if task::holds(left as u16, &tasks[left].nest, master) {
+                task::count(&mut tasks[left], master, change);
+                from = tasks[left].master;
+            }
+        }
+    }
+}
+
+// The master that a task was made under.
+fn master_of(tasks: &[Task], task: u16) -> Option<Master>
+    requires { task < length tasks.now }
+    ensures { result ≡ (task_at (facts tasks.now) task).master }
+{
+    tasks[task as usize].master
+}
+
+// Lowers the counts of the masters that a task depends on.
+fn lower(tasks: &mut [Task], task: u16)
+    requires known { task < length tasks.old }
+    requires few { length tasks.old ≤ 256 }
+    requires alone { StandAlone (facts tasks.old) }
+    ensures { ChangesAlong Change.Ended tasks.old tasks.new (depends_on (facts tasks.old) task) (λ _. false) }
+{
+    match master_of(tasks, task) {
+        Some(master) => count(tasks, task as usize, master, Change::Ended),
+        None => {}
+    }
+}
+
+// Ends a task.
+fn end(tasks: &mut [Task], task: u16)
+    requires known { task < length tasks.old }
+    requires live { is_terminated (task_at (facts tasks.old) task).phase ≡ false }
+    requires counted { AreCounted tasks.old }
+    ensures counted { AreCounted tasks.new }
+    ensures facts { facts tasks.new ≡ with_phase task Phase.Terminated (facts tasks.old) }
+{
+    lower(tasks, task);
+    let record = &mut tasks[task as usize];
+    record.phase = Phase::Terminated;
+}
+
+// Whether a master is another, or reached from it by parents, within the first so many tasks.
+fn reaches(tasks: &[Task], made: u16, from: Option<Master>, to: Master) -> bool
+    requires { made ≤ length tasks.now }
+    ensures { result ≡ reaches (facts tasks.now) made from to }
+{
+    let mut from = from;
+    let mut left = made;
+    while left > 0 {
+        left -= 1;
+        let task = &tasks[left as usize];
+        if task::passes(left, task, from, to) {
+            return true;
+        }
+        from = task::beyond(left, task, from);
+    }
+    false
+}
+
+// The parent of a block.
+fn parent_in(tasks: &[Task], block: u32) -> Option<Master>
+    requires { length tasks.now ≤ 256 }
+    ensures { result ≡ parent_from 0 (facts tasks.now) block }
+{
+    for (number, task) in tasks.iter().enumerate() {
+        if task.nest.has_block(block) {
+            return Some(task::parent_within(number as u16, &task.nest, block));
+        }
+    }
+    None
+}
+
+// How many live dependents a block has.
+fn live_in(tasks: &[Task], block: u32) -> u16
+    ensures { result ≡ live_of_block block tasks.now }
+{
+    for task in tasks {
+        if task.nest.has_block(block) {
+            return task.nest.live_at(block);
+        }
+    }
+    0
+}
+
+/// All tasks: what each was made under, what it is in and what has become of it, and how many live
+/// dependents each master has. Contracts see what is known of each task, and for how many more there is
+/// room.
+#[derive(Drop)]
+pub struct Tasks {
+    tasks: Vec<Task>,
+}
+
+impl Model for Tasks {
+    ghost use Rattle.std.specs.Prelude.{◌-◌, vec_len, vec_capacity};
+    ghost use Rattle.ada_tables.specs.Dependents.{Known};
+
+    ghost Value = { Known };
+
+    ghost use Rattle.ada_tables.specs.Counts.{facts, AreCounted};
+
+    ghost view = { λ t. record {
+      tasks = facts t.tasks.items;
+      room = vec_capacity t.tasks - vec_len t.tasks;
+    } };
+
+    ghost invariant = { λ t. AreCounted t.tasks.items };
+}
+
+impl Tasks {
+    /// No tasks. They will lie in memory of `alloc`.
+    pub fn new(alloc: Global) -> Self
+        ensures { result.tasks ≡ [] }
+    {
+        Tasks {
+            tasks: Vec::new(alloc),
+        }
+    }
+
+    /// Makes room for one more task.
+    pub fn reserve(&mut self) -> Result<(), AllocError>
+        ensures ok { OnOk result (0 < self.new.room) }
+        ensures kept { self.new ≡ record self.old { room = self.new.room } }
+    {
+        self.tasks.reserve(1)
+    }
+
+    /// Adds the main program, the outermost master, which was made under none.
+    pub fn add_main_reserved(&mut self)
+        requires first { self.old.tasks ≡ [] }
+        requires room { 0 < self.old.room }
+        ensures { self.new ≡ record self.old {
+          tasks = made_facts None [] ∷ [];
+          room = self.old.room - 1;
+        } }
+    {
+        self.tasks.push_reserved(Task::of(None, Families::new()));
+    }
+
+    /// Adds a task that was made under a master (9.4), the body or an open block of a task that isn't
+    /// terminated. There are at most 256 tasks.
+    pub fn add_reserved(&mut self, master: Master, families: &Families)
+        requires few { length self.old.tasks < 256 }
+        requires master { IsOpen self.old.tasks master }
+        requires room { 0 < self.old.room }
+        ensures { self.new ≡ record self.old {
+          tasks = self.old.tasks ++ made_facts (Some master) families.now ∷ [];
+          room = self.old.room - 1;
+        } }
+    {
+        let families = Families::from_slice(families.as_slice());
+        let made = self.tasks.len();
+        count(self.tasks.as_mut_slice(), made, master, Change::Added);
+        self.tasks.push_reserved(Task::of(Some(master), families));
+    }
+
+    /// How many tasks there are, at most 256.
+    pub fn len(&self) -> usize
+        ensures value { result ≡ length self.now.tasks }
+        ensures fits { result ≤ 256 }
+    {
+        self.tasks.len()
+    }
+
+    /// The master that a task was made under (9.4); none for the main program.
+    pub fn master(&self, task: u16) -> Option<Master>
+        requires { task < length self.now.tasks }
+        ensures { result ≡ (task_at self.now.tasks task).master }
+    {
+        self.tasks[task as usize].master
+    }
+
+    /// The families of entries that a task declares (9.5).
+    pub fn families(&self, task: u16) -> &Families
+        requires { task < length self.now.tasks }
+        ensures { result.now ≡ (task_at self.now.tasks task).families }
+    {
+        &self.tasks[task as usize].families
+    }
+
+    /// What a task is in.
+    pub fn nest(&self, task: u16) -> &Layers
+        requires { task < length self.now.tasks }
+        ensures { members result.now ≡ (task_at self.now.tasks task).nest }
+    {
+        &self.tasks[task as usize].nest
+    }
+
+    /// What has become of a task.
+    pub fn phase(&self, task: u16) -> Phase
+        requires { task < length self.now.tasks }
+        ensures { result ≡ (task_at self.now.tasks task).phase }
+    {
+        self.tasks[task as usize].phase
+    }
+
+    /// Puts a task into a block or a rendezvous.
+    pub fn push_nest(&mut self, task: u16, member: Member)
+        requires known { task < length self.old.tasks }
+        requires depth { length (task_at self.old.tasks task).nest < 32 }
+        requires fresh { IsFresh member self.old.tasks }
+        ensures { self.new ≡ record self.old {
+          tasks = with_nest task ((task_at self.old.tasks task).nest ++ member ∷ []) self.old.tasks;
+        } }
+    {
+        let record = &mut self.tasks[task as usize];
+        record.nest.push(member);
+    }
+
+    /// Takes a task out of the innermost member of its nest, which is no block with live dependents.
+    pub fn pop_nest(&mut self, task: u16)
+        requires known { task < length self.old.tasks }
+        requires inside { 0 < length (task_at self.old.tasks task).nest }
+        requires idle { ForSome (innermost (task_at self.old.tasks task).nest) (IsIdle self.old.tasks) }
+        ensures { let nest = (task_at self.old.tasks task).nest in
+            self.new ≡ record self.old { tasks = with_nest task (take (length nest - 1) nest) self.old.tasks } }
+    {
+        let record = &mut self.tasks[task as usize];
+        record.nest.pop();
+    }
+
+    /// Takes a task out of the rendezvous with a call, wherever it stands in its nest.
+    pub fn cut_nest(&mut self, task: u16, call: u32)
+        requires { task < length self.old.tasks }
+        ensures { self.new ≡ record self.old {
+          tasks = with_nest task (cut call (task_at self.old.tasks task).nest) self.old.tasks;
+        } }
+    {
+        let record = &mut self.tasks[task as usize];
+        record.nest.cut(call);
+    }
+
+    /// Sets the phase of a task that isn't terminated.
+    pub fn set_phase(&mut self, task: u16, phase: Phase)
+        requires known { task < length self.old.tasks }
+        requires live { is_terminated (task_at self.old.tasks task).phase ≡ false }
+        ensures { self.new ≡ record self.old { tasks = with_phase task phase self.old.tasks } }
+    {
+        match phase {
+            Phase::Terminated => end(self.tasks.as_mut_slice(), task),
+            _ => {
+                let record = &mut self.tasks[task as usize];
+                record.phase = phase;
+            }
+        }
+    }
+
+    /// How many dependents of a master (9.4) aren't terminated, at most 256.
+    pub fn live_dependents(&self, master: Master) -> u16
+        requires { Stands self.now.tasks master }
+        ensures { result ≡ live_dependents self.now.tasks master }
+    {
+        match master {
+            Master::Body(task) => self.tasks[task.0 as usize].live,
+            Master::Block(block) => live_in(self.tasks.as_slice(), block),
+        }
+    }
+
+    /// Whether a task depends on a master (9.4): it was made under it, or under one from which it is reached by
+    /// parents.
+    pub fn depends_on(&self, task: u16, master: Master) -> bool
+        requires { task < length self.now.tasks }
+        ensures { result ≡ depends_on self.now.tasks task master }
+    {
+        let made_under = self.tasks[task as usize].master;
+        reaches(self.tasks.as_slice(), task, made_under, master)
+    }
+
+    /// The parent of a master (9.4): of a task's body the master that the task was made under, of a block the
+    /// next block outside it in its task's nest, else that task's body. The body of the main program has none.
+    pub fn parent(&self, master: Master) -> Option<Master>
+        requires { Stands self.now.tasks master }
+        ensures { result ≡ parent_of self.now.tasks master }
+    {
+        match master {
+            Master::Body(task) => self.tasks[task.0 as usize].master,
+            Master::Block(block) => parent_in(self.tasks.as_slice(), block),
+        }
+    }
+}
