@@ -1,5 +1,5 @@
 -- What ties the parts of the tables to one another.
-use Rattle.std.proofs.Common.{◌≡◌, ℕ, zero, suc, ◌+◌, ◌<◌, ◌≤◌, List, [], ◌∷◌, ◌++◌, length, get_or, set, replicate, None, refl, ap, sym, ◌∙◌, arith, inl, inr, length-append}
+use Rattle.std.proofs.Common.{◌≡◌, ℕ, zero, suc, ◌+◌, ◌<◌, ◌≤◌, List, [], ◌∷◌, ◌++◌, length, get_or, set, replicate, refl, ap, sym, ◌∙◌, arith, inl, inr, length-append}
 use Rattle.std.specs.List.{sum_by}
 use Rattle.std.specs.Prelude.{slice_index}
 use Rattle.std.proofs.lemmas.Bool.{cases_eq}
@@ -9,7 +9,7 @@ use Rattle.ada_events.specs.declared.names.Family.{Family}
 use Rattle.ada_events.specs.declared.names.Member.{Member}
 use Rattle.ada_events.specs.Entries.{entries_in}
 use Rattle.ada_tables.specs.declared.phase.Phase.{Phase}
-use Rattle.ada_tables.specs.Dependents.{Facts, Known, task_at, with_nest, with_phase, made_facts}
+use Rattle.ada_tables.specs.Dependents.{Facts, Known, task_at, with_nest, with_phase, main_facts}
 use Rattle.ada_tables.specs.Queues.{QueuedCall}
 use Rattle.ada_tables.specs.Tables.{declared, slots_before, AreTied}
 
@@ -79,8 +79,8 @@ tied_more tasks queues callers firsts new many tied many_is room =
               get_or_append_left firsts (length queues ∷ []) 0 task (omega (arith, tied.firsts_known)) ∙ tied.first task old ∙ sym (before task (omega arith))
         ]
 
--- the main program alone
-pub tied_main : (tasks : List Facts) (queues : List (List QueuedCall)) (callers : ℕ) (firsts : List ℕ) → tasks ≡ made_facts None [] ∷ [] → queues ≡ [] → callers ≡ 1 → firsts ≡ 0 ∷ [] → AreTied tasks queues callers firsts
+-- the main program alone, which runs
+pub tied_main : (tasks : List Facts) (queues : List (List QueuedCall)) (callers : ℕ) (firsts : List ℕ) → tasks ≡ main_facts ∷ [] → queues ≡ [] → callers ≡ 1 → firsts ≡ 0 ∷ [] → AreTied tasks queues callers firsts
 unfolding entries_in
 tied_main tasks queues callers firsts tasks_are queues_are callers_are firsts_are =
     rw (tasks_are, queues_are, callers_are, firsts_are) (record {

@@ -11,7 +11,7 @@ use Rattle.ada_events.specs.declared.names.Master.TheVariants.{Body, Block}
 use Rattle.ada_events.specs.declared.names.Member.{Member}
 use Rattle.ada_events.specs.declared.names.Member.TheVariants.{Block as BlockMember, Rendezvous}
 use Rattle.ada_tables.specs.declared.phase.Phase.{Phase}
-use Rattle.ada_tables.specs.declared.phase.Phase.TheVariants.{Unstarted, Terminated}
+use Rattle.ada_tables.specs.declared.phase.Phase.TheVariants.{Unstarted, Active, Terminated}
 
 -- what is known of a task: what it was made under, its entries, what it is in, outermost first, and its phase
 pub record Facts : Type 0 where
@@ -110,6 +110,10 @@ pub record Known : Type 0 where
 -- what is known of a task that has just been made
 abbrev pub made_facts : Option Master → List Family → Facts
 made_facts master families = record { master = master; families = families; nest = []; phase = Unstarted }
+
+-- what is known of the main program at first: it runs, and was made under no master
+abbrev pub main_facts : Facts
+main_facts = record (made_facts None []) { phase = Active }
 
 -- the tasks, one of them in another nest
 abbrev pub with_nest : ℕ → List Member → List Facts → List Facts

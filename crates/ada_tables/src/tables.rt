@@ -4,7 +4,7 @@ ghost use Rattle.std.specs.Option.{ForSome};
 ghost use Rattle.ada_events.specs.Entries.{entries_in};
 ghost use Rattle.ada_events.specs.Nests.{innermost};
 ghost use Rattle.ada_tables.specs.Layers.{members};
-ghost use Rattle.ada_tables.specs.Dependents.{task_at, depends_on, parent_of, made_facts, with_nest, with_phase, cut, is_terminated, live_dependents, IsOpen, IsFresh, IsIdle, Stands};
+ghost use Rattle.ada_tables.specs.Dependents.{task_at, depends_on, parent_of, made_facts, main_facts, with_nest, with_phase, cut, is_terminated, live_dependents, IsOpen, IsFresh, IsIdle, Stands};
 ghost use Rattle.ada_tables.specs.Queues.{queue_at, waits, with_last, without, front_call};
 ghost use Rattle.ada_tables.specs.Tables.{slot_at, slots_before, declared, has_no_calls, is_unready, unready_dependents, HasEntry};
 
@@ -57,11 +57,11 @@ fn one_if(test: bool) -> u16
 }
 
 impl Tables {
-    /// Tables with the main program alone. What they keep will lie in memory of `alloc`. Fails with
+    /// Tables with the main program alone, which runs. What they keep will lie in memory of `alloc`. Fails with
     /// `OutOfMemory` alone.
     #[tactic(auto, using(crate::proofs::Ties::tied_main))]
     pub fn new(alloc: Global) -> Result<Self, Refusal>
-        ensures ok { IfOk result (λ tables. tables.tasks ≡ made_facts None [] ∷ []) }
+        ensures ok { IfOk result (λ tables. tables.tasks ≡ main_facts ∷ []) }
         ensures queues { IfOk result (λ tables. tables.queues ≡ []) }
         ensures err { IfErr result (λ cause. cause ≡ Refusal.OutOfMemory) }
     {
@@ -73,6 +73,7 @@ impl Tables {
         granted(queues.add_caller(0))?;
         firsts.push_reserved(0);
         tasks.add_main_reserved();
+        tasks.set_phase(0, Phase::Active);
         Ok(Tables {
             tasks,
             queues,
