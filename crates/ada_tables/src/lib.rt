@@ -4,19 +4,16 @@
 #![tactic(auto)]
 
 mod change;
-pub mod layers;
-pub mod nodes;
-pub mod phase;
-pub mod queues;
+mod layers;
+mod nodes;
+mod phase;
+mod queues;
 mod slots;
-pub mod tables;
+mod tables;
 mod task;
-pub mod tasks;
+mod tasks;
 
 pub use ada_events::Member;
 pub use layers::{Layer, Layers};
-pub use nodes::{Node, Nodes};
 pub use phase::Phase;
-pub use queues::Queues;
 pub use tables::Tables;
-pub use tasks::Tasks;

@@ -11,18 +11,18 @@ use std::marker::Model;
 /// A queued call (9.5), linked to the calls before and after it in its entry's queue. A task waits in one
 /// queue at most, so a link is the number of the linked call's caller.
 #[derive(Clone, Copy)]
-pub struct Node {
-    pub call: u32,
-    pub caller: u16,
-    pub slot: u16,
-    pub before: Option<u16>,
-    pub after: Option<u16>,
+pub(crate) struct Node {
+    pub(crate) call: u32,
+    pub(crate) caller: u16,
+    pub(crate) slot: u16,
+    pub(crate) before: Option<u16>,
+    pub(crate) after: Option<u16>,
 }
 
 /// The nodes of all queued calls. Contracts see the node of each caller, and for how many more there is
 /// room.
 #[derive(Drop)]
-pub struct Nodes {
+pub(crate) struct Nodes {
     slab: Slab<Node>,
     // The key of each caller's node, by the caller's number.
     keys: Vec<Option<usize>>,
@@ -45,7 +45,7 @@ impl Model for Nodes {
 
 impl Nodes {
     /// No nodes, of no callers. They will lie in memory of `alloc`.
-    pub fn new(alloc: Global) -> Self
+    pub(crate) fn new(alloc: Global) -> Self
         ensures { result.nodes ≡ [] }
     {
         Nodes {
@@ -55,7 +55,7 @@ impl Nodes {
     }
 
     /// Adds a caller without a node. A failure changes nothing.
-    pub fn add_caller(&mut self) -> Result<(), AllocError>
+    pub(crate) fn add_caller(&mut self) -> Result<(), AllocError>
         ensures ok { OnOk result (self.new ≡ record self.old { nodes = self.old.nodes ++ None ∷ [] }) }
         ensures err { OnErr result (self.new ≡ self.old) }
     {
@@ -64,21 +64,21 @@ impl Nodes {
     }
 
     /// How many callers there are.
-    pub fn len(&self) -> usize
+    pub(crate) fn len(&self) -> usize
         ensures { result ≡ length self.now.nodes }
     {
         self.keys.len()
     }
 
     /// Whether there are no callers.
-    pub fn is_empty(&self) -> bool
+    pub(crate) fn is_empty(&self) -> bool
         ensures { result ≡ (length self.now.nodes == 0) }
     {
         self.keys.is_empty()
     }
 
     /// Makes room for one more node.
-    pub fn reserve(&mut self) -> Result<(), AllocError>
+    pub(crate) fn reserve(&mut self) -> Result<(), AllocError>
         ensures ok { OnOk result (0 < self.new.spare) }
         ensures kept { self.new ≡ record self.old { spare = self.new.spare } }
         ensures spare { self.old.spare ≤ self.new.spare }
@@ -87,7 +87,7 @@ impl Nodes {
     }
 
     /// The node of a caller, if it has one.
-    pub fn get(&self, caller: u16) -> Option<Node>
+    pub(crate) fn get(&self, caller: u16) -> Option<Node>
         requires { caller < length self.now.nodes }
         ensures { result ≡ node_of self.now.nodes caller }
     {
@@ -95,7 +95,7 @@ impl Nodes {
     }
 
     /// Keeps the node of a caller that has none. There must be room.
-    pub fn insert_reserved(&mut self, node: Node)
+    pub(crate) fn insert_reserved(&mut self, node: Node)
         requires known { node.caller < length self.old.nodes }
         requires without { node_of self.old.nodes node.caller ≡ None }
         requires room { 0 < self.old.spare }
@@ -110,7 +110,7 @@ impl Nodes {
     }
 
     /// Takes out a caller's node.
-    pub fn remove(&mut self, caller: u16) -> Node
+    pub(crate) fn remove(&mut self, caller: u16) -> Node
         requires { IsSome (node_of self.old.nodes caller) }
         ensures node { node_of self.old.nodes caller ≡ Some result }
         ensures rest { self.new ≡ record self.old {
@@ -126,7 +126,7 @@ impl Nodes {
     }
 
     /// Links a caller's node to another one after it.
-    pub fn set_after(&mut self, caller: u16, after: Option<u16>)
+    pub(crate) fn set_after(&mut self, caller: u16, after: Option<u16>)
         requires { IsSome (node_of self.old.nodes caller) }
         ensures { self.new ≡ record self.old {
           nodes = slice_set self.old.nodes caller (option_map (with_after after) (node_of self.old.nodes caller));
@@ -140,7 +140,7 @@ impl Nodes {
     }
 
     /// Links a caller's node to another one before it.
-    pub fn set_before(&mut self, caller: u16, before: Option<u16>)
+    pub(crate) fn set_before(&mut self, caller: u16, before: Option<u16>)
         requires { IsSome (node_of self.old.nodes caller) }
         ensures { self.new ≡ record self.old {
           nodes = slice_set self.old.nodes caller (option_map (with_before before) (node_of self.old.nodes caller));
@@ -155,7 +155,7 @@ impl Nodes {
 
     /// Links two nodes to one another, the first before the second. Where there is only one, nothing stands
     /// on its other side.
-    pub fn join(&mut self, before: Option<u16>, after: Option<u16>)
+    pub(crate) fn join(&mut self, before: Option<u16>, after: Option<u16>)
         requires before { ForSome before (λ caller. IsSome (node_of self.old.nodes caller)) }
         requires after { ForSome after (λ caller. IsSome (node_of self.old.nodes caller)) }
         ensures { self.new ≡ record self.old { nodes = joined before after self.old.nodes } }

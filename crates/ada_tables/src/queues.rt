@@ -4,7 +4,7 @@ ghost use Rattle.std.specs.Option.{option_or};
 ghost use Rattle.ada_events.specs.Search.{all_below};
 ghost use Rattle.ada_tables.specs.Queues.{queue_at, waits, with_last, without, front_call};
 
-use crate::{Node, Nodes};
+use crate::nodes::{Node, Nodes};
 use std::alloc::{AllocError, Global};
 use std::marker::Model;
 
@@ -63,7 +63,7 @@ impl Queue {
 /// The queues of all entries, by slot. Contracts see the list of queued calls at each slot, how many tasks
 /// may call, and for how many more calls there is room. No queue is ever walked.
 #[derive(Drop)]
-pub struct Queues {
+pub(crate) struct Queues {
     nodes: Nodes,
     queues: Vec<Queue>,
 }
@@ -87,7 +87,7 @@ impl Model for Queues {
 
 impl Queues {
     /// No queues and no callers. What they keep will lie in memory of `alloc`.
-    pub fn new(alloc: Global) -> Self
+    pub(crate) fn new(alloc: Global) -> Self
         ensures queues { result.queues ≡ [] }
         ensures callers { result.callers ≡ 0 }
     {
@@ -99,7 +99,7 @@ impl Queues {
 
     /// Adds a task that may call, with so many slots, whose queues are empty. There are at most 256 tasks and
     /// 1,024 slots. A failure changes nothing.
-    pub fn add_caller(&mut self, slots: u16) -> Result<(), AllocError>
+    pub(crate) fn add_caller(&mut self, slots: u16) -> Result<(), AllocError>
         requires callers { self.old.callers < 256 }
         requires slots { length self.old.queues + slots ≤ 1024 }
         ensures ok { OnOk result (self.new ≡ record self.old {
@@ -118,21 +118,21 @@ impl Queues {
     }
 
     /// How many slots there are.
-    pub fn slots(&self) -> usize
+    pub(crate) fn slots(&self) -> usize
         ensures { result ≡ length self.now.queues }
     {
         self.queues.len()
     }
 
     /// How many tasks may call.
-    pub fn callers(&self) -> usize
+    pub(crate) fn callers(&self) -> usize
         ensures { result ≡ self.now.callers }
     {
         self.nodes.len()
     }
 
     /// Whether a call of a task is queued.
-    pub fn waits(&self, task: u16) -> bool
+    pub(crate) fn waits(&self, task: u16) -> bool
         requires { task < self.now.callers }
         ensures { result ≡ waits task self.now.queues }
     {
@@ -140,7 +140,7 @@ impl Queues {
     }
 
     /// Makes room for one more call.
-    pub fn reserve_call(&mut self) -> Result<(), AllocError>
+    pub(crate) fn reserve_call(&mut self) -> Result<(), AllocError>
         ensures ok { OnOk result (0 < self.new.spare) }
         ensures kept { self.new ≡ record self.old { spare = self.new.spare } }
         ensures spare { self.old.spare ≤ self.new.spare }
@@ -150,7 +150,7 @@ impl Queues {
 
     /// Puts a call of a task last in the queue at a slot (9.5). There must be room, and no call of the task may
     /// be queued.
-    pub fn enqueue_reserved(&mut self, by: u16, slot: u16, call: u32)
+    pub(crate) fn enqueue_reserved(&mut self, by: u16, slot: u16, call: u32)
         requires known { by < self.old.callers }
         requires slot { slot < length self.old.queues }
         requires idle { waits by self.old.queues ≡ false }
@@ -173,7 +173,7 @@ impl Queues {
     }
 
     /// Takes a task's call out of the queue in which it waits.
-    pub fn unlink(&mut self, by: u16)
+    pub(crate) fn unlink(&mut self, by: u16)
         requires { waits by self.old.queues ≡ true }
         ensures { self.new ≡ record self.old {
           queues = without by self.old.queues;
@@ -187,7 +187,7 @@ impl Queues {
     }
 
     /// The call that has waited longest at a slot; none where its queue is empty.
-    pub fn front(&self, slot: u16) -> Option<u32>
+    pub(crate) fn front(&self, slot: u16) -> Option<u32>
         requires { slot < length self.now.queues }
         ensures { result ≡ front_call (queue_at self.now.queues slot) }
     {
@@ -197,7 +197,7 @@ impl Queues {
     }
 
     /// How many calls wait at a slot, at most 256: the attribute COUNT (9.9).
-    pub fn queue_len(&self, slot: u16) -> u16
+    pub(crate) fn queue_len(&self, slot: u16) -> u16
         requires { slot < length self.now.queues }
         ensures { result ≡ length (queue_at self.now.queues slot) }
     {
@@ -205,7 +205,7 @@ impl Queues {
     }
 
     /// Whether no call waits at any of so many slots, from one on.
-    pub fn are_empty(&self, first: u16, many: u16) -> bool
+    pub(crate) fn are_empty(&self, first: u16, many: u16) -> bool
         requires slots { first + many ≤ length self.now.queues }
         requires few { length self.now.queues < 65536 }
         ensures { result ≡ all_below (λ slot. length (queue_at self.now.queues (first + slot)) == 0) many }

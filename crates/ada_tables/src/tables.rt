@@ -8,7 +8,9 @@ ghost use Rattle.ada_tables.specs.Dependents.{task_at, depends_on, parent_of, ma
 ghost use Rattle.ada_tables.specs.Queues.{queue_at, waits, with_last, without, front_call};
 ghost use Rattle.ada_tables.specs.Tables.{slot_at, slots_before, declared, has_no_calls, is_unready, unready_dependents, HasEntry};
 
-use crate::{Layers, Phase, Queues, Tasks, slots};
+use crate::queues::Queues;
+use crate::tasks::Tasks;
+use crate::{Layers, Phase, slots};
 use ada_events::{Entry, Families, Master, Member, Refusal, TaskNo};
 use std::alloc::{AllocError, Global};
 use std::marker::Model;

@@ -114,7 +114,7 @@ fn live_in(tasks: &[Task], block: u32) -> u16
 /// dependents each master has. Contracts see what is known of each task, and for how many more there is
 /// room.
 #[derive(Drop)]
-pub struct Tasks {
+pub(crate) struct Tasks {
     tasks: Vec<Task>,
 }
 
@@ -136,7 +136,7 @@ impl Model for Tasks {
 
 impl Tasks {
     /// No tasks. They will lie in memory of `alloc`.
-    pub fn new(alloc: Global) -> Self
+    pub(crate) fn new(alloc: Global) -> Self
         ensures { result.tasks ≡ [] }
     {
         Tasks {
@@ -145,7 +145,7 @@ impl Tasks {
     }
 
     /// Makes room for one more task.
-    pub fn reserve(&mut self) -> Result<(), AllocError>
+    pub(crate) fn reserve(&mut self) -> Result<(), AllocError>
         ensures ok { OnOk result (0 < self.new.room) }
         ensures kept { self.new ≡ record self.old { room = self.new.room } }
     {
@@ -153,7 +153,7 @@ impl Tasks {
     }
 
     /// Adds the main program, the outermost master, which was made under none.
-    pub fn add_main_reserved(&mut self)
+    pub(crate) fn add_main_reserved(&mut self)
         requires first { self.old.tasks ≡ [] }
         requires room { 0 < self.old.room }
         ensures { self.new ≡ record self.old {
@@ -166,7 +166,7 @@ impl Tasks {
 
     /// Adds a task that was made under a master (9.4), the body or an open block of a task that isn't
     /// terminated. There are at most 256 tasks.
-    pub fn add_reserved(&mut self, master: Master, families: &Families)
+    pub(crate) fn add_reserved(&mut self, master: Master, families: &Families)
         requires few { length self.old.tasks < 256 }
         requires master { IsOpen self.old.tasks master }
         requires room { 0 < self.old.room }
@@ -182,7 +182,7 @@ impl Tasks {
     }
 
     /// How many tasks there are, at most 256.
-    pub fn len(&self) -> usize
+    pub(crate) fn len(&self) -> usize
         ensures value { result ≡ length self.now.tasks }
         ensures fits { result ≤ 256 }
     {
@@ -190,7 +190,7 @@ impl Tasks {
     }
 
     /// The master that a task was made under (9.4); none for the main program.
-    pub fn master(&self, task: u16) -> Option<Master>
+    pub(crate) fn master(&self, task: u16) -> Option<Master>
         requires { task < length self.now.tasks }
         ensures { result ≡ (task_at self.now.tasks task).master }
     {
@@ -198,7 +198,7 @@ impl Tasks {
     }
 
     /// The families of entries that a task declares (9.5).
-    pub fn families(&self, task: u16) -> &Families
+    pub(crate) fn families(&self, task: u16) -> &Families
         requires { task < length self.now.tasks }
         ensures { result.now ≡ (task_at self.now.tasks task).families }
     {
@@ -206,7 +206,7 @@ impl Tasks {
     }
 
     /// What a task is in.
-    pub fn nest(&self, task: u16) -> &Layers
+    pub(crate) fn nest(&self, task: u16) -> &Layers
         requires { task < length self.now.tasks }
         ensures { members result.now ≡ (task_at self.now.tasks task).nest }
     {
@@ -214,7 +214,7 @@ impl Tasks {
     }
 
     /// What has become of a task.
-    pub fn phase(&self, task: u16) -> Phase
+    pub(crate) fn phase(&self, task: u16) -> Phase
         requires { task < length self.now.tasks }
         ensures { result ≡ (task_at self.now.tasks task).phase }
     {
@@ -222,7 +222,7 @@ impl Tasks {
     }
 
     /// Puts a task into a block or a rendezvous.
-    pub fn push_nest(&mut self, task: u16, member: Member)
+    pub(crate) fn push_nest(&mut self, task: u16, member: Member)
         requires known { task < length self.old.tasks }
         requires depth { length (task_at self.old.tasks task).nest < 32 }
         requires fresh { IsFresh member self.old.tasks }
@@ -235,7 +235,7 @@ impl Tasks {
     }
 
     /// Takes a task out of the innermost member of its nest, which is no block with live dependents.
-    pub fn pop_nest(&mut self, task: u16)
+    pub(crate) fn pop_nest(&mut self, task: u16)
         requires known { task < length self.old.tasks }
         requires inside { 0 < length (task_at self.old.tasks task).nest }
         requires idle { ForSome (innermost (task_at self.old.tasks task).nest) (IsIdle self.old.tasks) }
@@ -247,7 +247,7 @@ impl Tasks {
     }
 
     /// Takes a task out of the rendezvous with a call, wherever it stands in its nest.
-    pub fn cut_nest(&mut self, task: u16, call: u32)
+    pub(crate) fn cut_nest(&mut self, task: u16, call: u32)
         requires { task < length self.old.tasks }
         ensures { self.new ≡ record self.old {
           tasks = with_nest task (cut call (task_at self.old.tasks task).nest) self.old.tasks;
@@ -258,7 +258,7 @@ impl Tasks {
     }
 
     /// Sets the phase of a task that isn't terminated.
-    pub fn set_phase(&mut self, task: u16, phase: Phase)
+    pub(crate) fn set_phase(&mut self, task: u16, phase: Phase)
         requires known { task < length self.old.tasks }
         requires live { is_terminated (task_at self.old.tasks task).phase ≡ false }
         ensures { self.new ≡ record self.old { tasks = with_phase task phase self.old.tasks } }
@@ -273,7 +273,7 @@ impl Tasks {
     }
 
     /// How many dependents of a master (9.4) aren't terminated, at most 256.
-    pub fn live_dependents(&self, master: Master) -> u16
+    pub(crate) fn live_dependents(&self, master: Master) -> u16
         requires { Stands self.now.tasks master }
         ensures { result ≡ live_dependents self.now.tasks master }
     {
@@ -285,7 +285,7 @@ impl Tasks {
 
     /// Whether a task depends on a master (9.4): it was made under it, or under one from which it is reached by
     /// parents.
-    pub fn depends_on(&self, task: u16, master: Master) -> bool
+    pub(crate) fn depends_on(&self, task: u16, master: Master) -> bool
         requires { task < length self.now.tasks }
         ensures { result ≡ depends_on self.now.tasks task master }
     {
@@ -295,7 +295,7 @@ impl Tasks {
 
     /// The parent of a master (9.4): of a task's body the master that the task was made under, of a block the
     /// next block outside it in its task's nest, else that task's body. The body of the main program has none.
-    pub fn parent(&self, master: Master) -> Option<Master>
+    pub(crate) fn parent(&self, master: Master) -> Option<Master>
         requires { Stands self.now.tasks master }
         ensures { result ≡ parent_of self.now.tasks master }
     {
