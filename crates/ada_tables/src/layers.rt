@@ -238,7 +238,7 @@ impl Layers {
     }
 
     /// Whether a block stands in the nest.
-    pub(crate) fn has_block(&self, block: u32) -> bool
+    pub fn has_block(&self, block: u32) -> bool
         ensures { result ≡ has_block block (nests.members self.now) }
     {
         has_block(self.layers.as_slice(), block)

@@ -144,6 +144,14 @@ impl Tables {
         self.queues.enqueue_reserved(by.0, slot, call);
     }
 
+    /// Whether a call of a task is queued at an entry.
+    pub fn waits(&self, by: TaskNo) -> bool
+        requires { by.0 < length self.now.tasks }
+        ensures { result ≡ waits by.0 self.now.queues }
+    {
+        self.queues.waits(by.0)
+    }
+
     /// Takes a task's call out of the queue in which it waits.
     pub fn unlink(&mut self, by: TaskNo)
         requires { waits by.0 self.old.queues ≡ true }
