@@ -62,12 +62,16 @@ unfoldable pub has_empty_queues : List Event → ℕ → Bool
 has_empty_queues journal task =
     not (any_event (λ p e. is_number task (option_map (λ (c : Call). c.callee) (call_in e)) && is_queued_at journal p e) journal)
 
+-- the task has a wait with an open terminate alternative that isn't released (9.7.1)
+abbrev pub is_at_open_terminate : List Event → ℕ → Bool
+is_at_open_terminate journal task =
+    any_event (λ p e. option_map_or (λ (w : Wait). w.by == task && is_open_terminate w.tail) (wait_in e) false && not (is_released journal p)) journal
+
 -- the task is suspended at an open terminate alternative, with no call queued at an entry of its own
 -- (9.4, 9.7.1)
 unfoldable pub is_ready_to_quit : List Event → ℕ → Bool
 is_ready_to_quit journal task =
-    any_event (λ p e. option_map_or (λ (w : Wait). w.by == task && is_open_terminate w.tail) (wait_in e) false && not (is_released journal p)) journal
-    && not (has_ended journal task) && has_empty_queues journal task
+    is_at_open_terminate journal task && not (has_ended journal task) && has_empty_queues journal task
 
 -- what is at a position is neither released, nor has its task ended
 unfoldable pub is_pending : List Event → ℕ → ℕ → Bool

@@ -16,7 +16,9 @@ pub mod Nests
 pub mod Numbers
 pub mod Parents
 pub mod Reaching
+pub mod Standing
 pub mod Steps
 pub mod Ties
 pub mod Turns
 pub mod Ways
+mod worked

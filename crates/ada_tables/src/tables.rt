@@ -6,6 +6,7 @@ ghost use Rattle.ada_events.specs.Nests.{innermost};
 ghost use Rattle.ada_tables.specs.Layers.{members};
 ghost use Rattle.ada_tables.specs.Dependents.{task_at, depends_on, parent_of, made_facts, main_facts, with_nest, with_phase, cut, is_terminated, live_dependents, IsOpen, IsFresh, IsIdle, Stands};
 ghost use Rattle.ada_tables.specs.Queues.{queue_at, waits, with_last, without, front_call};
+ghost use Rattle.ada_tables.specs.Standing.{StandFor};
 ghost use Rattle.ada_tables.specs.Tables.{slot_at, slots_before, declared, has_no_calls, is_unready, unready_dependents, HasEntry};
 
 use crate::queues::Queues;
@@ -65,6 +66,7 @@ impl Tables {
     pub fn new(alloc: Global) -> Result<Self, Refusal>
         ensures ok { IfOk result (λ tables. tables.tasks ≡ main_facts ∷ []) }
         ensures queues { IfOk result (λ tables. tables.queues ≡ []) }
+        ensures stands { IfOk result (λ tables. StandFor tables []) }
         ensures err { IfErr result (λ cause. cause ≡ Refusal.OutOfMemory) }
     {
         let mut tasks = Tasks::new(alloc);
