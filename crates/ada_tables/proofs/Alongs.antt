@@ -1,7 +1,7 @@
 -- Changing the counts along a way outwards, a task at a time.
-use Rattle.std.proofs.Common.{subst, ◌-◌, ◌≡◌, ◌≢◌, ℕ, zero, suc, ◌<◌, ◌≤◌, Bool, true, false, not, ◌||◌, ◌&&◌, List, [], ◌∷◌, length, get_or, set, Option, Some, None, refl, ap, sym, ◌∙◌, arith, inl, inr}
+use Rattle.std.proofs.Common.{◌≡◌, ◌≢◌, ℕ, zero, suc, ◌<◌, Bool, true, false, not, ◌||◌, ◌&&◌, List, [], ◌∷◌, length, get_or, set, Some, None, refl, ap, sym, ◌∙◌, arith, inl, inr}
 use Rattle.std.specs.Prelude.{◌==◌, if◌then◌else◌}
-use Rattle.std.proofs.lemmas.Bool.{cases_Bool, cases_eq, eq-eqb, ne_eqb, or_left, or_right, and_from, and_right, false_from_ne_true}
+use Rattle.std.proofs.lemmas.Bool.{cases_Bool, cases_eq, eq-eqb, ne_eqb, or_left, or_right, and_from, false_from_ne_true}
 use Rattle.std.proofs.lemmas.List.{map-set, length-map, get_or-set_same, get_or-set_other, set-get_or, get_or_default}
 use Rattle.ada_events.specs.declared.names.TaskNo.{TaskNo}
 use Rattle.ada_events.specs.declared.names.Master.{Master}
@@ -11,10 +11,10 @@ use Rattle.ada_tables.specs.declared.task.Task.{Task}
 use Rattle.ada_tables.specs.declared.change.Change.{Change}
 use Rattle.ada_tables.specs.Changes.{changed}
 use Rattle.ada_tables.specs.Layers.{members, live_at}
-use Rattle.ada_tables.specs.Dependents.{Facts, nobody, task_at, has_block, holds, encloses, passes, reaches}
-use Rattle.ada_tables.specs.Counts.{facts_of, facts, no_task, record_at, counted, ChangesAlong, StandAlone}
+use Rattle.ada_tables.specs.Dependents.{Facts, nobody, task_at, has_block, holds, encloses, reaches, depends_on}
+use Rattle.ada_tables.specs.Counts.{facts_of, facts, no_task, record_at, counted, ChangesAlong, StandAlone, IsLed}
 use Rattle.ada_tables.proofs.Nests.{members-moved_to, live_at-moved_to}
-use Rattle.ada_tables.proofs.Reaching.{passes_holds, reached_held, body_below}
+use Rattle.ada_tables.proofs.Reaching.{reaches_none, passes_holds, reached_held, body_below, Leads, leads}
 
 -- what is known of a task is read of its record
 pub facts_at : (tasks : List Task) (task : ℕ) → task_at (facts tasks) task ≡ facts_of (record_at tasks task)
@@ -38,6 +38,7 @@ pub along_begins : (change : Change) (tasks : List Task) (passed : Master → Bo
 along_begins change tasks passed =
     record {
       same = refl;
+      holders = λ task. refl;
       bodies = λ task low. rw (never (passed (Body (record { 0 = task })))) refl;
       blocks = λ task block low has. rw (never (passed (Block block))) refl;
       within = λ master is. is;
@@ -52,6 +53,7 @@ pub along_same : (change : Change) (old new : List Task) (passed left other : Ma
 along_same change old new passed left other same along =
     record {
       same = along.same;
+      holders = along.holders;
       bodies = λ task low. rw (same (Body (record { 0 = task }))) (along.bodies task low);
       blocks = λ task block low has. rw (same (Block block)) (along.blocks task block low has);
       within = λ master is. along.within master (rw same at is);
@@ -65,6 +67,10 @@ encloses_body task nest (Block block) t = refl
 live_counted : (change : Change) (from : Master) (task : Task) → (counted change from task).live ≡ changed change task.live
 live_counted change (Body t) task = refl
 live_counted change (Block block) task = refl
+
+holder_counted : (change : Change) (from : Master) (task : Task) → (counted change from task).holder ≡ task.holder
+holder_counted change (Body t) task = refl
+holder_counted change (Block block) task = refl
 
 live_at-counted : (change : Change) (from : Master) (number block : ℕ) (task : Task) → has_block block (members task.nest) ≡ true → live_at block (counted change from task).nest ≡ (if encloses number (members task.nest) from (Block block) then changed change (live_at block task.nest) else live_at block task.nest)
 live_at-counted change (Body t) number block task has = refl
@@ -80,16 +86,9 @@ counted_here count passed left later new now old is none within was changes =
 counted_elsewhere : (count : ℕ → ℕ) (passed left later : Bool) (new now old : ℕ) → left ≡ later → now ≡ (if passed && not left then count old else old) → new ≡ now → new ≡ (if passed && not later then count old else old)
 counted_elsewhere count passed left later new now old same was stays = stays ∙ was ∙ ap (λ b. if passed && not b then count old else old) same
 
-module _ (change : Change) (old now : List Task) (passed : Master → Bool) (at : ℕ) (from : Master) (single : StandAlone (facts old)) (within : at < length old) (long : length now ≡ length old) (held : holds at (task_at (facts old) at).nest from ≡ true) (along : ChangesAlong change old now passed (reaches (facts old) (suc at) (Some from))) where
+module _ (change : Change) (old now : List Task) (passed : Master → Bool) (at : ℕ) (from : Master) (single : StandAlone (facts old)) (within : at < length old) (long : length now ≡ length old) (held : holds at (task_at (facts old) at).nest from ≡ true) (left : Master → Bool) (left_is : (to : Master) → left to ≡ (encloses at (task_at (facts old) at).nest from to || depends_on (facts old) at to)) (along : ChangesAlong change old now passed left) where
   abbrev here : Facts
   here = task_at (facts old) at
-
-  later : Master → Bool
-  later to = reaches (facts old) at here.master to
-
-  left_is : (to : Master) → reaches (facts old) (suc at) (Some from) to ≡ (passes at here (Some from) to || reaches (facts old) at here.master to)
-  unfolding reaches
-  left_is to = ap (λ b. passes at here (Some from) to || reaches (facts old) at (if b then here.master else Some from) to) held
 
   read_is : facts_of (record_at now at) ≡ here
   read_is = sym (facts_at now at) ∙ ap (λ fs. task_at fs at) along.same
@@ -98,7 +97,7 @@ module _ (change : Change) (old now : List Task) (passed : Master → Bool) (at 
   many = length-map old facts_of
 
   -- no block of this nest is passed later
-  block_later : (block : ℕ) → has_block block here.nest ≡ true → reaches (facts old) at here.master (Block block) ≡ false
+  block_later : (block : ℕ) → has_block block here.nest ≡ true → depends_on (facts old) at (Block block) ≡ false
   block_later block has =
       false_from_ne_true _ (λ reached.
       let found = reached_held (facts old) at here.master (Block block) reached in
@@ -106,42 +105,42 @@ module _ (change : Change) (old now : List Task) (passed : Master → Bool) (at 
       absurd (omega (arith, found.1)))
 
   -- no block of another nest is passed here
-  block_here : (task block : ℕ) → task < length old → task ≢ at → has_block block (task_at (facts old) task).nest ≡ true → passes at here (Some from) (Block block) ≡ false
+  block_here : (task block : ℕ) → task < length old → task ≢ at → has_block block (task_at (facts old) task).nest ≡ true → encloses at here.nest from (Block block) ≡ false
   block_here task block low differs has =
-      false_from_ne_true _ (λ passing. differs (single.alone task at block (omega (arith, many)) (omega (arith, many)) has (passes_holds at here (Some from) (Block block) passing)))
+      false_from_ne_true _ (λ passing. differs (single.alone task at block (omega (arith, many)) (omega (arith, many)) has (passes_holds at here (Some from) (Block block) (and_from _ _ held passing))))
 
   new : List Task
   new = set now at (counted change from (record_at now at))
 
-  bodies_now : (task : ℕ) → task < length old → (record_at (set now at (counted change from (record_at now at))) task).live ≡ (if passed (Body (record { 0 = task })) && not (reaches (facts old) at here.master (Body (record { 0 = task }))) then changed change (record_at old task).live else (record_at old task).live)
+  bodies_now : (task : ℕ) → task < length old → (record_at (set now at (counted change from (record_at now at))) task).live ≡ (if passed (Body (record { 0 = task })) && not (depends_on (facts old) at (Body (record { 0 = task }))) then changed change (record_at old task).live else (record_at old task).live)
   bodies_now task low =
       elim (cases_eq task at) [
         | inl same ↦
             let body : Master = Body (record { 0 = task }) in
-            let none : reaches (facts old) at here.master (Body (record { 0 = task })) ≡ false = body_below (facts old) at here.master (record { 0 = task }) (omega arith) in
-            counted_here (changed change) (passed (Body (record { 0 = task }))) (reaches (facts old) (suc at) (Some from) (Body (record { 0 = task }))) _ _ (record_at now task).live _
-            (left_is (Body (record { 0 = task })) ∙ or_left _ _ (and_from _ _ held (encloses_body at here.nest from (record { 0 = task }) ∙ eq-eqb task at same)))
+            let none : depends_on (facts old) at (Body (record { 0 = task })) ≡ false = body_below (facts old) at here.master (record { 0 = task }) (omega arith) in
+            counted_here (changed change) (passed (Body (record { 0 = task }))) (left (Body (record { 0 = task }))) _ _ (record_at now task).live _
+            (left_is (Body (record { 0 = task })) ∙ or_left _ _ (encloses_body at here.nest from (record { 0 = task }) ∙ eq-eqb task at same))
             none (along.within (Body (record { 0 = task }))) (along.bodies task low)
             (rw same (ap (λ (t : Task). t.live) (get_or-set_same now at (counted change from (record_at now at)) no_task (omega arith)) ∙ live_counted change from (record_at now at)))
         | inr differs ↦
-            counted_elsewhere (changed change) (passed (Body (record { 0 = task }))) (reaches (facts old) (suc at) (Some from) (Body (record { 0 = task }))) _ _ (record_at now task).live _
-            (left_is (Body (record { 0 = task })) ∙ ap (λ b. b || reaches (facts old) at here.master (Body (record { 0 = task }))) (and_right _ _ (encloses_body at here.nest from (record { 0 = task }) ∙ ne_eqb task at differs)))
+            counted_elsewhere (changed change) (passed (Body (record { 0 = task }))) (left (Body (record { 0 = task }))) _ _ (record_at now task).live _
+            (left_is (Body (record { 0 = task })) ∙ ap (λ b. b || depends_on (facts old) at (Body (record { 0 = task }))) (encloses_body at here.nest from (record { 0 = task }) ∙ ne_eqb task at differs))
             (along.bodies task low)
             (ap (λ (t : Task). t.live) (get_or-set_other now at task (counted change from (record_at now at)) no_task differs))
       ]
 
-  blocks_now : (task block : ℕ) → task < length old → has_block block (task_at (facts old) task).nest ≡ true → live_at block (record_at (set now at (counted change from (record_at now at))) task).nest ≡ (if passed (Block block) && not (reaches (facts old) at here.master (Block block)) then changed change (live_at block (record_at old task).nest) else live_at block (record_at old task).nest)
+  blocks_now : (task block : ℕ) → task < length old → has_block block (task_at (facts old) task).nest ≡ true → live_at block (record_at (set now at (counted change from (record_at now at))) task).nest ≡ (if passed (Block block) && not (depends_on (facts old) at (Block block)) then changed change (live_at block (record_at old task).nest) else live_at block (record_at old task).nest)
   blocks_now task block low has =
       elim (cases_eq task at) [
         | inl same ↦ here_now same
         | inr differs ↦
-            counted_elsewhere (changed change) (passed (Block block)) (reaches (facts old) (suc at) (Some from) (Block block)) _ _ (live_at block (record_at now task).nest) _
-            (left_is (Block block) ∙ ap (λ b. b || reaches (facts old) at here.master (Block block)) (block_here task block low differs has))
+            counted_elsewhere (changed change) (passed (Block block)) (left (Block block)) _ _ (live_at block (record_at now task).nest) _
+            (left_is (Block block) ∙ ap (λ b. b || depends_on (facts old) at (Block block)) (block_here task block low differs has))
             (along.blocks task block low has)
             (ap (λ (t : Task). live_at block t.nest) (get_or-set_other now at task (counted change from (record_at now at)) no_task differs))
       ]
     where
-      here_now : task ≡ at → live_at block (record_at (set now at (counted change from (record_at now at))) task).nest ≡ (if passed (Block block) && not (reaches (facts old) at here.master (Block block)) then changed change (live_at block (record_at old task).nest) else live_at block (record_at old task).nest)
+      here_now : task ≡ at → live_at block (record_at (set now at (counted change from (record_at now at))) task).nest ≡ (if passed (Block block) && not (depends_on (facts old) at (Block block)) then changed change (live_at block (record_at old task).nest) else live_at block (record_at old task).nest)
       here_now same =
           let stands : has_block block here.nest ≡ true = rw same at has in
           let read : has_block block (members (record_at now at).nest) ≡ true = ap (λ (f : Facts). has_block block f.nest) read_is ∙ stands in
@@ -151,82 +150,74 @@ module _ (change : Change) (old now : List Task) (passed : Master → Bool) (at 
           let was = rw same at (along.blocks task block low has) in
           rw same (elim (cases_Bool (encloses at here.nest from (Block block))) [
             | inl inside ↦
-                counted_here (changed change) (passed (Block block)) (reaches (facts old) (suc at) (Some from) (Block block)) _ _ (live_at block (record_at now at).nest) _
-                (left_is (Block block) ∙ or_left _ _ (and_from _ _ held inside))
+                counted_here (changed change) (passed (Block block)) (left (Block block)) _ _ (live_at block (record_at now at).nest) _
+                (left_is (Block block) ∙ or_left _ _ inside)
                 none (along.within (Block block)) was
                 (written ∙ rw (within_nest, inside) refl)
             | inr outside ↦
-                counted_elsewhere (changed change) (passed (Block block)) (reaches (facts old) (suc at) (Some from) (Block block)) _ _ (live_at block (record_at now at).nest) _
-                (left_is (Block block) ∙ ap (λ b. b || reaches (facts old) at here.master (Block block)) (and_right _ _ outside))
+                counted_elsewhere (changed change) (passed (Block block)) (left (Block block)) _ _ (live_at block (record_at now at).nest) _
+                (left_is (Block block) ∙ ap (λ b. b || depends_on (facts old) at (Block block)) outside)
                 was
                 (written ∙ rw (within_nest, outside) refl)
           ])
 
-  pub along_held : ChangesAlong change old (set now at (counted change from (record_at now at))) passed (reaches (facts old) at here.master)
+  holders_now : (task : ℕ) → (record_at (set now at (counted change from (record_at now at))) task).holder ≡ (record_at old task).holder
+  holders_now task =
+      elim (cases_eq task at) [
+        | inl same ↦ rw same (ap (λ (t : Task). t.holder) (get_or-set_same now at (counted change from (record_at now at)) no_task (omega arith)) ∙ holder_counted change from (record_at now at))
+        | inr differs ↦ ap (λ (t : Task). t.holder) (get_or-set_other now at task (counted change from (record_at now at)) no_task differs)
+      ] ∙ along.holders task
+
+  pub along_held : ChangesAlong change old (set now at (counted change from (record_at now at))) passed (depends_on (facts old) at)
   along_held =
       record {
         same = facts-set now at (counted change from (record_at now at)) (facts_counted change from (record_at now at)) ∙ along.same;
+        holders = holders_now;
         bodies = bodies_now;
         blocks = blocks_now;
         within = λ master is. along.within master (left_is master ∙ or_right _ _ is);
       }
 
--- nothing is passed where the task holds nothing on the way
-pub along_free : (change : Change) (old now : List Task) (passed : Master → Bool) (at : ℕ) (from : Master) → holds at (task_at (facts old) at).nest from ≡ false → ChangesAlong change old now passed (reaches (facts old) (suc at) (Some from)) → ChangesAlong change old now passed (reaches (facts old) at (Some from))
-unfolding reaches
-along_free change old now passed at from free along =
-    along_same change old now passed (reaches (facts old) (suc at) (Some from)) (reaches (facts old) at (Some from))
-    (λ to. rw free refl) along
+-- the counts of the masters that one task depends on are changed, but for those that a task on the way does
+pub record IsUnderWay (change : Change) (old now : List Task) (passed : Master → Bool) (number : ℕ) : Type 0 where
+  pub within : number < length old
+  pub along : ChangesAlong change old now passed (depends_on (facts old) number)
+  pub led : IsLed old number
 
-pub along_none : (change : Change) (old now : List Task) (passed : Master → Bool) (at : ℕ) → ChangesAlong change old now passed (reaches (facts old) (suc at) None) → ChangesAlong change old now passed (reaches (facts old) at None)
-unfolding reaches
-along_none change old now passed at along = along_same change old now passed (reaches (facts old) (suc at) None) (reaches (facts old) at None) (λ to. refl) along
-
-pub along_ends : (change : Change) (old now : List Task) (passed : Master → Bool) (from : Option Master) → ChangesAlong change old now passed (reaches (facts old) 0 from) → ChangesAlong change old now passed (λ _. false)
-unfolding reaches
-along_ends change old now passed from along = along_same change old now passed (reaches (facts old) 0 from) (λ _. false) (λ to. refl) along
-
--- the same, as the loop over the tasks has it
-module _ (change : Change) (old now : List Task) (passed : Master → Bool) (left : ℕ) (from : Option Master) (some_left : 0 < left) (low : left ≤ length old) (along : ChangesAlong change old now passed (reaches (facts old) left from)) where
+module _ (change : Change) (old now : List Task) (passed : Master → Bool) (number : ℕ) (so_far : IsUnderWay change old now passed number) where
   long_now : length now ≡ length old
-  long_now = sym (length-map now facts_of) ∙ ap (λ fs. length fs) along.same ∙ length-map old facts_of
+  long_now = sym (length-map now facts_of) ∙ ap (λ fs. length fs) so_far.along.same ∙ length-map old facts_of
 
-  at_one_less : ChangesAlong change old now passed (reaches (facts old) (suc (left - 1)) from)
-  at_one_less =
-      let e : left ≡ suc (left - 1) = omega arith in
-      subst (λ n. ChangesAlong change old now passed (reaches (facts old) n from)) e along
+  master_is : (d : Task) → (task_at (facts old) number).master ≡ (get_or now number d).master
+  master_is d =
+      ap (λ fs. (task_at fs number).master) (sym so_far.along.same) ∙ ap (λ (f : Facts). f.master) (facts_at now number)
+      ∙ ap (λ (t : Task). t.master) (get_or_default now number no_task d (omega (arith, so_far.within, long_now)))
 
-  read_here : (d : Task) → get_or now (left - 1) d ≡ record_at now (left - 1)
-  read_here d = get_or_default now (left - 1) d no_task (omega (arith, long_now))
+  holder_is : (d : Task) → (record_at old number).holder ≡ (get_or now number d).holder
+  holder_is d = sym (so_far.along.holders number) ∙ ap (λ (t : Task). t.holder) (get_or_default now number no_task d (omega (arith, so_far.within, long_now)))
 
-  facts_here : facts_of (record_at now (left - 1)) ≡ task_at (facts old) (left - 1)
-  facts_here = sym (facts_at now (left - 1)) ∙ ap (λ fs. task_at fs (left - 1)) along.same
+  -- the way goes by the next holder
+  pub next_leads : (master : Master) (d e : Task) → (get_or now number d).master ≡ Some master → Leads old number master (get_or now number e).holder
+  next_leads master d e is = leads old number master (get_or now number e).holder (rw (master_is d ∙ is, holder_is e) at so_far.led)
 
-  holding_here : (from : Master) (d : Task) → holds (left - 1) (members (get_or now (left - 1) d).nest) from ≡ holds (left - 1) (task_at (facts old) (left - 1)).nest from
-  holding_here from d = ap (λ (t : Task). holds (left - 1) (members t.nest) from) (read_here d) ∙ ap (λ (f : Facts). holds (left - 1) f.nest from) facts_here
+  pub next_within : (master : Master) (d e : Task) → (get_or now number d).master ≡ Some master → (get_or now number e).holder < length now
+  next_within master d e is = let way = next_leads master d e is in omega (arith, way.low, so_far.within, long_now)
 
-  pub along_goes_on : (master : Master) (written first second third : Task) → StandAlone (facts old) → from ≡ Some master → holds (left - 1) (members (get_or now (left - 1) first).nest) master ≡ true → written ≡ counted change master (get_or now (left - 1) second) → ChangesAlong change old (set now (left - 1) written) passed (reaches (facts old) (left - 1) (get_or (set now (left - 1) written) (left - 1) third).master)
-  along_goes_on master written first second third single from_is held written_is =
-      let write : written ≡ counted change master (record_at now (left - 1)) = written_is ∙ ap (counted change master) (read_here second) in
-      let next : (get_or (set now (left - 1) written) (left - 1) third).master ≡ (task_at (facts old) (left - 1)).master = ap (λ (t : Task). t.master) (get_or-set_same now (left - 1) written third (omega (arith, long_now)) ∙ write) ∙ master_counted (record_at now (left - 1)) ∙ ap (λ (f : Facts). f.master) facts_here in
-      let goes = along_held change old now passed (left - 1) master single (omega arith) long_now (sym (holding_here master first) ∙ held) (subst (λ f. ChangesAlong change old now passed (reaches (facts old) (suc (left - 1)) f)) from_is at_one_less) in
-      subst (λ m. ChangesAlong change old (set now (left - 1) written) passed (reaches (facts old) (left - 1) m)) (sym next)
-      (subst (λ t. ChangesAlong change old (set now (left - 1) t) passed (reaches (facts old) (left - 1) (task_at (facts old) (left - 1)).master)) (sym write) goes)
-    where
-      master_counted : (task : Task) → (counted change master task).master ≡ task.master
-      master_counted task = ap (λ (f : Facts). f.master) (facts_counted change master task)
+  -- the counts of the next holder are changed
+  pub goes_outwards : (master : Master) (d e f written : Task) → StandAlone (facts old) → (get_or now number d).master ≡ Some master → written ≡ counted change master (get_or now (get_or now number e).holder f) → IsUnderWay change old (set now (get_or now number e).holder written) passed (get_or now number e).holder
+  goes_outwards master d e f written single is written_is =
+      let way = next_leads master d e is in
+      let low : (get_or now number e).holder < length old = omega (arith, way.low, so_far.within) in
+      let written_there : written ≡ counted change master (record_at now (get_or now number e).holder) = written_is ∙ ap (counted change master) (get_or_default now (get_or now number e).holder f no_task (omega (arith, long_now, low))) in
+      record {
+        within = low;
+        along = rw written_there (along_held change old now passed (get_or now number e).holder master single low long_now way.held (depends_on (facts old) number)
+            (λ to. ap (λ m. reaches (facts old) number m to) (master_is d ∙ is) ∙ way.way to) so_far.along);
+        led = way.on;
+      }
 
-  pub along_goes_by : (master : Master) (first : Task) → from ≡ Some master → holds (left - 1) (members (get_or now (left - 1) first).nest) master ≡ false → ChangesAlong change old now passed (reaches (facts old) (left - 1) (Some master))
-  along_goes_by master first from_is free =
-      along_free change old now passed (left - 1) master (sym (holding_here master first) ∙ free)
-      (subst (λ f. ChangesAlong change old now passed (reaches (facts old) (suc (left - 1)) f)) from_is at_one_less)
-
-  pub along_goes_out : from ≡ None → ChangesAlong change old now passed (reaches (facts old) (left - 1) from)
-  along_goes_out from_is =
-      subst (λ f. ChangesAlong change old now passed (reaches (facts old) (left - 1) f)) (sym from_is)
-      (along_none change old now passed (left - 1) (subst (λ f. ChangesAlong change old now passed (reaches (facts old) (suc (left - 1)) f)) from_is at_one_less))
-
-pub along_ended : (change : Change) (old now : List Task) (passed : Master → Bool) (left : ℕ) (from : Option Master) → left ≤ 0 → ChangesAlong change old now passed (reaches (facts old) left from) → ChangesAlong change old now passed (λ _. false)
-along_ended change old now passed left from none along =
-    let e : left ≡ 0 = omega arith in
-    along_ends change old now passed from (subst (λ n. ChangesAlong change old now passed (reaches (facts old) n from)) e along)
+  -- the main program was made under none, and depends on none
+  pub goes_no_further : (d : Task) → (get_or now number d).master ≡ None → ChangesAlong change old now passed (λ _. false)
+  goes_no_further d none =
+      along_same change old now passed (depends_on (facts old) number) (λ _. false)
+      (λ to. sym (ap (λ m. reaches (facts old) number m to) (master_is d ∙ none) ∙ reaches_none (facts old) number to)) so_far.along

@@ -8,9 +8,9 @@ use Rattle.ada_events.specs.declared.names.Master.TheVariants.{Body, Block}
 use Rattle.ada_tables.specs.declared.task.Task.{Task}
 use Rattle.ada_tables.specs.declared.phase.Phase.{Phase}
 use Rattle.ada_tables.specs.Layers.{live_at}
-use Rattle.ada_tables.specs.Dependents.{Facts, task_at, has_block, holds, encloses, reaches, depends_on, is_terminated, is_live_dependent, live_dependents, is_grounded}
+use Rattle.ada_tables.specs.Dependents.{Facts, task_at, has_block, holds, encloses, reaches, depends_on, is_terminated, is_live_dependent, live_dependents}
 use Rattle.ada_tables.specs.Counts.{facts_of, facts, no_task, record_at, ChangesAlong, AreCounted}
-use Rattle.ada_tables.proofs.Reaching.{Alike, reaches_alike, grounded_alike}
+use Rattle.ada_tables.proofs.Reaching.{Alike, reaches_alike, led_alike}
 use Rattle.ada_tables.proofs.Alongs.{facts_at}
 use Rattle.ada_tables.specs.declared.phase.Phase.TheVariants.{Terminated}
 use Rattle.ada_tables.specs.declared.change.Change.TheVariants.{Ended}
@@ -37,19 +37,20 @@ phases_depend old new same task master =
 
 -- counts that are right of the new phases are right
 pub rephased : (tasks new : List Task) → AreCounted tasks → SameButPhases (facts tasks) (facts new) → length new ≡ length tasks
+    → ((task : ℕ) → (record_at new task).holder ≡ (record_at tasks task).holder)
     → ((task : ℕ) → task < length tasks → is_terminated (task_at (facts new) task).phase ≡ false → is_terminated (task_at (facts tasks) task).phase ≡ false)
     → ((task : ℕ) → task < length tasks → (record_at new task).live ≡ live_dependents (facts new) (Body (record { 0 = task })))
     → ((task block : ℕ) → task < length tasks → has_block block (task_at (facts tasks) task).nest ≡ true → live_at block (record_at new task).nest ≡ live_dependents (facts new) (Block block))
     → AreCounted new
-rephased tasks new right same long live bodies blocks =
+rephased tasks new right same long holders live bodies blocks =
     record {
       bodies = λ task low. bodies task (rw long at low);
       blocks = λ task block low has. blocks task block (rw long at low) (rw (same.nest task) at has);
       alone = λ task other block low there first second. right.alone task other block (rw long at low) (rw long at there) (rw (same.nest task) at first) (rw (same.nest other) at second);
-      grounded = λ task low lives.
-          ap (is_grounded (facts new) task) (same.master task)
-          ∙ grounded_alike (facts tasks) (facts new) task (task_at (facts tasks) task).master (λ other below. phases_alike (facts tasks) (facts new) same other)
-          ∙ right.grounded task (rw long at low) (live task (rw long at low) lives);
+      led = λ task low lives.
+          rw (same.master task, holders task)
+          (led_alike tasks new task (task_at (facts tasks) task).master (record_at tasks task).holder (λ other below. phases_alike (facts tasks) (facts new) same other) (λ other below. holders other)
+          ∙ right.led task (rw long at low) (live task (rw long at low) lives));
       few = rw long right.few;
     }
 
@@ -90,6 +91,13 @@ module _ (tasks : List Task) (task : ℕ) (phase : Phase) (within : task < lengt
         | inr differs ↦ ap (λ (t : Task). t.live) (get_or-set_other tasks task other with_phase no_task differs)
       ]
 
+  pub holder_phased : (other : ℕ) → (record_at phased other).holder ≡ (record_at tasks other).holder
+  holder_phased other =
+      elim (cases_eq other task) [
+        | inl same ↦ rw same (ap (λ (t : Task). t.holder) (get_or-set_same tasks task with_phase no_task within))
+        | inr differs ↦ ap (λ (t : Task). t.holder) (get_or-set_other tasks task other with_phase no_task differs)
+      ]
+
   pub nest_phased : (other : ℕ) → (record_at phased other).nest ≡ (record_at tasks other).nest
   nest_phased other =
       elim (cases_eq other task) [
@@ -102,6 +110,7 @@ pub goes_on : (tasks : List Task) (task : ℕ) (phase : Phase) → AreCounted ta
 goes_on tasks task phase right within lives on =
     let same = phased_same tasks task phase within in
     rephased tasks (phased tasks task phase within) right same (length-set tasks task (with_phase tasks task phase within))
+    (holder_phased tasks task phase within)
     (λ other low live. sym (phases other) ∙ live)
     (λ other low. live_phased tasks task phase within other ∙ right.bodies other low ∙ sym (kept same (Body (record { 0 = other }))))
     (λ other block low has. ap (live_at block) (nest_phased tasks task phase within other) ∙ right.blocks other block low has ∙ sym (kept same (Block block)))
@@ -134,6 +143,7 @@ less count live new false is adds = omega arith
 pub ends : (tasks lowered : List Task) (task : ℕ) (passed : Master → Bool) → AreCounted tasks → task < length tasks → is_terminated (task_at (facts tasks) task).phase ≡ false → ChangesAlong Ended tasks lowered passed (λ _. false) → ((master : Master) → passed master ≡ depends_on (facts tasks) task master) → AreCounted (set lowered task (record (record_at lowered task) { phase = Terminated }))
 ends tasks lowered task passed right within lives along all =
     rephased tasks (phased lowered task Terminated low_within) right both (length-set lowered task (with_phase lowered task Terminated low_within) ∙ long)
+    (λ other. holder_phased lowered task Terminated low_within other ∙ along.holders other)
     (λ other low live. others_live other live)
     (λ other low. live_phased lowered task Terminated low_within other
     ∙ less _ (live_dependents (facts tasks) (Body (record { 0 = other }))) _ (depends_on (facts tasks) task (Body (record { 0 = other })))

@@ -8,9 +8,9 @@ use Rattle.ada_events.specs.declared.names.Master.TheVariants.{Body, Block}
 use Rattle.ada_tables.specs.declared.task.Task.{Task}
 use Rattle.ada_tables.specs.declared.layers.Layer.{Layer}
 use Rattle.ada_tables.specs.Layers.{members, live_at}
-use Rattle.ada_tables.specs.Dependents.{Facts, task_at, has_block, holds, encloses, reaches, depends_on, is_terminated, is_live_dependent, live_dependents, count_below, is_grounded}
-use Rattle.ada_tables.specs.Counts.{facts_of, facts, no_task, record_at, AreCounted}
-use Rattle.ada_tables.proofs.Reaching.{reached_held, Alike, AlikeBut, reaches_alike, grounded_alike, reaches_but}
+use Rattle.ada_tables.specs.Dependents.{Facts, task_at, has_block, reaches, depends_on, is_terminated, is_live_dependent, live_dependents, count_below}
+use Rattle.ada_tables.specs.Counts.{facts_of, facts, no_task, record_at, AreCounted, IsLed}
+use Rattle.ada_tables.proofs.Reaching.{reached_held, Alike, AlikeBut, alike_same, reaches_alike, led_alike, led_but}
 use Rattle.ada_tables.proofs.Alongs.{facts_at}
 
 pub count_same : (old new : ℕ → Bool) (many : ℕ) → ((task : ℕ) → task < many → new task ≡ old task) → count_below new many ≡ count_below old many
@@ -105,7 +105,7 @@ module _ (tasks : List Task) (task : ℕ) (layers : List Layer) (right : AreCoun
       ]
 
   pub nest_changed : ((block : ℕ) → has_block block (members layers) ≡ true → ((has_block block (task_at (facts tasks) task).nest ≡ true) × (live_at block layers ≡ live_at block (record_at tasks task).nest)) ⊎ (((other : ℕ) → other < length tasks → has_block block (task_at (facts tasks) other).nest ≡ false) × (live_at block layers ≡ 0)))
-      → ((other : ℕ) → other < length tasks → is_terminated (task_at (facts tasks) other).phase ≡ false → ((master : Master) → depends_on (facts after) other master ≡ depends_on (facts tasks) other master) × (is_grounded (facts after) other (task_at (facts after) other).master ≡ true))
+      → ((other : ℕ) → other < length tasks → is_terminated (task_at (facts tasks) other).phase ≡ false → ((master : Master) → depends_on (facts after) other master ≡ depends_on (facts tasks) other master) × IsLed after other)
       → AreCounted after
   nest_changed each ways =
       record {
@@ -113,7 +113,7 @@ module _ (tasks : List Task) (task : ℕ) (layers : List Layer) (right : AreCoun
             rw (live_same other) (right.bodies other (rw long_after at low) ∙ sym (dependents (Body (record { 0 = other }))));
         blocks = λ other block low has. blocks_at other block (rw long_after at low) has;
         alone = λ one other block low there first second. alone_at one other block (rw long_after at low) (rw long_after at there) first second;
-        grounded = λ other low live. (ways other (rw long_after at low) (sym (ap is_terminated (phase_same other)) ∙ live)).1;
+        led = λ other low live. (ways other (rw long_after at low) (sym (ap is_terminated (phase_same other)) ∙ live)).1;
         few = rw long_after right.few;
       }
     where
@@ -172,13 +172,7 @@ module _ (tasks : List Task) (task : ℕ) (layers : List Layer) (right : AreCoun
 
   -- the masters that tasks were made under stay, and who isn't this task is alike
   alike_others : (other : ℕ) → other ≢ task → Alike other (task_at (facts tasks) other) (task_at (facts after) other)
-  alike_others other differs =
-      let same = fact_other other differs in
-      record {
-        master = ap (λ (f : Facts). f.master) same;
-        holding = λ from. ap (λ (f : Facts). holds other f.nest from) same;
-        enclosing = λ from to held. ap (λ (f : Facts). encloses other f.nest from to) same;
-      }
+  alike_others other differs = alike_same other (task_at (facts tasks) other) (task_at (facts after) other) (fact_other other differs)
 
   master_same : (other : ℕ) → (task_at (facts after) other).master ≡ (task_at (facts tasks) other).master
   master_same other =
@@ -187,12 +181,19 @@ module _ (tasks : List Task) (task : ℕ) (layers : List Layer) (right : AreCoun
         | inr differs ↦ ap (λ (f : Facts). f.master) (fact_other other differs)
       ]
 
+  holder_same : (other : ℕ) → (record_at after other).holder ≡ (record_at tasks other).holder
+  holder_same other =
+      elim (cases_eq other task) [
+        | inl same ↦ rw same (ap (λ (t : Task). t.holder) (get_or-set_same tasks task with_nest no_task within))
+        | inr differs ↦ ap (λ (t : Task). t.holder) (get_or-set_other tasks task other with_nest no_task differs)
+      ]
+
   -- a nest with the same blocks in the same order keeps all ways
-  pub ways_alike : Alike task (task_at (facts tasks) task) (record (task_at (facts tasks) task) { nest = members layers }) → (other : ℕ) → other < length tasks → is_terminated (task_at (facts tasks) other).phase ≡ false → ((master : Master) → depends_on (facts after) other master ≡ depends_on (facts tasks) other master) × (is_grounded (facts after) other (task_at (facts after) other).master ≡ true)
+  pub ways_alike : Alike task (task_at (facts tasks) task) (record (task_at (facts tasks) task) { nest = members layers }) → (other : ℕ) → other < length tasks → is_terminated (task_at (facts tasks) other).phase ≡ false → ((master : Master) → depends_on (facts after) other master ≡ depends_on (facts tasks) other master) × IsLed after other
   ways_alike alike other low live =
       let all : (at : ℕ) → at < other → Alike at (task_at (facts tasks) at) (task_at (facts after) at) = λ at below. alike_at at in (
         λ master. ap (λ m. reaches (facts after) other m master) (master_same other) ∙ reaches_alike (facts tasks) (facts after) other (task_at (facts tasks) other).master master all,
-        ap (is_grounded (facts after) other) (master_same other) ∙ grounded_alike (facts tasks) (facts after) other (task_at (facts tasks) other).master all ∙ right.grounded other low live,
+        rw (master_same other, holder_same other) (led_alike tasks after other (task_at (facts tasks) other).master (record_at tasks other).holder all (λ at below. holder_same at) ∙ right.led other low live),
       )
     where
       alike_at : (at : ℕ) → Alike at (task_at (facts tasks) at) (task_at (facts after) at)
@@ -203,11 +204,11 @@ module _ (tasks : List Task) (task : ℕ) (layers : List Layer) (right : AreCoun
           ]
 
   -- a nest with one block more or less keeps the ways that don't pass it
-  pub ways_but : (block : ℕ) → AlikeBut block task (task_at (facts tasks) task) (record (task_at (facts tasks) task) { nest = members layers }) → ((other : ℕ) → other < length tasks → is_terminated (task_at (facts tasks) other).phase ≡ false → depends_on (facts tasks) other (Block block) ≡ false) → (other : ℕ) → other < length tasks → is_terminated (task_at (facts tasks) other).phase ≡ false → ((master : Master) → depends_on (facts after) other master ≡ depends_on (facts tasks) other master) × (is_grounded (facts after) other (task_at (facts after) other).master ≡ true)
+  pub ways_but : (block : ℕ) → AlikeBut block task (task_at (facts tasks) task) (record (task_at (facts tasks) task) { nest = members layers }) → ((other : ℕ) → other < length tasks → is_terminated (task_at (facts tasks) other).phase ≡ false → depends_on (facts tasks) other (Block block) ≡ false) → (other : ℕ) → other < length tasks → is_terminated (task_at (facts tasks) other).phase ≡ false → ((master : Master) → depends_on (facts after) other master ≡ depends_on (facts tasks) other master) × IsLed after other
   ways_but block alike free other low live =
-      let way = reaches_but block (facts tasks) (facts after) other (task_at (facts tasks) other).master (λ at below. alike_at at) (right.grounded other low live) (free other low live) in (
+      let way = led_but block tasks after other (task_at (facts tasks) other).master (record_at tasks other).holder (λ at below. alike_at at) (λ at below. holder_same at) (right.led other low live) (free other low live) in (
         λ master. ap (λ m. reaches (facts after) other m master) (master_same other) ∙ way.0 master,
-        ap (is_grounded (facts after) other) (master_same other) ∙ way.1,
+        rw (master_same other, holder_same other) way.1,
       )
     where
       weaker : (at : ℕ) → Alike at (task_at (facts tasks) at) (task_at (facts after) at) → AlikeBut block at (task_at (facts tasks) at) (task_at (facts after) at)

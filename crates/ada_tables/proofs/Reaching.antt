@@ -1,11 +1,13 @@
 -- The way outwards from a master: whom it passes, and what keeps it.
 use Rattle.std.proofs.Common.{◌≡◌, ◌≢◌, ℕ, zero, suc, ◌<◌, ◌≤◌, Bool, true, false, ◌||◌, List, Option, Some, None, refl, ap, sym, ◌∙◌, arith, inl, inr}
 use Rattle.std.specs.Prelude.{◌==◌}
-use Rattle.std.proofs.lemmas.Bool.{cases_Bool, cases_eq, both_ways, eqb-true, or_parts, or_left, or_cases, and_parts, and_from, false_from_ne_true}
+use Rattle.std.proofs.lemmas.Bool.{cases_Bool, cases_eq, both_ways, eq-eqb, eqb-true, or_parts, or_left, or_cases, and_parts, and_from, false_from_ne_true}
 use Rattle.ada_events.specs.declared.names.TaskNo.{TaskNo}
 use Rattle.ada_events.specs.declared.names.Master.{Master}
 use Rattle.ada_events.specs.declared.names.Master.TheVariants.{Body, Block}
-use Rattle.ada_tables.specs.Dependents.{Facts, task_at, holds, encloses, passes, beyond, reaches, is_grounded}
+use Rattle.ada_tables.specs.declared.task.Task.{Task}
+use Rattle.ada_tables.specs.Dependents.{Facts, task_at, holds, encloses, passes, beyond, reaches, depends_on}
+use Rattle.ada_tables.specs.Counts.{facts, record_at, is_led, IsLed}
 use Rattle.ada_tables.proofs.Nests.{has_block-up_to, has_block-from_up_to}
 
 -- where nothing is left to come from nothing is passed
@@ -44,14 +46,14 @@ pub body_below : (tasks : List Facts) (many : ℕ) (from : Option Master) (t : T
 body_below tasks many from t past =
     false_from_ne_true _ (λ reached. let found = reached_held tasks many from (Body t) reached in let same = eqb-true t.0 found.0 found.2 in absurd (omega (arith, found.1)))
 
--- a grounded way from a master reaches it
-pub reaches_itself : (tasks : List Facts) (many : ℕ) (from : Master) → is_grounded tasks many (Some from) ≡ true → reaches tasks many (Some from) from ≡ true
-unfolding reaches is_grounded
-reaches_itself tasks zero from grounded = absurd (cc)
-reaches_itself tasks (suc task) from grounded =
-    elim (cases_Bool (holds task (task_at tasks task).nest from)) [
-      | inl here ↦ or_left _ _ (holds_passes task (task_at tasks task) from here)
-      | inr other ↦ rw other (reaches_itself tasks task from (rw other at grounded))
+-- a way that is led reaches the master from which it goes
+pub reaches_itself : (tasks : List Task) (many : ℕ) (from : Master) (holder : ℕ) → is_led tasks many (Some from) holder ≡ true → reaches (facts tasks) many (Some from) from ≡ true
+unfolding reaches is_led
+reaches_itself tasks zero from holder led = absurd (cc)
+reaches_itself tasks (suc task) from holder led =
+    elim (cases_Bool (holds task (task_at (facts tasks) task).nest from)) [
+      | inl here ↦ or_left _ _ (holds_passes task (task_at (facts tasks) task) from here)
+      | inr other ↦ rw other (reaches_itself tasks task from holder (rw other at led))
     ]
 
 -- two tasks were made under the same, and the masters that they hold are the same and stand in the same order
@@ -59,6 +61,14 @@ pub record Alike (task : ℕ) (old new : Facts) : Type 0 where
   pub master : new.master ≡ old.master
   pub holding : (from : Master) → holds task new.nest from ≡ holds task old.nest from
   pub enclosing : (from to : Master) → holds task old.nest from ≡ true → encloses task new.nest from to ≡ encloses task old.nest from to
+
+pub alike_same : (task : ℕ) (old new : Facts) → new ≡ old → Alike task old new
+alike_same task old new same =
+    record {
+      master = ap (λ (f : Facts). f.master) same;
+      holding = λ from. ap (λ (f : Facts). holds task f.nest from) same;
+      enclosing = λ from to held. ap (λ (f : Facts). encloses task f.nest from to) same;
+    }
 
 same_passes : (task : ℕ) (old new : Facts) (from : Option Master) (to : Master) → Alike task old new → passes task new from to ≡ passes task old from to
 same_passes task old new None to alike = refl
@@ -81,13 +91,15 @@ reaches_alike old new (suc task) from to alike =
     rw (same_passes task (task_at old task) (task_at new task) from to here, same_beyond task (task_at old task) (task_at new task) from here)
     (ap (λ b. passes task (task_at old task) from to || b) (reaches_alike old new task (beyond task (task_at old task) from) to (λ other low. alike other (omega arith))))
 
-pub grounded_alike : (old new : List Facts) (many : ℕ) (from : Option Master) → ((task : ℕ) → task < many → Alike task (task_at old task) (task_at new task)) → is_grounded new many from ≡ is_grounded old many from
-unfolding is_grounded
-grounded_alike old new zero None alike = refl
-grounded_alike old new zero (Some from) alike = refl
-grounded_alike old new (suc task) from alike =
-    rw (same_beyond task (task_at old task) (task_at new task) from (alike task (omega arith)))
-    (grounded_alike old new task (beyond task (task_at old task) from) (λ other low. alike other (omega arith)))
+pub led_alike : (old new : List Task) (many : ℕ) (from : Option Master) (holder : ℕ) → ((task : ℕ) → task < many → Alike task (task_at (facts old) task) (task_at (facts new) task)) → ((task : ℕ) → task < many → (record_at new task).holder ≡ (record_at old task).holder) → is_led new many from holder ≡ is_led old many from holder
+unfolding is_led
+led_alike old new zero None holder alike holders = refl
+led_alike old new zero (Some from) holder alike holders = refl
+led_alike old new (suc task) None holder alike holders = refl
+led_alike old new (suc task) (Some from) holder alike holders =
+    let here = alike task (omega arith) in
+    let before = λ (next : Option Master) (by : ℕ). led_alike old new task next by (λ other low. alike other (omega arith)) (λ other low. holders other (omega arith)) in
+    rw (here.holding from, here.master, holders task (omega arith), before (task_at (facts old) task).master (record_at old task).holder, before (Some from) holder) refl
 
 -- the same but for one block, which is held before or after alone
 pub record AlikeBut (block task : ℕ) (old new : Facts) : Type 0 where
@@ -95,53 +107,63 @@ pub record AlikeBut (block task : ℕ) (old new : Facts) : Type 0 where
   pub holding : (from : Master) → from ≢ Block block → holds task new.nest from ≡ holds task old.nest from
   pub enclosing : (from to : Master) → from ≢ Block block → holds task old.nest from ≡ true → encloses task new.nest from to ≡ encloses task old.nest from to
 
--- a grounded way that doesn't pass the block stays
-pub reaches_but : (block : ℕ) (old new : List Facts) (many : ℕ) (from : Option Master) → ((task : ℕ) → task < many → AlikeBut block task (task_at old task) (task_at new task)) → is_grounded old many from ≡ true → reaches old many from (Block block) ≡ false → ((to : Master) → reaches new many from to ≡ reaches old many from to) × (is_grounded new many from ≡ true)
-unfolding reaches is_grounded
-reaches_but block old new zero None alike grounded apart = (λ to. refl, refl)
-reaches_but block old new zero (Some from) alike grounded apart = absurd (cc)
-reaches_but block old new (suc task) None alike grounded apart =
-    let later = reaches_but block old new task None (λ other low. alike other (omega arith)) grounded apart in
-    (later.0, later.1)
-reaches_but block old new (suc task) (Some from) alike grounded apart =
+-- a way that is led and doesn't pass the block stays
+pub led_but : (block : ℕ) (old new : List Task) (many : ℕ) (from : Option Master) (holder : ℕ) → ((task : ℕ) → task < many → AlikeBut block task (task_at (facts old) task) (task_at (facts new) task)) → ((task : ℕ) → task < many → (record_at new task).holder ≡ (record_at old task).holder) → is_led old many from holder ≡ true → reaches (facts old) many from (Block block) ≡ false → ((to : Master) → reaches (facts new) many from to ≡ reaches (facts old) many from to) × (is_led new many from holder ≡ true)
+unfolding reaches is_led
+led_but block old new zero None holder alike holders led apart = (λ to. refl, refl)
+led_but block old new zero (Some from) holder alike holders led apart = absurd (cc)
+led_but block old new (suc task) None holder alike holders led apart = (λ to. reaches_none (facts new) task to ∙ sym (reaches_none (facts old) task to), refl)
+led_but block old new (suc task) (Some from) holder alike holders led apart =
     let here = alike task (omega arith) in
-    let other : from ≢ Block block = λ same. both_ways (reaches old (suc task) (Some from) (Block block)) apart (ap (reaches old (suc task) (Some from)) (sym same) ∙ reaches_itself old (suc task) from grounded) in
-    let parts = or_parts _ _ apart in
-    let next : beyond task (task_at new task) (Some from) ≡ beyond task (task_at old task) (Some from) = rw (here.holding from other, here.master) refl in
-    let later = reaches_but block old new task (beyond task (task_at old task) (Some from)) (λ at low. alike at (omega arith)) grounded parts.1 in (
-      λ to. rw next (both (passing to here other) (later.0 to)),
-      rw next later.1,
-    )
+    let below : (at : ℕ) → at < task → at < suc task = λ at low. omega arith in
+    let kept = holders task (omega arith) in
+    let other : from ≢ Block block = λ same. both_ways (reaches (facts old) (suc task) (Some from) (Block block)) apart (ap (reaches (facts old) (suc task) (Some from)) (sym same) ∙ reaches_itself old (suc task) from holder led) in
+    elim (cases_Bool (holds task (task_at (facts old) task).nest from)) [
+      | inl held ↦
+          let still : holds task (task_at (facts new) task).nest from ≡ true = here.holding from other ∙ held in
+          let goes = and_parts _ _ (rw held at led) in
+          let later = led_but block old new task (task_at (facts old) task).master (record_at old task).holder (λ at low. alike at (below at low)) (λ at low. holders at (below at low)) goes.1 (or_parts _ _ (rw held at apart)).1 in (
+            λ to. rw (still, held, here.master) (both (here.enclosing from to other held) (later.0 to)),
+            rw (still, here.master, kept) (and_from _ _ goes.0 later.1),
+          )
+      | inr free ↦
+          let still : holds task (task_at (facts new) task).nest from ≡ false = here.holding from other ∙ free in
+          let later = led_but block old new task (Some from) holder (λ at low. alike at (below at low)) (λ at low. holders at (below at low)) (rw free at led) (rw free at apart) in
+          (λ to. rw (still, free) (later.0 to), rw still later.1)
+    ]
   where
     both : {a b c d : Bool} → a ≡ c → b ≡ d → (a || b) ≡ (c || d)
     both {a} {b} {c} {d} left right = rw (left, right) refl
 
-    passing : (to : Master) → AlikeBut block task (task_at old task) (task_at new task) → from ≢ Block block → passes task (task_at new task) (Some from) to ≡ passes task (task_at old task) (Some from) to
-    passing to here other =
-        elim (cases_Bool (holds task (task_at old task).nest from)) [
-          | inl held ↦ rw (here.holding from other, held) (here.enclosing from to other held)
-          | inr free ↦ rw (here.holding from other, free) refl
-        ]
+-- a way that is led goes by the task that is to hold its master
+pub record Leads (tasks : List Task) (many : ℕ) (from : Master) (holder : ℕ) : Type 0 where
+  pub low : holder < many
+  pub held : holds holder (task_at (facts tasks) holder).nest from ≡ true
+  pub on : IsLed tasks holder
+  pub way : (to : Master) → reaches (facts tasks) many (Some from) to ≡ (encloses holder (task_at (facts tasks) holder).nest from to || depends_on (facts tasks) holder to)
 
--- the way goes to the task that holds a master, where none made later does
-pub reaches_holder : (tasks : List Facts) (many holder : ℕ) (from : Master) (to : Master) → holder < many → ((task : ℕ) → holder < task → task < many → holds task (task_at tasks task).nest from ≡ false) → reaches tasks many (Some from) to ≡ reaches tasks (suc holder) (Some from) to
-unfolding reaches
-reaches_holder tasks zero holder from to low free = absurd (omega arith)
-reaches_holder tasks (suc task) holder from to low free =
-    elim (cases_eq holder task) [
-      | inl same ↦ rw same refl
-      | inr differs ↦
-          let other = free task (omega arith) (omega arith) in
-          rw other (reaches_holder tasks task holder from to (omega arith) (λ at above below. free at above (omega arith)))
+pub leads : (tasks : List Task) (many : ℕ) (from : Master) (holder : ℕ) → is_led tasks many (Some from) holder ≡ true → Leads tasks many from holder
+unfolding reaches is_led
+leads tasks zero from holder led = absurd (cc)
+leads tasks (suc task) from holder led =
+    elim (cases_Bool (holds task (task_at (facts tasks) task).nest from)) [
+      | inl held ↦
+          let goes = and_parts _ _ (rw held at led) in
+          let same : holder ≡ task = eqb-true holder task goes.0 in
+          rw same (record { low = omega arith; held = held; on = goes.1; way = λ to. rw held refl })
+      | inr free ↦
+          let rest = leads tasks task from holder (rw free at led) in
+          record { low = omega (arith, rest.low); held = rest.held; on = rest.on; way = λ to. rw free (rest.way to) }
     ]
 
-pub grounded_holder : (tasks : List Facts) (many holder : ℕ) (from : Master) → holder < many → ((task : ℕ) → holder < task → task < many → holds task (task_at tasks task).nest from ≡ false) → is_grounded tasks many (Some from) ≡ is_grounded tasks (suc holder) (Some from)
-unfolding is_grounded
-grounded_holder tasks zero holder from low free = absurd (omega arith)
-grounded_holder tasks (suc task) holder from low free =
+-- a way is led from a master that a task holds, and none made later, if it is led from that task
+pub led_from : (tasks : List Task) (many holder : ℕ) (from : Master) → holder < many → ((task : ℕ) → holder < task → task < many → holds task (task_at (facts tasks) task).nest from ≡ false) → holds holder (task_at (facts tasks) holder).nest from ≡ true → IsLed tasks holder → is_led tasks many (Some from) holder ≡ true
+unfolding is_led
+led_from tasks zero holder from low free held led = absurd (omega arith)
+led_from tasks (suc task) holder from low free held led =
     elim (cases_eq holder task) [
-      | inl same ↦ rw same refl
+      | inl same ↦ rw (sym same, held) (and_from _ _ (eq-eqb holder holder refl) led)
       | inr differs ↦
           let other = free task (omega arith) (omega arith) in
-          rw other (grounded_holder tasks task holder from (omega arith) (λ at above below. free at above (omega arith)))
+          rw other (led_from tasks task holder from (omega arith) (λ at above below. free at above (omega arith)) held led)
     ]

@@ -1,20 +1,16 @@
 -- What each call does to the records of tasks, as a contract sees them.
-use Rattle.std.proofs.Common.{◌-◌, ◌≡◌, ◌≢◌, ℕ, zero, suc, ◌+◌, ◌<◌, ◌≤◌, true, false, List, [], ◌∷◌, ◌++◌, length, get_or, set, take, Some, None, refl, ap, sym, ◌∙◌, arith, inl, inr}
-use Rattle.std.proofs.lemmas.Bool.{cases_Bool, eqb-true}
+use Rattle.std.proofs.Common.{◌-◌, ◌≡◌, ◌≢◌, ℕ, ◌+◌, ◌<◌, ◌≤◌, true, false, List, [], ◌∷◌, ◌++◌, length, get_or, set, take, Some, None, refl, ap, sym, ◌∙◌, arith}
 use Rattle.std.proofs.lemmas.List.{map-set, length-map, get_or-map, get_or_default, map-append}
-use Rattle.ada_events.specs.declared.names.TaskNo.{TaskNo}
 use Rattle.ada_events.specs.declared.names.Master.{Master}
-use Rattle.ada_events.specs.declared.names.Master.TheVariants.{Body, Block}
+use Rattle.ada_events.specs.declared.names.Master.TheVariants.{Block}
 use Rattle.ada_events.specs.declared.names.Member.{Member}
 use Rattle.ada_events.specs.declared.names.Member.TheVariants.{Block as BlockMember, Rendezvous}
 use Rattle.ada_tables.specs.declared.task.Task.{Task}
 use Rattle.ada_tables.specs.declared.layers.Layer.{Layer}
 use Rattle.ada_tables.specs.declared.phase.Phase.{Phase}
-use Rattle.ada_tables.specs.declared.change.Change.{Change}
 use Rattle.ada_tables.specs.Layers.{members, member_of, layer_of, live_at}
-use Rattle.ada_tables.specs.Dependents.{Facts, task_at, has_block, reaches, depends_on, is_terminated, live_dependents}
-use Rattle.ada_tables.specs.Counts.{facts_of, facts, no_task, record_at, ChangesAlong, StandAlone, AreCounted}
-use Rattle.ada_tables.proofs.Reaching.{reaches_none}
+use Rattle.ada_tables.specs.Dependents.{Facts, task_at, has_block, depends_on, is_terminated, live_dependents}
+use Rattle.ada_tables.specs.Counts.{facts_of, facts, no_task, record_at, ChangesAlong, StandAlone, AreCounted, IsLed, is_led}
 use Rattle.ada_tables.proofs.Alongs.{facts_at}
 use Rattle.std.proofs.lemmas.List.{take-append-drop, drop_more, drop_all, take-map, get_or_read}
 use Rattle.std.proofs.lemmas.Option.{slice_get-get_or}
@@ -24,14 +20,14 @@ use Rattle.ada_events.specs.Nests.{innermost}
 use Rattle.ada_events.specs.declared.names.Family.{Family}
 use Rattle.ada_tables.specs.declared.phase.Phase.TheVariants.{Unstarted, Active, Held, Quittable, Completed, Terminated}
 use Rattle.ada_tables.specs.declared.change.Change.TheVariants.{Added, Ended}
-use Rattle.ada_tables.specs.Dependents.{with_nest, with_phase, IsFresh, IsIdle, IsOpen, Stands, cut, Known}
+use Rattle.ada_tables.specs.Dependents.{with_nest, with_phase, IsFresh, IsIdle, IsOpen, holds, made_facts, cut, parent_within, parent_from, Known}
 use Rattle.ada_tables.specs.Layers.{cut_layers}
-use Rattle.ada_tables.specs.Counts.{made, live_of_block}
+use Rattle.ada_tables.specs.Counts.{made}
 use Rattle.ada_tables.proofs.Nesting.{nest_is, pushed_rendezvous, pushed_block, popped_rendezvous, popped_block}
 use Rattle.ada_tables.proofs.Cutting.{cut_rec, cut_layers_is, members-cut_rec, cut_counted}
 use Rattle.ada_tables.proofs.Ending.{goes_on, ends}
-use Rattle.ada_tables.proofs.Alongs.{along_begins, along_same}
-use Rattle.ada_tables.proofs.Adding.{added, added_main}
+use Rattle.ada_tables.proofs.Parents.{parent_is}
+use Rattle.ada_tables.proofs.Adding.{stand_alone, facts_pushed, pushed_alone, pushed_led, added_counted, open_led, added_main}
 
 abbrev known_of : List Facts → ℕ → Known
 known_of tasks room = record { tasks = tasks; room = room }
@@ -137,13 +133,6 @@ ended tasks lowered task d right within lives along =
       facts-with_phase lowered task Terminated ∙ ap (with_phase task Terminated) along.same,
     )
 
--- a task that was made under none has no masters to lower
-pub lowers_none : (change : Change) (tasks : List Task) (task : ℕ) → (task_at (facts tasks) task).master ≡ None → ChangesAlong change tasks tasks (depends_on (facts tasks) task) (λ _. false)
-lowers_none change tasks task none =
-    along_same change tasks tasks (depends_on (facts tasks) task) (depends_on (facts tasks) task) (λ _. false)
-    (λ master. sym (ap (λ m. reaches (facts tasks) task m master) none ∙ reaches_none (facts tasks) task master))
-    (along_begins change tasks (depends_on (facts tasks) task))
-
 -- a rendezvous leaves a nest
 pub cut_out : (tasks : List Task) (task call : ℕ) (read : Task) (nest : List Layer) → AreCounted tasks → task < length tasks → read ≡ get_or tasks task read → nest ≡ cut_layers call read.nest
     → Holds (set tasks task (record read { nest = nest })) (with_nest task (cut call (task_at (facts tasks) task).nest) (facts tasks))
@@ -159,12 +148,20 @@ cut_out tasks task call read nest right within read_is nest_new =
 pub same_known : (room : ℕ) (tasks known : List Facts) → tasks ≡ known → known_of tasks room ≡ known_of known room
 same_known room tasks known same = ap (λ ts. known_of ts room) same
 
-pub stand_alone : (tasks : List Task) → AreCounted tasks → StandAlone (facts tasks)
-stand_alone tasks right = record { alone = λ task other block low there first second. right.alone task other block (rw length-map at low) (rw length-map at there) first second }
-
 -- what is read of a record is known
 pub known_of_read : (tasks : List Task) (task : ℕ) (read : Task) → task < length tasks → read ≡ get_or tasks task read → task_at (facts tasks) task ≡ facts_of read
 known_of_read tasks task read within read_is = facts_at tasks task ∙ ap facts_of (sym (get_or_read tasks task read within read_is no_task))
+
+module _ (tasks : List Task) (holder block : ℕ) (read : Task) (right : AreCounted tasks) (within : holder < length tasks) (read_is : read ≡ get_or tasks holder read) (held : has_block block (task_at (facts tasks) holder).nest ≡ true) where
+  -- the count of a block is read of its holder
+  pub live_read : live_at block read.nest ≡ live_dependents (facts tasks) (Block block)
+  live_read = ap (λ (t : Task). live_at block t.nest) (get_or_read tasks holder read within read_is no_task) ∙ right.blocks holder block within held
+
+  -- and so is its parent
+  pub parent_read : Some (parent_within holder (members read.nest) block) ≡ parent_from 0 (facts tasks) block
+  parent_read =
+      ap (λ (f : Facts). Some (parent_within holder f.nest block)) (sym (known_of_read tasks holder read within read_is))
+      ∙ parent_is (facts tasks) holder block (stand_alone tasks right) (omega (arith, length-map tasks facts_of)) held
 
 pub not_terminated : (phase : Phase) → phase ≢ Terminated → is_terminated phase ≡ false
 not_terminated Unstarted other = refl
@@ -175,47 +172,30 @@ not_terminated Completed other = refl
 not_terminated Terminated other = absurd (other refl)
 
 -- the main program is the first task
-pub main_made : (tasks new : List Task) (record_of : Task) (families : List Family) → AreCounted tasks → facts tasks ≡ [] → new ≡ tasks ++ record_of ∷ [] → record_of ≡ made None families → AreCounted new
-main_made [] new record_of families right none new_is made_is = rw (new_is, made_is) (added_main families right)
-main_made (first ∷ rest) new record_of families right none new_is made_is = absurd (cc)
+pub main_made : (tasks new : List Task) (record_of : Task) (holder : ℕ) (families : List Family) → AreCounted tasks → facts tasks ≡ [] → new ≡ tasks ++ record_of ∷ [] → record_of ≡ made None holder families → AreCounted new
+main_made [] new record_of holder families right none new_is made_is = rw (new_is, made_is) (added_main holder families right)
+main_made (first ∷ rest) new record_of holder families right none new_is made_is = absurd (cc)
 
--- a task is made under a master
-pub task_made : (tasks raised new : List Task) (record_of : Task) (master : Master) (families : List Family) (many : ℕ) → AreCounted tasks → length (facts tasks) < 256 → IsOpen (facts tasks) master → many ≡ length tasks → ChangesAlong Added tasks raised (reaches (facts tasks) many (Some master)) (λ _. false) → new ≡ raised ++ record_of ∷ [] → record_of ≡ made (Some master) families → AreCounted new
-task_made tasks raised new record_of master families many right few is_open many_is along new_is made_is =
-    rw (new_is, made_is) (added tasks raised master families right (rw length-map at few) is_open (rw many_is at along))
+-- a task is made under an open master
+module _ (tasks pushed : List Task) (record_of : Task) (master : Master) (holder : ℕ) (families : List Family) (right : AreCounted tasks) (few : length (facts tasks) < 256) (is_open : IsOpen (facts tasks) master) (low : holder < length tasks) (held : holds holder (task_at (facts tasks) holder).nest master ≡ true) (pushed_is : pushed ≡ tasks ++ record_of ∷ []) (made_is : record_of ≡ made (Some master) holder families) where
+  room : length tasks < 256
+  room = rw length-map at few
 
-live_later : (block : ℕ) (tasks : List Task) (at : ℕ) (read : Task) → at < length tasks → read ≡ get_or tasks at read → drop at tasks ≡ read ∷ drop (at + 1) tasks
-live_later block tasks at read within read_is = drop_more tasks at read within ∙ ap (λ (t : Task). t ∷ drop (at + 1) tasks) (sym read_is)
+  led : is_led tasks (length tasks) (Some master) holder ≡ true
+  led = open_led tasks master holder right is_open low held
 
-pub live_of_later : (block : ℕ) (tasks : List Task) (at : ℕ) (read : Task) → live_of_block block tasks ≡ live_of_block block (drop at tasks) → at < length tasks → read ≡ get_or tasks at read → has_block block (members read.nest) ≡ false → live_of_block block tasks ≡ live_of_block block (drop (at + 1) tasks)
-unfolding live_of_block
-live_of_later block tasks at read so_far within read_is free = so_far ∙ rw (live_later block tasks at read within read_is, free) refl
+  all_is : pushed ≡ tasks ++ made (Some master) holder families ∷ []
+  all_is = pushed_is ∙ ap (λ t. tasks ++ t ∷ []) made_is
 
-pub live_of_here : (block : ℕ) (tasks : List Task) (at : ℕ) (read : Task) → live_of_block block tasks ≡ live_of_block block (drop at tasks) → at < length tasks → read ≡ get_or tasks at read → has_block block (members read.nest) ≡ true → live_at block read.nest ≡ live_of_block block tasks
-unfolding live_of_block
-live_of_here block tasks at read so_far within read_is held = sym (so_far ∙ rw (live_later block tasks at read within read_is, held) refl)
+  pub made_alone : StandAlone (facts pushed)
+  made_alone = rw all_is (pushed_alone tasks (Some master) holder families right)
 
-pub live_of_none : (block : ℕ) (tasks : List Task) (at : ℕ) → live_of_block block tasks ≡ live_of_block block (drop at tasks) → length tasks ≤ at → 0 ≡ live_of_block block tasks
-unfolding live_of_block
-live_of_none block tasks at so_far past = sym (so_far ∙ rw (drop_all at tasks past) refl)
+  pub made_led : (number : ℕ) → number ≡ length tasks → IsLed pushed number
+  made_led number number_is = rw (all_is, number_is) (pushed_led tasks (Some master) holder families right room led)
 
--- a block's count is found in the nest that holds it
-found_count : (block : ℕ) (tasks : List Task) (task : ℕ) → task < length tasks → has_block block (members (record_at tasks task).nest) ≡ true → (at : ℕ) × (at < length tasks) × (has_block block (members (record_at tasks at).nest) ≡ true) × (live_of_block block tasks ≡ live_at block (record_at tasks at).nest)
-unfolding live_of_block
-found_count block [] task low has = absurd (omega arith)
-found_count block (first ∷ rest) zero low has = (0, omega arith, has, rw has refl)
-found_count block (first ∷ rest) (suc task) low has =
-    elim (cases_Bool (has_block block (members first.nest))) [
-      | inl here ↦ (0, omega arith, here, rw here refl)
-      | inr other ↦
-          let found = found_count block rest task (omega arith) has in
-          (suc found.0, omega (arith, found.1), found.2, rw other found.3)
-    ]
-
-pub block_count : (tasks : List Task) (block : ℕ) → AreCounted tasks → Stands (facts tasks) (Block block) → live_of_block block tasks ≡ live_dependents (facts tasks) (Block block)
-block_count tasks block right stands =
-    let found = found_count block tasks stands.task (rw length-map at stands.within) (ap (has_block block) (sym (nest_is tasks stands.task)) ∙ stands.held) in
-    found.3 ∙ right.blocks found.0 block found.1 (ap (has_block block) (nest_is tasks found.0) ∙ found.2)
-
-pub body_within : (tasks : List Task) (t : TaskNo) → Stands (facts tasks) (Body t) → t.0 < length tasks
-body_within tasks t stands = let same = eqb-true t.0 stands.task stands.held in omega (arith, stands.within, length-map tasks facts_of)
+  pub task_made : (raised : List Task) (number : ℕ) → number ≡ length tasks → ChangesAlong Added pushed raised (depends_on (facts pushed) number) (λ _. false)
+      → Holds raised (facts tasks ++ made_facts (Some master) families ∷ [])
+  task_made raised number number_is along = (
+    added_counted tasks (Some master) holder families right room led raised (rw (all_is, number_is) at along),
+    along.same ∙ ap facts all_is ∙ facts_pushed tasks (Some master) holder families right,
+  )

@@ -1,5 +1,5 @@
 -- The records of tasks, what is known of a task by its record, and that each count is right.
-use Rattle.std.specs.Prelude.{◌≡◌, ℕ, ◌<◌, ◌≤◌, Bool, true, false, not, ◌&&◌, if◌then◌else◌, Option, None, List, [], ◌∷◌, map, length, slice_index_or}
+use Rattle.std.specs.Prelude.{◌≡◌, ℕ, zero, suc, ◌<◌, ◌≤◌, Bool, true, false, not, ◌==◌, ◌&&◌, if◌then◌else◌, Option, Some, None, List, [], map, length, slice_index_or}
 use Rattle.ada_events.specs.declared.names.Family.{Family}
 use Rattle.ada_events.specs.declared.names.Master.{Master}
 use Rattle.ada_events.specs.declared.names.Master.TheVariants.{Body, Block}
@@ -8,7 +8,7 @@ use Rattle.ada_tables.specs.declared.phase.Phase.TheVariants.{Unstarted}
 use Rattle.ada_tables.specs.declared.change.Change.{Change}
 use Rattle.ada_tables.specs.Layers.{members, live_at, moved_to}
 use Rattle.ada_tables.specs.Changes.{changed}
-use Rattle.ada_tables.specs.Dependents.{Facts, task_at, has_block, live_dependents, is_terminated, is_grounded}
+use Rattle.ada_tables.specs.Dependents.{Facts, task_at, has_block, holds, live_dependents, is_terminated}
 
 -- what is known of a task
 abbrev pub facts_of : Task → Facts
@@ -19,37 +19,47 @@ facts tasks = map facts_of tasks
 
 -- no task
 abbrev pub no_task : Task
-no_task = record { master = None; families = []; nest = []; phase = Unstarted; live = 0 }
+no_task = record { master = None; families = []; nest = []; live = 0; holder = 0; phase = Unstarted }
 
 abbrev pub record_at : List Task → ℕ → Task
 record_at tasks task = slice_index_or tasks task no_task
 
--- a task that has just been made
-abbrev pub made : Option Master → List Family → Task
-made master families = record { master = master; families = families; nest = []; live = 0; phase = Unstarted }
-
--- the count of a block, in the first nest in which it stands
-unfoldable pub live_of_block : ℕ → List Task → ℕ
-live_of_block block [] = 0
-live_of_block block (task ∷ rest) = if has_block block (members task.nest) then live_at block task.nest else live_of_block block rest
+-- a task that has just been made under a master, which that task holds
+abbrev pub made : Option Master → ℕ → List Family → Task
+made master holder families = record { master = master; families = families; nest = []; live = 0; holder = holder; phase = Unstarted }
 
 -- a task's record with the counts changed of the masters that it holds, from one of them outwards
 abbrev pub counted : Change → Master → Task → Task
 counted change (Body t) task = record task { live = changed change task.live }
 counted change (Block block) task = record task { live = changed change task.live; nest = moved_to (changed change) block task.nest }
 
+-- the way outwards from a master, which that task is to hold, goes by the holders that tasks keep: of the
+-- first so many tasks the last that holds the master is that one, the way from the master that it was made
+-- under goes on by the holder that it keeps, and the end is the main program, which was made under none
+unfoldable pub is_led : List Task → ℕ → Option Master → ℕ → Bool
+is_led tasks zero None holder = true
+is_led tasks zero (Some from) holder = false
+is_led tasks (suc task) None holder = true
+is_led tasks (suc task) (Some from) holder =
+    if holds task (task_at (facts tasks) task).nest from then holder == task && is_led tasks task (task_at (facts tasks) task).master (record_at tasks task).holder else is_led tasks task (Some from) holder
+
+-- the way outwards from a task goes by the holders that tasks keep
+abbrev pub IsLed : List Task → ℕ → Type 0
+IsLed tasks task = is_led tasks task (task_at (facts tasks) task).master (record_at tasks task).holder ≡ true
+
 -- each count is the number of live dependents, each block stands in one nest, and each way outwards from a
--- live task ends at the main program
+-- live task goes by the holders that tasks keep, to the main program
 pub record AreCounted (tasks : List Task) : Type 0 where
   pub bodies : (task : ℕ) → task < length tasks → (record_at tasks task).live ≡ live_dependents (facts tasks) (Body (record { 0 = task }))
   pub blocks : (task block : ℕ) → task < length tasks → has_block block (task_at (facts tasks) task).nest ≡ true → live_at block (record_at tasks task).nest ≡ live_dependents (facts tasks) (Block block)
   pub alone : (task other block : ℕ) → task < length tasks → other < length tasks → has_block block (task_at (facts tasks) task).nest ≡ true → has_block block (task_at (facts tasks) other).nest ≡ true → task ≡ other
-  pub grounded : (task : ℕ) → task < length tasks → is_terminated (task_at (facts tasks) task).phase ≡ false → is_grounded (facts tasks) task (task_at (facts tasks) task).master ≡ true
+  pub led : (task : ℕ) → task < length tasks → is_terminated (task_at (facts tasks) task).phase ≡ false → IsLed tasks task
   pub few : length tasks ≤ 256
 
 -- the counts of the masters that one way passes, and another doesn't, are changed
 pub record ChangesAlong (change : Change) (old new : List Task) (passed left : Master → Bool) : Type 0 where
   pub same : facts new ≡ facts old
+  pub holders : (task : ℕ) → (record_at new task).holder ≡ (record_at old task).holder
   pub bodies : (task : ℕ) → task < length old → (record_at new task).live ≡ (if passed (Body (record { 0 = task })) && not (left (Body (record { 0 = task }))) then changed change (record_at old task).live else (record_at old task).live)
   pub blocks : (task block : ℕ) → task < length old → has_block block (task_at (facts old) task).nest ≡ true → live_at block (record_at new task).nest ≡ (if passed (Block block) && not (left (Block block)) then changed change (live_at block (record_at old task).nest) else live_at block (record_at old task).nest)
   pub within : (master : Master) → left master ≡ true → passed master ≡ true

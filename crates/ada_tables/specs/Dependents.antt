@@ -89,12 +89,6 @@ is_live_dependent tasks master task = not (is_terminated (task_at tasks task).ph
 abbrev pub live_dependents : List Facts → Master → ℕ
 live_dependents tasks master = count_below (is_live_dependent tasks master) (length tasks)
 
--- the way outwards from a master ends at the main program's
-unfoldable pub is_grounded : List Facts → ℕ → Option Master → Bool
-is_grounded tasks zero None = true
-is_grounded tasks zero (Some from) = false
-is_grounded tasks (suc task) from = is_grounded tasks task (beyond task (task_at tasks task) from)
-
 -- the master is the body, or an open block, of a task that isn't terminated
 pub record IsOpen (tasks : List Facts) (master : Master) : Type 0 where
   pub task : ℕ

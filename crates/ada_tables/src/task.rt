@@ -10,26 +10,29 @@ use crate::{Layers, Phase};
 use ada_events::{Families, Master, TaskNo};
 
 /// What is kept of a task: the master that it was made under, its entries, what it is in, how many live
-/// dependents its body has, and its phase.
+/// dependents its body has, the number of the task that holds its master, and its phase. The main program
+/// was made under no master, and its holder says nothing.
 #[derive(Drop)]
 pub(crate) struct Task {
     pub(crate) master: Option<Master>,
     pub(crate) families: Families,
     pub(crate) nest: Layers,
     pub(crate) live: u16,
+    pub(crate) holder: u16,
     pub(crate) phase: Phase,
 }
 
 impl Task {
-    // A task that has just been made.
-    pub(crate) fn of(master: Option<Master>, families: Families) -> Task
-        ensures { result ≡ made master families }
+    // A task that has just been made under a master, which the task of that number holds.
+    pub(crate) fn of(master: Option<Master>, holder: u16, families: Families) -> Task
+        ensures { result ≡ made master holder families }
     {
         Task {
             master,
             families,
             nest: Layers::new(),
             live: 0,
+            holder,
             phase: Phase::Unstarted,
         }
     }

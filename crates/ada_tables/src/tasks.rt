@@ -3,54 +3,29 @@ ghost use Rattle.std.specs.Prelude.{◌≡◌, ℕ, ◌+◌, ◌-◌, ◌<◌, �
 ghost use Rattle.std.specs.Option.{ForSome};
 ghost use Rattle.ada_events.specs.Nests.{innermost};
 ghost use Rattle.ada_tables.specs.Layers.{members};
-ghost use Rattle.ada_tables.specs.Dependents.{reaches, depends_on, parent_of, parent_from, task_at, made_facts, with_nest, with_phase, cut, is_terminated, live_dependents, IsOpen, IsFresh, IsIdle, Stands};
-ghost use Rattle.ada_tables.specs.Counts.{facts, ChangesAlong, StandAlone, AreCounted, live_of_block};
+ghost use Rattle.ada_tables.specs.Dependents.{reaches, depends_on, parent_of, task_at, has_block, holds, made_facts, with_nest, with_phase, cut, is_terminated, live_dependents, IsOpen, IsFresh, IsIdle, Stands};
+ghost use Rattle.ada_tables.specs.Counts.{facts, ChangesAlong, StandAlone, AreCounted, IsLed};
 
 use crate::change::Change;
 use crate::task::{self, Task};
 use crate::{Layers, Phase};
-use ada_events::{Families, Master, Member};
+use ada_events::{Families, Master, Member, TaskNo};
 use std::alloc::{AllocError, Global};
 use std::marker::Model;
 
-// Changes the counts of all masters from one outwards that the first so many tasks hold.
-fn count(tasks: &mut [Task], made: usize, master: Master, change: Change)
-    requires few { length tasks.old ≤ 256 }
-    requires made { made ≤ length tasks.old }
-    requires alone { StandAlone (facts tasks.old) }
-    ensures { ChangesAlong change tasks.old tasks.new (reaches (facts tasks.old) made (Some master)) (λ _. false) }
-{
-    let mut from = Some(master);
-    let mut left = made;
-    while left > 0 {
-        left -= 1;
-        if let Some(master) = from {
-            if task::holds(left as u16, &tasks[left].nest, master) {
-                task::count(&mut tasks[left], master, change);
-                from = tasks[left].master;
-            }
-        }
-    }
-}
-
-// The master that a task was made under.
-fn master_of(tasks: &[Task], task: u16) -> Option<Master>
-    requires { task < length tasks.now }
-    ensures { result ≡ (task_at (facts tasks.now) task).master }
-{
-    tasks[task as usize].master
-}
-
-// Lowers the counts of the masters that a task depends on.
-fn lower(tasks: &mut [Task], task: u16)
+// Changes the counts of the masters that a task depends on: those of the holder of the master that it was
+// made under, then those of the holder of that task's master, and so on. A holder was made before the tasks
+// that it holds masters of, so its number is lower.
+fn count(tasks: &mut [Task], task: u16, change: Change)
     requires known { task < length tasks.old }
-    requires few { length tasks.old ≤ 256 }
     requires alone { StandAlone (facts tasks.old) }
-    ensures { ChangesAlong Change.Ended tasks.old tasks.new (depends_on (facts tasks.old) task) (λ _. false) }
+    requires led { IsLed tasks.old task }
+    ensures { ChangesAlong change tasks.old tasks.new (depends_on (facts tasks.old) task) (λ _. false) }
 {
-    match master_of(tasks, task) {
-        Some(master) => count(tasks, task as usize, master, Change::Ended),
-        None => {}
+    let mut number = task;
+    while let Some(master) = tasks[number as usize].master {
+        number = tasks[number as usize].holder;
+        task::count(&mut tasks[number as usize], master, change);
     }
 }
 
@@ -62,7 +37,7 @@ fn end(tasks: &mut [Task], task: u16)
     ensures counted { AreCounted tasks.new }
     ensures facts { facts tasks.new ≡ with_phase task Phase.Terminated (facts tasks.old) }
 {
-    lower(tasks, task);
+    count(tasks, task, Change::Ended);
     let record = &mut tasks[task as usize];
     record.phase = Phase::Terminated;
 }
@@ -85,29 +60,31 @@ fn reaches(tasks: &[Task], made: u16, from: Option<Master>, to: Master) -> bool
     false
 }
 
-// The parent of a block.
-fn parent_in(tasks: &[Task], block: u32) -> Option<Master>
-    requires { length tasks.now ≤ 256 }
-    ensures { result ≡ parent_from 0 (facts tasks.now) block }
+// The number of the task in whose nest a block stands.
+fn holder_in(tasks: &[Task], block: u32) -> u16
+    requires few { length tasks.now ≤ 256 }
+    requires stands { Stands (facts tasks.now) (Master.Block block) }
+    ensures within { result < length tasks.now }
+    ensures held { has_block block (task_at (facts tasks.now) result).nest ≡ true }
 {
-    for (number, task) in tasks.iter().enumerate() {
-        if task.nest.has_block(block) {
-            return Some(task::parent_within(number as u16, &task.nest, block));
-        }
+    let mut number: u16 = 0;
+    while !tasks[number as usize].nest.has_block(block) {
+        number += 1;
     }
-    None
+    number
 }
 
-// How many live dependents a block has.
-fn live_in(tasks: &[Task], block: u32) -> u16
-    ensures { result ≡ live_of_block block tasks.now }
+// The number of the task that holds a master.
+fn holder_of(tasks: &[Task], master: Master) -> u16
+    requires few { length tasks.now ≤ 256 }
+    requires stands { Stands (facts tasks.now) master }
+    ensures within { result < length tasks.now }
+    ensures held { holds result (task_at (facts tasks.now) result).nest master ≡ true }
 {
-    for task in tasks {
-        if task.nest.has_block(block) {
-            return task.nest.live_at(block);
-        }
+    match master {
+        Master::Body(TaskNo(task)) => task,
+        Master::Block(block) => holder_in(tasks, block),
     }
-    0
 }
 
 /// All tasks: what each was made under, what it is in and what has become of it, and how many live
@@ -161,7 +138,7 @@ impl Tasks {
           room = self.old.room - 1;
         } }
     {
-        self.tasks.push_reserved(Task::of(None, Families::new()));
+        self.tasks.push_reserved(Task::of(None, 0, Families::new()));
     }
 
     /// Adds a task that was made under a master (9.4), the body or an open block of a task that isn't
@@ -176,9 +153,11 @@ impl Tasks {
         } }
     {
         let families = Families::from_slice(families.as_slice());
-        let made = self.tasks.len();
-        count(self.tasks.as_mut_slice(), made, master, Change::Added);
-        self.tasks.push_reserved(Task::of(Some(master), families));
+        let holder = holder_of(self.tasks.as_slice(), master);
+        let task = self.tasks.len() as u16;
+        self.tasks
+            .push_reserved(Task::of(Some(master), holder, families));
+        count(self.tasks.as_mut_slice(), task, Change::Added);
     }
 
     /// How many tasks there are, at most 256.
@@ -277,9 +256,11 @@ impl Tasks {
         requires { Stands self.now.tasks master }
         ensures { result ≡ live_dependents self.now.tasks master }
     {
+        let number = holder_of(self.tasks.as_slice(), master);
+        let holder = &self.tasks[number as usize];
         match master {
-            Master::Body(task) => self.tasks[task.0 as usize].live,
-            Master::Block(block) => live_in(self.tasks.as_slice(), block),
+            Master::Body(_) => holder.live,
+            Master::Block(block) => holder.nest.live_at(block),
         }
     }
 
@@ -299,9 +280,11 @@ impl Tasks {
         requires { Stands self.now.tasks master }
         ensures { result ≡ parent_of self.now.tasks master }
     {
+        let number = holder_of(self.tasks.as_slice(), master);
+        let holder = &self.tasks[number as usize];
         match master {
-            Master::Body(task) => self.tasks[task.0 as usize].master,
-            Master::Block(block) => parent_in(self.tasks.as_slice(), block),
+            Master::Body(_) => holder.master,
+            Master::Block(block) => Some(task::parent_within(number, &holder.nest, block)),
         }
     }
 }

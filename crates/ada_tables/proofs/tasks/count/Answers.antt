@@ -1,32 +1,23 @@
-use Rattle.std.proofs.Common.{Some, arith, sym, ◌∙◌}
-use Rattle.ada_tables.specs.Dependents.{reaches}
+use Rattle.ada_tables.specs.Dependents.{depends_on}
 use Rattle.ada_tables.specs.Counts.{facts}
-use Rattle.ada_tables.proofs.Alongs.{along_goes_on, along_goes_by, along_goes_out, along_ended}
+use Rattle.ada_tables.proofs.Alongs.{along_begins, next_leads, next_within, goes_outwards, goes_no_further}
 use Rattle.ada_tables.proofs.tasks.count.Goals as goal
 
-pub loop-left-preserved-then-holds : goal.loop-left-preserved-then-holds
-loop-left-preserved-then-holds c =
-    record {
-      along = along_goes_on c.args.change c.args.tasks.now c.loop-left.tasks (reaches (facts c.args.tasks.now) c.args.made (Some c.args.master)) c.loop-left.left c.loop-left.from (omega arith) c.loop-left.invariant.low c.loop-left.invariant.along
-          c.in-Some.master c.count.new.task c.index-tasks-left.result c.index-tasks-left-then-holds.result c.index-tasks-left-then-holds-2.result c.requires.alone c.in-Some.is (sym c.holds.ensures ∙ c.if-holds.true) c.count.ensures;
-      low = omega arith;
-    }
+pub loop-tasks-init : goal.loop-tasks-init
+loop-tasks-init c = record { within = c.requires.known; along = along_begins c.args.change c.args.tasks.now (depends_on (facts c.args.tasks.now) c.args.task); led = c.requires.led }
 
-pub loop-left-preserved-else-holds : goal.loop-left-preserved-else-holds
-loop-left-preserved-else-holds c =
-    record {
-      along = along_goes_by c.args.change c.args.tasks.now c.loop-left.tasks (reaches (facts c.args.tasks.now) c.args.made (Some c.args.master)) c.loop-left.left c.loop-left.from (omega arith) c.loop-left.invariant.low c.loop-left.invariant.along
-          c.in-Some.master c.index-tasks-left.result c.in-Some.is (sym c.holds.ensures ∙ c.if-holds.false);
-      low = omega arith;
-    }
+pub bounds-tasks-number-in-Some-3 : goal.bounds-tasks-number-in-Some-3
+bounds-tasks-number-in-Some-3 c =
+    next_within c.args.change c.args.tasks.now c.loop-tasks.tasks (depends_on (facts c.args.tasks.now) c.args.task) c.loop-tasks.number c.loop-tasks.invariant c.in-Some.master _ c.index-tasks-number.result c.in-Some.is
 
-pub loop-left-preserved : goal.loop-left-preserved
-loop-left-preserved c =
-    record {
-      along = along_goes_out c.args.change c.args.tasks.now c.loop-left.tasks (reaches (facts c.args.tasks.now) c.args.made (Some c.args.master)) c.loop-left.left c.loop-left.from (omega arith) c.loop-left.invariant.low c.loop-left.invariant.along c.in_default.is;
-      low = omega arith;
-    }
+pub loop-tasks-preserved : goal.loop-tasks-preserved
+loop-tasks-preserved c =
+    goes_outwards c.args.change c.args.tasks.now c.loop-tasks.tasks (depends_on (facts c.args.tasks.now) c.args.task) c.loop-tasks.number c.loop-tasks.invariant
+    c.in-Some.master _ c.index-tasks-number.result c.index-tasks-number-in-Some.result c.count.new.task c.requires.alone c.in-Some.is c.count.ensures
+
+pub loop-tasks-smaller : goal.loop-tasks-smaller
+loop-tasks-smaller c =
+    (next_leads c.args.change c.args.tasks.now c.loop-tasks.tasks (depends_on (facts c.args.tasks.now) c.args.task) c.loop-tasks.number c.loop-tasks.invariant c.in-Some.master _ c.index-tasks-number.result c.in-Some.is).low
 
 pub returns : goal.returns
-returns c =
-    along_ended c.args.change c.args.tasks.now c.loop-left.tasks (reaches (facts c.args.tasks.now) c.args.made (Some c.args.master)) c.loop-left.left c.loop-left.from c.loop-left-test.false c.loop-left.invariant.along
+returns c = goes_no_further c.args.change c.args.tasks.now c.loop-tasks.tasks (depends_on (facts c.args.tasks.now) c.args.task) c.loop-tasks.number c.loop-tasks.invariant _ c.in_default.is

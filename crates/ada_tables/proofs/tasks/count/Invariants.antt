@@ -1,13 +1,10 @@
-use Rattle.std.proofs.Common.{◌≤◌, Some, length}
-use Rattle.ada_tables.specs.Dependents.{reaches}
-use Rattle.ada_tables.specs.Counts.{facts, ChangesAlong}
+use Rattle.ada_tables.specs.Dependents.{depends_on}
+use Rattle.ada_tables.specs.Counts.{facts}
+use Rattle.ada_tables.proofs.Alongs.{IsUnderWay}
 use Rattle.ada_tables.proofs.tasks.count.Given as goal
 
-abbrev pub invariant-loop-left : goal.invariant-loop-left
-invariant-loop-left l = record {
-  along : ChangesAlong l.change l.initial.tasks l.tasks (reaches (facts l.initial.tasks) l.fn.made (Some l.fn.master)) (reaches (facts l.initial.tasks) l.left l.from);
-  low : l.left ≤ length l.initial.tasks;
-}
+abbrev pub invariant-loop-tasks : goal.invariant-loop-tasks
+invariant-loop-tasks l = IsUnderWay l.change l.initial.tasks l.tasks (depends_on (facts l.initial.tasks) l.fn.task) l.number
 
-abbrev pub decreases-loop-left : goal.decreases-loop-left
-decreases-loop-left l = l.left
+abbrev pub decreases-loop-tasks : goal.decreases-loop-tasks
+decreases-loop-tasks l = l.number

@@ -1,10 +1,9 @@
-use Rattle.std.proofs.Common.{ap, ◌∙◌}
-use Rattle.ada_tables.specs.Counts.{live_of_block}
-use Rattle.ada_tables.proofs.Turns.{block_count}
+use Rattle.std.proofs.Common.{◌∙◌}
+use Rattle.ada_tables.proofs.Turns.{live_read}
 use Rattle.ada_tables.proofs.tasks.Tasks.live_dependents.Goals as goal
 
 pub returns-in-Block : goal.returns-in-Block
 returns-in-Block c =
     rw (← c.self.view_is, c.in-Block.is)
-    (c.live_in.ensures ∙ ap (live_of_block c.in-Block.block) c.as_slice.ensures.value
-    ∙ block_count c.self.inside.tasks.items c.in-Block.block c.self.invariant (rw (← c.self.view_is, c.in-Block.is) at c.requires))
+    (c.live_at.ensures
+    ∙ live_read c.self.inside.tasks.items c.holder_of-number.result c.in-Block.block c.index-holder.result.now c.self.invariant (rw c.as_slice.ensures.value at c.holder_of-number.ensures.within) c.index-holder.ensures (rw (c.as_slice.ensures.value, c.in-Block.is) at c.holder_of-number.ensures.held))
