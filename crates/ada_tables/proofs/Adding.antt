@@ -197,13 +197,3 @@ unfolding reaches is_led
 added_main holder families right =
     added_counted [] None holder families right (omega arith) refl (made None holder families ∷ [])
     (along_same Added (made None holder families ∷ []) (made None holder families ∷ []) (depends_on (facts (made None holder families ∷ [])) 0) (depends_on (facts (made None holder families ∷ [])) 0) (λ _. false) (λ to. refl) (along_begins Added (made None holder families ∷ []) (depends_on (facts (made None holder families ∷ [])) 0)))
-
-pub none_counted : AreCounted []
-none_counted =
-    record {
-      bodies = λ task low. absurd (omega arith);
-      blocks = λ task block low has. absurd (omega arith);
-      alone = λ task other block low there first second. absurd (omega arith);
-      led = λ task low lives. absurd (omega arith);
-      few = omega arith;
-    }

@@ -22,6 +22,9 @@ facts_at [] task = refl
 facts_at (first ∷ rest) zero = refl
 facts_at (first ∷ rest) (suc task) = facts_at rest task
 
+pub master_read : (tasks : List Task) (task : ℕ) (d : Task) → task < length tasks → (task_at (facts tasks) task).master ≡ (get_or tasks task d).master
+master_read tasks task d low = ap (λ (f : Facts). f.master) (facts_at tasks task) ∙ ap (λ (t : Task). t.master) (get_or_default tasks task no_task d low)
+
 pub facts_counted : (change : Change) (from : Master) (task : Task) → facts_of (counted change from task) ≡ facts_of task
 facts_counted change (Body t) task = refl
 facts_counted change (Block block) task =
@@ -189,9 +192,7 @@ module _ (change : Change) (old now : List Task) (passed : Master → Bool) (num
   long_now = sym (length-map now facts_of) ∙ ap (λ fs. length fs) so_far.along.same ∙ length-map old facts_of
 
   master_is : (d : Task) → (task_at (facts old) number).master ≡ (get_or now number d).master
-  master_is d =
-      ap (λ fs. (task_at fs number).master) (sym so_far.along.same) ∙ ap (λ (f : Facts). f.master) (facts_at now number)
-      ∙ ap (λ (t : Task). t.master) (get_or_default now number no_task d (omega (arith, so_far.within, long_now)))
+  master_is d = ap (λ fs. (task_at fs number).master) (sym so_far.along.same) ∙ master_read now number d (omega (arith, so_far.within, long_now))
 
   holder_is : (d : Task) → (record_at old number).holder ≡ (get_or now number d).holder
   holder_is d = sym (so_far.along.holders number) ∙ ap (λ (t : Task). t.holder) (get_or_default now number no_task d (omega (arith, so_far.within, long_now)))

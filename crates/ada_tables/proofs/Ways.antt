@@ -1,31 +1,46 @@
 -- Walking outwards from a master, and counting who passes a test.
-use Rattle.std.proofs.Common.{◌≡◌, ℕ, zero, suc, ◌+◌, ◌-◌, ◌<◌, ◌≤◌, Bool, true, false, ◌||◌, ◌&&◌, Option, List, length, get_or, refl, ap, sym, ◌∙◌, arith, add-one, inl, inr}
+use Rattle.std.proofs.Common.{◌≡◌, ℕ, zero, suc, ◌+◌, ◌<◌, Bool, true, false, ◌||◌, ◌&&◌, List, Some, None, length, get_or, refl, ap, sym, ◌∙◌, arith, add-one, inl, inr}
 use Rattle.std.specs.Prelude.{if◌then◌else◌}
 use Rattle.ada_events.specs.declared.names.Master.{Master}
 use Rattle.std.proofs.lemmas.Bool.{cases_eq, and_left, and_right}
+use Rattle.std.proofs.lemmas.List.{get_or_default}
 use Rattle.ada_events.specs.Search.{all_below}
 use Rattle.ada_tables.specs.declared.task.Task.{Task}
-use Rattle.ada_tables.specs.Dependents.{Facts, passes, beyond, reaches, count_below}
-use Rattle.ada_tables.specs.Counts.{facts, facts_of}
-use Rattle.ada_tables.proofs.Turns.{known_of_read}
+use Rattle.ada_tables.specs.Layers.{members}
+use Rattle.ada_tables.specs.Dependents.{Facts, task_at, encloses, reaches, depends_on, count_below}
+use Rattle.ada_tables.specs.Counts.{facts, no_task, record_at, IsLed}
+use Rattle.ada_tables.proofs.Reaching.{reaches_none, Leads, leads}
+use Rattle.ada_tables.proofs.Alongs.{facts_at, master_read}
 
-module _ (tasks : List Task) (left : ℕ) (from : Option Master) (to : Master) (read : Task) (some_left : 0 < left) (low : left ≤ length tasks) (read_is : read ≡ get_or tasks (left - 1) read) where
-  way_step : reaches (facts tasks) left from to ≡ (passes (left - 1) (facts_of read) from to || reaches (facts tasks) (left - 1) (beyond (left - 1) (facts_of read) from) to)
-  unfolding reaches
-  way_step =
-      let e : left ≡ suc (left - 1) = omega arith in
-      ap (λ n. reaches (facts tasks) n from to) e
-      ∙ ap (λ (f : Facts). passes (left - 1) f from to || reaches (facts tasks) (left - 1) (beyond (left - 1) f from) to) (known_of_read tasks (left - 1) read (omega arith) read_is)
+module _ (tasks : List Task) (number : ℕ) (to : Master) (within : number < length tasks) (led : IsLed tasks number) where
+  -- the main program was made under none, and depends on none
+  pub way_ends : (d : Task) → (get_or tasks number d).master ≡ None → false ≡ depends_on (facts tasks) number to
+  way_ends d none = sym (ap (λ m. reaches (facts tasks) number m to) (master_read tasks number d within ∙ none) ∙ reaches_none (facts tasks) number to)
 
-  pub way_arrives : (test : Bool) → test ≡ passes (left - 1) (facts_of read) from to → test ≡ true → true ≡ reaches (facts tasks) left from to
-  way_arrives test test_is is = sym (way_step ∙ rw (sym test_is ∙ is) refl)
+  module _ (from : Master) (d e : Task) (is : (get_or tasks number d).master ≡ Some from) where
+    abbrev holder : ℕ
+    holder = (get_or tasks number e).holder
 
-  pub way_goes_on : (test : Bool) (next : Option Master) → test ≡ passes (left - 1) (facts_of read) from to → test ≡ false → next ≡ beyond (left - 1) (facts_of read) from → reaches (facts tasks) left from to ≡ reaches (facts tasks) (left - 1) next to
-  way_goes_on test next test_is isnt next_is = way_step ∙ rw (sym test_is ∙ isnt, next_is) refl
+    -- the way goes by the holder
+    pub way_leads : Leads tasks number from (get_or tasks number e).holder
+    way_leads =
+        let kept : (record_at tasks number).holder ≡ holder = ap (λ (t : Task). t.holder) (get_or_default tasks number no_task e within) in
+        leads tasks number from holder (rw (master_read tasks number d within ∙ is, kept) at led)
 
-pub way_ends : (tasks : List Facts) (left : ℕ) (from : Option Master) (to : Master) → left ≤ 0 → reaches tasks left from to ≡ false
-unfolding reaches
-way_ends tasks left from to past = let e : left ≡ 0 = omega arith in rw e refl
+    pub way_within : (get_or tasks number e).holder < length tasks
+    way_within = let way = way_leads in omega (arith, way.low)
+
+    way_step : (f : Task) → depends_on (facts tasks) number to ≡ (encloses holder (members (get_or tasks holder f).nest) from to || depends_on (facts tasks) holder to)
+    way_step f =
+        let known : (task_at (facts tasks) holder).nest ≡ members (get_or tasks holder f).nest = ap (λ (g : Facts). g.nest) (facts_at tasks holder) ∙ ap (λ (t : Task). members t.nest) (get_or_default tasks holder no_task f way_within) in
+        ap (λ m. reaches (facts tasks) number m to) (master_read tasks number d within ∙ is)
+        ∙ way_leads.way to ∙ ap (λ nest. encloses holder nest from to || depends_on (facts tasks) holder to) known
+
+    pub way_arrives : (f : Task) → encloses (get_or tasks number e).holder (members (get_or tasks (get_or tasks number e).holder f).nest) from to ≡ true → true ≡ depends_on (facts tasks) number to
+    way_arrives f passed = sym (way_step f ∙ rw passed refl)
+
+    pub way_goes_on : (f : Task) → encloses (get_or tasks number e).holder (members (get_or tasks (get_or tasks number e).holder f).nest) from to ≡ false → depends_on (facts tasks) number to ≡ depends_on (facts tasks) (get_or tasks number e).holder to
+    way_goes_on f passed = way_step f ∙ rw passed refl
 
 pub count_more : (test : ℕ → Bool) (many : ℕ) → count_below test (many + 1) ≡ count_below test many + (if test many then 1 else 0)
 unfolding count_below

@@ -33,22 +33,23 @@ abbrev pub counted : Change → Master → Task → Task
 counted change (Body t) task = record task { live = changed change task.live }
 counted change (Block block) task = record task { live = changed change task.live; nest = moved_to (changed change) block task.nest }
 
--- the way outwards from a master, which that task is to hold, goes by the holders that tasks keep: of the
--- first so many tasks the last that holds the master is that one, the way from the master that it was made
--- under goes on by the holder that it keeps, and the end is the main program, which was made under none
+-- the way outwards from a master goes by holders: that task holds the master, the holder that it keeps holds
+-- the one that it was made under, and so on to the main program, which was made under none. Of the first so
+-- many tasks none made later holds the master
 unfoldable pub is_led : List Task → ℕ → Option Master → ℕ → Bool
-is_led tasks zero None holder = true
+is_led tasks many None holder = true
 is_led tasks zero (Some from) holder = false
-is_led tasks (suc task) None holder = true
 is_led tasks (suc task) (Some from) holder =
-    if holds task (task_at (facts tasks) task).nest from then holder == task && is_led tasks task (task_at (facts tasks) task).master (record_at tasks task).holder else is_led tasks task (Some from) holder
+    if holds task (task_at (facts tasks) task).nest from
+    then holder == task && is_led tasks task (task_at (facts tasks) task).master (record_at tasks task).holder
+    else is_led tasks task (Some from) holder
 
--- the way outwards from a task goes by the holders that tasks keep
+-- the way outwards from a task goes by the holders that it and others keep
 abbrev pub IsLed : List Task → ℕ → Type 0
 IsLed tasks task = is_led tasks task (task_at (facts tasks) task).master (record_at tasks task).holder ≡ true
 
--- each count is the number of live dependents, each block stands in one nest, and each way outwards from a
--- live task goes by the holders that tasks keep, to the main program
+-- each count is the number of live dependents, each block stands in one nest, and the way outwards from each
+-- live task goes by the holders that are kept
 pub record AreCounted (tasks : List Task) : Type 0 where
   pub bodies : (task : ℕ) → task < length tasks → (record_at tasks task).live ≡ live_dependents (facts tasks) (Body (record { 0 = task }))
   pub blocks : (task block : ℕ) → task < length tasks → has_block block (task_at (facts tasks) task).nest ≡ true → live_at block (record_at tasks task).nest ≡ live_dependents (facts tasks) (Block block)

@@ -2,8 +2,8 @@
 ghost use Rattle.std.specs.Prelude.{◌≡◌, false};
 ghost use Rattle.ada_tables.specs.Changes.{changed};
 ghost use Rattle.ada_tables.specs.Layers.{members, moved_to};
-ghost use Rattle.ada_tables.specs.Dependents.{holds, encloses, passes, beyond, parent_within};
-ghost use Rattle.ada_tables.specs.Counts.{counted, facts_of, made};
+ghost use Rattle.ada_tables.specs.Dependents.{encloses, parent_within};
+ghost use Rattle.ada_tables.specs.Counts.{counted, made};
 
 use crate::change::Change;
 use crate::{Layers, Phase};
@@ -38,16 +38,6 @@ impl Task {
     }
 }
 
-// Whether the task of that number holds a master: its body, or a block of its nest.
-pub(crate) fn holds(number: u16, nest: &Layers, master: Master) -> bool
-    ensures { result ≡ holds number (members nest.now) master }
-{
-    match master {
-        Master::Body(TaskNo(task)) => task == number,
-        Master::Block(block) => nest.has_block(block),
-    }
-}
-
 // Of two masters that the task of that number holds, whether the second is the first or stands outside it.
 pub(crate) fn encloses(number: u16, nest: &Layers, from: Master, to: Master) -> bool
     ensures { result ≡ encloses number (members nest.now) from to }
@@ -66,32 +56,6 @@ pub(crate) fn count(task: &mut Task, from: Master, change: Change)
     task.live = change.of(task.live);
     if let Master::Block(block) = from {
         task.nest.count_to(block, change);
-    }
-}
-
-// Whether a master is passed on the way from another out of the task of that number.
-pub(crate) fn passes(number: u16, task: &Task, from: Option<Master>, to: Master) -> bool
-    ensures { result ≡ passes number (facts_of task.now) from to }
-{
-    match from {
-        Some(from) => holds(number, &task.nest, from) && encloses(number, &task.nest, from, to),
-        None => false,
-    }
-}
-
-// Where the way from a master goes on outside the task of that number.
-pub(crate) fn beyond(number: u16, task: &Task, from: Option<Master>) -> Option<Master>
-    ensures { result ≡ beyond number (facts_of task.now) from }
-{
-    match from {
-        Some(master) => {
-            if holds(number, &task.nest, master) {
-                task.master
-            } else {
-                from
-            }
-        }
-        None => None,
     }
 }
 

@@ -3,7 +3,7 @@ ghost use Rattle.std.specs.Prelude.{◌≡◌, ℕ, ◌+◌, ◌-◌, ◌<◌, �
 ghost use Rattle.std.specs.Option.{ForSome};
 ghost use Rattle.ada_events.specs.Nests.{innermost};
 ghost use Rattle.ada_tables.specs.Layers.{members};
-ghost use Rattle.ada_tables.specs.Dependents.{reaches, depends_on, parent_of, task_at, has_block, holds, made_facts, with_nest, with_phase, cut, is_terminated, live_dependents, IsOpen, IsFresh, IsIdle, Stands};
+ghost use Rattle.ada_tables.specs.Dependents.{depends_on, parent_of, task_at, has_block, holds, made_facts, with_nest, with_phase, cut, is_terminated, live_dependents, IsOpen, IsFresh, IsIdle, Stands};
 ghost use Rattle.ada_tables.specs.Counts.{facts, ChangesAlong, StandAlone, AreCounted, IsLed};
 
 use crate::change::Change;
@@ -42,20 +42,18 @@ fn end(tasks: &mut [Task], task: u16)
     record.phase = Phase::Terminated;
 }
 
-// Whether a master is another, or reached from it by parents, within the first so many tasks.
-fn reaches(tasks: &[Task], made: u16, from: Option<Master>, to: Master) -> bool
-    requires { made ≤ length tasks.now }
-    ensures { result ≡ reaches (facts tasks.now) made from to }
+// Whether a task depends on a master: whether its way outwards, from holder to holder, passes that master.
+fn depends_on(tasks: &[Task], task: u16, master: Master) -> bool
+    requires known { task < length tasks.now }
+    requires led { IsLed tasks.now task }
+    ensures { result ≡ depends_on (facts tasks.now) task master }
 {
-    let mut from = from;
-    let mut left = made;
-    while left > 0 {
-        left -= 1;
-        let task = &tasks[left as usize];
-        if task::passes(left, task, from, to) {
+    let mut number = task;
+    while let Some(from) = tasks[number as usize].master {
+        number = tasks[number as usize].holder;
+        if task::encloses(number, &tasks[number as usize].nest, from, master) {
             return true;
         }
-        from = task::beyond(left, task, from);
     }
     false
 }
@@ -264,14 +262,14 @@ impl Tasks {
         }
     }
 
-    /// Whether a task depends on a master (9.4): it was made under it, or under one from which it is reached by
-    /// parents.
+    /// Whether a task that isn't terminated depends on a master (9.4): it was made under it, or under one from
+    /// which it is reached by parents.
     pub(crate) fn depends_on(&self, task: u16, master: Master) -> bool
-        requires { task < length self.now.tasks }
+        requires known { task < length self.now.tasks }
+        requires live { is_terminated (task_at self.now.tasks task).phase ≡ false }
         ensures { result ≡ depends_on self.now.tasks task master }
     {
-        let made_under = self.tasks[task as usize].master;
-        reaches(self.tasks.as_slice(), task, made_under, master)
+        depends_on(self.tasks.as_slice(), task, master)
     }
 
     /// The parent of a master (9.4): of a task's body the master that the task was made under, of a block the
