@@ -112,14 +112,10 @@ module _ (change : Change) (old now : List Task) (passed : Master → Bool) (at 
   block_here task block low differs has =
       false_from_ne_true _ (λ passing. differs (single.alone task at block (omega (arith, many)) (omega (arith, many)) has (passes_holds at here (Some from) (Block block) (and_from _ _ held passing))))
 
-  new : List Task
-  new = set now at (counted change from (record_at now at))
-
   bodies_now : (task : ℕ) → task < length old → (record_at (set now at (counted change from (record_at now at))) task).live ≡ (if passed (Body (record { 0 = task })) && not (depends_on (facts old) at (Body (record { 0 = task }))) then changed change (record_at old task).live else (record_at old task).live)
   bodies_now task low =
       elim (cases_eq task at) [
         | inl same ↦
-            let body : Master = Body (record { 0 = task }) in
             let none : depends_on (facts old) at (Body (record { 0 = task })) ≡ false = body_below (facts old) at here.master (record { 0 = task }) (omega arith) in
             counted_here (changed change) (passed (Body (record { 0 = task }))) (left (Body (record { 0 = task }))) _ _ (record_at now task).live _
             (left_is (Body (record { 0 = task })) ∙ or_left _ _ (encloses_body at here.nest from (record { 0 = task }) ∙ eq-eqb task at same))

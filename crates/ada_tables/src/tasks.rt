@@ -58,7 +58,7 @@ fn depends_on(tasks: &[Task], task: u16, master: Master) -> bool
     false
 }
 
-// The number of the task in whose nest a block stands.
+// The number of the task in whose nest a block stands; the search ends there.
 fn holder_in(tasks: &[Task], block: u32) -> u16
     requires few { length tasks.now ≤ 256 }
     requires stands { Stands (facts tasks.now) (Master.Block block) }
