@@ -11,6 +11,8 @@ mod asking;
 #[cfg(test)]
 mod calls;
 #[cfg(test)]
+mod checked_tables;
+#[cfg(test)]
 mod command_line;
 #[cfg(test)]
 mod cuts;
@@ -32,6 +34,14 @@ mod refused;
 mod scripts;
 #[cfg(test)]
 mod streams;
+#[cfg(test)]
+mod table_chains;
+#[cfg(test)]
+mod table_nests;
+#[cfg(test)]
+mod table_queues;
+#[cfg(test)]
+mod tables;
 #[cfg(test)]
 mod termination;
 #[cfg(test)]

@@ -1,0 +1,103 @@
+//! Nests in the tables: as many members as there may be, blocks and rendezvous mixed.
+
+use crate::asking::MAIN;
+use crate::checked_tables::CheckedTables;
+use ada_events::{Master, Member, TaskNo};
+use ada_tables::Phase;
+use std::process::Abort;
+use std::test::Fail;
+
+/// The task that is in all this.
+const DEEP: TaskNo = TaskNo(1);
+
+/// The member at a place of the full nest: every third is a block, and the first, the one at 16 and the
+/// last are rendezvous.
+fn member_at(place: u32) -> Member {
+    if place % 3 == 2 {
+        Member::Block(place)
+    } else {
+        Member::Rendezvous(place)
+    }
+}
+
+/// A task within 32 members, with a task under its outermost block, at 2, and another under its innermost,
+/// at 29.
+fn with_full_nest<R: Abort + AllocGlobal>(rt: &R) -> Result<CheckedTables, Fail> {
+    let mut tables = CheckedTables::new(rt.alloc())?;
+    assert_eq!(rt; tables.add(MAIN, &[]), Ok(DEEP));
+    for place in 0..32u32 {
+        tables.push(DEEP, member_at(place))?;
+    }
+    assert_eq!(rt; tables.add(Master::Block(2), &[]), Ok(TaskNo(2)));
+    assert_eq!(rt; tables.add(Master::Block(29), &[]), Ok(TaskNo(3)));
+    Ok(tables)
+}
+
+/// The nest has the members of the full one at all places but these.
+fn nest_lacks<R: Abort>(rt: &R, tables: &CheckedTables, gone: &[u32]) -> Result<(), Fail> {
+    let nest = tables.nest(DEEP)?;
+    let mut at = 0usize;
+    for place in 0..32u32 {
+        if !gone.contains(&place) {
+            assert_eq!(rt; nest.get(at), Some(member_at(place)), "{place} at {at}");
+            at = at.saturating_add(1);
+        }
+    }
+    assert_eq!(rt; nest.len(), at);
+    Ok(())
+}
+
+/// Of the ten blocks all have the innermost one's task as dependent, and the outermost one its own too;
+/// the parent of each is the next outside it, and of the outermost the body (9.4).
+fn blocks_are_counted<R: Abort>(rt: &R, tables: &CheckedTables) -> Result<(), Fail> {
+    assert_eq!(rt; tables.live(Master::Block(2)), Ok(2));
+    assert_eq!(rt;
+        tables.parent(Master::Block(2)),
+        Ok(Some(Master::Body(DEEP)))
+    );
+    for third in 1..10u32 {
+        let block = Master::Block(3 * third + 2);
+        assert_eq!(rt; tables.live(block), Ok(1));
+        assert_eq!(rt;
+            tables.parent(block),
+            Ok(Some(Master::Block(3 * third - 1)))
+        );
+    }
+    assert_eq!(rt; tables.live(Master::Body(DEEP)), Ok(2));
+    Ok(())
+}
+
+// Rendezvous are cut from outside, from the middle and from inside, and the rest stays in order. A block is
+// no rendezvous.
+#[test]
+fn rendezvous_are_cut_from_a_full_nest(rt: HostRuntime) -> Result<(), Fail> {
+    let mut tables = with_full_nest(&rt)?;
+    nest_lacks(&rt, &tables, &[])?;
+    blocks_are_counted(&rt, &tables)?;
+    tables.cut(DEEP, 0)?;
+    nest_lacks(&rt, &tables, &[0])?;
+    tables.cut(DEEP, 16)?;
+    nest_lacks(&rt, &tables, &[0, 16])?;
+    tables.cut(DEEP, 31)?;
+    nest_lacks(&rt, &tables, &[0, 16, 31])?;
+    tables.cut(DEEP, 29)?;
+    nest_lacks(&rt, &tables, &[0, 16, 31])?;
+    blocks_are_counted(&rt, &tables)
+}
+
+// The task leaves all that it is in, from inside, once the dependents of its blocks are terminated.
+#[test]
+fn a_full_nest_is_left(rt: HostRuntime) -> Result<(), Fail> {
+    let mut tables = with_full_nest(&rt)?;
+    tables.set_phase(TaskNo(3), Phase::Terminated)?;
+    assert_eq!(rt; tables.live(Master::Block(29)), Ok(0));
+    assert_eq!(rt; tables.live(Master::Block(2)), Ok(1));
+    tables.set_phase(TaskNo(2), Phase::Terminated)?;
+    for left in 0..32usize {
+        assert_eq!(rt; tables.nest(DEEP)?.len(), 32 - left);
+        tables.pop(DEEP)?;
+    }
+    assert!(rt; tables.nest(DEEP)?.is_empty());
+    assert_eq!(rt; tables.live(Master::Body(DEEP)), Ok(0));
+    Ok(())
+}

@@ -1,0 +1,213 @@
+//! The queues of the tables: long ones, and those of entries at the ends of the index range.
+
+use crate::asking::{MAIN, SINGLE, entry};
+use crate::checked_tables::{CheckedTables, Unmet};
+use ada_events::{Entry, Family, TaskNo};
+use std::process::Abort;
+use std::test::Fail;
+
+/// The task that all others call.
+const CALLEE: TaskNo = TaskNo(1);
+
+/// The call that the callee makes to itself, at its second entry.
+const OWN: u32 = 5;
+
+/// The call of a task.
+fn call_of(task: u16) -> u32 {
+    1000 + u32::from(task)
+}
+
+/// 256 tasks, of which the callee has two entries.
+fn with_all_tasks<R: Abort + AllocGlobal>(rt: &R) -> Result<CheckedTables, Fail> {
+    let mut tables = CheckedTables::new(rt.alloc())?;
+    assert_eq!(rt; tables.add(MAIN, &[SINGLE, SINGLE]), Ok(CALLEE));
+    for task in 2..256u16 {
+        assert_eq!(rt; tables.add(MAIN, &[]), Ok(TaskNo(task)));
+    }
+    Ok(tables)
+}
+
+/// The tasks from `first` on call the callee's first entry, one after the other.
+fn call_in_order(tables: &mut CheckedTables, first: u16) -> Result<(), Unmet> {
+    for task in first..256 {
+        tables.enqueue(TaskNo(task), CALLEE, entry(0), call_of(task))?;
+    }
+    Ok(())
+}
+
+/// 256 tasks, where main and the tasks 2 to 255 wait in that order at the callee's first entry, and the
+/// callee itself at its second.
+fn with_callers<R: Abort + AllocGlobal>(rt: &R) -> Result<CheckedTables, Fail> {
+    let mut tables = with_all_tasks(rt)?;
+    tables.enqueue(CALLEE, CALLEE, entry(1), OWN)?;
+    tables.enqueue(TaskNo(0), CALLEE, entry(0), call_of(0))?;
+    call_in_order(&mut tables, 2)?;
+    Ok(tables)
+}
+
+/// What stands first in the queue of a family's entry with index 0, and how many calls wait there.
+fn queue_is<R: Abort>(
+    rt: &R,
+    tables: &CheckedTables,
+    family: u8,
+    front: Option<u32>,
+    count: u16,
+) -> Result<(), Fail> {
+    assert_eq!(rt; tables.front(CALLEE, entry(family)), Ok(front));
+    assert_eq!(rt; tables.queue_len(CALLEE, entry(family)), Ok(count));
+    Ok(())
+}
+
+// All 256 tasks wait at one entry, the callee too, and leave in the order of arrival (9.5).
+#[test]
+fn as_long_as_a_queue_may_be(rt: HostRuntime) -> Result<(), Fail> {
+    let mut tables = with_all_tasks(&rt)?;
+    call_in_order(&mut tables, 0)?;
+    for task in 0..256u16 {
+        queue_is(&rt, &tables, 0, Some(call_of(task)), 256 - task)?;
+        tables.unlink(TaskNo(task))?;
+    }
+    queue_is(&rt, &tables, 0, None, 0)?;
+    queue_is(&rt, &tables, 1, None, 0)
+}
+
+#[test]
+fn calls_leave_from_anywhere(rt: HostRuntime) -> Result<(), Fail> {
+    let mut tables = with_callers(&rt)?;
+    queue_is(&rt, &tables, 0, Some(call_of(0)), 255)?;
+    tables.unlink(TaskNo(0))?;
+    queue_is(&rt, &tables, 0, Some(call_of(2)), 254)?;
+    tables.unlink(TaskNo(128))?;
+    queue_is(&rt, &tables, 0, Some(call_of(2)), 253)?;
+    tables.unlink(TaskNo(255))?;
+    queue_is(&rt, &tables, 0, Some(call_of(2)), 252)?;
+    tables.unlink(TaskNo(2))?;
+    queue_is(&rt, &tables, 0, Some(call_of(3)), 251)?;
+    queue_is(&rt, &tables, 1, Some(OWN), 1)
+}
+
+/// The odd callers leave, the last of them first.
+fn odd_ones_leave(tables: &mut CheckedTables) -> Result<(), Unmet> {
+    for half in 1..128u16 {
+        tables.unlink(TaskNo(257 - 2 * half))?;
+    }
+    Ok(())
+}
+
+// What is left leaves in the order of arrival, and a caller that calls again stands last (9.5).
+#[test]
+fn the_rest_leaves_in_order(rt: HostRuntime) -> Result<(), Fail> {
+    let mut tables = with_callers(&rt)?;
+    odd_ones_leave(&mut tables)?;
+    queue_is(&rt, &tables, 0, Some(call_of(0)), 128)?;
+    tables.unlink(TaskNo(0))?;
+    tables.enqueue(TaskNo(0), CALLEE, entry(0), 2000)?;
+    for half in 1..128u16 {
+        queue_is(&rt, &tables, 0, Some(call_of(2 * half)), 129 - half)?;
+        tables.unlink(TaskNo(2 * half))?;
+    }
+    queue_is(&rt, &tables, 0, Some(2000), 1)?;
+    tables.unlink(TaskNo(0))?;
+    queue_is(&rt, &tables, 0, None, 0)?;
+    queue_is(&rt, &tables, 1, Some(OWN), 1)
+}
+
+/// 503 entries of five families, two of which are empty.
+const WIDE: [Family; 5] = [
+    Family {
+        low: -2_147_483_648,
+        high: -2_147_483_148,
+    },
+    Family {
+        low: 2_147_483_647,
+        high: -2_147_483_648,
+    },
+    Family {
+        low: 2_147_483_647,
+        high: 2_147_483_647,
+    },
+    SINGLE,
+    Family { low: 1, high: 0 },
+];
+
+/// The 521 entries that are left of 1,024.
+const REST: Family = Family {
+    low: 2_147_483_127,
+    high: 2_147_483_647,
+};
+
+/// The bounds of the families of tasks 1 and 2 that have entries.
+const BOUNDS: [(TaskNo, u8, i32); 6] = [
+    (TaskNo(1), 0, -2_147_483_648),
+    (TaskNo(1), 0, -2_147_483_148),
+    (TaskNo(1), 2, 2_147_483_647),
+    (TaskNo(1), 3, 0),
+    (TaskNo(2), 0, 2_147_483_127),
+    (TaskNo(2), 0, 2_147_483_647),
+];
+
+/// Tasks 1 and 2 with 1,024 entries between them, where tasks 3 to 8 wait each at one of the bounds.
+fn with_bounds_called<R: Abort + AllocGlobal>(rt: &R) -> Result<CheckedTables, Fail> {
+    let mut tables = CheckedTables::new(rt.alloc())?;
+    assert_eq!(rt; tables.add(MAIN, &WIDE), Ok(TaskNo(1)));
+    assert_eq!(rt; tables.add(MAIN, &[REST]), Ok(TaskNo(2)));
+    assert_eq!(rt; tables.add(MAIN, &[SINGLE]), Err(Unmet::TooManySlots));
+    for (callee, family, index) in BOUNDS {
+        let caller = tables.add(MAIN, &[])?;
+        tables.enqueue(caller, callee, Entry { family, index }, call_of(caller.0))?;
+    }
+    Ok(tables)
+}
+
+/// How many calls wait at the entries of a family in all.
+fn calls_at(
+    tables: &CheckedTables,
+    callee: TaskNo,
+    family: u8,
+    range: Family,
+) -> Result<u64, Unmet> {
+    let mut total = 0u64;
+    for index in range.low..=range.high {
+        let count = tables.queue_len(callee, Entry { family, index })?;
+        total = total.saturating_add(u64::from(count));
+    }
+    Ok(total)
+}
+
+// Each bound has the queue of its own call, and no other of the 1,024 entries has a call.
+#[test]
+fn entries_at_bounds_are_apart(rt: HostRuntime) -> Result<(), Fail> {
+    let tables = with_bounds_called(&rt)?;
+    let mut caller = 3;
+    for (callee, family, index) in BOUNDS {
+        let called = Entry { family, index };
+        assert_eq!(rt;
+            tables.front(callee, called),
+            Ok(Some(call_of(caller))),
+            "at {index}"
+        );
+        assert_eq!(rt; tables.queue_len(callee, called), Ok(1), "at {index}");
+        caller = caller.saturating_add(1);
+    }
+    assert_eq!(rt; calls_at(&tables, TaskNo(1), 0, WIDE[0]), Ok(2));
+    assert_eq!(rt; calls_at(&tables, TaskNo(2), 0, REST), Ok(2));
+    Ok(())
+}
+
+// A second call at one bound, and the leaving of a first, change no queue beside it.
+#[test]
+fn queues_at_bounds_change_alone(rt: HostRuntime) -> Result<(), Fail> {
+    let mut tables = with_bounds_called(&rt)?;
+    let last = Entry {
+        family: 2,
+        index: 2_147_483_647,
+    };
+    tables.enqueue(TaskNo(0), TaskNo(1), last, call_of(0))?;
+    tables.unlink(TaskNo(4))?;
+    assert_eq!(rt; tables.front(TaskNo(1), last), Ok(Some(call_of(5))));
+    assert_eq!(rt; tables.queue_len(TaskNo(1), last), Ok(2));
+    assert_eq!(rt; calls_at(&tables, TaskNo(1), 0, WIDE[0]), Ok(1));
+    assert_eq!(rt; tables.queue_len(TaskNo(1), entry(3)), Ok(1));
+    assert_eq!(rt; calls_at(&tables, TaskNo(2), 0, REST), Ok(2));
+    Ok(())
+}
