@@ -1,4 +1,4 @@
-//! The tables, called only where a call's conditions hold, each of which is looked at before.
+//! The tables behind calls that look at each condition as they run, so that a test proves none.
 ghost use Rattle.std.specs.Prelude.{◌≡◌, ℕ, ◌<◌, true, false, Some, IfOk, OnOk, MatchOption, length};
 ghost use Rattle.ada_events.specs.Nests.{innermost};
 ghost use Rattle.ada_tables.specs.Dependents.{task_at, holds, live_dependents, is_terminated, IsOpen, IsFresh, IsIdle, Stands};

@@ -1,5 +1,5 @@
-//! Tests that cross crates: worked scripts byte for byte, faults of scripts, limits of the kernel, and
-//! readers and writers that come in pieces or fail.
+//! Tests that cross crates: worked scripts byte for byte, faults of scripts, limits of the kernel and of
+//! its tables, and readers and writers that come in pieces or fail.
 #![tactic(auto)]
 
 #[cfg(test)]

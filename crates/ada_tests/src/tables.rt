@@ -3,7 +3,7 @@
 use crate::asking::{MAIN, SINGLE, entry};
 use crate::checked_tables::CheckedTables;
 use ada_events::{Master, Member, TaskNo};
-use ada_tables::Phase;
+use ada_tables::{Layers, Phase};
 use std::process::Abort;
 use std::test::Fail;
 
@@ -33,6 +33,7 @@ fn the_main_program_runs_alone(rt: HostRuntime) -> Result<(), Fail> {
     assert!(rt; tables.families(TaskNo(0))?.is_empty());
     assert_eq!(rt; tables.live(MAIN), Ok(0));
     assert_eq!(rt; tables.unready(MAIN), 0);
+    assert!(rt; Layers::new().is_empty());
     Ok(())
 }
 
