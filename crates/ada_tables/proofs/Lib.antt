@@ -1,6 +1,7 @@
 pub mod Adding
 pub mod Alongs
 pub mod Arriving
+pub mod Bounds
 pub mod Chains
 pub mod Counting
 pub mod Cutting

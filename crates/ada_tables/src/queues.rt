@@ -199,7 +199,8 @@ impl Queues {
     /// How many calls wait at a slot, at most 256: the attribute COUNT (9.9).
     pub(crate) fn queue_len(&self, slot: u16) -> u16
         requires { slot < length self.now.queues }
-        ensures { result ≡ length (queue_at self.now.queues slot) }
+        ensures value { result ≡ length (queue_at self.now.queues slot) }
+        ensures fits { result ≤ 256 }
     {
         self.queues[slot as usize].len
     }

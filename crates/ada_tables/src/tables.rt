@@ -176,16 +176,26 @@ impl Tables {
     /// How many calls wait at an entry, at most 256: the attribute COUNT (9.9).
     pub fn queue_len(&self, task: TaskNo, entry: Entry) -> u16
         requires { HasEntry self.now.tasks task.0 entry }
-        ensures { result ≡ length (queue_at self.now.queues (slot_at self.now.tasks task.0 entry)) }
+        ensures value { result ≡ length (queue_at self.now.queues (slot_at self.now.tasks task.0 entry)) }
+        ensures fits { result ≤ 256 }
     {
         self.queues.queue_len(self.slot(task, entry))
     }
 
     /// How many tasks there are, the main program counted, at most 256.
     pub fn tasks(&self) -> u16
-        ensures { result ≡ length self.now.tasks }
+        ensures value { result ≡ length self.now.tasks }
+        ensures fits { result ≤ 256 }
     {
         self.tasks.len() as u16
+    }
+
+    /// How many entries all tasks have together, at most 1,024.
+    pub fn slots(&self) -> u16
+        ensures value { result ≡ length self.now.queues }
+        ensures fits { result ≤ 1024 }
+    {
+        self.queues.slots() as u16
     }
 
     /// The master that a task was made under (9.4); none for the main program.
@@ -276,7 +286,8 @@ impl Tables {
     /// a block that stands in a nest.
     pub fn live_dependents(&self, master: Master) -> u16
         requires { Stands self.now.tasks master }
-        ensures { result ≡ live_dependents self.now.tasks master }
+        ensures value { result ≡ live_dependents self.now.tasks master }
+        ensures fits { result ≤ 255 }
     {
         self.tasks.live_dependents(master)
     }
@@ -311,11 +322,12 @@ impl Tables {
         self.is_unready(task) && self.tasks.depends_on(task, master)
     }
 
-    /// How many dependents of a master (9.4) are neither terminated nor ready to quit: suspended at a wait whose
-    /// terminate alternative is open, while no call waits at any of their entries.
+    /// How many dependents of a master (9.4) are neither terminated nor ready to quit, at most 255: ready to quit
+    /// is who is suspended at a wait whose terminate alternative is open, while no call waits at any of its entries.
     #[tactic(auto, using(crate::proofs::Ways::counted_more, crate::proofs::Ways::count_nothing))]
     pub fn unready_dependents(&self, master: Master) -> u16
-        ensures { result ≡ unready_dependents self.now.tasks self.now.queues master }
+        ensures value { result ≡ unready_dependents self.now.tasks self.now.queues master }
+        ensures fits { result ≤ 255 }
     {
         let mut count = 0;
         for task in 0..self.tasks() {

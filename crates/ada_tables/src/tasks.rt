@@ -249,10 +249,12 @@ impl Tasks {
         }
     }
 
-    /// How many dependents of a master (9.4) aren't terminated, at most 256.
+    /// How many dependents of a master (9.4) aren't terminated, at most 255.
+    #[tactic(auto, using(crate::proofs::Bounds::live_fits))]
     pub(crate) fn live_dependents(&self, master: Master) -> u16
         requires { Stands self.now.tasks master }
-        ensures { result ≡ live_dependents self.now.tasks master }
+        ensures value { result ≡ live_dependents self.now.tasks master }
+        ensures fits { result ≤ 255 }
     {
         let number = holder_of(self.tasks.as_slice(), master);
         let holder = &self.tasks[number as usize];

@@ -176,39 +176,35 @@ fn innermost(tables: &Tables, task: TaskNo) -> Result<Member, Unmet>
         .ok_or(Unmet::InNothing)
 }
 
-/// The tables, with the number of the entries of all tasks.
+/// The tables, called where it is allowed.
 #[derive(Drop)]
 pub struct CheckedTables {
     tables: Tables,
-    slots: u64,
-    ghost tied: { slots ≡ length tables.queues },
 }
 
 impl CheckedTables {
     /// Tables with the main program alone.
     pub fn new(alloc: Global) -> Result<Self, Refusal> {
         let tables = Tables::new(alloc)?;
-        Ok(CheckedTables { tables, slots: 0 })
+        Ok(CheckedTables { tables })
     }
 
     /// Adds a task that was made under a master, with these families.
     pub fn add(&mut self, master: Master, families: &[Family]) -> Result<TaskNo, Unmet> {
-        if self.tables.tasks() >= 256 {
+        if self.tables.tasks() == 256 {
             return Err(Unmet::TooManyTasks);
         }
         if families.len() > 16 {
             return Err(Unmet::TooManyFamilies);
         }
         let declared = Families::from_slice(families);
-        let slots = entries_in(declared.as_slice()).saturating_add(self.slots);
-        if slots > 1024 {
+        let slots = u64::from(self.tables.slots());
+        if entries_in(declared.as_slice()).saturating_add(slots) > 1024 {
             return Err(Unmet::TooManySlots);
         }
         is_open(&self.tables, master)?;
         let added = self.tables.add_task(master, &declared);
-        let task = added.map_err(|_| Unmet::OutOfMemory)?;
-        self.slots = slots;
-        Ok(task)
+        added.map_err(|_| Unmet::OutOfMemory)
     }
 
     /// Puts a call last in the queue of an entry.
