@@ -1,5 +1,5 @@
-//! Tests that cross crates: worked scripts byte for byte, faults of scripts, limits of the kernel and of
-//! its tables, and readers and writers that come in pieces or fail.
+//! Tests that cross crates: worked scripts byte for byte, faults of scripts, limits of the kernel, and
+//! readers and writers that come in pieces or fail.
 #![tactic(auto)]
 
 #[cfg(test)]
@@ -10,8 +10,6 @@ mod activation;
 mod asking;
 #[cfg(test)]
 mod calls;
-#[cfg(test)]
-mod checked_tables;
 #[cfg(test)]
 mod command_line;
 #[cfg(test)]
@@ -34,14 +32,6 @@ mod refused;
 mod scripts;
 #[cfg(test)]
 mod streams;
-#[cfg(test)]
-mod table_chains;
-#[cfg(test)]
-mod table_nests;
-#[cfg(test)]
-mod table_queues;
-#[cfg(test)]
-mod tables;
 #[cfg(test)]
 mod termination;
 #[cfg(test)]

@@ -1,7 +1,7 @@
 //! The queues of the tables: long ones, and those of entries at the ends of the index range.
 
-use crate::asking::{MAIN, SINGLE, entry};
 use crate::checked_tables::{CheckedTables, Unmet};
+use crate::names::{MAIN, SINGLE, entry};
 use ada_events::{Entry, Family, TaskNo};
 use std::process::Abort;
 use std::test::Fail;

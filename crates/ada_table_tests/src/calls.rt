@@ -1,7 +1,7 @@
 //! The tables: each call once, and blocks that are left behind.
 
-use crate::asking::{MAIN, SINGLE, entry};
 use crate::checked_tables::CheckedTables;
+use crate::names::{MAIN, SINGLE, entry};
 use ada_events::{Master, Member, TaskNo};
 use ada_tables::{Layers, Phase};
 use std::process::Abort;

@@ -1,7 +1,7 @@
 //! Nests in the tables: as many members as there may be, blocks and rendezvous mixed.
 
-use crate::asking::MAIN;
 use crate::checked_tables::CheckedTables;
+use crate::names::MAIN;
 use ada_events::{Master, Member, TaskNo};
 use ada_tables::Phase;
 use std::process::Abort;
