@@ -81,7 +81,7 @@ asked_event journal (Activate by tasks) = event.Started by tasks
 asked_event journal (Elaborated by ok) = event.Elaborated by ok
 asked_event journal (Call by callee entry patience) =
     event.Called by callee entry patience (call_due (moment journal) patience)
-asked_event journal (Wait by choices tail pick) = event.Waiting by choices (asked_tail (moment journal) tail) pick
+asked_event journal (Wait by choices tail pick) = event.Waiting by pick choices (asked_tail (moment journal) tail)
 asked_event journal (Delay by duration) = event.Paused by (due_after (moment journal) duration)
 asked_event journal (End by raised) = event.Ended by (member_position (innermost (nest journal by.0))) raised
 asked_event journal (Close by) = event.Closed by (member_position (innermost (nest journal by.0)))

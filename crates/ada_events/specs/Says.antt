@@ -76,7 +76,7 @@ call_in (Called by callee entry patience due) =
 call_in _ = None
 
 unfoldable pub wait_in : Event → Option Wait
-wait_in (Waiting by choices tail pick) =
+wait_in (Waiting by pick choices tail) =
     Some (record { by = by.0; choices = choices; tail = tail; pick = pick })
 wait_in _ = None
 
@@ -142,7 +142,7 @@ left_in _ = None
 -- the task that an event holds up: the caller, the waiting, delayed, activating or leaving one
 unfoldable pub held_in : Event → Option ℕ
 held_in (Called by callee entry patience due) = Some by.0
-held_in (Waiting by choices tail pick) = Some by.0
+held_in (Waiting by pick choices tail) = Some by.0
 held_in (Paused by due) = Some by.0
 held_in (Started by tasks) = Some by.0
 held_in (Closed by block) = Some by.0

@@ -1,14 +1,15 @@
 //! What a journal is made of: the twelve kinds of events that tasks ask for, and the ten that they
 //! force.
 
-use crate::{Choices, Dues, Entry, Families, Master, Patience, TaskNo, Tasks};
+use crate::{ChoiceList, DueList, Entry, FamilyList, Master, Patience, TaskList, TaskNo};
+use std::mem::size_of;
 
 /// The last part of a wait (9.7.1), with the moments at which its delay alternatives are due.
 #[derive(Debug, Drop, PartialEq, Eq)]
 pub enum EventTail {
     Nothing,
     Otherwise,
-    Delays(Dues),
+    Delays(DueList),
     Terminate(bool),
 }
 
@@ -37,12 +38,12 @@ pub enum Event {
         by: TaskNo,
         under: Master,
         master: Master,
-        families: Families,
+        families: FamilyList,
     },
     /// The activation of tasks started (9.3).
     Started {
         by: TaskNo,
-        tasks: Tasks,
+        tasks: TaskList,
     },
     /// A task ended its own activation, by an exception where `ok` is false (9.3).
     Elaborated {
@@ -60,9 +61,9 @@ pub enum Event {
     /// A task waits selectively (9.7.1).
     Waiting {
         by: TaskNo,
-        choices: Choices,
-        tail: EventTail,
         pick: u32,
+        choices: ChoiceList,
+        tail: EventTail,
     },
     /// A task is delayed until a moment (9.6).
     Paused {
@@ -87,7 +88,7 @@ pub enum Event {
     /// Tasks were aborted (9.10).
     Aborted {
         by: TaskNo,
-        tasks: Tasks,
+        tasks: TaskList,
     },
     /// The moment moved.
     Ticked {
@@ -137,3 +138,6 @@ pub enum Event {
         close: u32,
     },
 }
+
+// What a journal costs is its events' size: more than this, and their memory is the price of a request.
+const _: () = prove!(size_of::<Event>() <= 64);

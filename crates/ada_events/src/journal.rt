@@ -38,6 +38,11 @@ impl Journal {
         }
     }
 
+    /// Where the memory of its events lies.
+    pub fn allocator(&self) -> Global {
+        *self.events.allocator()
+    }
+
     /// How many events there are.
     pub fn len(&self) -> u32
         ensures { result ≡ length self.now.events }
@@ -88,9 +93,7 @@ impl Journal {
         ensures events { self.new.events ≡ event ∷ self.old.events }
         ensures spare { self.old.spare ≤ self.new.spare + 1 }
     {
-        let Ok(()) = self.events.push(event) else {
-            unreachable!()
-        };
+        self.events.push_reserved(event);
     }
 }
 

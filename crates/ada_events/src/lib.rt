@@ -12,15 +12,19 @@ pub mod names;
 pub mod outcome;
 pub mod refusal;
 pub mod request;
+pub mod small_list;
+pub mod stored;
 
 pub use board::Board;
 pub use bounded::Bounded;
 pub use event::{Event, EventTail, Way};
 pub use journal::Journal;
 pub use names::{
-    Choice, Choices, Dues, Entry, Families, Family, Master, Member, Nest, Patience, Pause, Pauses,
-    TaskNo, Tasks,
+    Choice, ChoiceList, Choices, DueList, Dues, Entry, Families, Family, FamilyList, Master,
+    Member, Nest, Patience, Pause, Pauses, TaskList, TaskNo, Tasks,
 };
 pub use outcome::Outcome;
 pub use refusal::Refusal;
 pub use request::{Request, Tail};
+pub use small_list::SmallList;
+pub use stored::Stored;

@@ -3,7 +3,7 @@
 ghost use Rattle.std.specs.Prelude.{◌≡◌};
 ghost use Rattle.ada_events.specs.declared.names.Member.TheVariants.{Block};
 
-use crate::Bounded;
+use crate::{Bounded, SmallList, Stored};
 
 /// A task by its number, 0 to 255: 0 is the main program, and task `k` was made by the `k`-th
 /// creation. A larger number names no task.
@@ -91,3 +91,15 @@ pub type Dues = Bounded<Option<i64>, 8>;
 
 /// What a task is within, outermost first, at most 32 members.
 pub type Nest = Bounded<Member, 32>;
+
+/// The tasks that an activation or an abort named, as its event keeps them.
+pub type TaskList = SmallList<TaskNo, 8, 256>;
+
+/// The families of entries that a task declared, as its creation keeps them.
+pub type FamilyList = SmallList<Family, 2, 16>;
+
+/// The accept alternatives of a wait, as its event keeps them.
+pub type ChoiceList = SmallList<Choice, 2, 16>;
+
+/// The moments at which the delay alternatives of a wait are due, as its event keeps them.
+pub type DueList = Stored<Dues>;

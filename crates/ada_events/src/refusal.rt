@@ -1,5 +1,9 @@
 //! Why a request is refused.
 
+ghost use Rattle.std.specs.Prelude.{◌≡◌};
+ghost use Rattle.ada_events.specs.declared.refusal.Refusal.TheVariants as refusals;
+
+use std::alloc::AllocError;
 use thiserror::Error;
 
 /// The cause for which a request is refused. The causes are checked in this order, and the first
@@ -75,4 +79,12 @@ pub enum Refusal {
     /// A growth was refused.
     #[error("OutOfMemory")]
     OutOfMemory,
+}
+
+impl From<AllocError> for Refusal {
+    ghost from_gives = { λ _ refusal. refusal ≡ refusals.OutOfMemory };
+
+    fn from(_: AllocError) -> Self {
+        Refusal::OutOfMemory
+    }
 }

@@ -16,7 +16,7 @@ held_in-call _ c says = absurd (none-some c says)
 
 pub held_in-wait : (e : Event) (w : Wait) → wait_in e ≡ Some w → held_in e ≡ Some w.by
 unfolding wait_in held_in
-held_in-wait (event.Waiting by choices tail pick) w says = ap (λ (d : Wait). Some d.by) (same_Some _ w says)
+held_in-wait (event.Waiting by pick choices tail) w says = ap (λ (d : Wait). Some d.by) (same_Some _ w says)
 held_in-wait _ w says = absurd (none-some w says)
 
 pub held_in-delay : (e : Event) (d : Delay) → delay_in e ≡ Some d → held_in e ≡ Some d.by

@@ -36,8 +36,8 @@ too_late-wait journal by choices Otherwise pick = refl
 too_late-wait journal by choices (Delays pauses) pick = refl
 too_late-wait journal by choices (Terminate guard) pick = refl
 
-pub wait_asked : (journal : List Event) (given : ℤ) (request : Request) (by : TaskNo) (choices : List Choice) (tail : Tail) (pick : ℕ) (made : EventTail) → given ≡ moment journal → request ≡ Wait by choices tail pick → (is_late_tail given tail ≡ false → made ≡ asked_tail given tail) → is_too_late journal request ≡ false → Waiting by choices made pick ≡ asked_event journal request
+pub wait_asked : (journal : List Event) (given : ℤ) (request : Request) (by : TaskNo) (choices : List Choice) (tail : Tail) (pick : ℕ) (made : EventTail) → given ≡ moment journal → request ≡ Wait by choices tail pick → (is_late_tail given tail ≡ false → made ≡ asked_tail given tail) → is_too_late journal request ≡ false → Waiting by pick choices made ≡ asked_event journal request
 unfolding asked_event
 wait_asked journal given request by choices tail pick made same is asked in_time =
     let late : is_late_tail given tail ≡ false = ap (λ m. is_late_tail m tail) same ∙ sym (too_late-wait journal by choices tail pick) ∙ (rw is at in_time) in
-    rw is (ap (λ t. Waiting by choices t pick) (asked late ∙ ap (λ m. asked_tail m tail) same))
+    rw is (ap (λ t. Waiting by pick choices t) (asked late ∙ ap (λ m. asked_tail m tail) same))

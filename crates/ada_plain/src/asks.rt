@@ -1,5 +1,5 @@
 //! The event that a request becomes when it is accepted.
-ghost use Rattle.std.specs.Prelude.{◌≡◌, ◌<◌, ◌≤◌, ◌^◌, ◌&&◌, ◌++◌, ◌∷◌, [], false, length, reverse, int_lt, map};
+ghost use Rattle.std.specs.Prelude.{◌≡◌, ◌<◌, ◌≤◌, ◌^◌, ◌&&◌, ◌++◌, ◌∷◌, [], false, length, reverse, int_lt, map, IfOk, IfErr};
 ghost use Rattle.std.specs.List.{list_any};
 ghost use Rattle.ada_events.specs.Asks as asks;
 ghost use Rattle.ada_events.specs.Nests as nests;
@@ -9,7 +9,11 @@ ghost use Rattle.ada_plain.specs.Late.{is_late_tail, is_late_call};
 
 use crate::nests::{frame, innermost};
 use crate::tasks::moment;
-use ada_events::{Dues, Event, EventTail, Member, Patience, Pause, Pauses, Request, Tail, TaskNo};
+use ada_events::{
+    ChoiceList, DueList, Dues, Event, EventTail, FamilyList, Member, Patience, Pause, Pauses,
+    Refusal, Request, Tail, TaskList, TaskNo,
+};
+use std::alloc::Global;
 
 /// The moment at which a duration is over, unless it is behind the last moment.
 #[tactic(auto, unfolding(ada_events::specs::Asks::due_after))]
@@ -41,14 +45,18 @@ fn pauses_due(now: i64, pauses: &[Pause]) -> Dues
     dues
 }
 
-fn asked_tail(now: i64, tail: Tail) -> EventTail
-    ensures { is_late_tail now tail ≡ false → result ≡ asks.asked_tail now tail }
+fn asked_tail(alloc: Global, now: i64, tail: &Tail) -> Result<EventTail, Refusal>
+    ensures ok { is_late_tail now tail.now ≡ false → IfOk result (λ made. made ≡ asks.asked_tail now tail.now) }
+    ensures err { IfErr result (λ cause. cause ≡ Refusal.OutOfMemory) }
 {
     match tail {
-        Tail::Nothing => EventTail::Nothing,
-        Tail::Otherwise => EventTail::Otherwise,
-        Tail::Delays(pauses) => EventTail::Delays(pauses_due(now, pauses.as_slice())),
-        Tail::Terminate(guard) => EventTail::Terminate(guard),
+        Tail::Nothing => Ok(EventTail::Nothing),
+        Tail::Otherwise => Ok(EventTail::Otherwise),
+        Tail::Delays(pauses) => Ok(EventTail::Delays(DueList::new(
+            alloc,
+            pauses_due(now, pauses.as_slice()),
+        )?)),
+        Tail::Terminate(guard) => Ok(EventTail::Terminate(*guard)),
     }
 }
 
@@ -74,66 +82,73 @@ fn innermost_position(events: &[Event], task: TaskNo) -> u32
 /// The event that a request becomes when it is accepted: the same, with each duration replaced by the
 /// moment at which it is over.
 #[tactic(auto, unfolding(ada_events::specs::Asks::asked_event, ada_events::specs::Refusals::is_too_late))]
-pub fn asked_event(events: &[Event], request: Request) -> Event
+pub fn asked_event(alloc: Global, events: &[Event], request: &Request) -> Result<Event, Refusal>
     requires short { length events.now < 2 ^ 32 }
-    requires in_time { refusals.is_too_late (reverse events.now) request ≡ false }
-    ensures { result ≡ asks.asked_event (reverse events.now) request }
+    requires in_time { refusals.is_too_late (reverse events.now) request.now ≡ false }
+    ensures ok { IfOk result (λ event. event ≡ asks.asked_event (reverse events.now) request.now) }
+    ensures err { IfErr result (λ cause. cause ≡ Refusal.OutOfMemory) }
 {
     match request {
-        Request::Open { by } => Event::Opened {
-            by,
-            under: frame(events, by),
-        },
+        Request::Open { by } => Ok(Event::Opened {
+            by: *by,
+            under: frame(events, *by),
+        }),
         Request::Create {
             by,
             master,
             families,
-        } => Event::Created {
-            by,
-            under: frame(events, by),
-            master,
-            families,
-        },
-        Request::Activate { by, tasks } => Event::Started { by, tasks },
-        Request::Elaborated { by, ok } => Event::Elaborated { by, ok },
+        } => Ok(Event::Created {
+            by: *by,
+            under: frame(events, *by),
+            master: *master,
+            families: FamilyList::from_slice(alloc, families.as_slice())?,
+        }),
+        Request::Activate { by, tasks } => Ok(Event::Started {
+            by: *by,
+            tasks: TaskList::from_slice(alloc, tasks.as_slice())?,
+        }),
+        Request::Elaborated { by, ok } => Ok(Event::Elaborated { by: *by, ok: *ok }),
         Request::Call {
             by,
             callee,
             entry,
             patience,
-        } => Event::Called {
-            by,
-            callee,
-            entry,
-            patience,
-            due: call_due(moment(events), patience),
-        },
+        } => Ok(Event::Called {
+            by: *by,
+            callee: *callee,
+            entry: *entry,
+            patience: *patience,
+            due: call_due(moment(events), *patience),
+        }),
         Request::Wait {
             by,
             choices,
             tail,
             pick,
-        } => Event::Waiting {
-            by,
-            choices,
-            tail: asked_tail(moment(events), tail),
-            pick,
-        },
-        Request::Delay { by, duration } => Event::Paused {
-            by,
-            due: due_after(moment(events), duration),
-        },
-        Request::End { by, raised } => Event::Ended {
-            by,
-            call: innermost_position(events, by),
-            raised,
-        },
-        Request::Close { by } => Event::Closed {
-            by,
-            block: innermost_position(events, by),
-        },
-        Request::Complete { by } => Event::Completed { by },
-        Request::Abort { by, tasks } => Event::Aborted { by, tasks },
-        Request::Tick { now } => Event::Ticked { now },
+        } => Ok(Event::Waiting {
+            by: *by,
+            choices: ChoiceList::from_slice(alloc, choices.as_slice())?,
+            tail: asked_tail(alloc, moment(events), tail)?,
+            pick: *pick,
+        }),
+        Request::Delay { by, duration } => Ok(Event::Paused {
+            by: *by,
+            due: due_after(moment(events), *duration),
+        }),
+        Request::End { by, raised } => Ok(Event::Ended {
+            by: *by,
+            call: innermost_position(events, *by),
+            raised: *raised,
+        }),
+        Request::Close { by } => Ok(Event::Closed {
+            by: *by,
+            block: innermost_position(events, *by),
+        }),
+        Request::Complete { by } => Ok(Event::Completed { by: *by }),
+        Request::Abort { by, tasks } => Ok(Event::Aborted {
+            by: *by,
+            tasks: TaskList::from_slice(alloc, tasks.as_slice())?,
+        }),
+        Request::Tick { now } => Ok(Event::Ticked { now: *now }),
     }
 }

@@ -42,18 +42,18 @@ fn settle(journal: &mut Journal)
 }
 
 // Appends the event of a request that isn't refused, and the steps that it forces.
-fn accept(journal: &mut Journal, request: Request) -> Result<u32, Refusal>
+fn accept(journal: &mut Journal, request: &Request) -> Result<u32, Refusal>
     requires lawful { IsLawful journal.old.events }
     requires settled { IsSettled journal.old.events }
-    requires unrefused { refusal_of journal.old.events request ≡ None }
-    ensures ok { IfOk result (λ at. IsAccepted journal.old.events request at journal.new.events) }
-    ensures err { IfErr result (λ cause. IsRefused journal.old.events request cause journal.new.events) }
+    requires unrefused { refusal_of journal.old.events request.now ≡ None }
+    ensures ok { IfOk result (λ at. IsAccepted journal.old.events request.now at journal.new.events) }
+    ensures err { IfErr result (λ cause. IsRefused journal.old.events request.now cause journal.new.events) }
     ensures lawful { IsLawful journal.new.events }
     ensures settled { IsSettled journal.new.events }
 {
     journal.reserve(ROOM)?;
     let at = journal.len() + 1;
-    let event = asked_event(journal.as_slice(), request);
+    let event = asked_event(journal.allocator(), journal.as_slice(), request)?;
     journal.push_reserved(event);
     settle(journal);
     Ok(at)
@@ -102,7 +102,7 @@ impl PlainKernel {
         if let Some(cause) = refusal(self.journal.as_slice(), &request) {
             return Err(cause);
         }
-        accept(&mut self.journal, request)
+        accept(&mut self.journal, &request)
     }
 
     /// The journal: every event so far.

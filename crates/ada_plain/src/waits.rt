@@ -179,7 +179,7 @@ pub fn way_of(now: i64, choices: &[Choice], pick: u32, tail: &EventTail) -> Opti
         EventTail::Nothing | EventTail::Terminate(false) => without_choice(choices),
         EventTail::Otherwise => Some(Way::Otherwise),
         EventTail::Terminate(true) => None,
-        EventTail::Delays(dues) => delayed_way(now, choices, pick, dues.as_slice()),
+        EventTail::Delays(dues) => delayed_way(now, choices, pick, dues.get().as_slice()),
     }
 }
 

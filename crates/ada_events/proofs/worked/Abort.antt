@@ -16,9 +16,9 @@ self_abort_turns =
     accepted (Call (task 3) (task 1) (entry 1 (pos 0)) Simple)
     (Called (task 3) (task 1) (entry 1 (pos 0)) Simple None ∷ []) ∷
     accepted (Wait (task 1) (open_choice (entry 0 (pos 0)) ∷ []) Nothing 0)
-    (Waiting (task 1) (open_choice (entry 0 (pos 0)) ∷ []) NoTail 0 ∷ Met 9 11 ∷ []) ∷
+    (Waiting (task 1) 0 (open_choice (entry 0 (pos 0)) ∷ []) NoTail ∷ Met 9 11 ∷ []) ∷
     accepted (Wait (task 1) (open_choice (entry 1 (pos 0)) ∷ []) Nothing 0)
-    (Waiting (task 1) (open_choice (entry 1 (pos 0)) ∷ []) NoTail 0 ∷ Met 10 13 ∷ []) ∷
+    (Waiting (task 1) 0 (open_choice (entry 1 (pos 0)) ∷ []) NoTail ∷ Met 10 13 ∷ []) ∷
     accepted (Call main (task 1) (entry 0 (pos 0)) Simple)
     (Called main (task 1) (entry 0 (pos 0)) Simple None ∷ []) ∷
     accepted (Abort (task 1) ((task 1) ∷ []))
@@ -33,7 +33,7 @@ self_abort = refl
 abbrev pub abort_in_rendezvous_turns : List Turn
 abort_in_rendezvous_turns =
     accepted (Wait (task 1) (open_choice (entry 0 (pos 0)) ∷ []) Nothing 0)
-    (Waiting (task 1) (open_choice (entry 0 (pos 0)) ∷ []) NoTail 0 ∷ []) ∷
+    (Waiting (task 1) 0 (open_choice (entry 0 (pos 0)) ∷ []) NoTail ∷ []) ∷
     accepted (Call (task 2) (task 1) (entry 0 (pos 0)) Simple)
     (Called (task 2) (task 1) (entry 0 (pos 0)) Simple None ∷ Met 10 9 ∷ []) ∷
     accepted (Abort main ((task 2) ∷ []))
@@ -50,7 +50,7 @@ abort_in_rendezvous = refl
 abbrev raised_to_halted_caller_turns : List Turn
 raised_to_halted_caller_turns =
     accepted (Wait (task 1) (open_choice (entry 0 (pos 0)) ∷ []) Nothing 0)
-    (Waiting (task 1) (open_choice (entry 0 (pos 0)) ∷ []) NoTail 0 ∷ []) ∷
+    (Waiting (task 1) 0 (open_choice (entry 0 (pos 0)) ∷ []) NoTail ∷ []) ∷
     accepted (Call (task 2) (task 1) (entry 0 (pos 0)) Simple)
     (Called (task 2) (task 1) (entry 0 (pos 0)) Simple None ∷ Met 10 9 ∷ []) ∷
     accepted (Abort main ((task 2) ∷ []))

@@ -31,7 +31,7 @@ refusals_turns =
     accepted (Call (task 2) (task 1) (entry 0 (pos 0)) Simple)
     (Called (task 2) (task 1) (entry 0 (pos 0)) Simple None ∷ []) ∷
     accepted (Wait (task 1) (open_choice (entry 0 (pos 0)) ∷ []) Nothing 0)
-    (Waiting (task 1) (open_choice (entry 0 (pos 0)) ∷ []) NoTail 0 ∷ Met 13 14 ∷ []) ∷
+    (Waiting (task 1) 0 (open_choice (entry 0 (pos 0)) ∷ []) NoTail ∷ Met 13 14 ∷ []) ∷
     refused (Wait (task 1) (open_choice (entry 1 (pos 0)) ∷ []) (Terminate true) 0) TerminateInAccept ∷
     []
 

@@ -24,7 +24,7 @@ one_rendezvous_turns =
     accepted (Call (task 2) (task 1) (entry 0 (pos 0)) Simple)
     (Called (task 2) (task 1) (entry 0 (pos 0)) Simple None ∷ []) ∷
     accepted (Wait (task 1) (open_choice (entry 0 (pos 0)) ∷ []) Nothing 0)
-    (Waiting (task 1) (open_choice (entry 0 (pos 0)) ∷ []) NoTail 0 ∷ Met 7 8 ∷ []) ∷
+    (Waiting (task 1) 0 (open_choice (entry 0 (pos 0)) ∷ []) NoTail ∷ Met 7 8 ∷ []) ∷
     accepted (End (task 1) false)
     (Ended (task 1) 7 false ∷ []) ∷
     []
@@ -75,7 +75,7 @@ preamble = refl
 abbrev pub order_of_arrival_turns : List Turn
 order_of_arrival_turns =
     accepted (Wait (task 1) (open_choice (entry 0 (pos 0)) ∷ []) Nothing 0)
-    (Waiting (task 1) (open_choice (entry 0 (pos 0)) ∷ []) NoTail 0 ∷ []) ∷
+    (Waiting (task 1) 0 (open_choice (entry 0 (pos 0)) ∷ []) NoTail ∷ []) ∷
     accepted (Call (task 2) (task 1) (entry 0 (pos 0)) Simple)
     (Called (task 2) (task 1) (entry 0 (pos 0)) Simple None ∷ Met 10 9 ∷ []) ∷
     accepted (Call (task 3) (task 1) (entry 0 (pos 0)) Simple)
@@ -85,7 +85,7 @@ order_of_arrival_turns =
     accepted (End (task 1) false)
     (Ended (task 1) 10 false ∷ []) ∷
     accepted (Wait (task 1) (open_choice (entry 0 (pos 0)) ∷ []) Nothing 0)
-    (Waiting (task 1) (open_choice (entry 0 (pos 0)) ∷ []) NoTail 0 ∷ Met 12 15 ∷ []) ∷
+    (Waiting (task 1) 0 (open_choice (entry 0 (pos 0)) ∷ []) NoTail ∷ Met 12 15 ∷ []) ∷
     []
 
 order_of_arrival : IsPlayed (after [] preamble_turns) order_of_arrival_turns
@@ -124,7 +124,7 @@ families_turns =
     (Called (task 3) (task 1) (entry 0 (pos 3)) Simple None ∷ []) ∷
     refused (Wait (task 1) (open_choice (entry 0 (pos 4)) ∷ []) Nothing 0) ConstraintError ∷
     accepted (Wait (task 1) (open_choice (entry 0 (pos 3)) ∷ []) Nothing 0)
-    (Waiting (task 1) (open_choice (entry 0 (pos 3)) ∷ []) NoTail 0 ∷ Met 10 11 ∷ []) ∷
+    (Waiting (task 1) 0 (open_choice (entry 0 (pos 3)) ∷ []) NoTail ∷ Met 10 11 ∷ []) ∷
     refused (Call main (task 1) (entry 0 (pos 4)) Simple) ConstraintError ∷
     refused (Call main (task 1) (entry 1 (pos 2)) Simple) ConstraintError ∷
     []
@@ -141,10 +141,10 @@ nested_rendezvous_turns =
     accepted (Call (task 3) (task 1) (entry 1 (pos 0)) Simple)
     (Called (task 3) (task 1) (entry 1 (pos 0)) Simple None ∷ []) ∷
     accepted (Wait (task 1) (open_choice (entry 0 (pos 0)) ∷ []) Nothing 0)
-    (Waiting (task 1) (open_choice (entry 0 (pos 0)) ∷ []) NoTail 0 ∷ Met 9 11 ∷ []) ∷
+    (Waiting (task 1) 0 (open_choice (entry 0 (pos 0)) ∷ []) NoTail ∷ Met 9 11 ∷ []) ∷
     refused (Wait (task 1) (open_choice (entry 0 (pos 0)) ∷ []) Nothing 0) SameFamilyNested ∷
     accepted (Wait (task 1) (open_choice (entry 1 (pos 0)) ∷ []) Nothing 0)
-    (Waiting (task 1) (open_choice (entry 1 (pos 0)) ∷ []) NoTail 0 ∷ Met 10 13 ∷ []) ∷
+    (Waiting (task 1) 0 (open_choice (entry 1 (pos 0)) ∷ []) NoTail ∷ Met 10 13 ∷ []) ∷
     refused (Complete (task 1)) StillNested ∷
     accepted (End (task 1) false)
     (Ended (task 1) 10 false ∷ []) ∷
@@ -165,7 +165,7 @@ picks_the_first_turns =
     accepted (Call (task 3) (task 1) (entry 1 (pos 0)) Simple)
     (Called (task 3) (task 1) (entry 1 (pos 0)) Simple None ∷ []) ∷
     accepted (Wait (task 1) (open_choice (entry 0 (pos 0)) ∷ open_choice (entry 1 (pos 0)) ∷ []) Nothing 0)
-    (Waiting (task 1) (open_choice (entry 0 (pos 0)) ∷ open_choice (entry 1 (pos 0)) ∷ []) NoTail 0 ∷ Met 9 11 ∷ []) ∷
+    (Waiting (task 1) 0 (open_choice (entry 0 (pos 0)) ∷ open_choice (entry 1 (pos 0)) ∷ []) NoTail ∷ Met 9 11 ∷ []) ∷
     []
 
 picks_the_first : IsPlayed (after [] preamble_turns) picks_the_first_turns
@@ -180,7 +180,7 @@ picks_the_second_turns =
     accepted (Call (task 3) (task 1) (entry 1 (pos 0)) Simple)
     (Called (task 3) (task 1) (entry 1 (pos 0)) Simple None ∷ []) ∷
     accepted (Wait (task 1) (open_choice (entry 0 (pos 0)) ∷ open_choice (entry 1 (pos 0)) ∷ []) Nothing 1)
-    (Waiting (task 1) (open_choice (entry 0 (pos 0)) ∷ open_choice (entry 1 (pos 0)) ∷ []) NoTail 1 ∷ Met 10 11 ∷ []) ∷
+    (Waiting (task 1) 1 (open_choice (entry 0 (pos 0)) ∷ open_choice (entry 1 (pos 0)) ∷ []) NoTail ∷ Met 10 11 ∷ []) ∷
     []
 
 picks_the_second : IsPlayed (after [] preamble_turns) picks_the_second_turns
@@ -195,7 +195,7 @@ picks_by_remainder_turns =
     accepted (Call (task 3) (task 1) (entry 1 (pos 0)) Simple)
     (Called (task 3) (task 1) (entry 1 (pos 0)) Simple None ∷ []) ∷
     accepted (Wait (task 1) (open_choice (entry 0 (pos 0)) ∷ open_choice (entry 1 (pos 0)) ∷ []) Nothing 4294967295)
-    (Waiting (task 1) (open_choice (entry 0 (pos 0)) ∷ open_choice (entry 1 (pos 0)) ∷ []) NoTail 4294967295 ∷ Met 10 11 ∷ []) ∷
+    (Waiting (task 1) 4294967295 (open_choice (entry 0 (pos 0)) ∷ open_choice (entry 1 (pos 0)) ∷ []) NoTail ∷ Met 10 11 ∷ []) ∷
     []
 
 picks_by_remainder : IsPlayed (after [] preamble_turns) picks_by_remainder_turns
@@ -210,7 +210,7 @@ picks_open_choices_turns =
     accepted (Call (task 3) (task 1) (entry 1 (pos 0)) Simple)
     (Called (task 3) (task 1) (entry 1 (pos 0)) Simple None ∷ []) ∷
     accepted (Wait (task 1) (closed_choice (entry 0 (pos 0)) ∷ open_choice (entry 1 (pos 0)) ∷ []) Nothing 0)
-    (Waiting (task 1) (closed_choice (entry 0 (pos 0)) ∷ open_choice (entry 1 (pos 0)) ∷ []) NoTail 0 ∷ Met 10 11 ∷ []) ∷
+    (Waiting (task 1) 0 (closed_choice (entry 0 (pos 0)) ∷ open_choice (entry 1 (pos 0)) ∷ []) NoTail ∷ Met 10 11 ∷ []) ∷
     []
 
 picks_open_choices : IsPlayed (after [] preamble_turns) picks_open_choices_turns
@@ -221,13 +221,13 @@ picks_open_choices = refl
 abbrev pub raised_turns : List Turn
 raised_turns =
     accepted (Wait (task 1) (open_choice (entry 0 (pos 0)) ∷ []) Nothing 0)
-    (Waiting (task 1) (open_choice (entry 0 (pos 0)) ∷ []) NoTail 0 ∷ []) ∷
+    (Waiting (task 1) 0 (open_choice (entry 0 (pos 0)) ∷ []) NoTail ∷ []) ∷
     accepted (Call (task 2) (task 1) (entry 0 (pos 0)) Simple)
     (Called (task 2) (task 1) (entry 0 (pos 0)) Simple None ∷ Met 10 9 ∷ []) ∷
     accepted (Call (task 3) (task 1) (entry 1 (pos 0)) Simple)
     (Called (task 3) (task 1) (entry 1 (pos 0)) Simple None ∷ []) ∷
     accepted (Wait (task 1) (open_choice (entry 1 (pos 0)) ∷ []) Nothing 0)
-    (Waiting (task 1) (open_choice (entry 1 (pos 0)) ∷ []) NoTail 0 ∷ Met 12 13 ∷ []) ∷
+    (Waiting (task 1) 0 (open_choice (entry 1 (pos 0)) ∷ []) NoTail ∷ Met 12 13 ∷ []) ∷
     accepted (End (task 1) true)
     (Ended (task 1) 12 true ∷ []) ∷
     accepted (End (task 1) false)

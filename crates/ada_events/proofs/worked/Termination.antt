@@ -131,11 +131,11 @@ with_dependents = refl
 abbrev held_up_termination_turns : List Turn
 held_up_termination_turns =
     accepted (Wait (task 2) (open_choice (entry 0 (pos 0)) ∷ []) (Terminate true) 0)
-    (Waiting (task 2) (open_choice (entry 0 (pos 0)) ∷ []) (TerminatePart true) 0 ∷ []) ∷
+    (Waiting (task 2) 0 (open_choice (entry 0 (pos 0)) ∷ []) (TerminatePart true) ∷ []) ∷
     accepted (Wait (task 3) (open_choice (entry 0 (pos 0)) ∷ []) (Terminate true) 0)
-    (Waiting (task 3) (open_choice (entry 0 (pos 0)) ∷ []) (TerminatePart true) 0 ∷ []) ∷
+    (Waiting (task 3) 0 (open_choice (entry 0 (pos 0)) ∷ []) (TerminatePart true) ∷ []) ∷
     accepted (Wait (task 4) (closed_choice (entry 0 (pos 0)) ∷ []) (Terminate true) 0)
-    (Waiting (task 4) (closed_choice (entry 0 (pos 0)) ∷ []) (TerminatePart true) 0 ∷ []) ∷
+    (Waiting (task 4) 0 (closed_choice (entry 0 (pos 0)) ∷ []) (TerminatePart true) ∷ []) ∷
     accepted (Call (task 1) (task 4) (entry 0 (pos 0)) (Timed (pos 5)))
     (Called (task 1) (task 4) (entry 0 (pos 0)) (Timed (pos 5)) (Some (pos 5)) ∷ []) ∷
     accepted (Close main)
@@ -152,11 +152,11 @@ held_up_termination = refl
 abbrev collective_termination_turns : List Turn
 collective_termination_turns =
     accepted (Wait (task 2) (open_choice (entry 0 (pos 0)) ∷ []) (Terminate true) 0)
-    (Waiting (task 2) (open_choice (entry 0 (pos 0)) ∷ []) (TerminatePart true) 0 ∷ []) ∷
+    (Waiting (task 2) 0 (open_choice (entry 0 (pos 0)) ∷ []) (TerminatePart true) ∷ []) ∷
     accepted (Wait (task 3) (open_choice (entry 0 (pos 0)) ∷ []) (Terminate true) 0)
-    (Waiting (task 3) (open_choice (entry 0 (pos 0)) ∷ []) (TerminatePart true) 0 ∷ []) ∷
+    (Waiting (task 3) 0 (open_choice (entry 0 (pos 0)) ∷ []) (TerminatePart true) ∷ []) ∷
     accepted (Wait (task 4) (closed_choice (entry 0 (pos 0)) ∷ []) (Terminate true) 0)
-    (Waiting (task 4) (closed_choice (entry 0 (pos 0)) ∷ []) (TerminatePart true) 0 ∷ []) ∷
+    (Waiting (task 4) 0 (closed_choice (entry 0 (pos 0)) ∷ []) (TerminatePart true) ∷ []) ∷
     accepted (Close main)
     (Closed main 5 ∷ Quit (block 5) ∷ Left 19 ∷ []) ∷
     []

@@ -14,13 +14,13 @@ use Rattle.ada_events.proofs.worked.Rendezvous.{preamble_turns}
 abbrev pub guards_and_delays_turns : List Turn
 guards_and_delays_turns =
     accepted (Wait (task 1) (closed_choice (entry 0 (pos 0)) ∷ []) Nothing 0)
-    (Waiting (task 1) (closed_choice (entry 0 (pos 0)) ∷ []) NoTail 0 ∷ Passed 9 ProgramError ∷ []) ∷
+    (Waiting (task 1) 0 (closed_choice (entry 0 (pos 0)) ∷ []) NoTail ∷ Passed 9 ProgramError ∷ []) ∷
     accepted (Wait (task 1) (closed_choice (entry 0 (pos 0)) ∷ []) Otherwise 0)
-    (Waiting (task 1) (closed_choice (entry 0 (pos 0)) ∷ []) ElsePart 0 ∷ Passed 11 ByElse ∷ []) ∷
+    (Waiting (task 1) 0 (closed_choice (entry 0 (pos 0)) ∷ []) ElsePart ∷ Passed 11 ByElse ∷ []) ∷
     accepted (Wait (task 1) (closed_choice (entry 0 (pos 0)) ∷ []) (Delays (open_delay (negsuc 4) ∷ [])) 0)
-    (Waiting (task 1) (closed_choice (entry 0 (pos 0)) ∷ []) (DelayParts (Some (pos 0) ∷ [])) 0 ∷ Passed 13 (ByDelay 0) ∷ []) ∷
+    (Waiting (task 1) 0 (closed_choice (entry 0 (pos 0)) ∷ []) (DelayParts (Some (pos 0) ∷ [])) ∷ Passed 13 (ByDelay 0) ∷ []) ∷
     accepted (Wait (task 1) (open_choice (entry 0 (pos 0)) ∷ []) (Delays (open_delay (pos 20) ∷ closed_delay (pos 5) ∷ open_delay (pos 20) ∷ [])) 7)
-    (Waiting (task 1) (open_choice (entry 0 (pos 0)) ∷ []) (DelayParts (Some (pos 20) ∷ None ∷ Some (pos 20) ∷ [])) 7 ∷ []) ∷
+    (Waiting (task 1) 7 (open_choice (entry 0 (pos 0)) ∷ []) (DelayParts (Some (pos 20) ∷ None ∷ Some (pos 20) ∷ [])) ∷ []) ∷
     accepted (Tick (pos 20))
     (Ticked (pos 20) ∷ Passed 15 (ByDelay 2) ∷ []) ∷
     []
@@ -59,7 +59,7 @@ conditional_calls_turns =
     accepted (Call (task 2) (task 1) (entry 0 (pos 0)) Conditional)
     (Called (task 2) (task 1) (entry 0 (pos 0)) Conditional None ∷ Cancelled 9 ∷ []) ∷
     accepted (Wait (task 1) (open_choice (entry 0 (pos 0)) ∷ []) Nothing 0)
-    (Waiting (task 1) (open_choice (entry 0 (pos 0)) ∷ []) NoTail 0 ∷ []) ∷
+    (Waiting (task 1) 0 (open_choice (entry 0 (pos 0)) ∷ []) NoTail ∷ []) ∷
     accepted (Call (task 2) (task 1) (entry 0 (pos 0)) Conditional)
     (Called (task 2) (task 1) (entry 0 (pos 0)) Conditional None ∷ Met 12 11 ∷ []) ∷
     accepted (End (task 1) false)
@@ -91,7 +91,7 @@ negative_duration = refl
 abbrev closed_delay_unseen_turns : List Turn
 closed_delay_unseen_turns =
     accepted (Wait (task 1) (open_choice (entry 0 (pos 0)) ∷ []) (Delays (closed_delay (pos 9223372036854775807) ∷ [])) 0)
-    (Waiting (task 1) (open_choice (entry 0 (pos 0)) ∷ []) (DelayParts (None ∷ [])) 0 ∷ []) ∷
+    (Waiting (task 1) 0 (open_choice (entry 0 (pos 0)) ∷ []) (DelayParts (None ∷ [])) ∷ []) ∷
     []
 
 closed_delay_unseen : IsPlayed (after [] preamble_turns) closed_delay_unseen_turns

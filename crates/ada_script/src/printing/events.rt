@@ -13,7 +13,7 @@ use super::parts::{
 use crate::Names;
 use crate::meaning::Bound;
 use ada_events::{
-    Choices, Entry, Event, EventTail, Families, Master, Patience, TaskNo, Tasks, Way,
+    ChoiceList, Entry, Event, EventTail, FamilyList, Master, Patience, TaskList, TaskNo, Way,
 };
 use std::alloc::AllocError;
 
@@ -38,7 +38,7 @@ fn put_created(
     at: u32,
     by: TaskNo,
     master: Master,
-    families: &Families,
+    families: &FamilyList,
     names: &Names,
 ) -> Result<(), AllocError>
     ensures { OnOk result (out.new.items ≡ out.old.items ++ created_text names.now at by master families.now) }
@@ -83,7 +83,7 @@ fn put_called(
 fn put_waiting(
     out: &mut Vec<u8>,
     by: TaskNo,
-    choices: &Choices,
+    choices: &ChoiceList,
     tail: &EventTail,
     pick: u32,
     names: &Names,
@@ -118,7 +118,7 @@ fn put_list(
     out: &mut Vec<u8>,
     by: TaskNo,
     deed: &[u8],
-    tasks: &Tasks,
+    tasks: &TaskList,
     names: &Names,
 ) -> Result<(), AllocError>
     ensures { OnOk result (out.new.items ≡ out.old.items ++ (task_text names.now by ++ deed.now ++ flat_map (listed_text names.now) tasks.now)) }

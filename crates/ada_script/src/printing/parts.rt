@@ -8,7 +8,7 @@ ghost use Rattle.ada_script.specs.Texts.{task_text, made_text, block_text, maste
 use crate::meaning::Bound;
 use crate::{Name, Names};
 use ada_events::{
-    Choice, Choices, Dues, Entry, EventTail, Families, Family, Master, TaskNo, Tasks, Way,
+    Choice, ChoiceList, Dues, Entry, EventTail, Family, FamilyList, Master, TaskList, TaskNo, Way,
 };
 use itoa::Buffer;
 use std::alloc::AllocError;
@@ -119,7 +119,7 @@ fn put_listed(out: &mut Vec<u8>, task: TaskNo, names: &Names) -> Result<(), Allo
 }
 
 /// Appends tasks, each behind a space.
-pub fn put_tasks(out: &mut Vec<u8>, tasks: &Tasks, names: &Names) -> Result<(), AllocError>
+pub fn put_tasks(out: &mut Vec<u8>, tasks: &TaskList, names: &Names) -> Result<(), AllocError>
     ensures { OnOk result (out.new.items ≡ out.old.items ++ flat_map (listed_text names.now) tasks.now) }
 {
     for task in tasks.as_slice() {
@@ -156,12 +156,12 @@ fn put_bounds(
 /// Appends the families of the task that the event at a position made.
 pub fn put_families(
     out: &mut Vec<u8>,
-    families: &Families,
+    families: &FamilyList,
     declared: &[Name],
 ) -> Result<(), AllocError>
     ensures { OnOk result (out.new.items ≡ out.old.items ++ families_text declared.now families.now) }
 {
-    if families.is_empty() {
+    if families.as_slice().is_empty() {
         return Ok(());
     }
     put(out, b" with")?;
@@ -209,7 +209,7 @@ fn put_choice(
 pub fn put_choices(
     out: &mut Vec<u8>,
     by: TaskNo,
-    choices: &Choices,
+    choices: &ChoiceList,
     names: &Names,
 ) -> Result<(), AllocError>
     ensures { OnOk result (out.new.items ≡ out.old.items ++ flat_map (choice_text names.now by) choices.now) }
@@ -250,7 +250,7 @@ pub fn put_tail(out: &mut Vec<u8>, tail: &EventTail) -> Result<(), AllocError>
     match tail {
         EventTail::Nothing => Ok(()),
         EventTail::Otherwise => put(out, b" else"),
-        EventTail::Delays(dues) => put_dues(out, dues),
+        EventTail::Delays(dues) => put_dues(out, dues.get()),
         EventTail::Terminate(guard) => {
             put_guard(out, *guard)?;
             put(out, b" terminate")

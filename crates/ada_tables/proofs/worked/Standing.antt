@@ -60,7 +60,7 @@ in_rendezvous =
     Called (task 3) (task 1) (entry 0) Simple None ∷
     Opened (task 1) (Body (task 1)) ∷
     Created (task 1) (Block 11) (Block 11) [] ∷
-    Waiting (task 1) (open_choice (entry 0) ∷ []) Nothing 0 ∷
+    Waiting (task 1) 0 (open_choice (entry 0) ∷ []) Nothing ∷
     Met 9 13 ∷ []) ++ preamble
 
 main_runs : facts_in in_rendezvous 0 ≡ record { master = None; families = []; nest = []; phase = Active }
@@ -108,7 +108,7 @@ under_the_block = refl
 -- the server waits for a call or its end, and a client completes and is gone
 abbrev at_terminate : List Event
 at_terminate =
-    reverse (Waiting (task 1) (open_choice (entry 0) ∷ []) (Terminate true) 0 ∷
+    reverse (Waiting (task 1) 0 (open_choice (entry 0) ∷ []) (Terminate true) ∷
     Completed (task 2) ∷
     Gone (task 2) ∷ []) ++ preamble
 

@@ -10,15 +10,15 @@ pub overflow_add-at : goal.overflow_add-at
 overflow_add-at c =
     omega (arith, has_places c.args.journal.now.events c.requires.lawful, c.len-at.ensures, ap length c.in_ok-reserve.ensures.events)
 
-pub asked_event-event-requires-clause-in_time : goal.asked_event-event-requires-clause-in_time
-asked_event-event-requires-clause-in_time c =
-    in_time c.as_slice.result.now c.args.journal.now.events c.args.request
+pub asked_event-requires-clause-in_time : goal.asked_event-requires-clause-in_time
+asked_event-requires-clause-in_time c =
+    in_time c.as_slice.result.now c.args.journal.now.events c.args.request.now
     (c.as_slice.ensures.value ∙ c.in_ok-reserve.ensures.events) c.requires.unrefused
 
 pub settle-requires-clause-room : goal.settle-requires-clause-room
 settle-requires-clause-room c =
-    (asked_room c.args.journal.now.events c.args.request c.reserve.new.self c.push_reserved.new.self c.asked_event-event.result
+    (asked_room c.args.journal.now.events c.args.request.now c.reserve.new.self c.push_reserved.new.self c.in_ok-event.event
     c.requires.lawful c.requires.settled c.requires.unrefused c.in_ok-reserve.ensures.events c.in_ok-reserve.ensures.ok
     c.push_reserved.ensures.spare
-    (c.asked_event-event.ensures ∙ ap (λ j. asked_event j c.args.request) (c.as_slice.ensures.value ∙ c.in_ok-reserve.ensures.events))
+    (c.in_ok-event.ensures.ok ∙ ap (λ j. asked_event j c.args.request.now) (c.as_slice.ensures.value ∙ c.in_ok-reserve.ensures.events))
     c.push_reserved.ensures.events).1
