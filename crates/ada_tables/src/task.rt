@@ -8,6 +8,7 @@ ghost use Rattle.ada_tables.specs.Counts.{counted, made};
 use crate::change::Change;
 use crate::{Layers, Phase};
 use ada_events::{Families, Master, TaskNo};
+use std::mem::size_of;
 
 /// What is kept of a task: the master that it was made under, its entries, what it is in, how many live
 /// dependents its body has, the number of the task that holds its master, and its phase. The main program
@@ -68,3 +69,5 @@ pub(crate) fn parent_within(number: u16, nest: &Layers, block: u32) -> Master
         None => Master::Body(TaskNo(number)),
     }
 }
+
+const _: () = prove!(size_of::<Task>() <= 424);
