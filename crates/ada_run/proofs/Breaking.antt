@@ -23,5 +23,4 @@ nothing_played script bytes =
     record { written = []; rest = played.text; new = played.new; prints = played.plays; appended = appends_nothing bytes }
 
 pub input_breaks : (fault : RunFault) (input bytes : Option (List ℕ)) → IsInputFault fault → Breaks fault input bytes bytes
-input_breaks fault input bytes (inl is) = subst (λ f. Breaks f input bytes bytes) (sym is) (inl (keeps_same bytes))
-input_breaks fault input bytes (inr is) = subst (λ f. Breaks f input bytes bytes) (sym is) (keeps_same bytes)
+input_breaks fault input bytes is = inl (is, keeps_same bytes)

@@ -1,7 +1,7 @@
 //! Reading an input whole.
-ghost use Rattle.std.specs.Prelude.{◌≡◌, ℕ, ◌+◌, ◌<◌, ◌≤◌, ◌++◌, List, IfOk, IfErr, IfSome, vec_len, length};
+ghost use Rattle.std.specs.Prelude.{◌≡◌, ℕ, ◌+◌, ◌-◌, ◌<◌, ◌≤◌, ◌++◌, List, IfOk, IfErr, IfSome, vec_len, length};
 ghost use Rattle.std.specs.Io.KnownBytes.{Consumes, IsAtEnd};
-ghost use Rattle.ada_run.specs.Input.{text_of, IsInputFault};
+ghost use Rattle.ada_run.specs.Input.{text_of, IsInputFault, TakesAtMost};
 
 use crate::RunFault;
 use std::alloc::Global;
@@ -20,6 +20,7 @@ fn read_piece<R: Read>(reader: &mut R, text: &mut Vec<u8>) -> Result<usize, RunF
     ensures bound { IfOk result (λ n. (vec_len text.new ≡ vec_len text.old + n) × (vec_len text.new ≤ 823297)) }
     ensures end { IfOk result (λ n. n ≡ 0 → IsAtEnd (R.remaining reader.new)) }
     ensures err { IfErr result IsInputFault }
+    ensures taken { TakesAtMost (823297 - vec_len text.old) (R.remaining reader.old) (R.remaining reader.new) }
 {
     let mut piece = [0u8; PIECE];
     let room = PIECE.min(MOST_BYTES - text.len());
@@ -33,6 +34,7 @@ fn read_piece<R: Read>(reader: &mut R, text: &mut Vec<u8>) -> Result<usize, RunF
 pub fn read_input<R: Read>(alloc: Global, reader: &mut R) -> Result<Vec<u8>, RunFault>
     ensures ok { IfOk result (λ text. IfSome (R.remaining reader.old) (λ bytes. text.items ≡ text_of bytes)) }
     ensures err { IfErr result IsInputFault }
+    ensures taken { TakesAtMost 823297 (R.remaining reader.old) (R.remaining reader.new) }
 {
     let mut text = Vec::new(alloc);
     let mut more = true;
