@@ -1,11 +1,11 @@
 -- Lines have one play.
-use Rattle.std.proofs.Common.{◌≡◌, ℕ, Option, Some, None, List, [], ◌∷◌, ◌++◌, length, refl, sym, ap, ◌∙◌, subst, inl, inr, MatchOption}
+use Rattle.std.proofs.Common.{◌≡◌, ℕ, Option, Some, None, List, [], ◌∷◌, ◌++◌, length, sym, ap, ◌∙◌, subst, inl, inr, MatchOption}
 use Rattle.ada_events.specs.declared.request.Request.{Request}
 use Rattle.ada_laws.proofs.RequestLaws.{leads_to_one_journal}
 use Rattle.ada_script.specs.declared.script.Line.{Line}
 use Rattle.ada_script.specs.Binding.{request_of}
 use Rattle.ada_script.specs.Texts.{refusal_text}
-use Rattle.ada_run.specs.Play.{State, group_text, SaysGroup, SaysRefusal, SaysRequest, SaysShown, Says, Plays}
+use Rattle.ada_run.specs.Play.{State, group_text, SaysRequest, SaysShown, Plays}
 
 state_same : (a b : State) → a.journal ≡ b.journal → a.names ≡ b.names → a ≡ b
 state_same a b journals names = ap (λ j. record { journal = j; names = a.names }) journals ∙ ap (λ n. record { journal = b.journal; names = n }) names

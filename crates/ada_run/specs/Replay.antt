@@ -1,6 +1,6 @@
 -- What a replay promises.
 use Rattle.std.specs.Prelude.{◌≡◌, ◌⊎◌, ℕ, true, false, Option, List, [], IfSome}
-use Rattle.std.specs.Io.KnownBytes.{Appends, Keeps}
+use Rattle.std.specs.Io.KnownBytes.{Keeps}
 use Rattle.ada_events.specs.declared.event.Event.{Event}
 use Rattle.ada_events.specs.Attributes.{is_finished}
 use Rattle.ada_script.specs.declared.fault.ScriptFault.{ScriptFault}
