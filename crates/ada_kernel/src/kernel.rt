@@ -63,6 +63,13 @@ impl Kernel {
         self.plain.journal()
     }
 
+    /// How many tasks there are, the main program counted: 1 to 256.
+    pub fn tasks(&self) -> u16
+        ensures { result ≡ task_count self.now }
+    {
+        self.plain.tasks()
+    }
+
     /// The outcome of a task; none where there is no such task.
     pub fn outcome(&self, task: TaskNo) -> Option<Outcome>
         ensures { result ≡ then_some (nat_lt task.0 (task_count self.now)) (outcome_of self.now task.0) }

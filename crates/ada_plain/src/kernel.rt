@@ -21,6 +21,7 @@ use crate::boards::board;
 use crate::forced::forced;
 use crate::refusals::refusal;
 use crate::slots::slot;
+use crate::tasks;
 use ada_events::{Board, Entry, Journal, Outcome, Refusal, Request, TaskNo};
 use std::alloc::Global;
 use std::marker::Model;
@@ -112,6 +113,13 @@ impl PlainKernel {
         ensures settled { IsSettled self.now }
     {
         &self.journal
+    }
+
+    /// How many tasks there are, the main program counted: 1 to 256.
+    pub fn tasks(&self) -> u16
+        ensures { result ≡ task_count self.now }
+    {
+        tasks::task_count(self.journal.as_slice()) as u16
     }
 
     /// The outcome of a task; none where there is no such task.

@@ -1,15 +1,14 @@
 -- What was written where a replay ends before its first line.
-use Rattle.std.proofs.Common.{◌≡◌, ℕ, Option, Some, None, List, [], ◌++◌, refl, sym, subst, inl, inr}
+use Rattle.std.proofs.Common.{ℕ, Option, Some, None, List, [], refl, inl}
 use Rattle.std.specs.Io.KnownBytes.{Keeps}
 use Rattle.ada_script.specs.declared.script.Line.{Line}
-use Rattle.ada_plain.proofs.Resting.{empty_is_settled}
+use Rattle.ada_laws.proofs.GroupLaws.{empty_is_settled}
 use Rattle.ada_run.specs.declared.fault.RunFault.{RunFault}
-use Rattle.ada_run.specs.declared.fault.RunFault.TheVariants.{Memory, Read}
 use Rattle.ada_run.specs.Input.{IsInputFault}
-use Rattle.ada_run.specs.Play.{State, Plays}
+use Rattle.ada_run.specs.Play.{Plays}
 use Rattle.ada_run.specs.Ends.{IsCutShort}
 use Rattle.ada_run.specs.Replay.{beginning, Breaks}
-use Rattle.ada_run.proofs.Playing.{IsAtRest, lines_play}
+use Rattle.ada_run.proofs.Playing.{lines_play}
 use Rattle.ada_run.proofs.Cuts.{appends_nothing}
 
 keeps_same : (bytes : Option (List ℕ)) → Keeps bytes bytes
@@ -23,5 +22,4 @@ nothing_played script bytes =
     record { written = []; rest = played.text; new = played.new; prints = played.plays; appended = appends_nothing bytes }
 
 pub input_breaks : (fault : RunFault) (input bytes : Option (List ℕ)) → IsInputFault fault → Breaks fault input bytes bytes
-input_breaks fault input bytes (inl is) = subst (λ f. Breaks f input bytes bytes) (sym is) (inl (keeps_same bytes))
-input_breaks fault input bytes (inr is) = subst (λ f. Breaks f input bytes bytes) (sym is) (keeps_same bytes)
+input_breaks fault input bytes is = inl (is, keeps_same bytes)

@@ -1,6 +1,7 @@
 -- What reads and writes do to known bytes, one after another.
-use Rattle.std.proofs.Common.{◌≡◌, ◌⊎◌, ℕ, ◌+◌, ◌-◌, ◌≤◌, Option, Some, None, List, [], ◌∷◌, ◌++◌, length, take, drop, refl, ap, sym, ◌∙◌, subst, append_assoc, append-nil, arith, length-append, length-drop, inl, inr, IfSome}
+use Rattle.std.proofs.Common.{◌≡◌, ◌⊎◌, ℕ, ◌+◌, ◌-◌, ◌≤◌, Option, Some, None, List, ◌++◌, length, take, drop, ap, sym, ◌∙◌, subst, append_assoc, append-nil, arith, length-append, length-drop, inl, inr, IfSome}
 use Rattle.std.specs.Io.KnownBytes.{Appends, Consumes, IsAtEnd}
+use Rattle.ada_run.specs.Input.{TakesAtMost}
 use Rattle.std.proofs.Math.Seq.{take-add}
 use Rattle.std.proofs.lemmas.List.{take_all, take-append-le}
 
@@ -26,3 +27,15 @@ consumed_whole (Some bytes) (Some rest) text n consumed within (inl end) =
     sym (ap (take n) (consumed ∙ ap (λ r. text ++ r) end ∙ append-nil text) ∙ take_all n text within)
 consumed_whole (Some bytes) (Some rest) text n consumed within (inr full) =
     sym (ap (take n) consumed ∙ take-append-le n text rest full ∙ take_all n text within)
+
+-- what was taken twice was taken at once
+consumes_both : (old mid new : Option (List ℕ)) (xs ys : List ℕ) → Consumes old mid xs → Consumes mid new ys → Consumes old new (xs ++ ys)
+consumes_both None mid new xs ys first second = tt
+consumes_both (Some us) None new xs ys first second = absurd first
+consumes_both (Some us) (Some bs) None xs ys first second = absurd second
+consumes_both (Some us) (Some bs) (Some cs) xs ys first second = first ∙ ap (λ zs. xs ++ zs) second ∙ sym (append_assoc xs ys cs)
+
+-- a text was taken, and then no more than may still be taken
+pub takes_more : (old mid new : Option (List ℕ)) (text : List ℕ) (most len : ℕ) → Consumes old mid text → length text ≡ len → len ≤ most → TakesAtMost (most - len) mid new → TakesAtMost most old new
+takes_more old mid new text most len consumed is within (bytes, more, few) =
+    (text ++ bytes, consumes_both old mid new text bytes consumed more, omega (arith, length-append text bytes, is))

@@ -1,68 +1,101 @@
--- What was written of a play, line by line, and what was written of it before it was broken off.
-use Rattle.std.proofs.Common.{◌≡◌, ◌⊎◌, ℕ, ◌+◌, ◌<◌, Option, Some, None, List, [], ◌∷◌, ◌++◌, length, take, drop, get_or, refl, sym, ap, ◌∙◌, subst, append_assoc, append-nil, inl, inr, Result, Ok, Err, IfErr}
+-- What was written of a play and what is yet to be written, and what was written of it before it was broken off.
+use Rattle.std.proofs.Common.{◌≡◌, ℕ, ◌+◌, ◌<◌, ◌≤◌, Option, Some, None, List, [], ◌∷◌, ◌++◌, length, take, drop, get_or, refl, sym, ap, ◌∙◌, subst, append_assoc, append-nil, arith, Result, Ok, Err, IfErr, OnOk, inr}
 use Rattle.std.specs.Io.KnownBytes.{Appends}
-use Rattle.std.proofs.lemmas.List.{take_more, take-append-drop}
+use Rattle.std.proofs.lemmas.List.{take_more, take-append-drop, take_all}
 use Rattle.ada_script.specs.declared.script.Line.{Line}
 use Rattle.ada_run.specs.declared.fault.RunFault.{RunFault}
 use Rattle.ada_run.specs.declared.fault.RunFault.TheVariants.{Write}
 use Rattle.ada_run.specs.Play.{State, Says, Plays}
 use Rattle.ada_run.specs.Ends.{IsShortage, IsWritten, IsCutShort}
 use Rattle.ada_run.proofs.Bytes.{appends_both}
-use Rattle.ada_run.proofs.Playing.{IsAtRest, plays-push, plays-append, says_at_rest, each_line_says, lines_play}
+use Rattle.ada_run.proofs.Playing.{IsAtRest, plays-push, plays-append, lines_play}
 
 pub appends_nothing : (bytes : Option (List ℕ)) → Appends bytes bytes []
 appends_nothing None = tt
 appends_nothing (Some us) = sym (append-nil us)
 
--- nothing was written of a line
-pub nothing_written : (line : Line) (old : State) (bytes : Option (List ℕ)) → IsAtRest old → IsCutShort (Says line old) bytes bytes
-nothing_written line old bytes rest =
-    let said = each_line_says line old rest in
-    record { written = []; rest = said.text; new = said.new; prints = said.says; appended = appends_nothing bytes }
+-- some lines were played; of what they print some was written, and the text isn't written yet
+pub record IsPending (lines : List Line) (old new : State) (before after : Option (List ℕ)) (text : List ℕ) : Type 0 where
+  pub written : List ℕ
+  pub plays : Plays lines old (written ++ text) new
+  pub appended : Appends before after written
 
--- a beginning of a line's text was written
-pub beginning_written : (line : Line) (old new : State) (text : List ℕ) (before after : Option (List ℕ)) (n : ℕ) → Says line old text new → Appends before after (take n text) → IsCutShort (Says line old) before after
-beginning_written line old new text before after n says appended = record {
-  written = take n text;
+pub pending_none : (old : State) (bytes : Option (List ℕ)) (text : List ℕ) → text ≡ [] → IsPending [] old old bytes bytes text
+pending_none old bytes text empty = record { written = []; plays = (empty, refl); appended = appends_nothing bytes }
+
+-- one more line was played, and what it says was appended to the text
+pub pending_line : (lines : List Line) (i : ℕ) (line : Line) (old mid new : State) (before after : Option (List ℕ)) (text more : List ℕ) → i < length lines → line ≡ get_or lines i line → IsPending (take i lines) old mid before after text → (said : List ℕ) × (more ≡ text ++ said) × Says line mid said new → IsPending (take (i + 1) lines) old new before after more
+pending_line lines i line old mid new before after text more below is so_far (said, grown, says) = record {
+  written = so_far.written;
+  plays = subst (λ t. Plays (take (i + 1) lines) old t new) (append_assoc so_far.written text said ∙ ap (λ t. so_far.written ++ t) (sym grown))
+      (subst (λ ls. Plays ls old ((so_far.written ++ text) ++ said) new) (ap (λ l. take i lines ++ l ∷ []) is ∙ sym (take_more lines i line below))
+      (plays-push (take i lines) line old mid new (so_far.written ++ text) said so_far.plays says));
+  appended = so_far.appended;
+}
+
+-- a piece of the text was written
+pub pending_piece : (lines : List Line) (old new : State) (before between after : Option (List ℕ)) (text rest : List ℕ) → IsPending lines old new before between text → (piece : List ℕ) × Appends between after piece × (text ≡ piece ++ rest) → IsPending lines old new before after rest
+pending_piece lines old new before between after text rest so_far (piece, appended, cut) = record {
+  written = so_far.written ++ piece;
+  plays = subst (λ t. Plays lines old t new) (ap (λ t. so_far.written ++ t) cut ∙ sym (append_assoc so_far.written piece rest)) so_far.plays;
+  appended = appends_both before between after so_far.written piece so_far.appended appended;
+}
+
+-- the whole text was written
+pub pending_written : (lines : List Line) (old new : State) (before between after : Option (List ℕ)) (text : List ℕ) → IsPending lines old new before between text → Appends between after text → IsWritten (Plays lines old) before after new
+pending_written lines old new before between after text so_far appended = record {
+  text = so_far.written ++ text;
+  prints = so_far.plays;
+  appended = appends_both before between after so_far.written text so_far.appended appended;
+}
+
+-- a beginning of the text was written
+pub pending_cut : (lines : List Line) (old new : State) (before between after : Option (List ℕ)) (text : List ℕ) → IsPending lines old new before between text → (n : ℕ) × Appends between after (take n text) → IsCutShort (Plays lines old) before after
+pending_cut lines old new before between after text so_far (n, appended) = record {
+  written = so_far.written ++ take n text;
   rest = drop n text;
   new = new;
-  prints = subst (λ t. Says line old t new) (sym (take-append-drop n text)) says;
-  appended = appended;
+  prints = subst (λ t. Plays lines old t new) (ap (λ t. so_far.written ++ t) (sym (take-append-drop n text)) ∙ sym (append_assoc so_far.written (take n text) (drop n text))) so_far.plays;
+  appended = appends_both before between after so_far.written (take n text) so_far.appended appended;
 }
 
--- one more line was written
-pub written_more : (lines : List Line) (i : ℕ) (d : Line) (old mid new : State) (before between after : Option (List ℕ)) → i < length lines → IsWritten (Plays (take i lines) old) before between mid → IsWritten (Says (get_or lines i d) mid) between after new → IsWritten (Plays (take (i + 1) lines) old) before after new
-written_more lines i d old mid new before between after below so_far line = record {
-  text = so_far.text ++ line.text;
-  prints = subst (λ ls. Plays ls old (so_far.text ++ line.text) new) (sym (take_more lines i d below))
-      (plays-push (take i lines) (get_or lines i d) old mid new so_far.text line.text so_far.prints line.prints);
-  appended = appends_both before between after so_far.text line.text so_far.appended line.appended;
-}
-
--- one more line was cut short, and so are all
-pub lines_cut : (lines : List Line) (i : ℕ) (d : Line) (old mid : State) (before between after : Option (List ℕ)) → i < length lines → IsAtRest mid → IsWritten (Plays (take i lines) old) before between mid → IsCutShort (Says (get_or lines i d) mid) between after → IsCutShort (Plays lines old) before after
-lines_cut lines i d old mid before between after below rest so_far line =
-    let next : IsAtRest line.new = says_at_rest (get_or lines i d) mid line.new (line.written ++ line.rest) rest line.prints in
-    let others = lines_play (drop (i + 1) lines) line.new next in
-    let one_more : Plays (take (i + 1) lines) old (so_far.text ++ (line.written ++ line.rest)) line.new =
-    subst (λ ls. Plays ls old (so_far.text ++ (line.written ++ line.rest)) line.new) (sym (take_more lines i d below))
-    (plays-push (take i lines) (get_or lines i d) old mid line.new so_far.text (line.written ++ line.rest) so_far.prints line.prints) in
-    let whole : Plays lines old ((so_far.text ++ (line.written ++ line.rest)) ++ others.text) others.new =
-    subst (λ ls. Plays ls old ((so_far.text ++ (line.written ++ line.rest)) ++ others.text) others.new) (take-append-drop (i + 1) lines)
-    (plays-append (take (i + 1) lines) (drop (i + 1) lines) old line.new others.new (so_far.text ++ (line.written ++ line.rest)) others.text one_more others.plays) in
+-- the play of the first lines was cut short, and so is that of all
+cut_more : (lines : List Line) (i : ℕ) (old : State) (before after : Option (List ℕ)) → (cut : IsCutShort (Plays (take i lines) old) before after) → IsAtRest cut.new → IsCutShort (Plays lines old) before after
+cut_more lines i old before after cut rest =
+    let others = lines_play (drop i lines) cut.new rest in
+    let whole : Plays lines old ((cut.written ++ cut.rest) ++ others.text) others.new =
+    subst (λ ls. Plays ls old ((cut.written ++ cut.rest) ++ others.text) others.new) (take-append-drop i lines)
+    (plays-append (take i lines) (drop i lines) old cut.new others.new (cut.written ++ cut.rest) others.text cut.prints others.plays) in
     record {
-      written = so_far.text ++ line.written;
-      rest = line.rest ++ others.text;
+      written = cut.written;
+      rest = cut.rest ++ others.text;
       new = others.new;
-      prints = subst (λ t. Plays lines old t others.new) (regroup so_far.text line.written line.rest others.text) whole;
-      appended = appends_both before between after so_far.text line.written so_far.appended line.appended;
+      prints = subst (λ t. Plays lines old t others.new) (append_assoc cut.written cut.rest others.text) whole;
+      appended = cut.appended;
     }
-  where
-    regroup : (a b c e : List ℕ) → (a ++ (b ++ c)) ++ e ≡ (a ++ b) ++ (c ++ e)
-    regroup a b c e = ap (λ t. t ++ e) (sym (append_assoc a b c)) ∙ append_assoc (a ++ b) c e
 
--- the output of a line's text was cut short
-pub output_cut : (line : Line) (old new : State) (text bytes : List ℕ) (before after : Option (List ℕ)) (result : Result (Unit {0}) RunFault) → bytes ≡ text → Says line old text new → IfErr result (λ fault. (fault ≡ Write) × (n : ℕ) × Appends before after (take n bytes)) → IfErr result (λ fault. IsShortage fault × IsCutShort (Says line old) before after)
-output_cut line old new text bytes before after (Ok done) same says cut = tt
-output_cut line old new text bytes before after (Err fault) same says (is, n, appended) =
-    (inr is, beginning_written line old new text before after n says (subst (λ bs. Appends before after (take n bs)) same appended))
+-- the play was broken off behind its first lines, and a beginning of the text was written
+pub lines_cut : (lines : List Line) (i : ℕ) (old mid : State) (before between after : Option (List ℕ)) (text : List ℕ) → IsAtRest mid → IsPending (take i lines) old mid before between text → (n : ℕ) × Appends between after (take n text) → IsCutShort (Plays lines old) before after
+unfolding pending_cut
+lines_cut lines i old mid before between after text rest so_far cut =
+    cut_more lines i old before after (pending_cut (take i lines) old mid before between after text so_far cut) rest
+
+-- whether a write succeeds or fails, a beginning of its bytes was written
+pub some_written : (text bytes : List ℕ) (before after : Option (List ℕ)) (result : Result (Unit {0}) RunFault) → bytes ≡ text → OnOk result (Appends before after bytes) → IfErr result (λ fault. (fault ≡ Write) × (n : ℕ) × Appends before after (take n bytes)) → (n : ℕ) × Appends before after (take n text)
+some_written text bytes before after (Ok done) same all cut =
+    (length text, subst (Appends before after) (same ∙ sym (take_all (length text) text (omega arith))) all)
+some_written text bytes before after (Err fault) same all (is, n, appended) = (n, subst (λ bs. Appends before after (take n bs)) same appended)
+
+-- the last write, of all that is left: what was written is the play where it succeeds, and else a beginning
+pub play_ends : (lines : List Line) (i : ℕ) (old new : State) (before between after : Option (List ℕ)) (text bytes : List ℕ) (result : Result (Unit {0}) RunFault) → length lines ≤ i → IsPending (take i lines) old new before between text → bytes ≡ text → OnOk result (Appends between after bytes) → OnOk result (IsWritten (Plays lines old) before after new)
+play_ends lines i old new before between after text bytes (Ok done) full so_far same all =
+    pending_written lines old new before between after text (subst (λ ls. IsPending ls old new before between text) (take_all i lines full) so_far) (subst (Appends between after) same all)
+play_ends lines i old new before between after text bytes (Err fault) full so_far same all = tt
+
+pub play_is_cut : (lines : List Line) (i : ℕ) (old new : State) (before between after : Option (List ℕ)) (text bytes : List ℕ) (result : Result (Unit {0}) RunFault) → length lines ≤ i → IsPending (take i lines) old new before between text → bytes ≡ text → IfErr result (λ fault. (fault ≡ Write) × (n : ℕ) × Appends between after (take n bytes)) → IfErr result (λ fault. IsShortage fault × IsCutShort (Plays lines old) before after)
+play_is_cut lines i old new before between after text bytes (Ok done) full so_far same cut = tt
+play_is_cut lines i old new before between after text bytes (Err fault) full so_far same (is, n, appended) = (
+  inr is,
+  pending_cut lines old new before between after text (subst (λ ls. IsPending ls old new before between text) (take_all i lines full) so_far)
+      (n, subst (λ bs. Appends between after (take n bs)) same appended),
+)

@@ -1,18 +1,17 @@
 -- Plays of some lines: one more line, some more lines, and that there is one.
-use Rattle.std.proofs.Common.{◌≡◌, ◌⊎◌, ℕ, ◌+◌, Bool, true, false, Option, Some, None, List, [], ◌∷◌, ◌++◌, refl, sym, ap, ◌∙◌, subst, append_assoc, append-nil, inl, inr, length, MatchOption}
-use Rattle.ada_events.specs.declared.event.Event.{Event}
+use Rattle.std.proofs.Common.{◌≡◌, ℕ, ◌+◌, Option, Some, None, List, [], ◌∷◌, ◌++◌, refl, sym, ap, ◌∙◌, subst, append_assoc, append-nil, inl, inr, length, MatchOption}
 use Rattle.ada_events.specs.declared.request.Request.{Request}
 use Rattle.ada_events.specs.declared.refusal.Refusal.{Refusal}
 use Rattle.ada_events.specs.Tasks.{task_count}
 use Rattle.ada_events.specs.Forced.{task_no}
 use Rattle.ada_events.specs.Refusals.{refusal}
-use Rattle.ada_events.specs.Lawful.{IsLawful, IsSettled, After}
+use Rattle.ada_events.specs.Lawful.{IsLawful, IsSettled}
 use Rattle.ada_laws.proofs.LimitLaws.{leads_to_a_journal}
 use Rattle.ada_laws.proofs.RequestLaws.{stays_lawful}
 use Rattle.ada_script.specs.declared.script.Line.{Line}
 use Rattle.ada_script.specs.Binding.{bind, request_of}
 use Rattle.ada_script.specs.Texts.{refusal_text}
-use Rattle.ada_run.specs.Play.{State, group_text, SaysGroup, SaysRefusal, SaysRequest, SaysShown, Says, Plays, shown, show_text}
+use Rattle.ada_run.specs.Play.{State, group_text, SaysRequest, SaysShown, Says, Plays, shown, show_text}
 
 -- the journal of a state is lawful and settled
 pub record IsAtRest (state : State) : Type 0 where

@@ -1,5 +1,6 @@
 -- What is read of an input.
-use Rattle.std.specs.Prelude.{◌≡◌, ◌⊎◌, ℕ, List, take}
+use Rattle.std.specs.Prelude.{◌≡◌, ◌≤◌, ◌⊎◌, ℕ, Option, List, length, take}
+use Rattle.std.specs.Io.KnownBytes.{Consumes}
 use Rattle.ada_run.specs.declared.fault.RunFault.{RunFault}
 use Rattle.ada_run.specs.declared.fault.RunFault.TheVariants.{Memory, Read}
 
@@ -15,3 +16,7 @@ text_of bytes = take most_bytes bytes
 -- memory was refused, or the input
 abbrev pub IsInputFault : RunFault → Type 0
 IsInputFault fault = (fault ≡ Memory) ⊎ (fault ≡ Read)
+
+-- no more than so many bytes were taken of the input
+abbrev pub TakesAtMost : ℕ → Option (List ℕ) → Option (List ℕ) → Type 0
+TakesAtMost most before after = (bytes : List ℕ) × Consumes before after bytes × (length bytes ≤ most)

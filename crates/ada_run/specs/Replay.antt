@@ -1,6 +1,6 @@
 -- What a replay promises.
 use Rattle.std.specs.Prelude.{◌≡◌, ◌⊎◌, ℕ, true, false, Option, List, [], IfSome}
-use Rattle.std.specs.Io.KnownBytes.{Appends, Keeps}
+use Rattle.std.specs.Io.KnownBytes.{Keeps}
 use Rattle.ada_events.specs.declared.event.Event.{Event}
 use Rattle.ada_events.specs.Attributes.{is_finished}
 use Rattle.ada_script.specs.declared.fault.ScriptFault.{ScriptFault}
@@ -11,7 +11,7 @@ use Rattle.ada_run.specs.declared.fault.Ending.{Ending}
 use Rattle.ada_run.specs.declared.fault.Ending.TheVariants.{Finished, Unfinished}
 use Rattle.ada_run.specs.declared.fault.RunFault.{RunFault}
 use Rattle.ada_run.specs.declared.fault.RunFault.TheVariants.{Script, TooManyTasks, Memory, Read, Write, Threads}
-use Rattle.ada_run.specs.Input.{text_of}
+use Rattle.ada_run.specs.Input.{text_of, IsInputFault}
 use Rattle.ada_run.specs.Play.{State, Plays}
 use Rattle.ada_run.specs.Ends.{IsWritten, IsCutShort}
 
@@ -65,11 +65,15 @@ BreaksText Read text before after = ⊥
 BreaksText Write text before after = IsBrokenOff text before after
 BreaksText Threads text before after = ⊥
 
--- the same of an input, where its bytes are known; nothing was written where it wasn't read
+-- what was read of an input: its bytes up to the bound, where they are known
+abbrev pub IsReadOf : Option (List ℕ) → List ℕ → Type 0
+IsReadOf input text = IfSome input (λ bytes. text ≡ text_of bytes)
+
+-- some text was read of the input, and its play was written
+abbrev pub Replays : Ending → Option (List ℕ) → Option (List ℕ) → Option (List ℕ) → Type 0
+Replays ending input before after = (text : List ℕ) × IsReadOf input text × IsReplayed ending text before after
+
+-- the input wasn't read whole, and nothing was written; or some text was read of it, and the fault says what was written of its play
 abbrev pub Breaks : RunFault → Option (List ℕ) → Option (List ℕ) → Option (List ℕ) → Type 0
-Breaks (Script fault) input before after = Keeps before after × IfSome input (λ bytes. IsFaultOf (text_of bytes) fault)
-Breaks TooManyTasks input before after = ⊥
-Breaks Memory input before after = Keeps before after ⊎ IfSome input (λ bytes. IsBrokenOff (text_of bytes) before after)
-Breaks Read input before after = Keeps before after
-Breaks Write input before after = IfSome input (λ bytes. IsBrokenOff (text_of bytes) before after)
-Breaks Threads input before after = ⊥
+Breaks fault input before after = (IsInputFault fault × Keeps before after)
+    ⊎ ((text : List ℕ) × IsReadOf input text × BreaksText fault text before after)

@@ -1,7 +1,7 @@
 //! Reading an input whole.
-ghost use Rattle.std.specs.Prelude.{◌≡◌, ℕ, ◌+◌, ◌<◌, ◌≤◌, ◌++◌, List, IfOk, IfErr, IfSome, vec_len, length};
+ghost use Rattle.std.specs.Prelude.{◌≡◌, ℕ, ◌+◌, ◌-◌, ◌<◌, ◌≤◌, ◌++◌, List, IfOk, IfErr, IfSome, vec_len, length};
 ghost use Rattle.std.specs.Io.KnownBytes.{Consumes, IsAtEnd};
-ghost use Rattle.ada_run.specs.Input.{text_of, IsInputFault};
+ghost use Rattle.ada_run.specs.Input.{text_of, IsInputFault, TakesAtMost};
 
 use crate::RunFault;
 use std::alloc::Global;
@@ -11,18 +11,31 @@ use std::io::Read;
 pub const MOST_BYTES: usize = 823_297;
 
 /// How many bytes are asked for at a time.
-const PIECE: usize = 4096;
+const PIECE: usize = 65_536;
 
-// Reads once, and appends what was read; 0 at the end of the input.
-fn read_piece<R: Read>(reader: &mut R, text: &mut Vec<u8>) -> Result<usize, RunFault>
-    requires { vec_len text.old < 823297 }
+// So many zeros.
+fn zeros(alloc: Global, count: usize) -> Result<Vec<u8>, RunFault>
+    ensures ok { IfOk result (λ zeros. vec_len zeros ≡ count) }
+    ensures err { IfErr result IsInputFault }
+{
+    vec![in alloc; 0u8; count].map_err(|_| RunFault::Memory)
+}
+
+// Reads once, at most a piece, and appends what was read; 0 at the end of the input.
+fn read_piece<R: Read>(
+    reader: &mut R,
+    piece: &mut [u8],
+    text: &mut Vec<u8>,
+) -> Result<usize, RunFault>
+    requires room { 0 < length piece.old }
+    requires below { vec_len text.old < 823297 }
     ensures bytes { IfOk result (λ n. (bytes : List ℕ) × Consumes (R.remaining reader.old) (R.remaining reader.new) bytes × (text.new.items ≡ text.old.items ++ bytes) × (length bytes ≡ n)) }
     ensures bound { IfOk result (λ n. (vec_len text.new ≡ vec_len text.old + n) × (vec_len text.new ≤ 823297)) }
     ensures end { IfOk result (λ n. n ≡ 0 → IsAtEnd (R.remaining reader.new)) }
     ensures err { IfErr result IsInputFault }
+    ensures taken { TakesAtMost (823297 - vec_len text.old) (R.remaining reader.old) (R.remaining reader.new) }
 {
-    let mut piece = [0u8; PIECE];
-    let room = PIECE.min(MOST_BYTES - text.len());
+    let room = piece.len().min(MOST_BYTES - text.len());
     let read = reader.read(&mut piece[..room]).map_err(|_| RunFault::Read)?;
     text.extend_from_slice(&piece[..read])
         .map_err(|_| RunFault::Memory)?;
@@ -33,11 +46,13 @@ fn read_piece<R: Read>(reader: &mut R, text: &mut Vec<u8>) -> Result<usize, RunF
 pub fn read_input<R: Read>(alloc: Global, reader: &mut R) -> Result<Vec<u8>, RunFault>
     ensures ok { IfOk result (λ text. IfSome (R.remaining reader.old) (λ bytes. text.items ≡ text_of bytes)) }
     ensures err { IfErr result IsInputFault }
+    ensures taken { TakesAtMost 823297 (R.remaining reader.old) (R.remaining reader.new) }
 {
+    let mut piece = zeros(alloc, PIECE)?;
     let mut text = Vec::new(alloc);
     let mut more = true;
     while more && text.len() < MOST_BYTES {
-        let read = read_piece(reader, &mut text)?;
+        let read = read_piece(reader, &mut piece, &mut text)?;
         more = read > 0;
     }
     Ok(text)

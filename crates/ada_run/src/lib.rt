@@ -3,6 +3,7 @@
 
 pub mod fault;
 pub mod input;
+pub mod laws;
 pub mod order;
 pub mod output;
 pub mod play;

@@ -1,142 +1,123 @@
 //! Playing the lines of a script on a kernel.
-ghost use Rattle.std.specs.Prelude.{◌≡◌, ℕ, ◌≤◌, ◌++◌, [], length, IfOk, IfErr, OnOk, OnErr};
+ghost use Rattle.std.specs.Prelude.{◌≡◌, ℕ, ◌≤◌, ◌++◌, List, length, IfErr, OnOk};
 ghost use Rattle.ada_events.specs.Lawful.{IsLawful, IsSettled};
 ghost use Rattle.ada_run.specs.Play.{group_text, SaysRequest, SaysShown, Says, Plays};
 ghost use Rattle.ada_run.specs.Ends.{state, IsShortage, IsWritten, IsCutShort};
 ghost use Rattle.ada_script.specs.Texts.{refusal_text, shown_text};
-ghost use Rattle.ada_events.specs.Tasks.{task_count as count_of_tasks};
+ghost use Rattle.ada_events.specs.Tasks.{task_count};
 
 use crate::RunFault;
-use crate::output::write_output;
+use crate::output::{write_output, write_piece};
 use crate::shows::shown;
 use ada_events::{Journal, Refusal, Request, TaskNo};
 use ada_kernel::Kernel;
-use ada_plain::tasks::task_count;
 use ada_script::{Line, Names, Value, request, write_event, write_refusal, write_shown};
 use std::alloc::Global;
 use std::io::Write;
 
-// The lines of all events behind the first `from`, in their order.
-#[tactic(auto, using(crate::proofs::Groups::group_text_more, crate::proofs::Groups::group_text_none))]
+// Appends the lines of all events behind the first `from`, in their order, or nothing.
+#[tactic(auto, using(crate::proofs::Groups::group_grows, crate::proofs::Groups::group_begins))]
 fn print_group(
-    alloc: Global,
     journal: &Journal,
     names: &Names,
     from: u32,
-) -> Result<Vec<u8>, RunFault>
+    text: &mut Vec<u8>,
+) -> Result<(), RunFault>
     requires { from ≤ length journal.now.events }
-    ensures ok { IfOk result (λ text. text.items ≡ group_text names.now from journal.now.events) }
-    ensures err { IfErr result (λ fault. fault ≡ RunFault.Memory) }
+    ensures ok { OnOk result (text.new.items ≡ text.old.items ++ group_text names.now from journal.now.events) }
+    ensures err { IfErr result (λ fault. (fault ≡ RunFault.Memory) × (text.new.items ≡ text.old.items)) }
 {
-    let mut text = Vec::new(alloc);
+    let before = text.len();
     let events = journal.as_slice();
     for at in from as usize..events.len() {
-        write_event(at as u32 + 1, &events[at], names, &mut text).map_err(|_| RunFault::Memory)?;
+        if write_event(at as u32 + 1, &events[at], names, text).is_err() {
+            text.truncate(before);
+            return Err(RunFault::Memory);
+        }
     }
-    Ok(text)
+    Ok(())
 }
 
-fn print_refusal(alloc: Global, line: u32, cause: Refusal) -> Result<Vec<u8>, RunFault>
-    ensures ok { IfOk result (λ text. text.items ≡ refusal_text line cause) }
-    ensures err { IfErr result (λ fault. fault ≡ RunFault.Memory) }
+fn print_refusal(line: u32, cause: Refusal, text: &mut Vec<u8>) -> Result<(), RunFault>
+    ensures ok { OnOk result (text.new.items ≡ text.old.items ++ refusal_text line cause) }
+    ensures err { IfErr result (λ fault. (fault ≡ RunFault.Memory) × (text.new.items ≡ text.old.items)) }
 {
-    let mut text = Vec::new(alloc);
-    write_refusal(line, cause, &mut text).map_err(|_| RunFault::Memory)?;
-    Ok(text)
+    write_refusal(line, cause, text).map_err(|_| RunFault::Memory)
 }
 
-fn print_value(alloc: Global, line: u32, value: Value) -> Result<Vec<u8>, RunFault>
-    ensures ok { IfOk result (λ text. text.items ≡ shown_text line value) }
-    ensures err { IfErr result (λ fault. fault ≡ RunFault.Memory) }
+fn print_value(line: u32, value: Value, text: &mut Vec<u8>) -> Result<(), RunFault>
+    ensures ok { OnOk result (text.new.items ≡ text.old.items ++ shown_text line value) }
+    ensures err { IfErr result (λ fault. (fault ≡ RunFault.Memory) × (text.new.items ≡ text.old.items)) }
 {
-    let mut text = Vec::new(alloc);
-    write_shown(line, value, &mut text).map_err(|_| RunFault::Memory)?;
-    Ok(text)
+    write_shown(line, value, text).map_err(|_| RunFault::Memory)
 }
 
-// How many tasks the kernel has, which is the number of the task that it makes next.
+// The number of the task that the kernel makes next.
 fn next_task(kernel: &Kernel) -> TaskNo
-    ensures { result.0 ≡ count_of_tasks kernel.now }
+    ensures { result.0 ≡ task_count kernel.now }
 {
-    TaskNo(task_count(kernel.journal().as_slice()) as u16)
+    TaskNo(kernel.tasks())
 }
 
-// Makes a request of the kernel, and gives what the line prints.
+// Makes a request of the kernel, and appends what the line prints.
 fn say_request(
-    alloc: Global,
     kernel: &mut Kernel,
     names: &mut Names,
     line: &Line,
     request: Request,
-) -> Result<Vec<u8>, RunFault>
-    ensures ok { IfOk result (λ text. SaysRequest line.now (state kernel.old names.old) text.items (state kernel.new names.new) request) }
-    ensures err { IfErr result (λ fault. fault ≡ RunFault.Memory) }
+    text: &mut Vec<u8>,
+) -> Result<(), RunFault>
+    ensures ok { OnOk result ((said : List ℕ) × (text.new.items ≡ text.old.items ++ said) × SaysRequest line.now (state kernel.old names.old) said (state kernel.new names.new) request) }
+    ensures err { IfErr result (λ fault. (fault ≡ RunFault.Memory) × (text.new.items ≡ text.old.items)) }
 {
     let from = kernel.journal().len();
     let made = next_task(kernel);
     match kernel.step(request) {
         Ok(at) => {
             names.bind(&line.statement, at, made);
-            print_group(alloc, kernel.journal(), names, from)
+            print_group(kernel.journal(), names, from, text)
         }
         Err(Refusal::OutOfMemory) => Err(RunFault::Memory),
-        Err(cause) => print_refusal(alloc, line.line, cause),
+        Err(cause) => print_refusal(line.line, cause, text),
     }
 }
 
-// What a line prints that shows an attribute.
+// Appends what a line prints that shows an attribute.
 fn say_shown(
-    alloc: Global,
     kernel: &Kernel,
     names: &Names,
     line: &Line,
-) -> Result<Vec<u8>, RunFault>
-    ensures ok { IfOk result (λ text. SaysShown line.now (state kernel.now names.now) text.items (state kernel.now names.now)) }
-    ensures err { IfErr result (λ fault. fault ≡ RunFault.Memory) }
+    text: &mut Vec<u8>,
+) -> Result<(), RunFault>
+    ensures ok { OnOk result ((said : List ℕ) × (text.new.items ≡ text.old.items ++ said) × SaysShown line.now (state kernel.now names.now) said (state kernel.now names.now)) }
+    ensures err { IfErr result (λ fault. (fault ≡ RunFault.Memory) × (text.new.items ≡ text.old.items)) }
 {
     match shown(kernel, names, &line.statement) {
-        Ok(value) => print_value(alloc, line.line, value),
-        Err(cause) => print_refusal(alloc, line.line, cause),
+        Ok(value) => print_value(line.line, value, text),
+        Err(cause) => print_refusal(line.line, cause, text),
     }
 }
 
-// What a line prints: what its request leads to, or the attribute that it shows.
+// Appends what a line prints: what its request leads to, or the attribute that it shows.
 fn say(
-    alloc: Global,
     kernel: &mut Kernel,
     names: &mut Names,
     line: &Line,
-) -> Result<Vec<u8>, RunFault>
-    ensures ok { IfOk result (λ text. Says line.now (state kernel.old names.old) text.items (state kernel.new names.new)) }
-    ensures err { IfErr result (λ fault. fault ≡ RunFault.Memory) }
-{
-    match request(&line.statement, names) {
-        Some(request) => say_request(alloc, kernel, names, line, request),
-        None => say_shown(alloc, kernel, names, line),
-    }
-}
-
-// Plays a line, and writes what it prints.
-fn play_line<W: Write>(
-    alloc: Global,
-    kernel: &mut Kernel,
-    names: &mut Names,
-    line: &Line,
-    writer: &mut W,
+    text: &mut Vec<u8>,
 ) -> Result<(), RunFault>
-    ensures ok { OnOk result (IsWritten (Says line.now (state kernel.old names.old)) (W.contents writer.old) (W.contents writer.new) (state kernel.new names.new)) }
-    ensures err { IfErr result (λ fault. IsShortage fault × IsCutShort (Says line.now (state kernel.old names.old)) (W.contents writer.old) (W.contents writer.new)) }
+    ensures ok { OnOk result ((said : List ℕ) × (text.new.items ≡ text.old.items ++ said) × Says line.now (state kernel.old names.old) said (state kernel.new names.new)) }
+    ensures err { IfErr result (λ fault. (fault ≡ RunFault.Memory) × (text.new.items ≡ text.old.items)) }
     ensures at_rest { IsLawful kernel.old × IsSettled kernel.old }
 {
     let _journal = kernel.journal();
-    match say(alloc, kernel, names, line) {
-        Ok(text) => write_output(writer, &text),
-        Err(fault) => Err(fault),
+    match request(&line.statement, names) {
+        Some(request) => say_request(kernel, names, line, request, text),
+        None => say_shown(kernel, names, line, text),
     }
 }
 
-/// Plays some lines, one after another, and writes what each prints. Where memory or the output is
-/// refused, a beginning of what they print was written.
+/// Plays some lines, one after another, and writes what they print, in pieces. Where memory or the output
+/// is refused, a beginning of what they print was written.
 pub fn play<W: Write>(
     alloc: Global,
     kernel: &mut Kernel,
@@ -147,10 +128,14 @@ pub fn play<W: Write>(
     ensures ok { OnOk result (IsWritten (Plays lines.now (state kernel.old names.old)) (W.contents writer.old) (W.contents writer.new) (state kernel.new names.new)) }
     ensures err { IfErr result (λ fault. IsShortage fault × IsCutShort (Plays lines.now (state kernel.old names.old)) (W.contents writer.old) (W.contents writer.new)) }
 {
+    let mut text = Vec::new(alloc);
     for line in lines {
-        if let Err(fault) = play_line(alloc, kernel, names, line, writer) {
+        if let Err(fault) = say(kernel, names, line, &mut text) {
+            // what was played isn't lost, and the first fault is the answer
+            let _ = write_output(writer, &text);
             return Err(fault);
         }
+        write_piece(writer, &mut text)?;
     }
-    Ok(())
+    write_output(writer, &text)
 }

@@ -1,10 +1,10 @@
 //! Replaying a script: from the bytes that are read to the bytes that are written.
-ghost use Rattle.std.specs.Prelude.{◌≡◌, IfOk, IfErr, IfSome};
+ghost use Rattle.std.specs.Prelude.{◌≡◌, IfOk, IfErr};
 ghost use Rattle.ada_script.specs.Script.{IsScript};
-ghost use Rattle.ada_run.specs.Input.{text_of};
+ghost use Rattle.ada_run.specs.Input.{most_bytes, TakesAtMost};
 ghost use Rattle.ada_run.specs.Play.{Plays};
 ghost use Rattle.ada_run.specs.Ends.{IsShortage, IsCutShort};
-ghost use Rattle.ada_run.specs.Replay.{beginning, Tells, IsScriptReplayed, IsReplayed, IsReadingFault, BreaksText, Breaks};
+ghost use Rattle.ada_run.specs.Replay.{beginning, Tells, IsScriptReplayed, IsReplayed, IsReadingFault, BreaksText, Replays, Breaks};
 
 use crate::input::read_input;
 use crate::play::play;
@@ -25,8 +25,9 @@ pub fn replay<R: Read, W: Write>(
     reader: &mut R,
     writer: &mut W,
 ) -> Result<Ending, RunFault>
-    ensures ok { IfOk result (λ ending. IfSome (R.remaining reader.old) (λ bytes. IsReplayed ending (text_of bytes) (W.contents writer.old) (W.contents writer.new))) }
+    ensures ok { IfOk result (λ ending. Replays ending (R.remaining reader.old) (W.contents writer.old) (W.contents writer.new)) }
     ensures err { IfErr result (λ fault. Breaks fault (R.remaining reader.old) (W.contents writer.old) (W.contents writer.new)) }
+    ensures taken { TakesAtMost most_bytes (R.remaining reader.old) (R.remaining reader.new) }
 {
     match read_input(alloc, reader) {
         Ok(text) => replay_text(alloc, &text, writer),

@@ -21,6 +21,8 @@ mod kernel;
 #[cfg(test)]
 mod longest;
 #[cfg(test)]
+mod outputs;
+#[cfg(test)]
 mod pieces;
 #[cfg(test)]
 mod playing;

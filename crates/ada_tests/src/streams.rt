@@ -1,4 +1,4 @@
-//! A reader that comes in pieces or fails, and a writer that takes a byte at a time and fails.
+//! A reader that comes in pieces or fails, and writers that take a byte at a time or count their writes, and fail.
 
 use std::io;
 use std::io::ErrorKind;
@@ -56,6 +56,32 @@ impl io::Write for Bytes {
             End::Fails => Err(io::Error::from(ErrorKind::Other)),
             End::TakesNothing => Ok(0),
         }
+    }
+
+    fn flush(&mut self) -> io::Result<()> {
+        Ok(())
+    }
+}
+
+/// Takes all that it is given, counts its writes, and fails once so many were made.
+#[derive(Drop)]
+pub struct Writes {
+    pub taken: Vec<u8>,
+    pub count: usize,
+    pub writes_left: usize,
+}
+
+impl io::Write for Writes {
+    fn write(&mut self, buf: &[u8]) -> io::Result<usize> {
+        if self.writes_left == 0 {
+            return Err(io::Error::from(ErrorKind::Other));
+        }
+        self.taken
+            .extend_from_slice(buf)
+            .map_err(|_| io::Error::from(ErrorKind::Other))?;
+        self.writes_left -= 1;
+        self.count += 1;
+        Ok(buf.len())
     }
 
     fn flush(&mut self) -> io::Result<()> {

@@ -1,4 +1,4 @@
-use Rattle.std.proofs.Common.{arith, drop}
+use Rattle.std.proofs.Common.{arith}
 use Rattle.ada_run.proofs.Bytes.{appends_more}
 use Rattle.ada_run.proofs.output.write_output.Goals as goal
 
