@@ -1,7 +1,7 @@
 //! Reading selective waits.
 
 ghost use Rattle.std.specs.Prelude.{◌≡◌, []};
-ghost use Rattle.ada_script.specs.Reading.{Gives, passed_over, kind_of, branch_at, tail_of, link_at, pause_at, next_pause_at, pauses_at, choice_at, tail_from, choices_at, alternatives_at};
+ghost use Rattle.ada_script.specs.Reading.{Gives, GivesInMemory, passed_over, kind_of, branch_at, tail_of, link_at, pause_at, next_pause_at, pauses_at, choice_at, tail_from, choices_at, alternatives_at};
 
 use super::parts::{read_entry, read_keyword, read_moment, read_word};
 use crate::cursor::Words;
@@ -9,6 +9,7 @@ use crate::fault::Fault;
 use crate::statement::{Alternative, Alternatives};
 use crate::{Name, Names};
 use ada_events::{Bounded, Pause, Pauses, Tail};
+use std::alloc::Global;
 
 /// The kinds of alternatives of a selective wait (9.7.1).
 #[derive(Clone, Copy, Debug, PartialEq, Eq)]
@@ -167,10 +168,15 @@ fn read_tail(branch: Branch, guard: bool, words: &mut Words) -> Result<Tail, Fau
 }
 
 /// Takes alternatives, of which one stands next, at most 16 of them accept alternatives.
-fn read_choices(names: &Names, by: &Name, words: &mut Words) -> Result<(Alternatives, Tail), Fault>
-    ensures { Gives result words.new (choices_at names.now by.now 16 [] words.old) }
+fn read_choices(
+    alloc: Global,
+    names: &Names,
+    by: &Name,
+    words: &mut Words,
+) -> Result<(Alternatives, Tail), Fault>
+    ensures { GivesInMemory result words.new (choices_at names.now by.now 16 [] words.old) }
 {
-    let mut choices = Bounded::new();
+    let mut choices = Alternatives::new(alloc);
     'alternatives: loop {
         let (guard, branch) = read_branch(words)?;
         if !branch.is_accept() || choices.is_full() {
@@ -178,7 +184,7 @@ fn read_choices(names: &Names, by: &Name, words: &mut Words) -> Result<(Alternat
             return Ok((choices, tail));
         }
         let (choice, end) = read_choice(names, by, guard, words)?;
-        choices.push(choice);
+        choices.push(choice)?;
         if let Some(tail) = end {
             return Ok((choices, tail));
         }
@@ -188,17 +194,18 @@ fn read_choices(names: &Names, by: &Name, words: &mut Words) -> Result<(Alternat
 /// Takes the alternatives of a selective wait to the end of the line.
 #[tactic(auto, unfolding(crate::specs::Reading::alternatives_at))]
 pub fn read_alternatives(
+    alloc: Global,
     names: &Names,
     by: &Name,
     words: &mut Words,
 ) -> Result<(Alternatives, Tail), Fault>
-    ensures { Gives result words.new (alternatives_at names.now by.now words.old) }
+    ensures { GivesInMemory result words.new (alternatives_at names.now by.now words.old) }
 {
     if words.is_over() {
-        return Ok((Bounded::new(), Tail::Nothing));
+        return Ok((Alternatives::new(alloc), Tail::Nothing));
     }
     if pass_over(b"else", words) {
-        return Ok((Bounded::new(), Tail::Otherwise));
+        return Ok((Alternatives::new(alloc), Tail::Otherwise));
     }
-    read_choices(names, by, words)
+    read_choices(alloc, names, by, words)
 }
