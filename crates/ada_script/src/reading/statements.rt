@@ -14,7 +14,6 @@ use crate::cursor::Words;
 use crate::fault::Fault;
 use crate::verb::{Verb, verb_of};
 use crate::{Name, Names, Statement};
-use ada_events::Stored;
 use std::alloc::Global;
 
 /// Takes a verb.
@@ -178,7 +177,6 @@ fn read_select(
 {
     let pick = read_pick(words)?;
     let (choices, tail) = read_alternatives(alloc, names, &by, words)?;
-    let tail = Stored::new(alloc, tail)?;
     *statement = Statement::Select {
         by,
         pick,
