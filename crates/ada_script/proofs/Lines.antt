@@ -1,22 +1,24 @@
 -- Reading lines one after the other, as a loop does.
-use Rattle.std.proofs.Common.{◌≡◌, ℕ, ◌+◌, List, ◌∷◌, ◌++◌, false, Ok, Err, refl, sym, ap, subst, ◌∙◌, inl, inr}
+use Rattle.std.proofs.Common.{◌≡◌, ◌⊎◌, ℕ, ◌+◌, List, ◌∷◌, ◌++◌, false, Ok, Err, refl, sym, ap, subst, ◌∙◌, inl, inr}
 use Rattle.ada_script.specs.declared.fault.Cause.{Cause}
+use Rattle.ada_script.specs.declared.fault.Cause.TheVariants as causes
 use Rattle.ada_script.specs.declared.fault.Fault.{Fault}
-use Rattle.ada_script.specs.declared.fault.Fault.TheVariants.{BadStatement, BadNumber, UnknownName, DoubleName}
+use Rattle.ada_script.specs.declared.fault.Fault.TheVariants.{BadStatement, BadNumber, UnknownName, DoubleName, OutOfMemory}
 use Rattle.ada_script.specs.declared.fault.ScriptFault.{ScriptFault}
 use Rattle.ada_script.specs.declared.script.Line.{Line}
 use Rattle.ada_script.specs.declared.statement.Statement.{Statement}
 use Rattle.ada_script.specs.Scope.{Scope, MayStand}
-use Rattle.ada_script.specs.Script.{Adds, Reads, Says, SaysNothing, IsFault, IsOfWords, Stops, is_skipped, scope_of}
+use Rattle.ada_script.specs.Text.{words_in}
+use Rattle.ada_script.specs.Script.{Adds, Reads, Says, SaysNothing, IsPlain, IsFault, IsOfWords, Stops, is_skipped, scope_of}
 use Rattle.ada_script.specs.Reading.{statement_of}
 use Rattle.ada_script.specs.Fault.{cause_of}
 use Rattle.ada_script.proofs.TakenStatements.{statement_reads}
 use Rattle.ada_script.proofs.AgainStatements.{statement_again}
 
 -- a statement that was read is what the line says
-pub says : (names : Scope) (before : List Line) (words : List (List ℕ)) (statement : Statement) → names ≡ scope_of before → Ok statement ≡ statement_of names words → Says before words statement
+pub says : (names : Scope) (before : List Line) (words : List (List ℕ)) (statement : Statement) → names ≡ scope_of before → statement_of names words ≡ Ok statement → Says before words statement
 says names before words statement known read =
-    let r = statement_reads names words statement (sym read) in
+    let r = statement_reads names words statement read in
     record { stands = subst (λ (n : Scope). MayStand n statement) known r.0; spelled = r.1 }
 
 -- what a line adds
@@ -32,21 +34,34 @@ reads_on before after number line lines behind first adds all others =
 -- ---- faults
 
 -- a fault of the words, which are skipped for no reason
-pub says_nothing : (names : Scope) (before : List Line) (words : List (List ℕ)) (fault : Fault) → names ≡ scope_of before → Err fault ≡ statement_of names words → is_skipped words ≡ false → SaysNothing before words
+pub says_nothing : (names : Scope) (before : List Line) (words : List (List ℕ)) (fault : Fault) → names ≡ scope_of before → statement_of names words ≡ Err fault → is_skipped words ≡ false → SaysNothing before words
 says_nothing names before words fault known read skipped = (
   skipped,
   λ statement said.
       let stands : MayStand names statement = subst (λ (n : Scope). MayStand n statement) (sym known) said.stands in
       let again : statement_of names words ≡ Ok statement = ap (statement_of names) (sym said.spelled) ∙ statement_again names statement stands in
-      let both : Err fault ≡ Ok statement = read ∙ again in
+      let both : Err fault ≡ Ok statement = sym read ∙ again in
       absurd cc,
 )
 
-pub of_words : (fault : Fault) → IsOfWords (cause_of fault)
-of_words BadStatement = tt
-of_words BadNumber = tt
-of_words UnknownName = tt
-of_words DoubleName = tt
+of_words : (fault : Fault) → (fault ≡ OutOfMemory) ⊎ IsOfWords (cause_of fault)
+of_words BadStatement = inr tt
+of_words BadNumber = inr tt
+of_words UnknownName = inr tt
+of_words DoubleName = inr tt
+of_words OutOfMemory = inl refl
+
+-- words that weren't read: memory was refused, or they are at fault
+pub words_fail : (names : Scope) (before : List Line) (number : ℕ) (line : List ℕ) (fault : Fault) → names ≡ scope_of before → IsPlain number line
+    → is_skipped (words_in line) ≡ false → (fault ≡ OutOfMemory) ⊎ (statement_of names (words_in line) ≡ Err fault)
+    → (cause_of fault ≡ causes.OutOfMemory) ⊎ IsFault before number line (cause_of fault)
+words_fail names before number line fault known plain skipped fails = elim fails [
+  | inl memory ↦ inl (ap cause_of memory)
+  | inr read ↦ elim (of_words fault) [
+    | inl memory ↦ inl (ap cause_of memory)
+    | inr words ↦ inr (inr (words, plain, says_nothing names before (words_in line) fault known read skipped))
+  ]
+]
 
 -- the first of the lines is at fault
 pub stops_here : (before : List Line) (number : ℕ) (line : List ℕ) (lines behind : List (List ℕ)) (cause : Cause) → lines ≡ line ∷ behind → IsFault before number line cause

@@ -1,5 +1,5 @@
 -- What names are bound to, and the requests that statements make.
-use Rattle.std.specs.Prelude.{ℕ, pos, true, false, if◌then◌else◌, List, [], ◌∷◌, map, ◌+◌, Option, Some, None, unwrap_or}
+use Rattle.std.specs.Prelude.{ℕ, pos, Bool, true, false, if◌then◌else◌, List, [], ◌∷◌, map, ◌+◌, Option, Some, None, unwrap_or}
 use Rattle.std.specs.Str.{bytes_eq}
 use Rattle.ada_events.specs.declared.names.TaskNo.{TaskNo}
 use Rattle.ada_events.specs.declared.names.Master.{Master}
@@ -99,6 +99,13 @@ called names by callee entry patience = requests.Call (task_of names by) (task_o
 -- an accept is a wait with one open choice
 abbrev pub accepted : Scope → List ℕ → EntryName → Request
 accepted names by entry = requests.Wait (task_of names by) (record { guard = true; entry = entry_of names by entry } ∷ []) tails.Nothing 0
+
+-- a statement shows an attribute
+abbrev pub is_show : Statement → Bool
+is_show (ShowCallable by task) = true
+is_show (ShowTerminated by task) = true
+is_show (ShowCount by entry) = true
+is_show _ = false
 
 -- what a statement asks of the kernel; an attribute that is shown is no request
 abbrev pub request_of : Scope → Statement → Option Request

@@ -1,6 +1,6 @@
 -- How the words of a line are read, from left to right, with the first fault that is met. What a statement's
 -- words are and where it may stand, the spelling and the scope say; this stands for nothing by itself.
-use Rattle.std.specs.Prelude.{◌≡◌, ℕ, zero, suc, ℤ, ◌^◌, Bool, true, false, ◌||◌, ◌==◌, nat_lt, if◌then◌else◌, List, [], ◌∷◌, ◌++◌, length, take, slice_index, not, ◌-◌, find, Option, Some, None, Result, Ok, Err, codes}
+use Rattle.std.specs.Prelude.{◌≡◌, ◌⊎◌, ℕ, zero, suc, ℤ, ◌^◌, Bool, true, false, ◌||◌, ◌==◌, nat_lt, if◌then◌else◌, List, [], ◌∷◌, ◌++◌, length, take, slice_index, not, ◌-◌, find, Option, Some, None, Result, Ok, Err, codes}
 use Rattle.std.specs.Borrow.{Bor}
 use Rattle.std.specs.List.{list_any}
 use Rattle.std.specs.Str.{bytes_eq}
@@ -9,7 +9,7 @@ use Rattle.ada_events.specs.declared.names.Pause.{Pause}
 use Rattle.ada_events.specs.declared.request.Tail.{Tail}
 use Rattle.ada_events.specs.declared.request.Tail.TheVariants as tails
 use Rattle.ada_script.specs.declared.fault.Fault.{Fault}
-use Rattle.ada_script.specs.declared.fault.Fault.TheVariants.{BadStatement, BadNumber, UnknownName, DoubleName}
+use Rattle.ada_script.specs.declared.fault.Fault.TheVariants.{BadStatement, BadNumber, UnknownName, DoubleName, OutOfMemory}
 use Rattle.ada_script.specs.declared.verb.Verb.{Verb}
 use Rattle.ada_script.specs.declared.verb.Verb.TheVariants as verbs
 use Rattle.ada_script.specs.declared.reading.select.Branch.{Branch}
@@ -36,6 +36,16 @@ Read X = Result (X × List (List ℕ)) Fault
 abbrev pub Gives : {X : Type 0} → Result X Fault → List (List ℕ) → Read X → Type 0
 Gives (Ok x) rest read = read ≡ Ok (x, rest)
 Gives (Err e) rest read = read ≡ Err e
+
+-- the same, unless memory was refused
+abbrev pub GivesInMemory : {X : Type 0} → Result X Fault → List (List ℕ) → Read X → Type 0
+GivesInMemory (Ok x) rest read = read ≡ Ok (x, rest)
+GivesInMemory (Err e) rest read = (e ≡ OutOfMemory) ⊎ (read ≡ Err e)
+
+-- the same of what a function wrote into a place
+abbrev pub Writes : {X : Type 0} → Result (Unit {0}) Fault → X → List (List ℕ) → Read X → Type 0
+Writes (Ok u) x rest read = read ≡ Ok (x, rest)
+Writes (Err e) x rest read = (e ≡ OutOfMemory) ⊎ (read ≡ Err e)
 
 -- the same for a word, which lies in the line
 abbrev pub GivesWord : Result (Bor (List ℕ)) Fault → List (List ℕ) → Read (List ℕ) → Type 0

@@ -3,6 +3,7 @@
 ghost use Rattle.std.specs.Prelude.{◌≡◌};
 ghost use Rattle.ada_script.specs.Fault.{cause_of};
 ghost use Rattle.ada_script.specs.declared.fault.Cause.TheVariants.{OutOfMemory};
+ghost use Rattle.ada_script.specs.declared.fault.Fault.TheVariants as faults;
 
 use std::alloc::{AllocError, AllocFailed};
 use thiserror::Error;
@@ -36,13 +37,22 @@ pub enum Cause {
     OutOfMemory,
 }
 
-/// What is wrong with the words of a line.
+/// Why the words of a line aren't read: what is wrong with them, or that a growth was refused.
 #[derive(Clone, Copy, Debug, PartialEq, Eq)]
 pub(crate) enum Fault {
     BadStatement,
     BadNumber,
     UnknownName,
     DoubleName,
+    OutOfMemory,
+}
+
+impl From<AllocError> for Fault {
+    ghost from_gives = { λ _ fault. fault ≡ faults.OutOfMemory };
+
+    fn from(_: AllocError) -> Self {
+        Fault::OutOfMemory
+    }
 }
 
 impl From<Fault> for Cause {
@@ -54,6 +64,7 @@ impl From<Fault> for Cause {
             Fault::BadNumber => Cause::BadNumber,
             Fault::UnknownName => Cause::UnknownName,
             Fault::DoubleName => Cause::DoubleName,
+            Fault::OutOfMemory => Cause::OutOfMemory,
         }
     }
 }

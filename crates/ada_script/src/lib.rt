@@ -26,7 +26,7 @@ pub use name::Name;
 pub use names::Names;
 pub use printing::{Value, write_event, write_refusal, write_shown};
 pub use reading::read;
-pub use requests::request;
+pub use requests::{asked, request};
 pub use script::{Line, Script};
 pub use spelling::words;
 pub use statement::{Alternative, Declaration, EntryName, Statement};

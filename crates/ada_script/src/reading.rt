@@ -11,7 +11,7 @@ ghost use Rattle.ada_script.specs.Script.{IsPrintable, IsPlain, IsUnplain, is_sk
 ghost use Rattle.ada_script.specs.declared.script.Line.{Line};
 
 use crate::cursor::{Lines, Words};
-use crate::{Cause, Line, Names, Script, ScriptFault};
+use crate::{Cause, Line, Names, Script, ScriptFault, Statement};
 use statements::read_statement;
 use std::alloc::Global;
 
@@ -52,6 +52,7 @@ fn is_skipped(line: &[u8]) -> bool
 
 /// Reads a line behind others, and keeps what it says and the name that it declares.
 fn read_line(
+    alloc: Global,
     lines: &mut Vec<Line>,
     names: &mut Names,
     number: u32,
@@ -67,12 +68,14 @@ fn read_line(
     if is_skipped(line) {
         return Ok(());
     }
-    let statement = read_statement(names, line)?;
+    let mut statement = Statement::Tick { now: 0 };
+    read_statement(alloc, names, line, &mut statement)?;
     names.declare(&statement)?;
-    lines.push(Line {
+    lines.reserve(1)?;
+    lines.push_reserved(Line {
         line: number,
         statement,
-    })?;
+    });
     Ok(())
 }
 
@@ -91,7 +94,7 @@ pub fn read(alloc: Global, text: &[u8]) -> Result<Script, ScriptFault>
     })?;
     let mut rest = Lines::new(text);
     while let Some(line) = rest.next() {
-        if let Err(cause) = read_line(&mut lines, &mut names, number, line) {
+        if let Err(cause) = read_line(alloc, &mut lines, &mut names, number, line) {
             return Err(ScriptFault {
                 line: number,
                 cause,

@@ -1,7 +1,7 @@
 //! The requests that statements make.
 
-ghost use Rattle.std.specs.Prelude.{◌≡◌, map};
-ghost use Rattle.ada_script.specs.Binding.{task_of, family_of, choice_of, called, accepted, request_of};
+ghost use Rattle.std.specs.Prelude.{◌≡◌, false, Some, map};
+ghost use Rattle.ada_script.specs.Binding.{task_of, family_of, choice_of, called, accepted, is_show, request_of};
 
 use crate::statement::{Alternatives, Declarations, EntryName, TaskNames};
 use crate::{Name, Names, Statement};
@@ -44,7 +44,7 @@ fn choices_of(choices: &Alternatives, by: &Name, names: &Names) -> Choices
 }
 
 /// Another tail of the same kind.
-pub fn copy_of(tail: &Tail) -> Tail
+fn copy_of(tail: &Tail) -> Tail
     ensures { result ≡ tail.now }
 {
     match tail {
@@ -90,81 +90,93 @@ fn accept_of(by: &Name, entry: &EntryName, names: &Names) -> Request
     }
 }
 
-/// What a statement asks of the kernel, under these names. A name that isn't bound stands for task
-/// number 65,535 or for the block at position 0, which there are none of. A statement that shows an
-/// attribute asks for nothing.
-pub fn request(statement: &Statement, names: &Names) -> Option<Request>
-    ensures { result ≡ request_of names.now statement.now }
+/// What a statement that shows no attribute asks of the kernel, under these names: its `request`.
+pub fn asked(statement: &Statement, names: &Names) -> Request
+    requires { is_show statement.now ≡ false }
+    ensures { Some result ≡ request_of names.now statement.now }
 {
     match statement {
-        Statement::Tick { now } => Some(Request::Tick { now: *now }),
-        Statement::Open { by, .. } => Some(Request::Open { by: names.task(by) }),
+        Statement::Tick { now } => Request::Tick { now: *now },
+        Statement::Open { by, .. } => Request::Open { by: names.task(by) },
         Statement::Create {
             by,
             under,
             families,
             ..
-        } => Some(Request::Create {
+        } => Request::Create {
             by: names.task(by),
             master: names.master(under),
             families: families_of(families),
-        }),
-        Statement::Activate { by, tasks } => Some(Request::Activate {
+        },
+        Statement::Activate { by, tasks } => Request::Activate {
             by: names.task(by),
             tasks: tasks_of(tasks, names),
-        }),
-        Statement::Up { by } => Some(Request::Elaborated {
+        },
+        Statement::Up { by } => Request::Elaborated {
             by: names.task(by),
             ok: true,
-        }),
-        Statement::Fail { by } => Some(Request::Elaborated {
+        },
+        Statement::Fail { by } => Request::Elaborated {
             by: names.task(by),
             ok: false,
-        }),
+        },
         Statement::Call { by, callee, entry } => {
-            Some(call_of(by, callee, entry, Patience::Simple, names))
+            call_of(by, callee, entry, Patience::Simple, names)
         }
         Statement::CallWithin {
             by,
             callee,
             entry,
             duration,
-        } => Some(call_of(by, callee, entry, Patience::Timed(*duration), names)),
+        } => call_of(by, callee, entry, Patience::Timed(*duration), names),
         Statement::Try { by, callee, entry } => {
-            Some(call_of(by, callee, entry, Patience::Conditional, names))
+            call_of(by, callee, entry, Patience::Conditional, names)
         }
-        Statement::Accept { by, entry } => Some(accept_of(by, entry, names)),
+        Statement::Accept { by, entry } => accept_of(by, entry, names),
         Statement::Select {
             by,
             pick,
             choices,
             tail,
-        } => Some(Request::Wait {
+        } => Request::Wait {
             by: names.task(by),
             choices: choices_of(choices, by, names),
-            tail: copy_of(tail),
+            tail: copy_of(tail.get()),
             pick: *pick,
-        }),
-        Statement::End { by } => Some(Request::End {
+        },
+        Statement::End { by } => Request::End {
             by: names.task(by),
             raised: false,
-        }),
-        Statement::Raise { by } => Some(Request::End {
+        },
+        Statement::Raise { by } => Request::End {
             by: names.task(by),
             raised: true,
-        }),
-        Statement::Close { by } => Some(Request::Close { by: names.task(by) }),
-        Statement::Delay { by, duration } => Some(Request::Delay {
+        },
+        Statement::Close { by } => Request::Close { by: names.task(by) },
+        Statement::Delay { by, duration } => Request::Delay {
             by: names.task(by),
             duration: *duration,
-        }),
-        Statement::Complete { by } => Some(Request::Complete { by: names.task(by) }),
-        Statement::Abort { by, tasks } => Some(Request::Abort {
+        },
+        Statement::Complete { by } => Request::Complete { by: names.task(by) },
+        Statement::Abort { by, tasks } => Request::Abort {
             by: names.task(by),
             tasks: tasks_of(tasks, names),
-        }),
+        },
         Statement::ShowCallable { .. }
         | Statement::ShowTerminated { .. }
-        | Statement::ShowCount { .. } => None,
+        | Statement::ShowCount { .. } => unreachable!(),
+    }
+}
+
+/// What a statement asks of the kernel, under these names. A name that isn't bound stands for task
+/// number 65,535 or for the block at position 0, which there are none of. A statement that shows an
+/// attribute asks for nothing.
+pub fn request(statement: &Statement, names: &Names) -> Option<Request>
+    ensures { result ≡ request_of names.now statement.now }
+{
+    if statement.is_show() {
+        None
+    } else {
+        Some(asked(statement, names))
     }
 }

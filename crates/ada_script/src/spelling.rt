@@ -370,7 +370,7 @@ fn put_statement(words: &mut Vec<Word>, statement: &Statement) -> Result<(), All
             pick,
             choices,
             tail,
-        } => put_select(words, by, *pick, choices, tail),
+        } => put_select(words, by, *pick, choices, tail.get()),
         Statement::End { by } => put_speech(words, by, Verb::End),
         Statement::Raise { by } => put_speech(words, by, Verb::Raise),
         Statement::Close { by } => put_speech(words, by, Verb::Close),

@@ -2,9 +2,9 @@
 
 ghost use Rattle.std.specs.Prelude.{◌≡◌};
 
-use crate::Name;
-use crate::requests::copy_of;
-use ada_events::{Bounded, Family, Tail};
+use crate::{Line, Name};
+use ada_events::{Family, SmallList, Stored, Tail};
+use std::mem::size_of;
 
 /// An entry as a statement names it: the name of its family, and an index where one is written. An
 /// index that is left out stands for 0.
@@ -30,13 +30,13 @@ pub struct Alternative {
 }
 
 /// The tasks that an activation or an abort names, at most 256.
-pub type TaskNames = Bounded<Name, 256>;
+pub type TaskNames = SmallList<Name, 3, 256>;
 
 /// The families of entries that a task declares, at most 16.
-pub type Declarations = Bounded<Declaration, 16>;
+pub type Declarations = SmallList<Declaration, 0, 16>;
 
 /// The accept alternatives of a selective wait, at most 16.
-pub type Alternatives = Bounded<Alternative, 16>;
+pub type Alternatives = SmallList<Alternative, 1, 16>;
 
 /// A statement of a script. `by` is the task that makes the request.
 #[derive(Debug, Drop, PartialEq, Eq)]
@@ -100,7 +100,7 @@ pub enum Statement {
         by: Name,
         pick: u32,
         choices: Alternatives,
-        tail: Tail,
+        tail: Stored<Tail>,
     },
     /// Ends the innermost accept statement (9.5).
     End {
@@ -145,160 +145,21 @@ pub enum Statement {
     },
 }
 
-impl EntryName {
-    /// Another one of the same name and index.
-    pub fn copy(&self) -> Self
-        ensures { result ≡ self.now }
-    {
-        EntryName {
-            family: self.family.copy(),
-            index: self.index,
-        }
-    }
-}
-
-impl Declaration {
-    /// Another one of the same name and bounds.
-    pub fn copy(&self) -> Self
-        ensures { result ≡ self.now }
-    {
-        Declaration {
-            name: self.name.copy(),
-            bounds: self.bounds,
-        }
-    }
-}
-
-impl Alternative {
-    /// Another one of the same guard and entry.
-    pub fn copy(&self) -> Self
-        ensures { result ≡ self.now }
-    {
-        Alternative {
-            guard: self.guard,
-            entry: self.entry.copy(),
-        }
-    }
-}
-
-fn copy_tasks(tasks: &TaskNames) -> TaskNames
-    ensures { result ≡ tasks.now }
-{
-    let mut copies = Bounded::new();
-    for task in tasks.as_slice() {
-        copies.push(task.copy());
-    }
-    copies
-}
-
-fn copy_families(families: &Declarations) -> Declarations
-    ensures { result ≡ families.now }
-{
-    let mut copies = Bounded::new();
-    for family in families.as_slice() {
-        copies.push(family.copy());
-    }
-    copies
-}
-
-fn copy_choices(choices: &Alternatives) -> Alternatives
-    ensures { result ≡ choices.now }
-{
-    let mut copies = Bounded::new();
-    for choice in choices.as_slice() {
-        copies.push(choice.copy());
-    }
-    copies
-}
+// What a script costs is its lines' size: each is filled and moved whole.
+const _: () = prove!(size_of::<Line>() <= 128);
 
 impl Statement {
-    /// Another statement that says the same. It takes no memory.
-    pub fn copy(&self) -> Self
-        ensures { result ≡ self.now }
+    ghost use Rattle.ada_script.specs.Binding.{is_show};
+
+    /// Whether the statement shows an attribute (9.9).
+    pub fn is_show(&self) -> bool
+        ensures { result ≡ is_show self.now }
     {
-        match self {
-            Statement::Tick { now } => Statement::Tick { now: *now },
-            Statement::Open { by, block } => Statement::Open {
-                by: by.copy(),
-                block: block.copy(),
-            },
-            Statement::Create {
-                by,
-                task,
-                under,
-                families,
-            } => Statement::Create {
-                by: by.copy(),
-                task: task.copy(),
-                under: under.copy(),
-                families: copy_families(families),
-            },
-            Statement::Activate { by, tasks } => Statement::Activate {
-                by: by.copy(),
-                tasks: copy_tasks(tasks),
-            },
-            Statement::Up { by } => Statement::Up { by: by.copy() },
-            Statement::Fail { by } => Statement::Fail { by: by.copy() },
-            Statement::Call { by, callee, entry } => Statement::Call {
-                by: by.copy(),
-                callee: callee.copy(),
-                entry: entry.copy(),
-            },
-            Statement::CallWithin {
-                by,
-                callee,
-                entry,
-                duration,
-            } => Statement::CallWithin {
-                by: by.copy(),
-                callee: callee.copy(),
-                entry: entry.copy(),
-                duration: *duration,
-            },
-            Statement::Try { by, callee, entry } => Statement::Try {
-                by: by.copy(),
-                callee: callee.copy(),
-                entry: entry.copy(),
-            },
-            Statement::Accept { by, entry } => Statement::Accept {
-                by: by.copy(),
-                entry: entry.copy(),
-            },
-            Statement::Select {
-                by,
-                pick,
-                choices,
-                tail,
-            } => Statement::Select {
-                by: by.copy(),
-                pick: *pick,
-                choices: copy_choices(choices),
-                tail: copy_of(tail),
-            },
-            Statement::End { by } => Statement::End { by: by.copy() },
-            Statement::Raise { by } => Statement::Raise { by: by.copy() },
-            Statement::Close { by } => Statement::Close { by: by.copy() },
-            Statement::Delay { by, duration } => Statement::Delay {
-                by: by.copy(),
-                duration: *duration,
-            },
-            Statement::Complete { by } => Statement::Complete { by: by.copy() },
-            Statement::Abort { by, tasks } => Statement::Abort {
-                by: by.copy(),
-                tasks: copy_tasks(tasks),
-            },
-            Statement::ShowCallable { by, task } => Statement::ShowCallable {
-                by: by.copy(),
-                task: task.copy(),
-            },
-            Statement::ShowTerminated { by, task } => Statement::ShowTerminated {
-                by: by.copy(),
-                task: task.copy(),
-            },
-            Statement::ShowCount { by, entry } => Statement::ShowCount {
-                by: by.copy(),
-                entry: entry.copy(),
-            },
-        }
+        matches!(
+            self,
+            Statement::ShowCallable { .. }
+                | Statement::ShowTerminated { .. }
+                | Statement::ShowCount { .. }
+        )
     }
 }

@@ -3,26 +3,26 @@
 ghost use Rattle.std.specs.Prelude.{◌≡◌};
 ghost use Rattle.std.specs.Str.{bytes_eq};
 ghost use Rattle.std.specs.List.{list_any};
-ghost use Rattle.ada_script.specs.Reading.{Gives, tasks_at, family_at, families_at};
+ghost use Rattle.ada_script.specs.Reading.{Gives, GivesInMemory, tasks_at, family_at, families_at};
 
 use super::parts::{read_bounds, read_name, read_task};
 use crate::cursor::Words;
 use crate::fault::Fault;
 use crate::statement::{Declaration, Declarations, TaskNames};
 use crate::{Name, Names};
-use ada_events::Bounded;
+use std::alloc::Global;
 
 /// Takes the names of tasks, at most 256.
-pub fn read_tasks(names: &Names, words: &mut Words) -> Result<TaskNames, Fault>
-    ensures { Gives result words.new (tasks_at names.now words.old) }
+pub fn read_tasks(alloc: Global, names: &Names, words: &mut Words) -> Result<TaskNames, Fault>
+    ensures { GivesInMemory result words.new (tasks_at names.now words.old) }
 {
-    let mut tasks = Bounded::new();
+    let mut tasks = TaskNames::new(alloc);
     while !words.is_over() {
         if tasks.is_full() {
             return Err(Fault::BadStatement);
         }
         let task = read_task(names, words)?;
-        tasks.push(task);
+        tasks.push(task)?;
     }
     Ok(tasks)
 }
@@ -51,16 +51,16 @@ fn read_family(families: &Declarations, words: &mut Words) -> Result<Declaration
 }
 
 /// Takes the families of entries that a task declares, at most 16.
-pub fn read_families(words: &mut Words) -> Result<Declarations, Fault>
-    ensures { Gives result words.new (families_at words.old) }
+pub fn read_families(alloc: Global, words: &mut Words) -> Result<Declarations, Fault>
+    ensures { GivesInMemory result words.new (families_at words.old) }
 {
-    let mut families = Bounded::new();
+    let mut families = Declarations::new(alloc);
     while !words.is_over() {
         if families.is_full() {
             return Err(Fault::BadStatement);
         }
         let family = read_family(&families, words)?;
-        families.push(family);
+        families.push(family)?;
     }
     Ok(families)
 }

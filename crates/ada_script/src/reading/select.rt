@@ -1,14 +1,15 @@
 //! Reading selective waits.
 
-ghost use Rattle.std.specs.Prelude.{◌≡◌, []};
-ghost use Rattle.ada_script.specs.Reading.{Gives, passed_over, kind_of, branch_at, tail_of, link_at, pause_at, next_pause_at, pauses_at, choice_at, tail_from, choices_at, alternatives_at};
+ghost use Rattle.std.specs.Prelude.{◌≡◌, ◌⊎◌, [], Ok, Err, IfOk, IfErr};
+ghost use Rattle.ada_script.specs.Reading.{Gives, GivesInMemory, passed_over, kind_of, branch_at, tail_of, link_at, pause_at, next_pause_at, pauses_at, choice_at, tail_from, choices_at, alternatives_at};
 
 use super::parts::{read_entry, read_keyword, read_moment, read_word};
 use crate::cursor::Words;
 use crate::fault::Fault;
 use crate::statement::{Alternative, Alternatives};
 use crate::{Name, Names};
-use ada_events::{Bounded, Pause, Pauses, Tail};
+use ada_events::{Bounded, Pause, Pauses, Stored, Tail};
+use std::alloc::Global;
 
 /// The kinds of alternatives of a selective wait (9.7.1).
 #[derive(Clone, Copy, Debug, PartialEq, Eq)]
@@ -73,13 +74,15 @@ fn read_branch(words: &mut Words) -> Result<(bool, Branch), Fault>
 /// What ends a wait behind an accept alternative, at this word: nothing, where another alternative
 /// follows.
 #[tactic(auto, unfolding(crate::specs::Reading::tail_of))]
-fn link_of(word: &[u8]) -> Result<Option<Tail>, Fault>
-    ensures { result ≡ tail_of word.now }
+fn link_of(alloc: Global, word: &[u8]) -> Result<Option<Stored<Tail>>, Fault>
+    ensures ok { IfOk result (λ tail. tail_of word.now ≡ Ok tail) }
+    ensures err { IfErr result (λ fault.
+        (fault ≡ Fault.OutOfMemory) ⊎ (tail_of word.now ≡ Err fault)) }
 {
     if word == b"or".as_slice() {
         Ok(None)
     } else if word == b"else".as_slice() {
-        Ok(Some(Tail::Otherwise))
+        Ok(Some(Stored::new(alloc, Tail::Otherwise)?))
     } else {
         Err(Fault::BadStatement)
     }
@@ -87,12 +90,12 @@ fn link_of(word: &[u8]) -> Result<Option<Tail>, Fault>
 
 /// Takes what follows an accept alternative: a tail, or none where another alternative follows.
 #[tactic(auto, unfolding(crate::specs::Reading::link_at))]
-fn read_link(words: &mut Words) -> Result<Option<Tail>, Fault>
-    ensures { Gives result words.new (link_at words.old) }
+fn read_link(alloc: Global, words: &mut Words) -> Result<Option<Stored<Tail>>, Fault>
+    ensures { GivesInMemory result words.new (link_at words.old) }
 {
     match words.next() {
-        None => Ok(Some(Tail::Nothing)),
-        Some(word) => link_of(word),
+        None => Ok(Some(Stored::new(alloc, Tail::Nothing)?)),
+        Some(word) => link_of(alloc, word),
     }
 }
 
@@ -139,46 +142,57 @@ fn read_pauses(guard: bool, words: &mut Words) -> Result<Pauses, Fault>
 /// Takes an accept alternative behind its guard, and what follows it.
 #[tactic(auto, unfolding(crate::specs::Reading::choice_at))]
 fn read_choice(
+    alloc: Global,
     names: &Names,
     by: &Name,
     guard: bool,
     words: &mut Words,
-) -> Result<(Alternative, Option<Tail>), Fault>
-    ensures { Gives result words.new (choice_at names.now by.now guard words.old) }
+) -> Result<(Alternative, Option<Stored<Tail>>), Fault>
+    ensures { GivesInMemory result words.new (choice_at names.now by.now guard words.old) }
 {
     let entry = read_entry(names, by, words)?;
-    let tail = read_link(words)?;
+    let tail = read_link(alloc, words)?;
     Ok((Alternative { guard, entry }, tail))
 }
 
 /// Takes the tail behind the accept alternatives.
 #[tactic(auto, unfolding(crate::specs::Reading::tail_from))]
-fn read_tail(branch: Branch, guard: bool, words: &mut Words) -> Result<Tail, Fault>
-    ensures { Gives result words.new (tail_from branch guard words.old) }
+fn read_tail(
+    alloc: Global,
+    branch: Branch,
+    guard: bool,
+    words: &mut Words,
+) -> Result<Stored<Tail>, Fault>
+    ensures { GivesInMemory result words.new (tail_from branch guard words.old) }
 {
     match branch {
         Branch::Accept => Err(Fault::BadStatement),
         Branch::Delay => {
             let pauses = read_pauses(guard, words)?;
-            Ok(Tail::Delays(pauses))
+            Ok(Stored::new(alloc, Tail::Delays(pauses))?)
         }
-        Branch::Terminate => Ok(Tail::Terminate(guard)),
+        Branch::Terminate => Ok(Stored::new(alloc, Tail::Terminate(guard))?),
     }
 }
 
 /// Takes alternatives, of which one stands next, at most 16 of them accept alternatives.
-fn read_choices(names: &Names, by: &Name, words: &mut Words) -> Result<(Alternatives, Tail), Fault>
-    ensures { Gives result words.new (choices_at names.now by.now 16 [] words.old) }
+fn read_choices(
+    alloc: Global,
+    names: &Names,
+    by: &Name,
+    words: &mut Words,
+) -> Result<(Alternatives, Stored<Tail>), Fault>
+    ensures { GivesInMemory result words.new (choices_at names.now by.now 16 [] words.old) }
 {
-    let mut choices = Bounded::new();
+    let mut choices = Alternatives::new(alloc);
     'alternatives: loop {
         let (guard, branch) = read_branch(words)?;
         if !branch.is_accept() || choices.is_full() {
-            let tail = read_tail(branch, guard, words)?;
+            let tail = read_tail(alloc, branch, guard, words)?;
             return Ok((choices, tail));
         }
-        let (choice, end) = read_choice(names, by, guard, words)?;
-        choices.push(choice);
+        let (choice, end) = read_choice(alloc, names, by, guard, words)?;
+        choices.push(choice)?;
         if let Some(tail) = end {
             return Ok((choices, tail));
         }
@@ -188,17 +202,20 @@ fn read_choices(names: &Names, by: &Name, words: &mut Words) -> Result<(Alternat
 /// Takes the alternatives of a selective wait to the end of the line.
 #[tactic(auto, unfolding(crate::specs::Reading::alternatives_at))]
 pub fn read_alternatives(
+    alloc: Global,
     names: &Names,
     by: &Name,
     words: &mut Words,
-) -> Result<(Alternatives, Tail), Fault>
-    ensures { Gives result words.new (alternatives_at names.now by.now words.old) }
+) -> Result<(Alternatives, Stored<Tail>), Fault>
+    ensures { GivesInMemory result words.new (alternatives_at names.now by.now words.old) }
 {
     if words.is_over() {
-        return Ok((Bounded::new(), Tail::Nothing));
+        let tail = Stored::new(alloc, Tail::Nothing)?;
+        return Ok((Alternatives::new(alloc), tail));
     }
     if pass_over(b"else", words) {
-        return Ok((Bounded::new(), Tail::Otherwise));
+        let tail = Stored::new(alloc, Tail::Otherwise)?;
+        return Ok((Alternatives::new(alloc), tail));
     }
-    read_choices(names, by, words)
+    read_choices(alloc, names, by, words)
 }
