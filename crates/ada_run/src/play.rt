@@ -11,7 +11,7 @@ use crate::output::{write_output, write_piece};
 use crate::shows::shown;
 use ada_events::{Journal, Refusal, Request, TaskNo};
 use ada_kernel::Kernel;
-use ada_script::{Line, Names, Value, request, write_event, write_refusal, write_shown};
+use ada_script::{Line, Names, Value, asked, write_event, write_refusal, write_shown};
 use std::alloc::Global;
 use std::io::Write;
 
@@ -110,9 +110,10 @@ fn say(
     ensures at_rest { IsLawful kernel.old × IsSettled kernel.old }
 {
     let _journal = kernel.journal();
-    match request(&line.statement, names) {
-        Some(request) => say_request(kernel, names, line, request, text),
-        None => say_shown(kernel, names, line, text),
+    if line.statement.is_show() {
+        say_shown(kernel, names, line, text)
+    } else {
+        say_request(kernel, names, line, asked(&line.statement, names), text)
     }
 }
 

@@ -1,0 +1,106 @@
+//! What is measured: a replay, its parts, and the floors of both.
+
+use crate::floors::{push_events, read_text, write_text};
+use crate::sink::Sink;
+use crate::turns::Job;
+use ada_events::{Event, Request};
+use ada_kernel::Kernel;
+use ada_run::replay;
+use ada_script::read;
+use std::alloc::{AllocError, Global};
+use std::time::{Duration, Instant};
+
+/// The replay of a script, from its bytes to the text that is written.
+#[derive(Drop)]
+pub struct Replaying<'a> {
+    pub text: &'a [u8],
+}
+
+impl Job for Replaying<'_> {
+    fn turn(&mut self, rt: &HostRuntime) -> anyhow::Result<Duration> {
+        let start = Instant::now(rt)?;
+        let mut reader = self.text;
+        let mut sink = Sink::default();
+        let _ = replay(rt.alloc(), &mut reader, &mut sink);
+        Ok(start.elapsed(rt)?)
+    }
+}
+
+/// The reading of a script.
+#[derive(Drop)]
+pub struct Reading<'a> {
+    pub text: &'a [u8],
+}
+
+impl Job for Reading<'_> {
+    fn turn(&mut self, rt: &HostRuntime) -> anyhow::Result<Duration> {
+        let start = Instant::now(rt)?;
+        let _ = read(rt.alloc(), self.text);
+        Ok(start.elapsed(rt)?)
+    }
+}
+
+/// The floor of a replay: its bytes are read, its events made and kept, and its text made and written.
+#[derive(Drop)]
+pub struct Floor<'a> {
+    pub text: &'a [u8],
+    pub events: &'a [Event],
+    pub output: &'a [u8],
+}
+
+impl Job for Floor<'_> {
+    fn turn(&mut self, rt: &HostRuntime) -> anyhow::Result<Duration> {
+        let start = Instant::now(rt)?;
+        let _text = read_text(rt.alloc(), self.text)?;
+        let _journal = push_events(rt.alloc(), self.events)?;
+        write_text(rt.alloc(), self.output, &mut Sink::default())?;
+        Ok(start.elapsed(rt)?)
+    }
+}
+
+/// Requests that can be made again and again.
+pub trait Plan {
+    /// The requests that come before those that are measured.
+    fn before(&self, alloc: Global) -> Result<Vec<Request>, AllocError>;
+
+    /// The requests that are measured.
+    fn measured(&self, alloc: Global) -> Result<Vec<Request>, AllocError>;
+}
+
+/// The steps of a kernel alone, without the making of their requests.
+#[derive(Drop)]
+pub struct Stepping<'a, P> {
+    pub plan: &'a P,
+}
+
+impl<P: Plan> Job for Stepping<'_, P> {
+    fn turn(&mut self, rt: &HostRuntime) -> anyhow::Result<Duration> {
+        let mut kernel = Kernel::new(rt.alloc())?;
+        step_all(&mut kernel, self.plan.before(rt.alloc())?);
+        let requests = self.plan.measured(rt.alloc())?;
+        let start = Instant::now(rt)?;
+        step_all(&mut kernel, requests);
+        Ok(start.elapsed(rt)?)
+    }
+}
+
+/// Makes requests of a kernel, one after another.
+pub fn step_all(kernel: &mut Kernel, requests: Vec<Request>) {
+    for request in requests {
+        let _ = kernel.step(request);
+    }
+}
+
+/// The floor of steps: their events are made and kept.
+#[derive(Drop)]
+pub struct Pushing<'a> {
+    pub events: &'a [Event],
+}
+
+impl Job for Pushing<'_> {
+    fn turn(&mut self, rt: &HostRuntime) -> anyhow::Result<Duration> {
+        let start = Instant::now(rt)?;
+        let _journal = push_events(rt.alloc(), self.events)?;
+        Ok(start.elapsed(rt)?)
+    }
+}
