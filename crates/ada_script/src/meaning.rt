@@ -3,10 +3,11 @@
 ghost use Rattle.std.specs.Prelude.{◌≡◌, false};
 
 use crate::Name;
-use ada_events::{Bounded, TaskNo};
+use ada_events::{SmallList, TaskNo};
 
-/// The names of a task's entries, in the order of its declaration, at most 16.
-pub type EntryNames = Bounded<Name, 16>;
+/// The names of a task's entries, in the order of its declaration, at most 16. One lies in place, and
+/// more in memory.
+pub type EntryNames = SmallList<Name, 1, 16>;
 
 /// A task that was made: its number, and the position of the event that made it, 0 for the main
 /// program.

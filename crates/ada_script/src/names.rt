@@ -7,9 +7,9 @@ ghost use Rattle.ada_script.specs.Places.{kept, AreKept, IsNoted};
 use crate::meaning::{Binding, Bound};
 use crate::places::Places;
 use crate::{Cause, Declaration, EntryName, EntryNames, Made, Meaning, Name, Statement};
-use ada_events::{Bounded, Entry, Master, TaskNo};
+use ada_events::{Entry, Master, TaskNo};
 use indexmap::IndexMap;
-use std::alloc::Global;
+use std::alloc::{AllocError, Global};
 use std::marker::Model;
 
 /// The names that a script declares, each with what it stands for. Contracts see them as the list of
@@ -47,7 +47,7 @@ impl Names {
     {
         let mut table = IndexMap::new(alloc);
         let main = Meaning::Task {
-            entries: Bounded::new(),
+            entries: EntryNames::new(alloc),
             made: Some(Made {
                 task: TaskNo(0),
                 at: 0,
@@ -250,7 +250,7 @@ impl Names {
         match statement {
             Statement::Open { block, .. } => self.insert(block, Meaning::Block { opened: None }),
             Statement::Create { task, families, .. } => {
-                let entries = names_of(families.as_slice());
+                let entries = names_of(families.as_slice(), *self.table.allocator())?;
                 self.insert(
                     task,
                     Meaning::Task {
@@ -303,13 +303,13 @@ fn with_place(places: Option<Places>, meaning: &Meaning, place: usize) -> Option
 }
 
 /// The names of some families.
-fn names_of(families: &[Declaration]) -> EntryNames
+fn names_of(families: &[Declaration], alloc: Global) -> Result<EntryNames, AllocError>
     requires { length families.now ≤ 16 }
-    ensures { result ≡ map (λ f. f.name) families.now }
+    ensures { IfOk result (λ names. names ≡ map (λ f. f.name) families.now) }
 {
-    let mut names = Bounded::new();
+    let mut names = EntryNames::new(alloc);
     for family in families {
-        names.push(family.name.copy());
+        names.push(family.name.copy())?;
     }
-    names
+    Ok(names)
 }
