@@ -15,3 +15,4 @@ pub mod Written
 pub mod Lines
 pub mod Once
 pub mod Bound
+pub mod Placed

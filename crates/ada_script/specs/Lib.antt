@@ -7,4 +7,5 @@ pub mod Scope
 pub mod Reading
 pub mod Binding
 pub mod Texts
+pub mod Places
 pub mod Script

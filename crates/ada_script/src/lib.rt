@@ -9,6 +9,7 @@ pub mod meaning;
 pub mod name;
 pub mod names;
 mod number;
+mod places;
 pub mod printing;
 mod reading;
 mod requests;

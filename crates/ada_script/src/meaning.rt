@@ -1,12 +1,13 @@
 //! What the names of a script stand for.
 
-ghost use Rattle.std.specs.Prelude.{◌≡◌};
+ghost use Rattle.std.specs.Prelude.{◌≡◌, false};
 
 use crate::Name;
-use ada_events::{Bounded, TaskNo};
+use ada_events::{SmallList, TaskNo};
 
-/// The names of a task's entries, in the order of its declaration, at most 16.
-pub type EntryNames = Bounded<Name, 16>;
+/// The names of a task's entries, in the order of its declaration, at most 16. One lies in place, and
+/// more in memory.
+pub type EntryNames = SmallList<Name, 1, 16>;
 
 /// A task that was made: its number, and the position of the event that made it, 0 for the main
 /// program.
@@ -27,6 +28,15 @@ pub(crate) enum Bound {
     Opened(u32),
 }
 
+/// What a name is bound to when its statement is accepted.
+#[derive(Clone, Copy)]
+pub(crate) enum Binding {
+    /// A task that was made.
+    Made(Made),
+    /// A block that was opened at this position.
+    Opened(u32),
+}
+
 /// What a name of a script stands for: a task, with the names of its entries, or a block. A name is
 /// bound once its statement is accepted.
 #[derive(Debug, Drop, PartialEq, Eq)]
@@ -43,26 +53,28 @@ pub enum Meaning {
 }
 
 impl Meaning {
-    ghost use Rattle.ada_script.specs.Binding.{with_made, with_opened};
+    ghost use Rattle.ada_script.specs.Places.{bound_by};
     ghost use Rattle.ada_script.specs.Texts.{is_bound_to};
 
-    /// Binds a task. A block stays as it is.
-    pub(crate) fn set_made(&mut self, task: Made)
-        ensures { self.new ≡ with_made task self.old }
+    /// Binds a task or a block. A task stays as it is where a block is opened, and a block where a
+    /// task is made.
+    pub(crate) fn bind(&mut self, binding: Binding)
+        ensures { self.new ≡ bound_by binding self.old }
     {
-        match self {
-            Meaning::Task { made, .. } => *made = Some(task),
-            Meaning::Block { .. } => {}
+        match (self, binding) {
+            (Meaning::Task { made, .. }, Binding::Made(task)) => *made = Some(task),
+            (Meaning::Block { opened }, Binding::Opened(at)) => *opened = Some(at),
+            _ => {}
         }
     }
 
-    /// Binds a block. A task stays as it is.
-    pub(crate) fn set_opened(&mut self, at: u32)
-        ensures { self.new ≡ with_opened at self.old }
+    /// Whether this is bound.
+    pub(crate) fn is_bound(&self) -> bool
+        ensures { (result ≡ false) → (bound : Bound) → is_bound_to bound self.now ≡ false }
     {
         match self {
-            Meaning::Task { .. } => {}
-            Meaning::Block { opened } => *opened = Some(at),
+            Meaning::Task { made, .. } => made.is_some(),
+            Meaning::Block { opened } => opened.is_some(),
         }
     }
 

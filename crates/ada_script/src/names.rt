@@ -1,13 +1,15 @@
 //! The names of a script, and what they are bound to.
 
-ghost use Rattle.std.specs.Prelude.{◌≡◌, ◌≤◌, Ok, Err, length, map, option_map, IfOk, OnOk, OnErr, IsOkUnless, option_copied};
+ghost use Rattle.std.specs.Prelude.{◌≡◌, ◌≤◌, None, Some, Ok, Err, length, map, option_map, IfOk, IfSome, OnOk, OnErr, IsOkUnless, option_copied};
 ghost use Rattle.ada_script.specs.Binding.{place_of as found_place};
+ghost use Rattle.ada_script.specs.Places.{kept, AreKept, IsNoted};
 
-use crate::meaning::Bound;
+use crate::meaning::{Binding, Bound};
+use crate::places::Places;
 use crate::{Cause, Declaration, EntryName, EntryNames, Made, Meaning, Name, Statement};
-use ada_events::{Bounded, Entry, Master, TaskNo};
+use ada_events::{Entry, Master, TaskNo};
 use indexmap::IndexMap;
-use std::alloc::Global;
+use std::alloc::{AllocError, Global};
 use std::marker::Model;
 
 /// The names that a script declares, each with what it stands for. Contracts see them as the list of
@@ -15,6 +17,8 @@ use std::marker::Model;
 #[derive(Drop)]
 pub struct Names {
     table: IndexMap<Name, Meaning>,
+    /// Where the bound names stand in the table, if that is kept.
+    places: Option<Places>,
 }
 
 impl Model for Names {
@@ -23,10 +27,16 @@ impl Model for Names {
     ghost Value = { Scope };
 
     ghost view = { λ n. n.table.entries };
+
+    ghost use Rattle.std.specs.Prelude.{IfSome};
+    ghost use Rattle.ada_script.specs.Places.{AreKept};
+
+    ghost invariant = { λ n. IfSome n.places (AreKept n.table.entries) };
 }
 
 impl Names {
-    ghost use Rattle.ada_script.specs.Binding.{task_of, master_of, family_number, entry_of, bind};
+    ghost use Rattle.ada_script.specs.Binding.{task_of, master_of, family_number, entry_of, with_meaning, bind};
+    ghost use Rattle.ada_script.specs.Places.{bound_by};
     ghost use Rattle.ada_script.specs.Texts.{bound_to, families_in};
     ghost use Rattle.ada_script.specs.Scope.{main_alone, meaning_of, is_declared, is_task, has_entry, declare, with_name};
 
@@ -37,14 +47,17 @@ impl Names {
     {
         let mut table = IndexMap::new(alloc);
         let main = Meaning::Task {
-            entries: Bounded::new(),
+            entries: EntryNames::new(alloc),
             made: Some(Made {
                 task: TaskNo(0),
                 at: 0,
             }),
         };
         table.insert(Name::from_bytes(b"main"), main)?;
-        Ok(Names { table })
+        Ok(Names {
+            table,
+            places: None,
+        })
     }
 
     /// What a name stands for, if it is declared.
@@ -132,6 +145,19 @@ impl Names {
     pub(crate) fn bound_to(&self, bound: Bound) -> Option<(&Name, &Meaning)>
         ensures { option_map (λ p. (p.0.now, p.1.now)) result ≡ bound_to self.now bound }
     {
+        match &self.places {
+            Some(places) => match places.get(bound) {
+                Some(place) => self.table.get_index(usize::from(place)),
+                None => None,
+            },
+            None => self.first_bound_to(bound),
+        }
+    }
+
+    /// The same, found by going over the names.
+    fn first_bound_to(&self, bound: Bound) -> Option<(&Name, &Meaning)>
+        ensures { option_map (λ p. (p.0.now, p.1.now)) result ≡ bound_to self.now bound }
+    {
         for place in 0..self.table.len() {
             let Some((name, meaning)) = self.table.get_index(place) else {
                 return None;
@@ -160,17 +186,58 @@ impl Names {
     {
         match statement {
             Statement::Create { task, .. } => {
-                if let Some(meaning) = self.table.get_mut(task) {
-                    meaning.set_made(Made { task: made, at });
-                }
+                self.bind_name(task, Binding::Made(Made { task: made, at }));
             }
             Statement::Open { block, .. } => {
-                if let Some(meaning) = self.table.get_mut(block) {
-                    meaning.set_opened(at);
-                }
+                self.bind_name(block, Binding::Opened(at));
             }
             _ => {}
         }
+    }
+
+    /// Binds a name. The places are no longer kept if it, or another name, was bound so before, or
+    /// where there is no room.
+    fn bind_name(&mut self, name: &Name, binding: Binding)
+        ensures { self.new ≡ with_meaning self.old name.now (bound_by binding) }
+    {
+        let Some(place) = self.table.get_index_of(name) else {
+            return;
+        };
+        let places = self.places.take();
+        let Some(meaning) = self.table.get_index_mut(place) else {
+            return;
+        };
+        let was_bound = meaning.is_bound();
+        meaning.bind(binding);
+        if !was_bound {
+            self.places = with_place(places, meaning, place);
+        }
+    }
+
+    /// Makes room for what the names will be bound to, so that each is found in constant time.
+    pub(crate) fn make_room(&mut self) -> Result<(), Cause>
+        ensures same { self.new ≡ self.old }
+        ensures memory { IsOkUnless result Cause.OutOfMemory }
+    {
+        let places = Places::new(*self.table.allocator())?;
+        self.places = self.noted_in(places);
+        Ok(())
+    }
+
+    /// Notes the places of all names, if they can be kept.
+    fn noted_in(&self, mut places: Places) -> Option<Places>
+        requires { (bound : Bound) → kept places bound ≡ None }
+        ensures { IfSome result (AreKept self.now) }
+    {
+        for place in 0..self.table.len() {
+            let Some((_, meaning)) = self.table.get_index(place) else {
+                return None;
+            };
+            if !places.note(meaning, place) {
+                return None;
+            }
+        }
+        Some(places)
     }
 
     /// Declares the name that a statement declares, if it declares one, with nothing bound to it. An
@@ -183,7 +250,7 @@ impl Names {
         match statement {
             Statement::Open { block, .. } => self.insert(block, Meaning::Block { opened: None }),
             Statement::Create { task, families, .. } => {
-                let entries = names_of(families.as_slice());
+                let entries = names_of(families.as_slice(), *self.table.allocator())?;
                 self.insert(
                     task,
                     Meaning::Task {
@@ -196,12 +263,13 @@ impl Names {
         }
     }
 
-    /// Declares a name. An `Err` leaves the names as they were.
+    /// Declares a name. Places aren't kept then. An `Err` leaves the names as they were.
     fn insert(&mut self, name: &Name, meaning: Meaning) -> Result<(), Cause>
         ensures ok { OnOk result (self.new ≡ with_name self.old name.now meaning) }
         ensures err { OnErr result (self.new ≡ self.old) }
         ensures memory { IsOkUnless result Cause.OutOfMemory }
     {
+        self.places = None;
         self.table.insert(name.copy(), meaning)?;
         Ok(())
     }
@@ -222,14 +290,26 @@ fn place_of(name: &Name, names: &EntryNames) -> u8
     255
 }
 
-/// The names of some families.
-fn names_of(families: &[Declaration]) -> EntryNames
-    requires { length families.now ≤ 16 }
-    ensures { result ≡ map (λ f. f.name) families.now }
+/// The places with that of one more name, which stands for this, if they are kept and it can be.
+fn with_place(places: Option<Places>, meaning: &Meaning, place: usize) -> Option<Places>
+    ensures { IfSome result (λ after. (before : Places) × (places ≡ Some before) × IsNoted before after meaning.now place) }
 {
-    let mut names = Bounded::new();
-    for family in families {
-        names.push(family.name.copy());
+    let mut places = places?;
+    if places.note(meaning, place) {
+        Some(places)
+    } else {
+        None
     }
-    names
+}
+
+/// The names of some families.
+fn names_of(families: &[Declaration], alloc: Global) -> Result<EntryNames, AllocError>
+    requires { length families.now ≤ 16 }
+    ensures { IfOk result (λ names. names ≡ map (λ f. f.name) families.now) }
+{
+    let mut names = EntryNames::new(alloc);
+    for family in families {
+        names.push(family.name.copy())?;
+    }
+    Ok(names)
 }

@@ -53,6 +53,7 @@ impl Script {
         for line in self.lines() {
             names.declare(&line.statement)?;
         }
+        names.make_room()?;
         Ok(names)
     }
 }

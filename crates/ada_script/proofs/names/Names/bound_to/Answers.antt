@@ -1,20 +1,15 @@
-use Rattle.std.proofs.Common.{sym, ◌∙◌}
-use Rattle.ada_script.specs.Texts.{is_bound_to}
-use Rattle.ada_script.proofs.Found.{find_at, find_behind, find_past, find_missing}
+use Rattle.std.proofs.Common.{◌∙◌, subst, slice_get, ap}
+use Rattle.ada_script.specs.Texts.{bound_to}
+use Rattle.ada_script.proofs.Placed.{looked_up_here, looked_up_nowhere}
 use Rattle.ada_script.proofs.names.Names.bound_to.Goals as goal
 
-pub returns-in_default : goal.returns-in_default
-returns-in_default c =
-    rw (← c.self.view_is) (sym (find_missing (λ entry. is_bound_to c.args.bound entry.1) c.self.inside.table.entries c.loop-place.place (sym c.in_default.ensures.entry)) ∙ c.loop-place.invariant)
+pub returns-in-Some-get : goal.returns-in-Some-get
+returns-in-Some-get c =
+    c.get_index.ensures.entry ∙ ap (slice_get c.self.inside.table.entries) c.from.ensures
+    ∙ looked_up_here c.self.inside.table.entries c.self.invariant c.in-Some.places c.in-Some.is c.args.bound c.get.result c.in-Some-get.place c.get.ensures c.in-Some-get.is
+    ∙ ap (λ names. bound_to names c.args.bound) c.self.view_is
 
-pub returns-then-is_bound_to : goal.returns-then-is_bound_to
-returns-then-is_bound_to c =
-    rw (← c.self.view_is) (sym (find_at (λ entry. is_bound_to c.args.bound entry.1) c.self.inside.table.entries c.loop-place.place (c.in-Some.name.now, c.in-Some.meaning.now) (sym c.in-Some.ensures.entry) (sym c.is_bound_to.ensures ∙ c.if-is_bound_to.true)) ∙ c.loop-place.invariant)
-
-pub loop-place-preserved : goal.loop-place-preserved
-loop-place-preserved c =
-    find_behind (λ entry. is_bound_to c.args.bound entry.1) c.self.inside.table.entries c.loop-place.place (c.in-Some.name.now, c.in-Some.meaning.now) (sym c.in-Some.ensures.entry) (sym c.is_bound_to.ensures ∙ c.if-is_bound_to.false) ∙ c.loop-place.invariant
-
-pub returns : goal.returns
-returns c =
-    rw (← c.self.view_is) (sym (find_past (λ entry. is_bound_to c.args.bound entry.1) c.self.inside.table.entries c.loop-place.place (rw (← c.len-place-end.ensures.len) c.loop-place-test.false)) ∙ c.loop-place.invariant)
+pub returns-in-None-get : goal.returns-in-None-get
+returns-in-None-get c =
+    looked_up_nowhere c.self.inside.table.entries c.self.invariant c.in-Some.places c.in-Some.is c.args.bound c.get.result c.get.ensures c.in-None-get.is
+    ∙ ap (λ names. bound_to names c.args.bound) c.self.view_is
