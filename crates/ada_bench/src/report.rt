@@ -29,7 +29,8 @@ fn ratio(taken: u64, floor: u64) -> u64 {
     taken.saturating_mul(100) / floor.max(1)
 }
 
-/// Prints the most memory that this process had, and its page faults, as the system says them.
+/// Prints the most memory that this process had so far, in KB, and its page faults, as the system
+/// counts them.
 pub fn print_memory(rt: &HostRuntime) -> anyhow::Result<()> {
     let status = fs::read_to_string(rt, "/proc/self/status")?;
     for line in status.lines() {
@@ -37,5 +38,8 @@ pub fn print_memory(rt: &HostRuntime) -> anyhow::Result<()> {
             println!(rt; "  {line}")?;
         }
     }
+    let counts = fs::read_to_string(rt, "/proc/self/stat")?;
+    let faults = counts.split_whitespace().nth(9).unwrap_or("");
+    println!(rt; "  page faults {faults}")?;
     Ok(())
 }

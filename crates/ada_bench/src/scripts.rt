@@ -9,7 +9,7 @@ pub enum Kind {
     Comments,
     /// Ticks, each to the next moment.
     Ticks,
-    /// One rendezvous after another between a client and a server.
+    /// One rendezvous after another between a client and a server, and COUNT for lines that are left.
     PingPong,
     /// The same, with a last line that is no statement.
     Faulty,
@@ -56,6 +56,8 @@ S: accept E
 S: end
 ";
 
+const SHOW: &[u8] = b"S: show count E\n";
+
 /// A task that asks, and one that it aborts.
 const ABORTER: &[u8] = b"main: create S under main
 main: create X under main
@@ -75,7 +77,7 @@ pub fn script(alloc: Global, kind: Kind, lines: usize) -> Result<Vec<u8>, AllocE
             text.extend_from_slice(b"C: jump\n")?;
             Ok(text)
         }
-        Kind::Shows => repeated(alloc, SERVER_AND_CLIENT, b"S: show count E\n", lines - 5),
+        Kind::Shows => repeated(alloc, SERVER_AND_CLIENT, SHOW, lines - 5),
         Kind::Names => aborts(alloc, lines),
     }
 }
@@ -105,8 +107,9 @@ fn ticks(alloc: Global, lines: usize) -> Result<Vec<u8>, AllocError> {
 }
 
 fn ping_pong(alloc: Global, lines: usize) -> Result<Vec<u8>, AllocError> {
-    let rounds = lines.saturating_sub(5) / 3;
-    repeated(alloc, SERVER_AND_CLIENT, ROUND, rounds)
+    let behind = lines.saturating_sub(5);
+    let text = repeated(alloc, SERVER_AND_CLIENT, ROUND, behind / 3)?;
+    repeated(alloc, &text, SHOW, behind % 3)
 }
 
 fn aborts(alloc: Global, lines: usize) -> Result<Vec<u8>, AllocError> {

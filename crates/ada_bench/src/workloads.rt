@@ -15,10 +15,16 @@ use ada_script::{Script, read};
 /// Plays a script of so many lines, and prints how much it came to.
 pub fn try_script(rt: &HostRuntime, kind: Kind, lines: usize) -> anyhow::Result<()> {
     let text = script(rt.alloc(), kind, lines)?;
+    try_text(rt, kind.name(), &text)
+}
+
+/// Replays a text, and prints how much it came to.
+fn try_text(rt: &HostRuntime, name: &str, text: &[u8]) -> anyhow::Result<()> {
+    let mut reader = text;
     let mut sink = Sink::default();
-    let _ = replay(rt.alloc(), &mut text.as_slice(), &mut sink);
+    let _ = replay(rt.alloc(), &mut reader, &mut sink);
     println!(rt; "{}: {} bytes read, {} bytes written in {} writes",
-        kind.name(), text.len(), sink.bytes, sink.writes
+        name, text.len(), sink.bytes, sink.writes
     )?;
     Ok(())
 }
@@ -43,22 +49,17 @@ fn done<P: Plan>(rt: &HostRuntime, plan: &P) -> anyhow::Result<(Kernel, u32)> {
     Ok((kernel, before))
 }
 
-/// Measures the replay of a script of so many lines, its reading alone, and its kernel's steps alone.
+/// Measures the replay of a script of so many lines, its reading alone, and its kernel's steps alone. The
+/// memory is that of the first replay and of its script.
 pub fn measure_script(rt: &HostRuntime, kind: Kind, lines: usize) -> anyhow::Result<()> {
     let text = script(rt.alloc(), kind, lines)?;
-    let mut output = Vec::new(rt.alloc());
-    let _ = replay(rt.alloc(), &mut text.as_slice(), &mut output);
-    let mut sink = Sink::default();
-    let _ = replay(rt.alloc(), &mut text.as_slice(), &mut sink);
-    println!(rt; "{}: {} bytes read, {} written in {} writes",
-        kind.name(), text.len(), sink.bytes, sink.writes
-    )?;
+    try_text(rt, kind.name(), &text)?;
+    print_memory(rt)?;
     print_head(rt)?;
     match read(rt.alloc(), &text) {
-        Ok(script) => measure_play(rt, &text, &output, script)?,
-        Err(_) => measure_reading(rt, &text)?,
+        Ok(script) => measure_play(rt, &text, script),
+        Err(_) => measure_reading(rt, &text),
     }
-    print_memory(rt)
 }
 
 /// Measures the replay of a text that is no script. Its floor is that of its reading.
@@ -76,12 +77,10 @@ fn measure_reading(rt: &HostRuntime, text: &[u8]) -> anyhow::Result<()> {
 }
 
 /// Measures the replay of a script, and its parts.
-fn measure_play(
-    rt: &HostRuntime,
-    text: &[u8],
-    output: &[u8],
-    script: Script,
-) -> anyhow::Result<()> {
+fn measure_play(rt: &HostRuntime, text: &[u8], script: Script) -> anyhow::Result<()> {
+    let mut reader = text;
+    let mut output = Vec::new(rt.alloc());
+    let _ = replay(rt.alloc(), &mut reader, &mut output);
     let played = Scripted::play(rt.alloc(), script)?;
     let events = played.kernel.journal().as_slice();
     let floor = measure(
@@ -89,7 +88,7 @@ fn measure_play(
         &mut Floor {
             text,
             events,
-            output,
+            output: &output,
         },
     )?;
     let pushing = measure(rt, &mut Pushing { events })?;
