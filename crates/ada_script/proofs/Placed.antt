@@ -1,11 +1,12 @@
 -- Where the names that are bound stand among the names of a script.
 use Rattle.std.proofs.Common.{◌≡◌, ℕ, zero, suc, ◌+◌, Bool, true, false, cond, List, [], ◌∷◌, ◌++◌, length, take, drop, find, slice_get, Option, Some, None, IfSome, is_some, refl, sym, ap, subst, ◌∙◌, add-one, arith}
-use Rattle.std.specs.List.{position, position_from}
+use Rattle.std.specs.List.{position, position_from, IsDistinct, AllByRecursion}
 use Rattle.std.specs.Option.{option_map, option_and_then}
 use Rattle.std.specs.Map.{lookup, keys_of, values_of}
 use Rattle.std.specs.Str.{bytes_eq}
 use Rattle.std.proofs.lemmas.Iterator.Adapters.{position_from-zero}
-use Rattle.indexmap.specs.IndexMap.{set_value_at}
+use Rattle.std.proofs.lemmas.Cmp.{nat_list_eq_equiv}
+use Rattle.indexmap.specs.IndexMap.{set_value_at, insert_entry}
 use Rattle.ada_script.specs.declared.meaning.Meaning.{Meaning}
 use Rattle.ada_script.specs.declared.meaning.Bound.{Bound}
 use Rattle.ada_script.specs.declared.places.Places.{Places}
@@ -173,3 +174,25 @@ module _ (name : List ℕ) (change : Meaning → Meaning) (old : Meaning) where
   pub set_at_place : (names : Scope) (i : ℕ) → position (bytes_eq name) (keys_of names) ≡ Some i → slice_get (values_of names) i ≡ Some old
       → set_value_at names i (change old) ≡ with_meaning names name change
   set_at_place names i first at = placed_from names i (sym (position_from-zero (bytes_eq name) (keys_of names)) ∙ first) at
+
+-- ---- copies of names
+
+-- no name stands twice
+later_differs : (before : List ℕ) (es : Scope) (j : ℕ) (name : List ℕ) (meaning : Meaning) → AllByRecursion (λ other. bytes_eq before other ≡ false) (keys_of es) → slice_get es j ≡ Some (name, meaning)
+    → bytes_eq before name ≡ false
+later_differs before [] j name meaning all at = absurd cc
+later_differs before (e ∷ es) zero name meaning all at = let same : e.0 ≡ name = cc in subst (λ other. bytes_eq before other ≡ false) same all.0
+later_differs before (e ∷ es) (suc j) name meaning all at = later_differs before es j name meaning all.1 at
+
+-- entries that are inserted in their order
+next_inserted : (es : Scope) (j : ℕ) (name : List ℕ) (meaning : Meaning) → IsDistinct bytes_eq (keys_of es) → slice_get es j ≡ Some (name, meaning) → insert_entry bytes_eq (take j es) name meaning ≡ take (suc j) es
+unfolding IsDistinct
+next_inserted [] j name meaning apart at = absurd cc
+next_inserted (e ∷ es) zero name meaning apart at = let same : e ≡ (name, meaning) = cc in ap (λ (entry : List ℕ × Meaning). entry ∷ []) (sym same)
+next_inserted (e ∷ es) (suc j) name meaning apart at =
+    let differs : bytes_eq name e.0 ≡ false = nat_list_eq_equiv.symm name e.0 ∙ later_differs e.0 es j name meaning apart.0 at in
+    ap (λ t. cond t ((e.0, meaning) ∷ take j es) (e ∷ insert_entry bytes_eq (take j es) name meaning)) differs ∙ ap (λ (rest : Scope). e ∷ rest) (next_inserted es j name meaning apart.1 at)
+
+pub inserted_next : (names : Scope) (i : ℕ) (name : List ℕ) (meaning : Meaning) → IsDistinct bytes_eq (keys_of names) → slice_get names i ≡ Some (name, meaning)
+    → insert_entry bytes_eq (take i names) name meaning ≡ take (i + 1) names
+inserted_next names i name meaning distinct at = rw add-one (next_inserted names i name meaning distinct at)

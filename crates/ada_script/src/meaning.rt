@@ -1,9 +1,10 @@
 //! What the names of a script stand for.
 
-ghost use Rattle.std.specs.Prelude.{◌≡◌, false};
+ghost use Rattle.std.specs.Prelude.{◌≡◌, false, IfOk};
 
 use crate::Name;
 use ada_events::{SmallList, TaskNo};
+use std::alloc::{AllocError, Global};
 
 /// The names of a task's entries, in the order of its declaration, at most 16. One lies in place, and
 /// more in memory.
@@ -78,6 +79,19 @@ impl Meaning {
         }
     }
 
+    /// Another meaning of the same value.
+    pub(crate) fn copy(&self, alloc: Global) -> Result<Self, AllocError>
+        ensures { IfOk result (λ meaning. meaning ≡ self.now) }
+    {
+        match self {
+            Meaning::Task { entries, made } => Ok(Meaning::Task {
+                entries: copy_of(entries, alloc)?,
+                made: *made,
+            }),
+            Meaning::Block { opened } => Ok(Meaning::Block { opened: *opened }),
+        }
+    }
+
     /// Whether this is bound so.
     pub(crate) fn is_bound_to(&self, bound: Bound) -> bool
         ensures { result ≡ is_bound_to bound self.now }
@@ -106,4 +120,15 @@ impl Meaning {
             _ => false,
         }
     }
+}
+
+/// Other names of the same bytes.
+fn copy_of(names: &EntryNames, alloc: Global) -> Result<EntryNames, AllocError>
+    ensures { IfOk result (λ copy. copy ≡ names.now) }
+{
+    let mut copy = EntryNames::new(alloc);
+    for name in names.as_slice() {
+        copy.push(name.copy())?;
+    }
+    Ok(copy)
 }

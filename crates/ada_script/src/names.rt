@@ -60,6 +60,25 @@ impl Names {
         })
     }
 
+    /// The same names.
+    pub(crate) fn copy(&self) -> Result<Self, Cause>
+        ensures names { IfOk result (λ names. names ≡ self.now) }
+        ensures memory { IsOkUnless result Cause.OutOfMemory }
+    {
+        let alloc = *self.table.allocator();
+        let mut names = Names {
+            table: IndexMap::with_capacity(alloc, self.table.len())?,
+            places: None,
+        };
+        for place in 0..self.table.len() {
+            let Some((name, meaning)) = self.table.get_index(place) else {
+                break;
+            };
+            names.insert(name, meaning.copy(alloc)?)?;
+        }
+        Ok(names)
+    }
+
     /// What a name stands for, if it is declared.
     pub fn meaning(&self, name: &Name) -> Option<&Meaning>
         ensures { option_copied result ≡ meaning_of self.now name.now }

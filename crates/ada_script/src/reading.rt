@@ -102,5 +102,5 @@ pub fn read(alloc: Global, text: &[u8]) -> Result<Script, ScriptFault>
         }
         number += 1;
     }
-    Ok(Script::new(lines))
+    Ok(Script::new(lines, names))
 }

@@ -16,6 +16,8 @@ pub struct Line {
 #[derive(Drop)]
 pub struct Script {
     lines: Vec<Line>,
+    /// The names that the lines declare.
+    names: Names,
 }
 
 impl Model for Script {
@@ -25,16 +27,22 @@ impl Model for Script {
     ghost Value = { List Line };
 
     ghost view = { λ s. s.lines.items };
+
+    ghost use Rattle.std.specs.Prelude.{◌≡◌};
+    ghost use Rattle.ada_script.specs.Script.{scope_of};
+
+    ghost invariant = { λ s. s.names ≡ scope_of s.lines.items };
 }
 
 impl Script {
     ghost use Rattle.ada_script.specs.Script.{scope_of};
 
-    /// The script of these lines.
-    pub(crate) fn new(lines: Vec<Line>) -> Self
+    /// The script of these lines and of the names that they declare.
+    pub(crate) fn new(lines: Vec<Line>, names: Names) -> Self
+        requires { names ≡ scope_of lines.items }
         ensures { result ≡ lines.items }
     {
-        Script { lines }
+        Script { lines, names }
     }
 
     /// The lines in their order.
@@ -49,11 +57,20 @@ impl Script {
         ensures names { IfOk result (λ names. names ≡ scope_of self.now) }
         ensures memory { IsOkUnless result Cause.OutOfMemory }
     {
-        let mut names = Names::new(*self.lines.allocator())?;
-        for line in self.lines() {
-            names.declare(&line.statement)?;
-        }
+        let mut names = self.names.copy()?;
         names.make_room()?;
         Ok(names)
+    }
+
+    /// The lines in their order, and the names that they declare, of which the main program's alone is
+    /// bound.
+    pub fn into_parts(self) -> Result<(Vec<Line>, Names), Cause>
+        ensures lines { IfOk result (λ parts. parts.0.items ≡ self) }
+        ensures names { IfOk result (λ parts. parts.1 ≡ scope_of self) }
+        ensures memory { IsOkUnless result Cause.OutOfMemory }
+    {
+        let Script { lines, mut names } = self;
+        names.make_room()?;
+        Ok((lines, names))
     }
 }
