@@ -69,7 +69,7 @@ fn replay_text<W: Write>(alloc: Global, text: &[u8], writer: &mut W) -> Result<E
     ensures err { IfErr result (λ fault. BreaksText fault text.now (W.contents writer.old) (W.contents writer.new)) }
 {
     match read_script(alloc, text) {
-        Ok(script) => replay_script(alloc, &script, writer),
+        Ok(script) => replay_script(alloc, script, writer),
         Err(fault) => Err(fault),
     }
 }
@@ -77,19 +77,19 @@ fn replay_text<W: Write>(alloc: Global, text: &[u8], writer: &mut W) -> Result<E
 // Plays a script on a kernel of its own.
 fn replay_script<W: Write>(
     alloc: Global,
-    script: &Script,
+    script: Script,
     writer: &mut W,
 ) -> Result<Ending, RunFault>
-    ensures ok { IfOk result (λ ending. IsScriptReplayed ending script.now (W.contents writer.old) (W.contents writer.new)) }
-    ensures err { IfErr result (λ fault. IsShortage fault × IsCutShort (Plays script.now (beginning script.now)) (W.contents writer.old) (W.contents writer.new)) }
+    ensures ok { IfOk result (λ ending. IsScriptReplayed ending script (W.contents writer.old) (W.contents writer.new)) }
+    ensures err { IfErr result (λ fault. IsShortage fault × IsCutShort (Plays script (beginning script)) (W.contents writer.old) (W.contents writer.new)) }
 {
-    let Ok(mut names) = script.names() else {
+    let Ok((lines, mut names)) = script.into_parts() else {
         return Err(RunFault::Memory);
     };
     let Ok(mut kernel) = Kernel::new(alloc) else {
         return Err(RunFault::Memory);
     };
-    match play(alloc, &mut kernel, &mut names, script.lines(), writer) {
+    match play(alloc, &mut kernel, &mut names, &lines, writer) {
         Ok(()) => Ok(ending_of(&kernel)),
         Err(fault) => Err(fault),
     }
