@@ -8,4 +8,5 @@ pub mod Reading
 pub mod Binding
 pub mod Texts
 pub mod Places
+pub mod Appending
 pub mod Script

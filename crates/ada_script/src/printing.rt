@@ -3,7 +3,8 @@
 mod events;
 mod parts;
 
-ghost use Rattle.std.specs.Prelude.{◌≡◌, ◌++◌, OnOk, OnErr, IsOkUnless};
+ghost use Rattle.std.specs.Prelude.{◌≡◌, ◌++◌, take, IsOk, OnOk, OnErr, IsOkUnless};
+ghost use Rattle.ada_script.specs.Appending.{KeepsStarts};
 ghost use Rattle.ada_script.specs.Texts.{event_line, refusal_text, refusal_name, shown_text, value_text};
 
 use crate::{Cause, Names};
@@ -26,9 +27,21 @@ pub fn write_event(at: u32, event: &Event, names: &Names, out: &mut Vec<u8>) -> 
     ensures err { OnErr result (out.new.items ≡ out.old.items) }
     ensures memory { IsOkUnless result Cause.OutOfMemory }
 {
-    let mut line = Vec::new(*out.allocator());
-    put_event_line(&mut line, at, event, names)?;
-    out.extend_from_slice(&line)?;
+    let length = out.len();
+    let written = put_event_line(out, at, event, names);
+    or_cut(written, length, out)
+}
+
+/// Cuts what was written to this length where appending to it failed.
+fn or_cut(written: Result<(), AllocError>, length: usize, out: &mut Vec<u8>) -> Result<(), Cause>
+    ensures ok { OnOk result (IsOk written × (out.new.items ≡ out.old.items)) }
+    ensures err { OnErr result (out.new.items ≡ take length out.old.items) }
+    ensures memory { IsOkUnless result Cause.OutOfMemory }
+{
+    if written.is_err() {
+        out.truncate(length);
+        return Err(Cause::OutOfMemory);
+    }
     Ok(())
 }
 
@@ -38,7 +51,8 @@ fn put_event_line(
     event: &Event,
     names: &Names,
 ) -> Result<(), AllocError>
-    ensures { OnOk result (out.new.items ≡ out.old.items ++ event_line names.now at event.now) }
+    ensures text { OnOk result (out.new.items ≡ out.old.items ++ event_line names.now at event.now) }
+    ensures starts { KeepsStarts out.old.items out.new.items }
 {
     put_number(out, at)?;
     put(out, b" ")?;
@@ -53,14 +67,14 @@ pub fn write_refusal(line: u32, refusal: Refusal, out: &mut Vec<u8>) -> Result<(
     ensures err { OnErr result (out.new.items ≡ out.old.items) }
     ensures memory { IsOkUnless result Cause.OutOfMemory }
 {
-    let mut text = Vec::new(*out.allocator());
-    put_refusal(&mut text, line, refusal)?;
-    out.extend_from_slice(&text)?;
-    Ok(())
+    let length = out.len();
+    let written = put_refusal(out, line, refusal);
+    or_cut(written, length, out)
 }
 
 fn put_refusal(out: &mut Vec<u8>, line: u32, refusal: Refusal) -> Result<(), AllocError>
-    ensures { OnOk result (out.new.items ≡ out.old.items ++ refusal_text line refusal) }
+    ensures text { OnOk result (out.new.items ≡ out.old.items ++ refusal_text line refusal) }
+    ensures starts { KeepsStarts out.old.items out.new.items }
 {
     put(out, b"refused line ")?;
     put_number(out, line)?;
@@ -107,14 +121,14 @@ pub fn write_shown(line: u32, value: Value, out: &mut Vec<u8>) -> Result<(), Cau
     ensures err { OnErr result (out.new.items ≡ out.old.items) }
     ensures memory { IsOkUnless result Cause.OutOfMemory }
 {
-    let mut text = Vec::new(*out.allocator());
-    put_shown(&mut text, line, value)?;
-    out.extend_from_slice(&text)?;
-    Ok(())
+    let length = out.len();
+    let written = put_shown(out, line, value);
+    or_cut(written, length, out)
 }
 
 fn put_shown(out: &mut Vec<u8>, line: u32, value: Value) -> Result<(), AllocError>
-    ensures { OnOk result (out.new.items ≡ out.old.items ++ shown_text line value) }
+    ensures text { OnOk result (out.new.items ≡ out.old.items ++ shown_text line value) }
+    ensures starts { KeepsStarts out.old.items out.new.items }
 {
     put(out, b"shown line ")?;
     put_number(out, line)?;
@@ -124,7 +138,8 @@ fn put_shown(out: &mut Vec<u8>, line: u32, value: Value) -> Result<(), AllocErro
 }
 
 fn put_value(out: &mut Vec<u8>, value: Value) -> Result<(), AllocError>
-    ensures { OnOk result (out.new.items ≡ out.old.items ++ value_text value) }
+    ensures text { OnOk result (out.new.items ≡ out.old.items ++ value_text value) }
+    ensures starts { KeepsStarts out.old.items out.new.items }
 {
     match value {
         Value::Truth(true) => put(out, b"true"),

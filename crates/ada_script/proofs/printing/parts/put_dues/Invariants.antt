@@ -1,7 +1,11 @@
 use Rattle.std.proofs.Common.{◌≡◌, ◌++◌, take}
 use Rattle.std.specs.List.{flat_map}
+use Rattle.ada_script.specs.Appending.{KeepsStarts}
 use Rattle.ada_script.specs.Texts.{due_text}
 use Rattle.ada_script.proofs.printing.parts.put_dues.Given as goal
 
 abbrev pub invariant-loop-due : goal.invariant-loop-due
-invariant-loop-due l = l.out.items ≡ l.initial.out.items ++ flat_map due_text (take l.due-index l.dues)
+invariant-loop-due l = record {
+  text : l.out.items ≡ l.initial.out.items ++ flat_map due_text (take l.due-index l.dues);
+  starts : KeepsStarts l.initial.out.items l.out.items;
+}
