@@ -12,7 +12,8 @@ appends_both (Some us) None new xs ys first second = absurd first
 appends_both (Some us) (Some bs) None xs ys first second = absurd second
 appends_both (Some us) (Some bs) (Some cs) xs ys first second = second ∙ ap (λ zs. zs ++ ys) first ∙ append_assoc us xs ys
 
-pub appends_more : (old mid new : Option (List ℕ)) (bytes : List ℕ) (n m : ℕ) → Appends old mid (take n bytes) → Appends mid new (take m (take (length bytes - n) (drop n bytes))) → Appends old new (take (n + m) bytes)
+pub appends_more : (old mid new : Option (List ℕ)) (bytes : List ℕ) (n m : ℕ) → Appends old mid (take n bytes)
+    → Appends mid new (take m (take (length bytes - n) (drop n bytes))) → Appends old new (take (n + m) bytes)
 appends_more old mid new bytes n m first second =
     let rest : take (length bytes - n) (drop n bytes) ≡ drop n bytes = take_all (length bytes - n) (drop n bytes) (omega (arith, length-drop n bytes)) in
     let both : Appends old new (take n bytes ++ take m (drop n bytes)) =
@@ -20,7 +21,8 @@ appends_more old mid new bytes n m first second =
     subst (λ bs. Appends old new bs) (sym (take-add n m bytes)) both
 
 -- what was consumed, up to the end or to a bound, is the input's beginning up to that bound
-pub consumed_whole : (old new : Option (List ℕ)) (text : List ℕ) (n : ℕ) → Consumes old new text → length text ≤ n → IsAtEnd new ⊎ (n ≤ length text) → IfSome old (λ bytes. text ≡ take n bytes)
+pub consumed_whole : (old new : Option (List ℕ)) (text : List ℕ) (n : ℕ) → Consumes old new text → length text ≤ n → IsAtEnd new ⊎ (n ≤ length text)
+    → IfSome old (λ bytes. text ≡ take n bytes)
 consumed_whole None new text n consumed within end = tt
 consumed_whole (Some bytes) None text n consumed within end = absurd consumed
 consumed_whole (Some bytes) (Some rest) text n consumed within (inl end) =
@@ -36,6 +38,7 @@ consumes_both (Some us) (Some bs) None xs ys first second = absurd second
 consumes_both (Some us) (Some bs) (Some cs) xs ys first second = first ∙ ap (λ zs. xs ++ zs) second ∙ sym (append_assoc xs ys cs)
 
 -- a text was taken, and then no more than may still be taken
-pub takes_more : (old mid new : Option (List ℕ)) (text : List ℕ) (most len : ℕ) → Consumes old mid text → length text ≡ len → len ≤ most → TakesAtMost (most - len) mid new → TakesAtMost most old new
+pub takes_more : (old mid new : Option (List ℕ)) (text : List ℕ) (most len : ℕ) → Consumes old mid text → length text ≡ len → len ≤ most
+    → TakesAtMost (most - len) mid new → TakesAtMost most old new
 takes_more old mid new text most len consumed is within (bytes, more, few) =
     (text ++ bytes, consumes_both old mid new text bytes consumed more, omega (arith, length-append text bytes, is))

@@ -10,7 +10,8 @@ use Rattle.ada_run.specs.Play.{State, group_text, SaysRequest, SaysShown, Plays}
 state_same : (a b : State) → a.journal ≡ b.journal → a.names ≡ b.names → a ≡ b
 state_same a b journals names = ap (λ j. record { journal = j; names = a.names }) journals ∙ ap (λ n. record { journal = b.journal; names = n }) names
 
-request_once : (line : Line) (request : Request) (old a b : State) (text other : List ℕ) → SaysRequest line old text a request → SaysRequest line old other b request → (text ≡ other) × (a ≡ b)
+request_once : (line : Line) (request : Request) (old a b : State) (text other : List ℕ) → SaysRequest line old text a request
+    → SaysRequest line old other b request → (text ≡ other) × (a ≡ b)
 request_once line request old a b text other (inl one) (inl two) =
     let same : a ≡ b = state_same a b (leads_to_one_journal old.journal request a.journal b.journal one.after two.after) (one.bound ∙ sym two.bound) in
     (one.printed ∙ ap (λ (s : State). group_text s.names (length old.journal) s.journal) same ∙ sym two.printed, same)
@@ -20,7 +21,9 @@ request_once line request old a b text other (inr one) (inr two) =
     let causes : one.cause ≡ two.cause = let e = sym one.refused ∙ two.refused in cc in
     (one.printed ∙ ap (refusal_text line.line) causes ∙ sym two.printed, one.unchanged ∙ sym two.unchanged)
 
-asked_once : (line : Line) (asked : Option Request) (old a b : State) (text other : List ℕ) → MatchOption asked (SaysShown line old text a) (SaysRequest line old text a) → MatchOption asked (SaysShown line old other b) (SaysRequest line old other b) → (text ≡ other) × (a ≡ b)
+asked_once : (line : Line) (asked : Option Request) (old a b : State) (text other : List ℕ)
+    → MatchOption asked (SaysShown line old text a) (SaysRequest line old text a)
+    → MatchOption asked (SaysShown line old other b) (SaysRequest line old other b) → (text ≡ other) × (a ≡ b)
 asked_once line None old a b text other one two = (one.printed ∙ sym two.printed, one.unchanged ∙ sym two.unchanged)
 asked_once line (Some request) old a b text other one two = request_once line request old a b text other one two
 

@@ -15,7 +15,7 @@ use std::alloc::Global;
 use std::io::{Read, Write};
 
 /// Reads an input whole, at most 823,297 bytes, and then plays it as a script on a kernel of its own,
-/// line by line, and writes what each line prints.
+/// line by line, and writes what the lines print, in pieces of 65,536 bytes or more.
 ///
 /// The answer is whether the main program is terminated at the end. A fault of the script, or of the
 /// reader, comes before anything is written; where the writer or memory fails, a beginning of the play

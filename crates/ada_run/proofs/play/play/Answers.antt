@@ -2,7 +2,7 @@ use Rattle.std.proofs.Common.{◌+◌, ◌∙◌, inl, inr, take}
 use Rattle.std.proofs.lemmas.Result.{err_from_is_err_and}
 use Rattle.ada_run.specs.Ends.{state}
 use Rattle.ada_run.proofs.Playing.{says_at_rest}
-use Rattle.ada_run.proofs.Cuts.{pending_line, pending_piece, lines_cut, some_written, play_ends, play_is_cut}
+use Rattle.ada_run.proofs.Cuts.{pending_line, pending_piece, lines_cut, some_written, all_played, play_ends, play_is_cut}
 use Rattle.ada_run.proofs.play.play.Goals as goal
 
 pub returns-in-Err-clause-err : goal.returns-in-Err-clause-err
@@ -45,12 +45,18 @@ loop-line-preserved g c =
 
 pub returns-clause-ok : goal.returns-clause-ok
 returns-clause-ok g c =
-    play_ends c.args.lines.now c.loop-line.line-index (state c.args.kernel.now c.args.names.now) (state c.loop-line.kernel c.loop-line.names)
+    play_ends c.args.lines.now (state c.args.kernel.now c.args.names.now) (state c.loop-line.kernel c.loop-line.names)
     (g.W.Write.contents c.args.writer.now) (g.W.Write.contents c.loop-line.writer) (g.W.Write.contents c.write_output-2.new.writer)
-    c.loop-line.text.items c.deref-2.result.now c.write_output-2.result c.loop-line-test.false c.loop-line.invariant c.deref-2.ensures.value c.write_output-2.ensures.ok
+    c.loop-line.text.items c.deref-2.result.now c.write_output-2.result
+    (all_played c.args.lines.now c.loop-line.line-index (state c.args.kernel.now c.args.names.now) (state c.loop-line.kernel c.loop-line.names)
+    (g.W.Write.contents c.args.writer.now) (g.W.Write.contents c.loop-line.writer) c.loop-line.text.items c.loop-line-test.false c.loop-line.invariant)
+    c.deref-2.ensures.value c.write_output-2.ensures.ok
 
 pub returns-clause-err : goal.returns-clause-err
 returns-clause-err g c =
-    play_is_cut c.args.lines.now c.loop-line.line-index (state c.args.kernel.now c.args.names.now) (state c.loop-line.kernel c.loop-line.names)
+    play_is_cut c.args.lines.now (state c.args.kernel.now c.args.names.now) (state c.loop-line.kernel c.loop-line.names)
     (g.W.Write.contents c.args.writer.now) (g.W.Write.contents c.loop-line.writer) (g.W.Write.contents c.write_output-2.new.writer)
-    c.loop-line.text.items c.deref-2.result.now c.write_output-2.result c.loop-line-test.false c.loop-line.invariant c.deref-2.ensures.value c.write_output-2.ensures.err
+    c.loop-line.text.items c.deref-2.result.now c.write_output-2.result
+    (all_played c.args.lines.now c.loop-line.line-index (state c.args.kernel.now c.args.names.now) (state c.loop-line.kernel c.loop-line.names)
+    (g.W.Write.contents c.args.writer.now) (g.W.Write.contents c.loop-line.writer) c.loop-line.text.items c.loop-line-test.false c.loop-line.invariant)
+    c.deref-2.ensures.value c.write_output-2.ensures.err
