@@ -58,6 +58,7 @@ fn the_plain_kernel(rt: HostRuntime) -> Result<(), Fail> {
 #[test]
 fn as_many_tasks_as_there_may_be(rt: HostRuntime) -> Result<(), Fail> {
     let mut kernel = Kernel::new(rt.alloc())?;
+    assert_eq!(rt; kernel.tasks(), 1);
     for made in 1..=255u32 {
         assert_eq!(rt; kernel.step(create(0, MAIN, &[])), Ok(made));
     }
@@ -65,6 +66,7 @@ fn as_many_tasks_as_there_may_be(rt: HostRuntime) -> Result<(), Fail> {
         kernel.step(create(0, MAIN, &[])),
         Err(Refusal::TooManyTasks)
     );
+    assert_eq!(rt; kernel.tasks(), 256);
     assert_eq!(rt; kernel.journal().len(), 255);
     Ok(())
 }

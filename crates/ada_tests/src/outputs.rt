@@ -33,13 +33,13 @@ fn printed(alloc: Global) -> Result<String, AllocError> {
     Ok(text)
 }
 
-/// A writer that takes so many whole writes has taken so many bytes of the long play, by so many writes, and the
-/// status is this.
+/// A writer that takes so many writes and then fails has taken so many bytes of the long play, and would take
+/// so many writes more; the status is this.
 fn writes<R: Abort + AllocGlobal>(
     rt: &R,
     writes_left: usize,
     taken: usize,
-    count: usize,
+    left: usize,
     status: u8,
 ) -> Result<(), Fail> {
     let script = long_script(rt.alloc())?;
@@ -47,7 +47,6 @@ fn writes<R: Abort + AllocGlobal>(
     let mut input = script.as_bytes();
     let mut writer = Writes {
         taken: Vec::new(rt.alloc()),
-        count: 0,
         writes_left,
     };
     let outcome = replay(rt.alloc(), &mut input, &mut writer);
@@ -57,19 +56,19 @@ fn writes<R: Abort + AllocGlobal>(
         Some(writer.taken.as_slice()),
         wanted.as_bytes().get(..taken)
     );
-    assert_eq!(rt; writer.count, count);
+    assert_eq!(rt; writer.writes_left, left);
     Ok(())
 }
 
 // Two writes for all lines. The main program isn't terminated at the end.
 #[test]
 fn few_writes(rt: HostRuntime) -> Result<(), Fail> {
-    writes(&rt, 16, WHOLE, 2, 3)
+    writes(&rt, 16, WHOLE, 14, 3)
 }
 
 // An output that fails at its first write, and at its second.
 #[test]
 fn a_write_that_fails(rt: HostRuntime) -> Result<(), Fail> {
     writes(&rt, 0, 0, 0, 4)?;
-    writes(&rt, 1, FIRST, 1, 4)
+    writes(&rt, 1, FIRST, 0, 4)
 }

@@ -76,6 +76,36 @@ fn reads_that_fail(rt: HostRuntime) -> Result<(), Fail> {
     Ok(())
 }
 
+/// An input that is longer than a script may be, and so many reads of as many bytes as are asked for: the
+/// status is this, and so many bytes of the input are left.
+fn reads_a_long_input<R: Abort + AllocGlobal>(
+    rt: &R,
+    reads_left: usize,
+    status: u8,
+    left: usize,
+) -> Result<(), Fail> {
+    let text = vec![in rt.alloc(); b' '; 900_000]?;
+    let mut reader = Pieces {
+        text: &text,
+        size: usize::MAX,
+        reads_left,
+    };
+    let mut output = Vec::new(rt.alloc());
+    let outcome = replay(rt.alloc(), &mut reader, &mut output);
+    assert_eq!(rt; status_of(&outcome), status);
+    assert_eq!(rt; reader.text.len(), left);
+    assert!(rt; output.is_empty());
+    Ok(())
+}
+
+// 12 reads of 65,536 bytes and one of 36,865 are 823,297, with which it is no script; no more is read.
+#[test]
+fn few_reads(rt: HostRuntime) -> Result<(), Fail> {
+    reads_a_long_input(&rt, 12, 4, 113_568)?;
+    reads_a_long_input(&rt, 13, 1, 76_703)?;
+    reads_a_long_input(&rt, 14, 1, 76_703)
+}
+
 /// A writer that comes to its end after so many bytes: exactly these are written, and the status is 4.
 fn writes_until<R: Abort + AllocGlobal>(rt: &R, room: usize, end: End) -> Result<(), Fail> {
     let mut writer = Bytes {

@@ -1,4 +1,4 @@
-//! A reader that comes in pieces or fails, and writers that take a byte at a time or count their writes, and fail.
+//! A reader that comes in pieces or fails, and writers that take a byte or all at a time, and fail.
 
 use std::io;
 use std::io::ErrorKind;
@@ -63,11 +63,10 @@ impl io::Write for Bytes {
     }
 }
 
-/// Takes all that it is given, counts its writes, and fails once so many were made.
+/// Takes all that it is given, and fails once so many writes were made.
 #[derive(Drop)]
 pub struct Writes {
     pub taken: Vec<u8>,
-    pub count: usize,
     pub writes_left: usize,
 }
 
@@ -80,7 +79,6 @@ impl io::Write for Writes {
             .extend_from_slice(buf)
             .map_err(|_| io::Error::from(ErrorKind::Other))?;
         self.writes_left -= 1;
-        self.count += 1;
         Ok(buf.len())
     }
 
