@@ -6,7 +6,8 @@ use std::{fs, io};
 /// Prints what something took, and its floor: first, best and median turn, in microseconds, and the
 /// ratio of the best turns.
 pub fn print_row(rt: &HostRuntime, name: &str, taken: Turns, floor: Turns) -> io::Result<()> {
-    println!(rt; "  {:<10} {:>10} {:>10} {:>10} {:>10} {:>10} {:>8}",
+    println!(rt;
+        "  {:<10} {:>10} {:>10} {:>10} {:>10} {:>10} {:>8}",
         name,
         taken.first / 1000,
         taken.best / 1000,
@@ -19,7 +20,8 @@ pub fn print_row(rt: &HostRuntime, name: &str, taken: Turns, floor: Turns) -> io
 
 /// The heads of the columns.
 pub fn print_head(rt: &HostRuntime) -> io::Result<()> {
-    println!(rt; "  {:<10} {:>10} {:>10} {:>10} {:>10} {:>10} {:>8}",
+    println!(rt;
+        "  {:<10} {:>10} {:>10} {:>10} {:>10} {:>10} {:>8}",
         "", "first us", "best us", "median us", "floor 1st", "floor best", "ratio"
     )
 }

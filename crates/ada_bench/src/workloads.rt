@@ -23,8 +23,12 @@ fn try_text(rt: &HostRuntime, name: &str, text: &[u8]) -> anyhow::Result<()> {
     let mut reader = text;
     let mut sink = Sink::default();
     let _ = replay(rt.alloc(), &mut reader, &mut sink);
-    println!(rt; "{}: {} bytes read, {} bytes written in {} writes",
-        name, text.len(), sink.bytes, sink.writes
+    println!(rt;
+        "{}: {} bytes read, {} bytes written in {} writes",
+        name,
+        text.len(),
+        sink.bytes,
+        sink.writes
     )?;
     Ok(())
 }
@@ -33,8 +37,11 @@ fn try_text(rt: &HostRuntime, name: &str, text: &[u8]) -> anyhow::Result<()> {
 pub fn try_work(rt: &HostRuntime, work: Work, rounds: usize, idle: u16) -> anyhow::Result<()> {
     let plan = Beside { work, rounds, idle };
     let (kernel, before) = done(rt, &plan)?;
-    println!(rt; "{}: {} events, and {} before them",
-        work.name(), kernel.journal().len().saturating_sub(before), before
+    println!(rt;
+        "{}: {} events, and {} before them",
+        work.name(),
+        kernel.journal().len().saturating_sub(before),
+        before
     )?;
     Ok(())
 }
@@ -102,7 +109,12 @@ fn measure_play(rt: &HostRuntime, text: &[u8], script: Script) -> anyhow::Result
     )?;
     print_row(rt, "replay", measure(rt, &mut Replaying { text })?, floor)?;
     print_row(rt, "read", measure(rt, &mut Reading { text })?, reading)?;
-    print_row(rt, "steps", measure(rt, &mut Stepping { plan: &played })?, pushing)?;
+    print_row(
+        rt,
+        "steps",
+        measure(rt, &mut Stepping { plan: &played })?,
+        pushing,
+    )?;
     Ok(())
 }
 
@@ -111,10 +123,20 @@ pub fn measure_work(rt: &HostRuntime, work: Work, rounds: usize, idle: u16) -> a
     let plan = Beside { work, rounds, idle };
     let (kernel, before) = done(rt, &plan)?;
     let events = after(kernel.journal().as_slice(), before as usize);
-    println!(rt; "{} beside {} idle tasks: {} events", work.name(), idle, events.len())?;
+    println!(rt;
+        "{} beside {} idle tasks: {} events",
+        work.name(),
+        idle,
+        events.len()
+    )?;
     print_head(rt)?;
     let floor = measure(rt, &mut Pushing { events })?;
-    print_row(rt, "steps", measure(rt, &mut Stepping { plan: &plan })?, floor)?;
+    print_row(
+        rt,
+        "steps",
+        measure(rt, &mut Stepping { plan: &plan })?,
+        floor,
+    )?;
     Ok(())
 }
 
