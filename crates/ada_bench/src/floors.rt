@@ -1,5 +1,5 @@
-//! What a run costs at least: the same bytes read, the same events made and kept, and the same text
-//! made and written, with nothing that decides what they are.
+//! What a run costs at least: the same bytes read and cut into words, the same events made and kept, and
+//! the same text made and written, with nothing that decides what they are.
 ghost use Rattle.std.specs.Prelude.{◌<◌};
 
 use ada_events::{
@@ -22,6 +22,26 @@ pub fn read_text(alloc: Global, text: &[u8]) -> Result<Vec<u8>, AllocError> {
         copy.extend_from_slice(piece)?;
     }
     Ok(copy)
+}
+
+/// How many words the lines of a text have.
+pub fn count_words(text: &[u8]) -> usize {
+    let mut words: usize = 0;
+    for line in text.split(|byte| *byte == b'\n') {
+        words = words.saturating_add(words_in(line));
+    }
+    words
+}
+
+/// How many words a line has.
+fn words_in(line: &[u8]) -> usize {
+    let mut words: usize = 0;
+    for word in line.split(|byte| *byte == b' ') {
+        if !word.is_empty() {
+            words = words.saturating_add(1);
+        }
+    }
+    words
 }
 
 /// The text, made line by line and written in pieces.

@@ -1,6 +1,6 @@
 //! What is measured: a replay, its parts, and the floors of both.
 
-use crate::floors::{push_events, read_text, write_text};
+use crate::floors::{count_words, push_events, read_text, write_text};
 use crate::sink::Sink;
 use crate::turns::Job;
 use ada_events::{Event, Request};
@@ -40,18 +40,22 @@ impl Job for Reading<'_> {
     }
 }
 
-/// The floor of a replay: its bytes are read, its events made and kept, and its text made and written.
+/// The floor of a replay: its bytes are read and cut into words, its events made and kept, and its text
+/// made and written.
 #[derive(Drop)]
 pub struct Floor<'a> {
     pub text: &'a [u8],
     pub events: &'a [Event],
     pub output: &'a [u8],
+    /// How many words there were, so that counting them isn't left out.
+    pub words: usize,
 }
 
 impl Job for Floor<'_> {
     fn turn(&mut self, rt: &HostRuntime) -> anyhow::Result<Duration> {
         let start = Instant::now(rt)?;
-        let _text = read_text(rt.alloc(), self.text)?;
+        let text = read_text(rt.alloc(), self.text)?;
+        self.words = count_words(&text);
         let _journal = push_events(rt.alloc(), self.events)?;
         write_text(rt.alloc(), self.output, &mut Sink::default())?;
         Ok(start.elapsed(rt)?)

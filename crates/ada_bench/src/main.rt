@@ -1,5 +1,6 @@
 //! Measures how long the parts of adatask take, each beside a floor that is measured in the same run: the
-//! same bytes read, the same events made and kept, and the same text made and written, by plain loops.
+//! same bytes read and cut into words, the same events made and kept, and the same text made and written,
+//! by plain loops.
 #![tactic(auto)]
 
 mod floors;

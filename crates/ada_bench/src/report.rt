@@ -3,32 +3,37 @@
 use crate::turns::Turns;
 use std::{fs, io};
 
-/// Prints what something took, and its floor: first, best and median turn, in microseconds, and the
-/// ratio of the best turns.
+/// Prints what something took, and its floor: first, best and median turn, and the ratio of the best
+/// turns.
 pub fn print_row(rt: &HostRuntime, name: &str, taken: Turns, floor: Turns) -> io::Result<()> {
-    println!(rt;
-        "  {:<10} {:>10} {:>10} {:>10} {:>10} {:>10} {:>8}",
-        name,
-        taken.first / 1000,
-        taken.best / 1000,
-        taken.median / 1000,
-        floor.first / 1000,
-        floor.best / 1000,
-        ratio(taken.best, floor.best)
-    )
+    print!(rt; "  {name:<8}")?;
+    for time in [
+        taken.first,
+        taken.best,
+        taken.median,
+        floor.first,
+        floor.best,
+    ] {
+        print!(rt; " {:>10}.{}", time / 1000, time % 1000 / 100)?;
+    }
+    let hundredths = taken.best.saturating_mul(100) / floor.best.max(1);
+    println!(rt; " {:>9}.{:02}", hundredths / 100, hundredths % 100)
 }
 
-/// The heads of the columns.
+/// The heads of the columns. Times are in microseconds.
 pub fn print_head(rt: &HostRuntime) -> io::Result<()> {
-    println!(rt;
-        "  {:<10} {:>10} {:>10} {:>10} {:>10} {:>10} {:>8}",
-        "", "first us", "best us", "median us", "floor 1st", "floor best", "ratio"
-    )
-}
-
-/// Hundredths of so many floors.
-fn ratio(taken: u64, floor: u64) -> u64 {
-    taken.saturating_mul(100) / floor.max(1)
+    print!(rt; "  {:<8}", "us")?;
+    for head in [
+        "first",
+        "best",
+        "median",
+        "floor 1st",
+        "floor best",
+        "ratio",
+    ] {
+        print!(rt; " {head:>12}")?;
+    }
+    println!(rt; "")
 }
 
 /// Prints the most memory that this process had so far, in KB, and its page faults, as the system

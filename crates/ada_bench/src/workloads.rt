@@ -77,6 +77,7 @@ fn measure_reading(rt: &HostRuntime, text: &[u8]) -> anyhow::Result<()> {
             text,
             events: &[],
             output: b"",
+            words: 0,
         },
     )?;
     print_row(rt, "replay", measure(rt, &mut Replaying { text })?, floor)?;
@@ -96,6 +97,7 @@ fn measure_play(rt: &HostRuntime, text: &[u8], script: Script) -> anyhow::Result
             text,
             events,
             output: &output,
+            words: 0,
         },
     )?;
     let pushing = measure(rt, &mut Pushing { events })?;
@@ -105,6 +107,7 @@ fn measure_play(rt: &HostRuntime, text: &[u8], script: Script) -> anyhow::Result
             text,
             events: &[],
             output: b"",
+            words: 0,
         },
     )?;
     print_row(rt, "replay", measure(rt, &mut Replaying { text })?, floor)?;

@@ -1,6 +1,6 @@
 //! Where the names that are bound stand among the names of a script.
 
-ghost use Rattle.std.specs.Prelude.{◌≡◌, IsTrue, IfOk, None, Some, slice_get, set, OnOk};
+ghost use Rattle.std.specs.Prelude.{◌≡◌, ◌↔◌, IsTrue, IfOk, None, Some, slice_get, set, OnOk};
 ghost use Rattle.ada_script.specs.Places.{kept, IsNoted};
 
 use crate::Meaning;
@@ -79,7 +79,7 @@ impl Places {
     }
 
     fn note_task(&mut self, task: TaskNo, place: u16) -> bool
-        ensures first { IsTrue result → slice_get self.old.tasks.items task.0 ≡ Some None }
+        ensures first { IsTrue result ↔ (slice_get self.old.tasks.items task.0 ≡ Some None) }
         ensures tasks { IsTrue result → self.new.tasks.items ≡ set self.old.tasks.items task.0 (Some place) }
         ensures events { self.new.events ≡ self.old.events }
     {
@@ -92,7 +92,7 @@ impl Places {
     }
 
     fn note_event(&mut self, at: u32, spot: Spot) -> bool
-        ensures first { IsTrue result → slice_get self.old.events.items at ≡ Some Spot.Nothing }
+        ensures first { IsTrue result ↔ (slice_get self.old.events.items at ≡ Some Spot.Nothing) }
         ensures events { IsTrue result → self.new.events.items ≡ set self.old.events.items at spot }
         ensures tasks { self.new.tasks ≡ self.old.tasks }
     {

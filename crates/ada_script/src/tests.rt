@@ -264,6 +264,29 @@ fn asks_what_is_written(rt: HostRuntime) -> Result<(), Fail> {
     Ok(())
 }
 
+/// Bound beyond the room for tasks, two names to one position, and one name a second time.
+#[test]
+fn names_what_has_no_room(rt: HostRuntime) -> Result<(), Fail> {
+    let alloc = rt.alloc();
+    let (lines, mut names) = read(alloc, RENDEZVOUS)?.into_parts()?;
+    assert!(rt; lines.len() == 8);
+    let mut out = Vec::new(alloc);
+    write_event(1, &Event::Halted { task: MAIN }, &names, &mut out)?;
+    names.bind(&lines[0].statement, 1, TASK);
+    write_event(2, &Event::Halted { task: TASK }, &names, &mut out)?;
+    names.bind(&lines[1].statement, 1, TaskNo(300));
+    let beyond = Event::Halted { task: TaskNo(300) };
+    write_event(3, &beyond, &names, &mut out)?;
+    names.bind(&lines[0].statement, 1, CALLER);
+    write_event(4, &Event::Halted { task: CALLER }, &names, &mut out)?;
+    write_event(5, &Event::Halted { task: TASK }, &names, &mut out)?;
+    assert_eq!(rt;
+        out.as_slice(),
+        b"1 halted main\n2 halted S\n3 halted C\n4 halted S\n5 halted task#1\n".as_slice()
+    );
+    Ok(())
+}
+
 /// The words of a script's statements with a space between them, and a line feed behind each statement.
 fn spelled(alloc: Global, script: &Script) -> Result<Vec<u8>, Cause> {
     let mut text = Vec::new(alloc);
