@@ -44,11 +44,23 @@ impl Job for Reading<'_> {
 /// made and written.
 #[derive(Drop)]
 pub struct Floor<'a> {
-    pub text: &'a [u8],
-    pub events: &'a [Event],
-    pub output: &'a [u8],
+    text: &'a [u8],
+    events: &'a [Event],
+    output: &'a [u8],
     /// How many words there were, so that counting them isn't left out.
-    pub words: usize,
+    words: usize,
+}
+
+impl<'a> Floor<'a> {
+    /// The floor of the replay of this text, which leads to these events and to this output.
+    pub fn new(text: &'a [u8], events: &'a [Event], output: &'a [u8]) -> Self {
+        Floor {
+            text,
+            events,
+            output,
+            words: 0,
+        }
+    }
 }
 
 impl Job for Floor<'_> {

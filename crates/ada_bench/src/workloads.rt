@@ -71,15 +71,7 @@ pub fn measure_script(rt: &HostRuntime, kind: Kind, lines: usize) -> anyhow::Res
 
 /// Measures the replay of a text that is no script. Its floor is that of its reading.
 fn measure_reading(rt: &HostRuntime, text: &[u8]) -> anyhow::Result<()> {
-    let floor = measure(
-        rt,
-        &mut Floor {
-            text,
-            events: &[],
-            output: b"",
-            words: 0,
-        },
-    )?;
+    let floor = measure(rt, &mut Floor::new(text, &[], b""))?;
     print_row(rt, "replay", measure(rt, &mut Replaying { text })?, floor)?;
     Ok(())
 }
@@ -91,33 +83,13 @@ fn measure_play(rt: &HostRuntime, text: &[u8], script: Script) -> anyhow::Result
     let _ = replay(rt.alloc(), &mut reader, &mut output);
     let played = Scripted::play(rt.alloc(), script)?;
     let events = played.kernel.journal().as_slice();
-    let floor = measure(
-        rt,
-        &mut Floor {
-            text,
-            events,
-            output: &output,
-            words: 0,
-        },
-    )?;
-    let pushing = measure(rt, &mut Pushing { events })?;
-    let reading = measure(
-        rt,
-        &mut Floor {
-            text,
-            events: &[],
-            output: b"",
-            words: 0,
-        },
-    )?;
+    let floor = measure(rt, &mut Floor::new(text, events, &output))?;
     print_row(rt, "replay", measure(rt, &mut Replaying { text })?, floor)?;
-    print_row(rt, "read", measure(rt, &mut Reading { text })?, reading)?;
-    print_row(
-        rt,
-        "steps",
-        measure(rt, &mut Stepping { plan: &played })?,
-        pushing,
-    )?;
+    let floor = measure(rt, &mut Floor::new(text, &[], b""))?;
+    print_row(rt, "read", measure(rt, &mut Reading { text })?, floor)?;
+    let floor = measure(rt, &mut Pushing { events })?;
+    let plan = &played;
+    print_row(rt, "steps", measure(rt, &mut Stepping { plan })?, floor)?;
     Ok(())
 }
 
