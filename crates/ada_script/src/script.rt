@@ -4,6 +4,7 @@ ghost use Rattle.std.specs.Prelude.{◌≡◌, IfOk, IsOkUnless};
 
 use crate::{Cause, Names, Statement};
 use std::marker::Model;
+use std::mem::size_of;
 
 /// A line of a script that isn't skipped: its number, from 1, and what it says.
 #[derive(Debug, Drop, PartialEq, Eq)]
@@ -11,6 +12,9 @@ pub struct Line {
     pub line: u32,
     pub statement: Statement,
 }
+
+// What a script costs is its lines' size: each is filled and moved whole.
+const _: () = prove!(size_of::<Line>() <= 128);
 
 /// A script: its lines that aren't skipped, in their order. Contracts see it as the list of them.
 #[derive(Drop)]

@@ -2,9 +2,8 @@
 
 ghost use Rattle.std.specs.Prelude.{◌≡◌};
 
-use crate::{Line, Name};
+use crate::Name;
 use ada_events::{Family, SmallList, Stored, Tail};
-use std::mem::size_of;
 
 /// An entry as a statement names it: the name of its family, and an index where one is written. An
 /// index that is left out stands for 0.
@@ -144,9 +143,6 @@ pub enum Statement {
         entry: EntryName,
     },
 }
-
-// What a script costs is its lines' size: each is filled and moved whole.
-const _: () = prove!(size_of::<Line>() <= 128);
 
 impl Statement {
     ghost use Rattle.ada_script.specs.Binding.{is_show};
