@@ -1,10 +1,11 @@
-//! What a run costs at least: the same bytes read and cut into words, the same events made and kept, and
-//! the same text made and written, with nothing that decides what they are.
+//! What a run costs at least: the same bytes read and cut into words, of which each is looked up, the same
+//! events made and kept, and the same text made and written, with nothing that decides what they are.
 ghost use Rattle.std.specs.Prelude.{◌<◌};
 
 use ada_events::{
     ChoiceList, DueList, Dues, Event, EventTail, FamilyList, Journal, Refusal, TaskList,
 };
+use indexmap::IndexSet;
 use std::alloc::{AllocError, Global};
 use std::io;
 use std::io::{ErrorKind, Write};
@@ -24,24 +25,29 @@ pub fn read_text(alloc: Global, text: &[u8]) -> Result<Vec<u8>, AllocError> {
     Ok(copy)
 }
 
-/// How many words the lines of a text have.
-pub fn count_words(text: &[u8]) -> usize {
-    let mut words: usize = 0;
+/// The words of a text that begin with a letter, each once. Comments have none.
+pub fn words_of(alloc: Global, text: &[u8]) -> Result<IndexSet<&[u8]>, AllocError> {
+    let mut words = IndexSet::new(alloc);
     for line in text.split(|byte| *byte == b'\n') {
-        words = words.saturating_add(words_in(line));
-    }
-    words
-}
-
-/// How many words a line has.
-fn words_in(line: &[u8]) -> usize {
-    let mut words: usize = 0;
-    for word in line.split(|byte| *byte == b' ') {
-        if !word.is_empty() {
-            words = words.saturating_add(1);
+        if is_printable(line) && line.first() != Some(&b'#') {
+            add_words(&mut words, line)?;
         }
     }
-    words
+    Ok(words)
+}
+
+fn is_printable(line: &[u8]) -> bool {
+    line.iter().all(|byte| (32..=126).contains(byte))
+}
+
+/// Looks each word of a line up that begins with a letter, and keeps it where it is new.
+fn add_words<'a>(words: &mut IndexSet<&'a [u8]>, line: &'a [u8]) -> Result<(), AllocError> {
+    for word in line.split(|byte| *byte == b' ') {
+        if word.first().is_some_and(u8::is_ascii_alphabetic) {
+            words.insert(word)?;
+        }
+    }
+    Ok(())
 }
 
 /// The text, made line by line and written in pieces.

@@ -51,6 +51,10 @@ of_words UnknownName = inr tt
 of_words DoubleName = inr tt
 of_words OutOfMemory = inl refl
 
+-- words that weren't read are those of the line
+pub of_these : (names : Scope) (fault : Fault) {words these : List (List ℕ)} → words ≡ these → (fault ≡ OutOfMemory) ⊎ (statement_of names words ≡ Err fault) → (fault ≡ OutOfMemory) ⊎ (statement_of names these ≡ Err fault)
+of_these names fault same fails = subst (λ (ws : List (List ℕ)). (fault ≡ OutOfMemory) ⊎ (statement_of names ws ≡ Err fault)) same fails
+
 -- words that weren't read: memory was refused, or they are at fault
 pub words_fail : (names : Scope) (before : List Line) (number : ℕ) (line : List ℕ) (fault : Fault) → names ≡ scope_of before → IsPlain number line
     → is_skipped (words_in line) ≡ false → (fault ≡ OutOfMemory) ⊎ (statement_of names (words_in line) ≡ Err fault)

@@ -19,7 +19,7 @@ use Rattle.ada_script.specs.declared.statement.Statement.TheVariants.{Tick, Open
 use Rattle.ada_script.specs.declared.statement.Declaration.{Declaration}
 use Rattle.ada_script.specs.declared.statement.EntryName.{EntryName}
 use Rattle.ada_script.specs.declared.statement.Alternative.{Alternative}
-use Rattle.ada_script.specs.Text.{is_name, is_digit}
+use Rattle.ada_script.specs.Text.{is_name, is_digit, words_in}
 use Rattle.ada_script.specs.Number.{natural_of, integer_of}
 use Rattle.ada_script.specs.Scope.{Scope, is_task, is_declared, has_entry}
 
@@ -27,6 +27,11 @@ infixl 10 ◌>>=◌
 abbrev pub ◌>>=◌ : {A B : Type 0} → Result A Fault → (A → Result B Fault) → Result B Fault
 (Ok x) >>= f = f x
 (Err e) >>= f = Err e
+
+-- the next word and the bytes behind it, where there is one, as words
+abbrev pub words_ahead : Option (Bor (List ℕ) × Bor (List ℕ)) → List (List ℕ)
+words_ahead None = []
+words_ahead (Some (word, rest)) = word.now ∷ words_in rest.now
 
 -- what is read from the front of some words, and the words behind it
 abbrev pub Read : Type 0 → Type 0

@@ -1,7 +1,7 @@
 //! Going over the lines of a text and the words of a line, with no memory.
 
 ghost use Rattle.std.specs.Prelude.{◌≡◌, ◌<◌, ℕ, List, ◌∷◌, [], length, MatchOption, IfSome, IfNone};
-ghost use Rattle.ada_script.specs.Text.{parts_of};
+ghost use Rattle.ada_script.specs.Text.{parts_of, words_in};
 
 use std::marker::Model;
 
@@ -62,19 +62,35 @@ impl<'a> Lines<'a> {
     }
 }
 
+/// The first word of a line and what stands behind it, if there is one.
+fn cut_word(line: &[u8]) -> Option<(&[u8], &[u8])>
+    ensures { MatchOption result (words_in line.now ≡ [])
+        (λ p. words_in line.now ≡ p.0.now ∷ words_in p.1.now) }
+{
+    let mut rest = line;
+    while let Some((part, behind)) = cut(rest, b' ') {
+        rest = behind;
+        if !part.is_empty() {
+            return Some((part, rest));
+        }
+    }
+    None
+}
+
 /// The words of a line that are left. Contracts see them as the list of the words.
 #[derive(Drop)]
 pub struct Words<'a> {
-    rest: &'a [u8],
+    /// The next word, which is cut once, and what stands behind it.
+    next: Option<(&'a [u8], &'a [u8])>,
 }
 
 impl<'a> Model for Words<'a> {
     ghost use Rattle.std.specs.Prelude.{List, ℕ};
-    ghost use Rattle.ada_script.specs.Text.{words_in};
+    ghost use Rattle.ada_script.specs.Reading.{words_ahead};
 
     ghost Value = { List (List ℕ) };
 
-    ghost view = { λ w. words_in w.rest.now };
+    ghost view = { λ w. words_ahead w.next };
 }
 
 impl<'a> Words<'a> {
@@ -85,7 +101,7 @@ impl<'a> Words<'a> {
     pub fn new(line: &'a [u8]) -> Self
         ensures { result ≡ words_in line.now }
     {
-        Words { rest: line }
+        Words { next: cut_word(line) }
     }
 
     /// Takes the next word.
@@ -93,26 +109,23 @@ impl<'a> Words<'a> {
         ensures word { MatchOption result (self.old ≡ []) (λ word. self.old ≡ word.now ∷ self.new) }
         ensures none { IfNone result (self.new ≡ []) }
     {
-        while let Some((part, rest)) = cut(self.rest, b' ') {
-            self.rest = rest;
-            if !part.is_empty() {
-                return Some(part);
-            }
-        }
-        None
+        let (word, rest) = self.next?;
+        self.next = cut_word(rest);
+        Some(word)
     }
 
     /// The next word, which is left where it is.
     pub fn peek(&self) -> Option<&'a [u8]>
         ensures { MatchOption result (self.now ≡ []) (λ word. (rest : List (List ℕ)) × (self.now ≡ word.now ∷ rest)) }
     {
-        Words { rest: self.rest }.next()
+        let (word, _) = self.next?;
+        Some(word)
     }
 
     /// Whether no word is left.
     pub fn is_over(&self) -> bool
         ensures { result ≡ is_over self.now }
     {
-        self.peek().is_none()
+        self.next.is_none()
     }
 }

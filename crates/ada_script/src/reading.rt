@@ -39,11 +39,11 @@ fn check_line(number: u32, line: &[u8]) -> Result<(), Cause>
     Ok(())
 }
 
-/// Whether the line has no word, or its first word begins with a number sign.
-fn is_skipped(line: &[u8]) -> bool
-    ensures { result ≡ skipped (words_in line.now) }
+/// Whether there is no word, or the first one begins with a number sign.
+fn is_skipped(words: &Words) -> bool
+    ensures { result ≡ skipped words.now }
 {
-    match Words::new(line).next() {
+    match words.peek() {
         None => true,
         Some([first, ..]) => *first == b'#',
         Some([]) => false,
@@ -65,11 +65,12 @@ fn read_line(
     ensures err { IfErr result (λ cause. (cause ≡ Cause.OutOfMemory) ⊎ IsFault lines.old.items number line.now cause) }
 {
     check_line(number, line)?;
-    if is_skipped(line) {
+    let mut words = Words::new(line);
+    if is_skipped(&words) {
         return Ok(());
     }
     let mut statement = Statement::Tick { now: 0 };
-    read_statement(alloc, names, line, &mut statement)?;
+    read_statement(alloc, names, &mut words, &mut statement)?;
     names.declare(&statement)?;
     lines.reserve(1)?;
     lines.push_reserved(Line {

@@ -1,7 +1,6 @@
 //! Reading the statements.
 
 ghost use Rattle.std.specs.Prelude.{◌≡◌, ◌⊎◌, Ok, Err, option_copied, OnOk, IfErr};
-ghost use Rattle.ada_script.specs.Text.{words_in};
 ghost use Rattle.ada_script.specs.Reading.{Gives, Writes, verb_at, open_at, create_at, activate_at, abort_at, call_at, try_at, accept_at, delay_at, tick_at, select_at, show_at, act_at, before_colon, speaker_of, speech_at, statement_at, statement_of};
 
 use super::lists::{read_families, read_tasks};
@@ -323,21 +322,20 @@ fn read_open_statement(
     }
 }
 
-/// Reads the statement of a line, where these names are declared. On an `Err` the place has some
+/// Reads the statement of a line's words, where these names are declared. On an `Err` the place has some
 /// statement.
 #[tactic(auto, unfolding(crate::specs::Reading::statement_of))]
 pub fn read_statement(
     alloc: Global,
     names: &Names,
-    line: &[u8],
+    words: &mut Words,
     statement: &mut Statement,
 ) -> Result<(), Fault>
-    ensures ok { OnOk result (statement_of names.now (words_in line.now) ≡ Ok statement.new) }
+    ensures ok { OnOk result (statement_of names.now words.old ≡ Ok statement.new) }
     ensures err { IfErr result (λ fault.
-        (fault ≡ Fault.OutOfMemory) ⊎ (statement_of names.now (words_in line.now) ≡ Err fault)) }
+        (fault ≡ Fault.OutOfMemory) ⊎ (statement_of names.now words.old ≡ Err fault)) }
 {
-    let mut words = Words::new(line);
-    read_open_statement(alloc, names, &mut words, statement)?;
-    read_end(&mut words)?;
+    read_open_statement(alloc, names, words, statement)?;
+    read_end(words)?;
     Ok(())
 }

@@ -1,9 +1,0 @@
-use Rattle.std.proofs.Common.{◌≡◌, length}
-use Rattle.ada_script.specs.Text.{words_in}
-use Rattle.ada_script.proofs.cursor.Words.next.Given as goal
-
-abbrev pub invariant-loop-part : goal.invariant-loop-part
-invariant-loop-part l = words_in l.self-inside.rest.now ≡ words_in l.initial.self-inside.rest.now
-
-abbrev pub decreases-loop-part : goal.decreases-loop-part
-decreases-loop-part l = length l.self-inside.rest.now
