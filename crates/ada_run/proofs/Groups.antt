@@ -4,8 +4,8 @@ use Rattle.std.specs.Result.{is_err}
 use Rattle.std.proofs.lemmas.List.{length-reverse, length-take-le, reverse-append, take_more}
 use Rattle.std.proofs.lemmas.Bool.{lt-ltb, le-ltb}
 use Rattle.ada_events.specs.declared.event.Event.{Event}
-use Rattle.ada_script.specs.Scope.{Scope}
-use Rattle.ada_script.specs.Texts.{event_line}
+use Rattle.ada_statements.specs.Scope.{Scope}
+use Rattle.ada_printing.specs.Texts.{event_line}
 use Rattle.ada_run.specs.Play.{group_text}
 
 -- one more event

@@ -3,8 +3,8 @@ use Rattle.std.proofs.Common.{◌≡◌, ℕ, Option, Some, None, List, [], ◌�
 use Rattle.ada_events.specs.declared.request.Request.{Request}
 use Rattle.ada_laws.proofs.RequestLaws.{leads_to_one_journal}
 use Rattle.ada_script.specs.declared.script.Line.{Line}
-use Rattle.ada_script.specs.Binding.{request_of}
-use Rattle.ada_script.specs.Texts.{refusal_text}
+use Rattle.ada_statements.specs.Binding.{request_of}
+use Rattle.ada_printing.specs.Texts.{refusal_text}
 use Rattle.ada_run.specs.Play.{State, group_text, SaysRequest, SaysShown, Plays}
 
 state_same : (a b : State) → a.journal ≡ b.journal → a.names ≡ b.names → a ≡ b

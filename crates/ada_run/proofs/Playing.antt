@@ -9,8 +9,8 @@ use Rattle.ada_events.specs.Lawful.{IsLawful, IsSettled}
 use Rattle.ada_laws.proofs.LimitLaws.{leads_to_a_journal}
 use Rattle.ada_laws.proofs.RequestLaws.{stays_lawful}
 use Rattle.ada_script.specs.declared.script.Line.{Line}
-use Rattle.ada_script.specs.Binding.{bind, request_of}
-use Rattle.ada_script.specs.Texts.{refusal_text}
+use Rattle.ada_statements.specs.Binding.{bind, request_of}
+use Rattle.ada_printing.specs.Texts.{refusal_text}
 use Rattle.ada_run.specs.Play.{State, group_text, SaysRequest, SaysShown, Says, Plays, shown, show_text}
 
 -- the journal of a state is lawful and settled

@@ -2,7 +2,7 @@
 use Rattle.std.specs.Prelude.{◌≡◌, ◌⊎◌, ℕ, Option, List, ◌++◌}
 use Rattle.std.specs.Io.KnownBytes.{Appends}
 use Rattle.ada_events.specs.declared.event.Event.{Event}
-use Rattle.ada_script.specs.Scope.{Scope}
+use Rattle.ada_statements.specs.Scope.{Scope}
 use Rattle.ada_run.specs.declared.fault.RunFault.{RunFault}
 use Rattle.ada_run.specs.declared.fault.RunFault.TheVariants.{Memory, Write}
 use Rattle.ada_run.specs.Play.{State}

@@ -13,13 +13,13 @@ use Rattle.ada_events.specs.Forced.{task_no}
 use Rattle.ada_events.specs.Refusals.{refusal}
 use Rattle.ada_events.specs.Lawful.{After}
 use Rattle.ada_script.specs.declared.script.Line.{Line}
-use Rattle.ada_script.specs.Scope.{Scope}
-use Rattle.ada_script.specs.Binding.{bind, request_of, task_of, entry_of}
-use Rattle.ada_script.specs.declared.statement.Statement.{Statement}
-use Rattle.ada_script.specs.declared.statement.Statement.TheVariants.{ShowCallable, ShowTerminated, ShowCount}
-use Rattle.ada_script.specs.declared.printing.Value.{Value}
-use Rattle.ada_script.specs.declared.printing.Value.TheVariants.{Truth, Number}
-use Rattle.ada_script.specs.Texts.{event_line, refusal_text, shown_text}
+use Rattle.ada_statements.specs.Scope.{Scope}
+use Rattle.ada_statements.specs.Binding.{bind, request_of, task_of, entry_of}
+use Rattle.ada_statements.specs.declared.statement.Statement.{Statement}
+use Rattle.ada_statements.specs.declared.statement.Statement.TheVariants.{ShowCallable, ShowTerminated, ShowCount}
+use Rattle.ada_printing.specs.declared.value.Value.{Value}
+use Rattle.ada_printing.specs.declared.value.Value.TheVariants.{Truth, Number}
+use Rattle.ada_printing.specs.Texts.{event_line, refusal_text, shown_text}
 
 -- what a play has come to: the journal, the newest event first, and what names are bound to
 pub record State : Type 0 where

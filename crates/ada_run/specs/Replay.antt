@@ -3,8 +3,8 @@ use Rattle.std.specs.Prelude.{◌≡◌, ◌⊎◌, ℕ, true, false, Option, Li
 use Rattle.std.specs.Io.KnownBytes.{Keeps}
 use Rattle.ada_events.specs.declared.event.Event.{Event}
 use Rattle.ada_events.specs.Attributes.{is_finished}
-use Rattle.ada_script.specs.declared.fault.ScriptFault.{ScriptFault}
-use Rattle.ada_script.specs.declared.fault.Cause.TheVariants.{OutOfMemory}
+use Rattle.ada_statements.specs.declared.fault.ScriptFault.{ScriptFault}
+use Rattle.ada_statements.specs.declared.fault.Cause.TheVariants.{OutOfMemory}
 use Rattle.ada_script.specs.declared.script.Line.{Line}
 use Rattle.ada_script.specs.Script.{scope_of, IsScript, IsFirstFault}
 use Rattle.ada_run.specs.declared.fault.Ending.{Ending}

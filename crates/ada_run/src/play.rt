@@ -3,7 +3,7 @@ ghost use Rattle.std.specs.Prelude.{◌≡◌, ℕ, ◌≤◌, ◌++◌, List, l
 ghost use Rattle.ada_events.specs.Lawful.{IsLawful, IsSettled};
 ghost use Rattle.ada_run.specs.Play.{group_text, SaysRequest, SaysShown, Says, Plays};
 ghost use Rattle.ada_run.specs.Ends.{state, IsShortage, IsWritten, IsCutShort};
-ghost use Rattle.ada_script.specs.Texts.{refusal_text, shown_text};
+ghost use Rattle.ada_printing.specs.Texts.{refusal_text, shown_text};
 ghost use Rattle.ada_events.specs.Tasks.{task_count};
 
 use crate::RunFault;

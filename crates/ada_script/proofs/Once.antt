@@ -2,19 +2,19 @@
 use Rattle.std.proofs.Common.{◌≡◌, ℕ, ◌+◌, false, List, [], ◌∷◌, ◌++◌, Ok, refl, sym, ap, subst, ◌∙◌, inl, inr, arith}
 use Rattle.std.specs.Prelude.{IsTrue}
 use Rattle.std.proofs.lemmas.Bool.{ne_eqb, true≢false}
-use Rattle.ada_script.specs.declared.fault.Cause.{Cause}
-use Rattle.ada_script.specs.declared.fault.Cause.TheVariants as causes
-use Rattle.ada_script.specs.declared.fault.ScriptFault.{ScriptFault}
+use Rattle.ada_statements.specs.declared.fault.Cause.{Cause}
+use Rattle.ada_statements.specs.declared.fault.Cause.TheVariants as causes
+use Rattle.ada_statements.specs.declared.fault.ScriptFault.{ScriptFault}
 use Rattle.ada_script.specs.declared.script.Line.{Line}
-use Rattle.ada_script.specs.declared.statement.Statement.{Statement}
-use Rattle.ada_script.specs.declared.statement.Statement.TheVariants.{Tick, Open, Create, Activate, Up, Fail, Call, CallWithin, Try, Accept, Select, End, Raise, Close, Delay, Complete, Abort, ShowCallable, ShowTerminated, ShowCount}
-use Rattle.ada_script.specs.Text.{words_in, is_name}
-use Rattle.ada_script.specs.Spelling.{speaker, words_of}
-use Rattle.ada_script.specs.Scope.{Scope, MayStand}
+use Rattle.ada_statements.specs.declared.statement.Statement.{Statement}
+use Rattle.ada_statements.specs.declared.statement.Statement.TheVariants.{Tick, Open, Create, Activate, Up, Fail, Call, CallWithin, Try, Accept, Select, End, Raise, Close, Delay, Complete, Abort, ShowCallable, ShowTerminated, ShowCount}
+use Rattle.ada_statements.specs.Text.{words_in, is_name}
+use Rattle.ada_spelling.specs.Spelling.{speaker, words_of}
+use Rattle.ada_statements.specs.Scope.{Scope, MayStand}
 use Rattle.ada_script.specs.Script.{IsPlain, IsUnplain, begins_comment, is_skipped, Says, Adds, Reads, IsFault, Stops, scope_of}
-use Rattle.ada_script.specs.Reading.{statement_of}
-use Rattle.ada_script.proofs.AgainParts.{name_letter}
-use Rattle.ada_script.proofs.AgainStatements.{statement_again}
+use Rattle.ada_reading.specs.Reading.{statement_of}
+use Rattle.ada_reading.proofs.AgainParts.{name_letter}
+use Rattle.ada_reading.proofs.AgainStatements.{statement_again}
 
 -- ---- one line
 

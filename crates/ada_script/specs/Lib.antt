@@ -1,12 +1,1 @@
-pub mod Fault
-pub mod Text
-pub mod Number
-pub mod Spelling
-pub mod Writing
-pub mod Scope
-pub mod Reading
-pub mod Binding
-pub mod Texts
-pub mod Places
-pub mod Appending
 pub mod Script

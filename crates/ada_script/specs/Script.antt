@@ -1,13 +1,13 @@
 -- Which texts are scripts, and what they say.
 use Rattle.std.specs.Prelude.{◌≡◌, ℕ, ◌+◌, ◌≤◌, ◌<◌, ◌⊎◌, Bool, true, false, ◌==◌, IsTrue, List, [], ◌∷◌, ◌++◌, length, fold, All}
-use Rattle.ada_script.specs.declared.fault.Cause.{Cause}
-use Rattle.ada_script.specs.declared.fault.Cause.TheVariants.{NotAscii, LineTooLong, BadStatement, BadNumber, UnknownName, DoubleName, TooManyLines, OutOfMemory}
-use Rattle.ada_script.specs.declared.fault.ScriptFault.{ScriptFault}
+use Rattle.ada_statements.specs.declared.fault.Cause.{Cause}
+use Rattle.ada_statements.specs.declared.fault.Cause.TheVariants.{NotAscii, LineTooLong, BadStatement, BadNumber, UnknownName, DoubleName, TooManyLines, OutOfMemory}
+use Rattle.ada_statements.specs.declared.fault.ScriptFault.{ScriptFault}
 use Rattle.ada_script.specs.declared.script.Line.{Line}
-use Rattle.ada_script.specs.declared.statement.Statement.{Statement}
-use Rattle.ada_script.specs.Text.{lines_of, words_in, number_sign}
-use Rattle.ada_script.specs.Spelling.{words_of}
-use Rattle.ada_script.specs.Scope.{Scope, main_alone, declare, MayStand}
+use Rattle.ada_statements.specs.declared.statement.Statement.{Statement}
+use Rattle.ada_statements.specs.Text.{lines_of, words_in, number_sign}
+use Rattle.ada_spelling.specs.Spelling.{words_of}
+use Rattle.ada_statements.specs.Scope.{Scope, main_alone, declare, MayStand}
 
 -- the names that are declared behind some lines
 abbrev pub scope_of : List Line → Scope

@@ -2,7 +2,7 @@
 
 ghost use Rattle.std.specs.Prelude.{◌≡◌, ℕ, List};
 ghost use Rattle.ada_script.specs.Script.{IsScript, IsFirstFault};
-ghost use Rattle.ada_script.specs.declared.fault.ScriptFault.{ScriptFault};
+ghost use Rattle.ada_statements.specs.declared.fault.ScriptFault.{ScriptFault};
 ghost use Rattle.ada_script.specs.declared.script.Line.{Line};
 
 /// A text is a script of one list of lines only: each line says one thing.

@@ -1,18 +1,12 @@
 //! Reading a text as a script.
 
-mod lists;
-mod parts;
-mod select;
-mod statements;
-
 ghost use Rattle.std.specs.Prelude.{◌≡◌, ◌↔◌, ◌≤◌, ◌++◌, ◌⊎◌, List, IsTrue, OnOk, IfOk, IfErr};
-ghost use Rattle.ada_script.specs.Text.{words_in};
+ghost use Rattle.ada_statements.specs.Text.{words_in};
 ghost use Rattle.ada_script.specs.Script.{IsPrintable, IsPlain, IsUnplain, is_skipped as skipped, scope_of, Adds, IsScript, IsFault, IsFirstFault};
 ghost use Rattle.ada_script.specs.declared.script.Line.{Line};
 
-use crate::cursor::{Lines, Words};
 use crate::{Cause, Line, Names, Script, ScriptFault, Statement};
-use statements::read_statement;
+use ada_reading::{Lines, Words, read_statement};
 use std::alloc::Global;
 
 /// Whether each byte is in 32 to 126.

@@ -1,5 +1,5 @@
 use Rattle.std.proofs.Common.{[]}
-use Rattle.ada_script.specs.Text.{lines_of}
+use Rattle.ada_statements.specs.Text.{lines_of}
 use Rattle.ada_script.proofs.Once.{stops_once}
 use Rattle.ada_script.proofs.laws.one_fault.Goals as goal
 

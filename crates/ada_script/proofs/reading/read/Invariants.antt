@@ -1,7 +1,7 @@
 use Rattle.std.proofs.Common.{◌≡◌, ◌≤◌, List, [], length}
-use Rattle.ada_script.specs.declared.fault.ScriptFault.{ScriptFault}
+use Rattle.ada_statements.specs.declared.fault.ScriptFault.{ScriptFault}
 use Rattle.ada_script.specs.declared.script.Line.{Line}
-use Rattle.ada_script.specs.Text.{lines_of}
+use Rattle.ada_statements.specs.Text.{lines_of}
 use Rattle.ada_script.specs.Script.{Reads, Stops, scope_of}
 use Rattle.ada_script.proofs.reading.read.Given as goal
 

@@ -1,0 +1,12 @@
+pub mod CutParts
+pub mod Numbers
+pub mod Repeat
+pub mod Choices
+pub mod Taken
+pub mod TakenLists
+pub mod TakenSelect
+pub mod TakenStatements
+pub mod AgainParts
+pub mod AgainLists
+pub mod AgainSelect
+pub mod AgainStatements

@@ -1,0 +1,3 @@
+pub mod Fault
+pub mod Number
+pub mod Reading

@@ -1,6 +1,0 @@
-use Rattle.std.proofs.Common.{take}
-use Rattle.ada_script.specs.Places.{AreKept}
-use Rattle.ada_script.proofs.names.Names.noted_in.Given as goal
-
-abbrev pub invariant-loop-place : goal.invariant-loop-place
-invariant-loop-place l = AreKept (take l.place l.self-inside.table.entries) l.places

@@ -1,5 +1,0 @@
-use Rattle.std.proofs.Common.{◌≡◌, map, take}
-use Rattle.ada_script.proofs.names.names_of.Given as goal
-
-abbrev pub invariant-loop-family : goal.invariant-loop-family
-invariant-loop-family l = l.names ≡ map (λ f. f.name) (take l.family-index l.families)

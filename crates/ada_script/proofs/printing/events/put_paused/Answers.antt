@@ -1,6 +1,0 @@
-use Rattle.std.proofs.Common.{rules, append_assoc}
-use Rattle.std.proofs.lemmas.Result.{IfOk-equal}
-use Rattle.ada_script.proofs.printing.events.put_paused.Goals as goal
-
-pub returns-clause-text : goal.returns-clause-text
-returns-clause-text c = search (rules, IfOk-equal, append_assoc)

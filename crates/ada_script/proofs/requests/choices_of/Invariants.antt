@@ -1,6 +1,0 @@
-use Rattle.std.proofs.Common.{◌≡◌, map, take}
-use Rattle.ada_script.specs.Binding.{choice_of}
-use Rattle.ada_script.proofs.requests.choices_of.Given as goal
-
-abbrev pub invariant-loop-choice : goal.invariant-loop-choice
-invariant-loop-choice l = l.accepts ≡ map (choice_of l.names l.by) (take l.choice-index l.choices)

@@ -1,6 +1,0 @@
-use Rattle.std.proofs.Common.{◌≡◌, map, take}
-use Rattle.ada_script.specs.Binding.{task_of}
-use Rattle.ada_script.proofs.requests.tasks_of.Given as goal
-
-abbrev pub invariant-loop-task : goal.invariant-loop-task
-invariant-loop-task l = l.numbers ≡ map (task_of l.names) (take l.task-index l.tasks)

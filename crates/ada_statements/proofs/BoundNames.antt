@@ -1,0 +1,44 @@
+-- What a name stands for is found by its bytes, and changed there.
+use Rattle.std.proofs.Common.{◌≡◌, ℕ, suc, ◌+◌, ◌<◌, ◌≤◌, Bool, true, false, cond, List, [], ◌∷◌, length, get_or, drop, add-one, Some, None, refl, sym, ap, ◌∙◌}
+use Rattle.std.specs.Map.{lookup, set_value}
+use Rattle.std.specs.Str.{bytes_eq}
+use Rattle.std.proofs.Math.Seq.{drop-cons}
+use Rattle.std.proofs.Math.ListN.{drop_of_length-le}
+use Rattle.ada_statements.specs.declared.meaning.Meaning.{Meaning}
+use Rattle.ada_statements.specs.Scope.{Scope}
+use Rattle.ada_statements.specs.Binding.{with_meaning, place_from}
+
+-- a new value in the place of the old one
+pub set_value-changed : (name : List ℕ) (names : Scope) (change : Meaning → Meaning) (old : Meaning) → lookup (bytes_eq name) names ≡ Some old → set_value (bytes_eq name) names (change old) ≡ with_meaning names name change
+set_value-changed name [] change old e = absurd cc
+set_value-changed name (entry ∷ names) change old e = by (set_value-changed name names change old) (bytes_eq name entry.0) e
+  where
+    by : (lookup (bytes_eq name) names ≡ Some old → set_value (bytes_eq name) names (change old) ≡ with_meaning names name change) → (same : Bool) → cond same (Some entry.1) (lookup (bytes_eq name) names) ≡ Some old
+        → cond same ((entry.0, change old) ∷ names) (entry ∷ set_value (bytes_eq name) names (change old)) ≡ cond same ((entry.0, change entry.1) ∷ names) (entry ∷ with_meaning names name change)
+    by later true e = let found : entry.1 ≡ old = cc in ap (λ (m : Meaning). (entry.0, change m) ∷ names) (sym found)
+    by later false e = ap (λ (rest : Scope). entry ∷ rest) (later e)
+
+-- a name that isn't there
+pub with_meaning-absent : (name : List ℕ) (names : Scope) (change : Meaning → Meaning) → lookup (bytes_eq name) names ≡ None → with_meaning names name change ≡ names
+with_meaning-absent name [] change e = refl
+with_meaning-absent name (entry ∷ names) change e = by (with_meaning-absent name names change) (bytes_eq name entry.0) e
+  where
+    by : (lookup (bytes_eq name) names ≡ None → with_meaning names name change ≡ names) → (same : Bool) → cond same (Some entry.1) (lookup (bytes_eq name) names) ≡ None
+        → cond same ((entry.0, change entry.1) ∷ names) (entry ∷ with_meaning names name change) ≡ entry ∷ names
+    by later true e = absurd cc
+    by later false e = ap (λ (rest : Scope). entry ∷ rest) (later e)
+
+-- a name at its place, and one that isn't there
+module _ (name : List ℕ) (names : List (List ℕ)) (i : ℕ) where
+  module _ (other : List ℕ) (within : i < length names) (at : other ≡ get_or names i other) where
+    here : drop i names ≡ other ∷ drop (i + 1) names
+    here = rw add-one (drop-cons names i other within ∙ ap (λ (o : List ℕ). o ∷ drop (suc i) names) (sym at))
+
+    pub place_found : bytes_eq name other ≡ true → place_from i name (drop i names) ≡ i
+    place_found found = ap (place_from i name) here ∙ ap (λ t. cond t i (place_from (i + 1) name (drop (i + 1) names))) found
+
+    pub place_passed : bytes_eq name other ≡ false → place_from (i + 1) name (drop (i + 1) names) ≡ place_from i name (drop i names)
+    place_passed differs = sym (ap (place_from i name) here ∙ ap (λ t. cond t i (place_from (i + 1) name (drop (i + 1) names))) differs)
+
+  pub place_over : length names ≤ i → place_from i name (drop i names) ≡ 255
+  place_over past = ap (place_from i name) (drop_of_length-le names past)
