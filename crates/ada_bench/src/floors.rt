@@ -1,5 +1,6 @@
-//! What a run costs at least: the same bytes read and cut into words, of which each is looked up, the same
-//! events made and kept, and the same text made and written, with nothing that decides what they are.
+//! What a run costs at least: the same bytes read and cut into words, each looked up or read as a number,
+//! the same events made and kept, and the same text made and written, with nothing that decides what they
+//! are.
 ghost use Rattle.std.specs.Prelude.{◌<◌};
 
 use ada_events::{
@@ -7,8 +8,8 @@ use ada_events::{
 };
 use indexmap::IndexSet;
 use std::alloc::{AllocError, Global};
-use std::io;
 use std::io::{ErrorKind, Write};
+use std::{io, str};
 
 /// How many bytes are read or written at a time.
 const PIECE: usize = 65_536;
@@ -25,29 +26,59 @@ pub fn read_text(alloc: Global, text: &[u8]) -> Result<Vec<u8>, AllocError> {
     Ok(copy)
 }
 
-/// The words of a text that begin with a letter, each once. Comments have none.
-pub fn words_of(alloc: Global, text: &[u8]) -> Result<IndexSet<&[u8]>, AllocError> {
-    let mut words = IndexSet::new(alloc);
-    for line in text.split(|byte| *byte == b'\n') {
-        if is_printable(line) && line.first() != Some(&b'#') {
-            add_words(&mut words, line)?;
+/// What the words of a text are, without what its lines say.
+#[derive(Drop)]
+pub struct Tokens<'a> {
+    /// The words that begin with a letter, each once.
+    names: IndexSet<&'a [u8]>,
+    /// The sum of the words that are numbers, so that reading them isn't left out.
+    sum: i64,
+}
+
+impl<'a> Tokens<'a> {
+    /// The words of a text. Comments have none.
+    pub fn read(alloc: Global, text: &'a [u8]) -> Result<Self, AllocError> {
+        let mut tokens = Tokens {
+            names: IndexSet::new(alloc),
+            sum: 0,
+        };
+        for line in text.split(|byte| *byte == b'\n') {
+            if is_printable(line) && line.first() != Some(&b'#') {
+                tokens.add_line(line)?;
+            }
         }
+        Ok(tokens)
     }
-    Ok(words)
+
+    fn add_line(&mut self, line: &'a [u8]) -> Result<(), AllocError> {
+        for word in line.split(|byte| *byte == b' ') {
+            self.add_word(word)?;
+        }
+        Ok(())
+    }
+
+    /// Looks a word up that begins with a letter, and keeps it where it is new; reads another as a number.
+    fn add_word(&mut self, word: &'a [u8]) -> Result<(), AllocError> {
+        if word.first().is_some_and(u8::is_ascii_alphabetic) {
+            self.names.insert(word)?;
+        } else {
+            self.sum = self.sum.wrapping_add(number_of(word).unwrap_or(0));
+        }
+        Ok(())
+    }
+
+    /// A number that all words go into.
+    pub fn digest(&self) -> i64 {
+        self.sum.wrapping_add(self.names.len() as i64)
+    }
+}
+
+fn number_of(word: &[u8]) -> Option<i64> {
+    str::from_utf8(word).ok()?.parse().ok()
 }
 
 fn is_printable(line: &[u8]) -> bool {
     line.iter().all(|byte| (32..=126).contains(byte))
-}
-
-/// Looks each word of a line up that begins with a letter, and keeps it where it is new.
-fn add_words<'a>(words: &mut IndexSet<&'a [u8]>, line: &'a [u8]) -> Result<(), AllocError> {
-    for word in line.split(|byte| *byte == b' ') {
-        if word.first().is_some_and(u8::is_ascii_alphabetic) {
-            words.insert(word)?;
-        }
-    }
-    Ok(())
 }
 
 /// The text, made line by line and written in pieces.

@@ -1,6 +1,6 @@
 //! What is measured: a replay, its parts, and the floors of both.
 
-use crate::floors::{push_events, read_text, words_of, write_text};
+use crate::floors::{Tokens, push_events, read_text, write_text};
 use crate::sink::Sink;
 use crate::turns::Job;
 use ada_events::{Event, Request};
@@ -40,15 +40,15 @@ impl Job for Reading<'_> {
     }
 }
 
-/// The floor of a replay: its bytes are read and cut into words, each of which is looked up, its events
-/// made and kept, and its text made and written.
+/// The floor of a replay: its bytes are read and cut into words, each looked up or read as a number, its
+/// events made and kept, and its text made and written.
 #[derive(Drop)]
 pub struct Floor<'a> {
     text: &'a [u8],
     events: &'a [Event],
     output: &'a [u8],
-    /// How many words there were, so that looking them up isn't left out.
-    words: usize,
+    /// What came of the words, so that reading them isn't left out.
+    digest: i64,
 }
 
 impl<'a> Floor<'a> {
@@ -58,7 +58,7 @@ impl<'a> Floor<'a> {
             text,
             events,
             output,
-            words: 0,
+            digest: 0,
         }
     }
 }
@@ -67,7 +67,7 @@ impl Job for Floor<'_> {
     fn turn(&mut self, rt: &HostRuntime) -> anyhow::Result<Duration> {
         let start = Instant::now(rt)?;
         let text = read_text(rt.alloc(), self.text)?;
-        self.words = words_of(rt.alloc(), &text)?.len();
+        self.digest = Tokens::read(rt.alloc(), &text)?.digest();
         let _journal = push_events(rt.alloc(), self.events)?;
         write_text(rt.alloc(), self.output, &mut Sink::default())?;
         Ok(start.elapsed(rt)?)
