@@ -16,8 +16,6 @@ mod requests;
 pub mod script;
 pub mod spelling;
 pub mod statement;
-#[cfg(test)]
-mod tests;
 mod verb;
 pub mod word;
 

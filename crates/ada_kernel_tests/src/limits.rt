@@ -1,4 +1,4 @@
-//! The kernel's requests, limits and queries.
+//! The kernel's first answers, its limits, and the abort of many tasks at once.
 
 use crate::asking::{MAIN, SINGLE, accept, call, create, entry, make_tasks, tasks};
 use ada_events::{Event, Family, Outcome, Refusal, Request, TaskNo};
