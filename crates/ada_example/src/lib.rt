@@ -21,32 +21,3 @@ pub fn stop(kernel: &mut Kernel, by: TaskNo, task: TaskNo) -> Result<(), Refusal
     kernel.step(Request::Abort { by, tasks })?;
     Ok(())
 }
-
-#[cfg(test)]
-mod tests {
-    use crate::stop;
-    use ada_events::{Families, Family, Master, Refusal, Request, TaskNo};
-    use ada_kernel::Kernel;
-    use std::test::Fail;
-
-    const MAIN: TaskNo = TaskNo(0);
-
-    const SERVER: TaskNo = TaskNo(1);
-
-    #[test]
-    fn stops_a_server(rt: HostRuntime) -> Result<(), Fail> {
-        let mut kernel = Kernel::new(rt.alloc())?;
-        assert_eq!(rt; stop(&mut kernel, MAIN, SERVER), Err(Refusal::UnknownTask));
-        let create = Request::Create {
-            by: MAIN,
-            master: Master::Body(MAIN),
-            families: Families::from_slice(&[Family { low: 0, high: 0 }]),
-        };
-        assert_eq!(rt; kernel.step(create), Ok(1));
-        assert_eq!(rt; kernel.callable(SERVER), Some(true));
-        assert_eq!(rt; stop(&mut kernel, MAIN, SERVER), Ok(()));
-        assert_eq!(rt; kernel.callable(SERVER), Some(false));
-        assert_eq!(rt; kernel.terminated(SERVER), Some(true));
-        Ok(())
-    }
-}

@@ -5,8 +5,6 @@
 pub mod laws;
 mod reading;
 pub mod script;
-#[cfg(test)]
-mod tests;
 
 pub use ada_printing::{Value, write_event, write_refusal, write_shown};
 pub use ada_spelling::{Word, words};

@@ -1,0 +1,14 @@
+//! Tests of replays and command lines: readers that come in pieces or fail, writers that fail, long outputs,
+//! and a script cut after each of its bytes.
+#![tactic(auto)]
+
+#[cfg(test)]
+mod command_line;
+#[cfg(test)]
+mod cuts;
+#[cfg(test)]
+mod outputs;
+#[cfg(test)]
+mod pieces;
+#[cfg(test)]
+mod streams;
