@@ -285,39 +285,16 @@ impl CheckedTables {
         Ok(self.tables.queue_len(task, entry))
     }
 
-    /// How many tasks there are.
-    pub fn tasks(&self) -> u16 {
-        self.tables.tasks()
-    }
-
-    /// The master that a task was made under.
-    pub fn master(&self, task: TaskNo) -> Result<Option<Master>, Unmet> {
-        known(&self.tables, task)?;
-        Ok(self.tables.master(task))
-    }
-
     /// The parent of a master.
     pub fn parent(&self, master: Master) -> Result<Option<Master>, Unmet> {
         stands(&self.tables, master)?;
         Ok(self.tables.parent(master))
     }
 
-    /// The families that a task declares.
-    pub fn families(&self, task: TaskNo) -> Result<&Families, Unmet> {
-        known(&self.tables, task)?;
-        Ok(self.tables.families(task))
-    }
-
     /// What a task is in.
     pub fn nest(&self, task: TaskNo) -> Result<&Layers, Unmet> {
         known(&self.tables, task)?;
         Ok(self.tables.nest(task))
-    }
-
-    /// What has become of a task.
-    pub fn phase(&self, task: TaskNo) -> Result<Phase, Unmet> {
-        known(&self.tables, task)?;
-        Ok(self.tables.phase(task))
     }
 
     /// How many dependents of a master aren't terminated.

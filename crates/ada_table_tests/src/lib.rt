@@ -1,9 +1,7 @@
-//! Tests of the tables: each call once, long queues, entries at the ends of the index range, chains of 256
-//! tasks and full nests.
+//! Tests of the tables at their limits: queues of all tasks, entries at the ends of the index range, chains of
+//! 256 tasks and full nests.
 #![tactic(auto)]
 
-#[cfg(test)]
-mod calls;
 #[cfg(test)]
 mod chains;
 #[cfg(test)]

@@ -71,21 +71,6 @@ fn as_long_as_a_queue_may_be(rt: HostRuntime) -> Result<(), Fail> {
     queue_is(&rt, &tables, 1, None, 0)
 }
 
-#[test]
-fn calls_leave_from_anywhere(rt: HostRuntime) -> Result<(), Fail> {
-    let mut tables = with_callers(&rt)?;
-    queue_is(&rt, &tables, 0, Some(call_of(0)), 255)?;
-    tables.unlink(TaskNo(0))?;
-    queue_is(&rt, &tables, 0, Some(call_of(2)), 254)?;
-    tables.unlink(TaskNo(128))?;
-    queue_is(&rt, &tables, 0, Some(call_of(2)), 253)?;
-    tables.unlink(TaskNo(255))?;
-    queue_is(&rt, &tables, 0, Some(call_of(2)), 252)?;
-    tables.unlink(TaskNo(2))?;
-    queue_is(&rt, &tables, 0, Some(call_of(3)), 251)?;
-    queue_is(&rt, &tables, 1, Some(OWN), 1)
-}
-
 /// The odd callers leave, the last of them first.
 fn odd_ones_leave(tables: &mut CheckedTables) -> Result<(), Unmet> {
     for half in 1..128u16 {
@@ -190,24 +175,6 @@ fn entries_at_bounds_are_apart(rt: HostRuntime) -> Result<(), Fail> {
         caller = caller.saturating_add(1);
     }
     assert_eq!(rt; calls_at(&tables, TaskNo(1), 0, WIDE[0]), Ok(2));
-    assert_eq!(rt; calls_at(&tables, TaskNo(2), 0, REST), Ok(2));
-    Ok(())
-}
-
-// A second call at one bound, and the leaving of a first, change no queue beside it.
-#[test]
-fn queues_at_bounds_change_alone(rt: HostRuntime) -> Result<(), Fail> {
-    let mut tables = with_bounds_called(&rt)?;
-    let last = Entry {
-        family: 2,
-        index: 2_147_483_647,
-    };
-    tables.enqueue(TaskNo(0), TaskNo(1), last, call_of(0))?;
-    tables.unlink(TaskNo(4))?;
-    assert_eq!(rt; tables.front(TaskNo(1), last), Ok(Some(call_of(5))));
-    assert_eq!(rt; tables.queue_len(TaskNo(1), last), Ok(2));
-    assert_eq!(rt; calls_at(&tables, TaskNo(1), 0, WIDE[0]), Ok(1));
-    assert_eq!(rt; tables.queue_len(TaskNo(1), entry(3)), Ok(1));
     assert_eq!(rt; calls_at(&tables, TaskNo(2), 0, REST), Ok(2));
     Ok(())
 }
