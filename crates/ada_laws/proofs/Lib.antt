@@ -11,6 +11,7 @@ pub mod Sums
 pub mod Working
 pub mod LimitLaws
 pub mod Gathering
+pub mod Numbering
 pub mod Queueing
 pub mod Meeting
 pub mod CallLaws
@@ -22,7 +23,6 @@ pub mod Counting
 pub mod SlotLaws
 pub mod LastingLaws
 pub mod GroupLaws
-pub mod ChoosingLaws
 pub mod ShowingLaws
 pub mod SlotPlaces
 pub mod SlotOrder

@@ -5,7 +5,6 @@
 #![tactic(auto)]
 
 pub mod calls;
-pub mod choosing;
 pub mod dependents;
 pub mod groups;
 pub mod lasting;
