@@ -9,6 +9,7 @@ ghost use Rattle.ada_events.specs.Outcomes.{outcome_of};
 ghost use Rattle.ada_events.specs.Attributes.{is_callable, own_count, is_finished};
 ghost use Rattle.ada_events.specs.Slots.{slot_of};
 ghost use Rattle.ada_events.specs.Boards.{board_of};
+ghost use Rattle.ada_laws.specs.Laws.{KeepsTheLaws};
 
 use ada_events::{Board, Entry, Journal, Outcome, Refusal, Request, TaskNo};
 use ada_plain::PlainKernel;
@@ -54,11 +55,13 @@ impl Kernel {
         self.plain.step(request)
     }
 
-    /// The journal: every event so far, lawful and settled.
+    /// The journal: every event so far, lawful and settled. It keeps the six laws.
+    #[tactic(auto, using(ada_laws::proofs::KeepingLaws::journals_keep_the_laws))]
     pub fn journal(&self) -> &Journal
         ensures events { result.now.events ≡ self.now }
         ensures lawful { IsLawful self.now }
         ensures settled { IsSettled self.now }
+        ensures laws { KeepsTheLaws self.now }
     {
         self.plain.journal()
     }

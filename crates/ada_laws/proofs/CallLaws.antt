@@ -14,6 +14,7 @@ use Rattle.ada_events.specs.Phases.{is_released, has_ended, is_abnormal}
 use Rattle.ada_events.specs.Calls.{is_open_at, is_met, queue, is_pending}
 use Rattle.ada_events.specs.Waits.{numbers_from, front_of, is_selectable, taken_choice, taken_call}
 use Rattle.ada_events.specs.Forced.{is_to_fail, failed, met_at, met}
+use Rattle.ada_laws.specs.Laws.{OfEvery, OfLawful, OfSettled}
 use Rattle.ada_laws.specs.Calls.{IsCallAt, OneOpenCallEach, OpenCallsSuspend, CallsThatSuspendAreOpen, OpenCallsAreJoinedOrQueued, QueuesRise, FrontsAreMet, OneMeetingForAJoinedCall, NoOpenCallToAFinishedTask, NoAcceptorWaitsAtAQueuedChoice}
 use Rattle.ada_laws.proofs.Gathering.{first_given-none}
 use Rattle.ada_laws.proofs.Numbering.{numbers_from-none, numbers_from-found}
@@ -23,15 +24,15 @@ use Rattle.ada_laws.proofs.Queueing.{open_call_suspends, is_open_at-from, queue-
 use Rattle.ada_laws.proofs.Rows.{settled_at_rest}
 use Rattle.ada_laws.proofs.Meeting.{is_met-found, met_once, meeting_at, taking_before, taken_front}
 
-pub one_open_call_each : OneOpenCallEach
-one_open_call_each journal c d p q lawful opened_c opened_d same =
+pub one_open_call_each : OfLawful OneOpenCallEach
+one_open_call_each journal lawful c d p q opened_c opened_d same =
     suspended_once journal c.by p q lawful (open_call_suspends journal c p opened_c)
     (subst (λ (t : ℕ). IsSuspendedAt journal t q) (sym same) (open_call_suspends journal d q opened_d))
 
-pub open_calls_suspend : OpenCallsSuspend
+pub open_calls_suspend : OfEvery OpenCallsSuspend
 open_calls_suspend journal call position opened = open_call_suspends journal call position opened
 
-pub calls_that_suspend_are_open : CallsThatSuspendAreOpen
+pub calls_that_suspend_are_open : OfEvery CallsThatSuspendAreOpen
 calls_that_suspend_are_open journal call position stands suspended =
     record { stands = stands; unreleased = suspended.unreleased; live = suspended.live }
 
@@ -41,8 +42,8 @@ same_call journal c d position at_c at_d =
     let one : at_c.event ≡ at_d.event = same_Some at_c.event at_d.event (sym at_c.stands ∙ at_d.stands) in
     same_Some c d (sym at_c.says ∙ (ap call_in one ∙ at_d.says))
 
-pub open_calls_are_joined_or_queued : OpenCallsAreJoinedOrQueued
-open_calls_are_joined_or_queued journal call position lawful opened =
+pub open_calls_are_joined_or_queued : OfLawful OpenCallsAreJoinedOrQueued
+open_calls_are_joined_or_queued journal lawful call position opened =
     elim (cases_Bool (is_met journal position)) [
       | inl met ↦ inl (met, λ task entry contains. true≢false (sym met ∙ (queue-found journal task entry position contains).unmet))
       | inr unmet ↦ inr (
@@ -54,16 +55,16 @@ open_calls_are_joined_or_queued journal call position lawful opened =
       )
     ]
 
-pub queues_rise : QueuesRise
+pub queues_rise : OfEvery QueuesRise
 queues_rise journal task entry = queue-rises journal task entry
 
-pub fronts_are_met : FrontsAreMet
-fronts_are_met journal call position p lawful at =
+pub fronts_are_met : OfLawful FrontsAreMet
+fronts_are_met journal lawful call position p at =
     let taking = taking_before journal call position p lawful at in
     (taking.wait, taking.stands, taken_front _ taking.wait call taking.taken)
 
-pub one_meeting_for_a_joined_call : OneMeetingForAJoinedCall
-one_meeting_for_a_joined_call journal call lawful met =
+pub one_meeting_for_a_joined_call : OfLawful OneMeetingForAJoinedCall
+one_meeting_for_a_joined_call journal lawful call met =
     let (position, p, at) = is_met-found journal call met in
     let meeting = meeting_at journal call position p lawful at in (
       position,
@@ -91,9 +92,9 @@ not_to_fail journal call position event says opened stays =
       | inr shut ↦ absurd (true≢false (sym opened ∙ shut))
     ]
 
-pub no_open_call_to_a_finished_task : NoOpenCallToAFinishedTask
+pub no_open_call_to_a_finished_task : OfSettled NoOpenCallToAFinishedTask
 unfolding failed
-no_open_call_to_a_finished_task journal call position settled opened =
+no_open_call_to_a_finished_task journal settled call position opened =
     let none = first_given-none (λ p e. then_some (is_to_fail journal p e) (Failed p)) journal position opened.stands.event (settled_at_rest journal settled).no_failed opened.stands.stands in
     not_to_fail journal call position opened.stands.event opened.stands.says (is_open_at-from journal call position opened)
     (then_none (is_to_fail journal position opened.stands.event) (Failed position) none)
@@ -161,9 +162,9 @@ unfolding is_pending
 is_pending-from journal position task unreleased live =
     and_from (not (is_released journal position)) (not (has_ended journal task)) (not_from_false (is_released journal position) unreleased) (not_from_false (has_ended journal task) live)
 
-pub no_acceptor_waits_at_a_queued_choice : NoAcceptorWaitsAtAQueuedChoice
+pub no_acceptor_waits_at_a_queued_choice : OfSettled NoAcceptorWaitsAtAQueuedChoice
 unfolding met
-no_acceptor_waits_at_a_queued_choice journal wait position choice settled stands unreleased live among chosen =
+no_acceptor_waits_at_a_queued_choice journal settled wait position choice stands unreleased live among chosen =
     let none = first_given-none (λ p e. option_and_then (met_at journal p) (wait_in e)) journal position stands.event (settled_at_rest journal settled).no_met stands.stands in
     let none_here : met_at journal position wait ≡ None = rw stands.says at none in
     no_front journal wait.by choice chosen

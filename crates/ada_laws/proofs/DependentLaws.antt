@@ -19,6 +19,7 @@ use Rattle.ada_events.specs.Phases.{has_start, is_completed, is_terminated}
 use Rattle.ada_events.specs.Forced.{is_to_go}
 use Rattle.ada_events.specs.Termination.{all_terminated, is_complete, is_abandoned}
 use Rattle.ada_events.specs.Lawful.{IsLawful, MayFollow}
+use Rattle.ada_laws.specs.Laws.{OfLawful}
 use Rattle.ada_laws.specs.Dependents.{ATerminatedBodyHasNoLiveDependent}
 use Rattle.ada_laws.proofs.Searching.{is_number-some, option_map_or-true, all_below-holds}
 use Rattle.ada_laws.proofs.Growing.{is_terminated-more, is_terminated-quit, has_ended-terminated}
@@ -131,15 +132,15 @@ end_dependents event before u t lawful dependents (together m says on_m) depends
 end_dependents event before u t lawful dependents (earlier was) depends =
     is_terminated-more event before u (dependents u was depends)
 
-pub a_terminated_body_has_no_live_dependent : ATerminatedBodyHasNoLiveDependent
+pub a_terminated_body_has_no_live_dependent : OfLawful ATerminatedBodyHasNoLiveDependent
 unfolding is_terminated
-a_terminated_body_has_no_live_dependent [] t u lawful ended depends = absurd (false≢true ended)
-a_terminated_body_has_no_live_dependent (event ∷ before) t u lawful ended depends =
+a_terminated_body_has_no_live_dependent [] lawful t u ended depends = absurd (false≢true ended)
+a_terminated_body_has_no_live_dependent (event ∷ before) lawful t u ended depends =
     let way = is_terminated-cases event before t.0 ended in
     elim (depends_on-cases event before u (Body t) depends) [
       | inl made ↦
           let was = terminated_before event before t.0 made.creation made.says way in
-          absurd (no_late_dependent event before u t lawful was (λ v on. a_terminated_body_has_no_live_dependent before t v lawful.0 was on) made)
+          absurd (no_late_dependent event before u t lawful was (λ v on. a_terminated_body_has_no_live_dependent before lawful.0 t v was on) made)
       | inr older ↦
-          end_dependents event before u t lawful (λ v was on. a_terminated_body_has_no_live_dependent before t v lawful.0 was on) way older
+          end_dependents event before u t lawful (λ v was on. a_terminated_body_has_no_live_dependent before lawful.0 t v was on) way older
     ]

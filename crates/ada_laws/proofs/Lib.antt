@@ -12,6 +12,8 @@ pub mod Working
 pub mod LimitLaws
 pub mod Gathering
 pub mod Numbering
+pub mod Parents
+pub mod Releasing
 pub mod Queueing
 pub mod Meeting
 pub mod CallLaws
@@ -27,3 +29,4 @@ pub mod ShowingLaws
 pub mod SlotPlaces
 pub mod SlotOrder
 pub mod OutcomeLaws
+pub mod KeepingLaws

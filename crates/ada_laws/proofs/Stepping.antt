@@ -35,7 +35,7 @@ pub record IsStep (journal : List Event) (event : Event) : Type 0 where
   pub makes_none : creation_in event ≡ None
   pub holds_none : held_in event ≡ None
 
-pending_parts : (journal : List Event) (position task : ℕ) → is_pending journal position task ≡ true → (is_released journal position ≡ false) × (has_ended journal task ≡ false)
+pub pending_parts : (journal : List Event) (position task : ℕ) → is_pending journal position task ≡ true → (is_released journal position ≡ false) × (has_ended journal task ≡ false)
 unfolding is_pending
 pending_parts journal position task pending =
     let both = and_parts (not (is_released journal position)) (not (has_ended journal task)) pending in

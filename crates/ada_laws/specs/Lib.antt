@@ -9,3 +9,5 @@ pub mod Lasting
 pub mod Groups
 pub mod Showing
 pub mod Outcomes
+pub mod Masters
+pub mod Laws
