@@ -67,7 +67,8 @@ asked_tail now Otherwise = event_tail.Otherwise
 asked_tail now (Delays pauses) = event_tail.Delays (map (pause_due now) pauses)
 asked_tail now (Terminate guard) = event_tail.Terminate guard
 
--- the position that a member of a nest goes by; 0 where there is none
+-- the position that a member of a nest goes by; 0, which is no position, where there is none: an end and a
+-- close are refused then
 abbrev pub member_position : Option Member → ℕ
 member_position None = 0
 member_position (Some (Block position)) = position

@@ -1,10 +1,10 @@
 -- The attributes of tasks and entries (9.9), as a task may ask for them.
-use Rattle.std.specs.Prelude.{ℕ, Bool, not, nat_le, ◌||◌, Option, Some, None, Result, Ok, Err, List, [], ◌∷◌}
+use Rattle.std.specs.Prelude.{ℕ, Bool, not, ◌||◌, Option, Some, None, Result, Ok, Err, List, [], ◌∷◌}
 use Rattle.ada_events.specs.declared.event.Event.{Event}
 use Rattle.ada_events.specs.declared.names.Entry.{Entry}
 use Rattle.ada_events.specs.declared.refusal.Refusal.{Refusal}
 use Rattle.ada_events.specs.declared.refusal.Refusal.TheVariants.{UnknownTask, NotRunning, NoSuchFamily, ConstraintError}
-use Rattle.ada_events.specs.Tasks.{task_count}
+use Rattle.ada_events.specs.Tasks.{has_task}
 use Rattle.ada_events.specs.Phases.{has_ended, is_terminated, is_abnormal, is_running}
 use Rattle.ada_events.specs.Calls.{count_of}
 use Rattle.ada_events.specs.Refusals.{cause, first_cause, lacks_family, is_outside}
@@ -21,7 +21,7 @@ is_finished journal = is_terminated journal 0
 unfoldable pub count_refusal : List Event → ℕ → Entry → Option Refusal
 count_refusal journal by entry =
     first_cause
-    (cause (nat_le (task_count journal) by) UnknownTask
+    (cause (not (has_task journal by)) UnknownTask
     ∷ cause (not (is_running journal by)) NotRunning
     ∷ cause (lacks_family journal by entry) NoSuchFamily
     ∷ cause (is_outside journal by entry) ConstraintError

@@ -2,11 +2,12 @@
 -- can have shown.
 use Rattle.std.specs.Prelude.{◌≡◌, ℕ, nat_lt, Bool, ◌&&◌, ◌-◌, ◌<◌, ◌≤◌, if◌then◌else◌, List, length, map, drop}
 use Rattle.std.specs.List.{range_with_len, All, AllPairs}
+use Rattle.ada_events.specs.declared.limits.TheConstants.{MOST_TASKS, MOST_SLOTS}
 use Rattle.ada_events.specs.declared.event.Event.{Event}
 use Rattle.ada_events.specs.declared.board.Board.{Board}
-use Rattle.ada_events.specs.Tasks.{task_count}
+use Rattle.ada_events.specs.Tasks.{task_count, has_task}
 use Rattle.ada_events.specs.Phases.{is_terminated}
-use Rattle.ada_events.specs.Refusals.{slot_count}
+use Rattle.ada_events.specs.Limits.{slot_count}
 use Rattle.ada_events.specs.Attributes.{is_callable}
 use Rattle.ada_events.specs.Slots.{count_at}
 use Rattle.ada_events.specs.Lawful.{IsLawful, IsSettled}
@@ -17,11 +18,11 @@ listed n f = map f (range_with_len 0 n)
 
 -- whether there is a task of that number, and it is callable
 unfoldable pub shows_callable : List Event → ℕ → Bool
-shows_callable journal task = nat_lt task (task_count journal) && is_callable journal task
+shows_callable journal task = has_task journal task && is_callable journal task
 
 -- whether there is a task of that number, and it is terminated
 unfoldable pub shows_terminated : List Event → ℕ → Bool
-shows_terminated journal task = nat_lt task (task_count journal) && is_terminated journal task
+shows_terminated journal task = has_task journal task && is_terminated journal task
 
 -- COUNT of the entry at a slot, where there is one
 unfoldable pub shows_count : List Event → ℕ → ℕ
@@ -33,9 +34,9 @@ board_of journal = record {
   tasks = task_count journal;
   slots = slot_count journal;
   events = length journal;
-  callable = listed 256 (shows_callable journal);
-  terminated = listed 256 (shows_terminated journal);
-  counts = listed 1024 (shows_count journal);
+  callable = listed MOST_TASKS (shows_callable journal);
+  terminated = listed MOST_TASKS (shows_terminated journal);
+  counts = listed MOST_SLOTS (shows_count journal);
 }
 
 -- the first so many events of a journal

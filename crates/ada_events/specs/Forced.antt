@@ -1,81 +1,28 @@
 -- The step that a journal forces: ten rows, of which the first that applies counts, each at its least
 -- task number or position.
-use Rattle.std.specs.Prelude.{ℕ, ℤ, Bool, true, false, not, ◌==◌, ◌&&◌, ◌||◌, if◌then◌else◌, Option, Some, None, List, [], ◌∷◌, int_le}
-use Rattle.std.specs.Option.{option_map_or, option_map, option_or, option_and_then}
+use Rattle.std.specs.Prelude.{ℕ, Bool, true, false, not, ◌&&◌, ◌||◌, if◌then◌else◌, Option, Some, None, List, [], ◌∷◌, int_le}
+use Rattle.std.specs.Option.{option_map, option_or, option_and_then}
 use Rattle.std.specs.Bool.{then_some}
 use Rattle.std.specs.List.{list_any, list_all}
 use Rattle.ada_events.specs.declared.event.Event.{Event}
 use Rattle.ada_events.specs.declared.event.Event.TheVariants.{Halted, Failed, Met, Cancelled, Passed, Woken, Activated, Gone, Quit, Left}
-use Rattle.ada_events.specs.declared.event.EventTail.{EventTail}
-use Rattle.ada_events.specs.declared.event.EventTail.TheVariants.{Terminate}
 use Rattle.ada_events.specs.declared.names.TaskNo.{TaskNo}
 use Rattle.ada_events.specs.declared.names.Master.{Master}
 use Rattle.ada_events.specs.declared.names.Master.TheVariants.{Body, Block}
 use Rattle.ada_events.specs.declared.names.Patience.{Patience}
 use Rattle.ada_events.specs.declared.names.Patience.TheVariants.{Conditional}
-use Rattle.ada_events.specs.Search.{is_number, any_event, first_given, first_below, all_below}
-use Rattle.ada_events.specs.Says.{Creation, Opening, Start, Call, Wait, Delay, Closing, opening_in, started_in, start_in, call_in, wait_in, delay_in, closing_in}
-use Rattle.ada_events.specs.Tasks.{task_count, creation_of, moment}
+use Rattle.ada_events.specs.Search.{is_some_and, first_given, first_below, all_below}
+use Rattle.ada_events.specs.Says.{Opening, Start, Call, Wait, Delay, Closing, opening_in, start_in, call_in, wait_in, delay_in, closing_in}
+use Rattle.ada_events.specs.Tasks.{task_count, moment}
 use Rattle.ada_events.specs.Masters.{depends_on}
-use Rattle.ada_events.specs.Phases.{lists_task, is_elaborated, has_failed, is_completed, is_terminated, has_ended, is_abnormal, is_released}
-use Rattle.ada_events.specs.Calls.{is_open_at, is_queued_at, is_caller_in_rendezvous}
-use Rattle.ada_events.specs.Waits.{taken_call, way_of}
+use Rattle.ada_events.specs.Phases.{is_elaborated, has_failed, is_completed, is_terminated, has_ended, is_abnormal}
+use Rattle.ada_events.specs.Calls.{is_pending, is_open_at, is_queued_at, is_caller_in_rendezvous}
+use Rattle.ada_events.specs.Waits.{is_due, taken_call, way_of}
+use Rattle.ada_events.specs.Termination.{all_terminated, is_complete, is_abandoned, is_ready_to_quit}
 
 -- the task of that number
 abbrev pub task_no : ℕ → TaskNo
 task_no task = record { 0 = task }
-
--- every dependent of the master is terminated
-unfoldable pub all_terminated : List Event → Master → Bool
-all_terminated journal master =
-    all_below (λ u. not (depends_on journal u master) || is_terminated journal u) (task_count journal)
-
--- the block has its close, or its task has ended
-unfoldable pub is_complete_block : List Event → ℕ → Bool
-is_complete_block journal block =
-    list_any (λ (e : Event). is_number block (option_map (λ (c : Closing). c.block) (closing_in e))) journal
-    || any_event (λ p e. p == block && option_map_or (λ (o : Opening). has_ended journal o.by) (opening_in e) false) journal
-
--- the master is complete (9.4): a block as above, a body where its task is completed
-unfoldable pub is_complete : List Event → Master → Bool
-is_complete journal (Body t) = is_completed journal t.0
-is_complete journal (Block p) = is_complete_block journal p
-
--- no activation of the task was ever started (9.3)
-unfoldable pub is_never_started : List Event → ℕ → Bool
-is_never_started journal task = not (list_any (λ (e : Event). lists_task task (started_in e)) journal)
-
--- the task will never be activated (9.3, 9.4): what it was made within is complete, or its maker is
--- terminated
-unfoldable pub is_abandoned : List Event → ℕ → Bool
-is_abandoned journal task =
-    option_map_or (λ (c : Creation). is_complete journal c.under || is_terminated journal c.by) (creation_of journal task) false
-    && is_never_started journal task
-
--- the tail is an open terminate alternative (9.7.1)
-abbrev pub is_open_terminate : EventTail → Bool
-is_open_terminate (Terminate guard) = guard
-is_open_terminate _ = false
-
--- no call is queued at an entry of the task; a call names an entry of its callee
-unfoldable pub has_empty_queues : List Event → ℕ → Bool
-has_empty_queues journal task =
-    not (any_event (λ p e. is_number task (option_map (λ (c : Call). c.callee) (call_in e)) && is_queued_at journal p e) journal)
-
--- the task has a wait with an open terminate alternative that isn't released (9.7.1)
-abbrev pub is_at_open_terminate : List Event → ℕ → Bool
-is_at_open_terminate journal task =
-    any_event (λ p e. option_map_or (λ (w : Wait). w.by == task && is_open_terminate w.tail) (wait_in e) false && not (is_released journal p)) journal
-
--- the task is suspended at an open terminate alternative, with no call queued at an entry of its own
--- (9.4, 9.7.1)
-unfoldable pub is_ready_to_quit : List Event → ℕ → Bool
-is_ready_to_quit journal task =
-    is_at_open_terminate journal task && not (has_ended journal task) && has_empty_queues journal task
-
--- what is at a position is neither released, nor has its task ended
-unfoldable pub is_pending : List Event → ℕ → ℕ → Bool
-is_pending journal position task = not (is_released journal position) && not (has_ended journal task)
 
 -- 1. an abnormal task completes (9.10), unless it is the caller of a joined call
 unfoldable pub is_to_halt : List Event → ℕ → Bool
@@ -88,7 +35,7 @@ halted journal = first_below (λ u. then_some (is_to_halt journal u) (Halted (ta
 -- 2. an open call to a completed, terminated or abnormal task fails (9.5, 9.7.2, 9.7.3, 9.10)
 unfoldable pub is_to_fail : List Event → ℕ → Event → Bool
 is_to_fail journal position event =
-    option_map_or (λ (c : Call). has_ended journal c.callee || is_abnormal journal c.callee) (call_in event) false
+    is_some_and (call_in event) (λ (c : Call). has_ended journal c.callee || is_abnormal journal c.callee)
     && is_open_at journal position event
 
 unfoldable pub failed : List Event → Option Event
@@ -107,13 +54,9 @@ abbrev pub is_conditional : Patience → Bool
 is_conditional Conditional = true
 is_conditional _ = false
 
-abbrev pub is_due : ℤ → Option ℤ → Bool
-is_due now None = false
-is_due now (Some due) = int_le due now
-
 unfoldable pub is_to_cancel : List Event → ℕ → Event → Bool
 is_to_cancel journal position event =
-    option_map_or (λ (c : Call). is_conditional c.patience || is_due (moment journal) c.due) (call_in event) false
+    is_some_and (call_in event) (λ (c : Call). is_conditional c.patience || is_due (moment journal) c.due)
     && is_queued_at journal position event
 
 unfoldable pub cancelled : List Event → Option Event

@@ -8,8 +8,10 @@ pub mod Phases
 pub mod Calls
 pub mod Nests
 pub mod Waits
+pub mod Termination
 pub mod Forced
 pub mod Asks
+pub mod Limits
 pub mod Refusals
 pub mod Outcomes
 pub mod Attributes

@@ -1,7 +1,7 @@
 -- What a task is within: the blocks that it opened and hasn't left, and the rendezvous that it accepted
 -- and hasn't ended.
 use Rattle.std.specs.Prelude.{ℕ, Bool, not, ◌==◌, ◌&&◌, ◌-◌, Option, None, List, [], ◌∷◌, length, slice_get}
-use Rattle.std.specs.Option.{option_map_or, option_or, option_map}
+use Rattle.std.specs.Option.{option_map_or, option_or}
 use Rattle.std.specs.Bool.{then_some}
 use Rattle.std.specs.List.{list_any}
 use Rattle.ada_events.specs.declared.event.Event.{Event}
@@ -9,8 +9,8 @@ use Rattle.ada_events.specs.declared.names.Master.{Master}
 use Rattle.ada_events.specs.declared.names.Master.TheVariants.{Body, Block as BlockMaster}
 use Rattle.ada_events.specs.declared.names.Member.{Member}
 use Rattle.ada_events.specs.declared.names.Member.TheVariants.{Block, Rendezvous}
-use Rattle.ada_events.specs.Search.{is_number, any_event, gathered}
-use Rattle.ada_events.specs.Says.{Opening, Closing, Wait, Meeting, opening_in, closing_in, left_in, wait_in, meeting_in}
+use Rattle.ada_events.specs.Search.{is_number, is_some_and, any_event, gathered}
+use Rattle.ada_events.specs.Says.{Opening, Closing, Wait, Meeting, opening_in, closing_in, left_in, meeting_in, wait_at}
 use Rattle.ada_events.specs.Calls.{is_open_call}
 
 -- the close at a position was followed by the task's leaving the block (9.4)
@@ -20,12 +20,11 @@ is_left_close journal close = list_any (λ (e : Event). is_number close (left_in
 -- the block is left
 unfoldable pub is_left : List Event → ℕ → Bool
 is_left journal block =
-    any_event (λ p e. is_number block (option_map (λ (c : Closing). c.block) (closing_in e)) && is_left_close journal p) journal
+    any_event (λ p e. is_some_and (closing_in e) (λ (c : Closing). c.block == block) && is_left_close journal p) journal
 
 -- the wait at a position is the task's
 unfoldable pub is_wait_of : List Event → ℕ → ℕ → Bool
-is_wait_of journal task wait =
-    any_event (λ p e. p == wait && is_number task (option_map (λ (w : Wait). w.by) (wait_in e))) journal
+is_wait_of journal task wait = is_some_and (wait_at journal wait) (λ (w : Wait). w.by == task)
 
 -- what the event at a position puts into the task's nest: a block that the task opened and hasn't left,
 -- or a rendezvous of one of its waits whose call is open
@@ -39,7 +38,7 @@ member_at journal task position event =
 unfoldable pub nest : List Event → ℕ → List Member
 nest journal task = gathered (member_at journal task) journal
 
--- the innermost member of a nest
+-- the innermost member of a nest, which is its last
 abbrev pub innermost : List Member → Option Member
 innermost members = slice_get members (length members - 1)
 

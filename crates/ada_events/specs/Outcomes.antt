@@ -1,42 +1,27 @@
 -- The outcome of a task: that it ended, or what became of its latest call, wait, delay, activation or
 -- close, or of a rendezvous that it ended by an exception.
-use Rattle.std.specs.Prelude.{ℕ, suc, Bool, true, if◌then◌else◌, Option, Some, None, List, [], ◌∷◌, length}
-use Rattle.std.specs.Option.{option_or, option_and_then, unwrap_or, is_some}
+use Rattle.std.specs.Prelude.{ℕ, suc, true, if◌then◌else◌, Option, Some, None, List, [], ◌∷◌, length}
+use Rattle.std.specs.Option.{option_or, option_and_then, unwrap_or}
 use Rattle.ada_events.specs.declared.event.Event.{Event}
 use Rattle.ada_events.specs.declared.event.Event.TheVariants as event
 use Rattle.ada_events.specs.declared.event.Way.{Way}
 use Rattle.ada_events.specs.declared.event.Way.TheVariants as way
-use Rattle.ada_events.specs.declared.names.Choice.{Choice}
 use Rattle.ada_events.specs.declared.outcome.Outcome.{Outcome}
 use Rattle.ada_events.specs.declared.outcome.Outcome.TheVariants.{Dead, Done, Held, Served, TaskingError, Cancelled, Accepted, TookElse, TookDelay, ProgramError, Awake, ActivationOk, ActivationFailed, BlockLeft, Raised, Nothing}
-use Rattle.ada_events.specs.Search.{is_number, event_at}
-use Rattle.ada_events.specs.Says.{Wait, wait_in, held_in, released_in}
+use Rattle.ada_events.specs.Search.{is_number}
+use Rattle.ada_events.specs.Says.{held_in, released_in, wait_at}
 use Rattle.ada_events.specs.Phases.{is_completed, is_terminated}
-use Rattle.ada_events.specs.Waits.{picked, front_of}
+use Rattle.ada_events.specs.Waits.{taken_choice}
 
 -- the task that ends a rendezvous by an exception (11.5)
 unfoldable pub raised_in : Event → Option ℕ
 raised_in (event.Ended by call true) = Some by.0
 raised_in _ = None
 
--- the numbers of the items that pass, counted over all from this one
-unfoldable pub numbers_from : {A : Type 0} → (A → Bool) → ℕ → List A → List ℕ
-numbers_from test n [] = []
-numbers_from test n (item ∷ rest) = if test item then n ∷ numbers_from test (suc n) rest else numbers_from test (suc n) rest
-
--- a call is at the front of an open choice's queue
-unfoldable pub is_selectable : List Event → ℕ → Choice → Bool
-is_selectable journal task choice = is_some (front_of journal task choice)
-
--- the choice by which a wait takes a call (9.7.1), counted over all of its choices from 0: of the k
--- selectable ones number `pick % k` in text order
-unfoldable pub taken_choice : List Event → Wait → Option ℕ
-taken_choice journal wait = picked wait.pick (numbers_from (is_selectable journal wait.by) 0 wait.choices)
-
--- the choice by which the wait at a position takes a call
+-- the choice by which the wait at a position takes a call; the 0 stands for no choice, and no rendezvous
+-- begins without one
 unfoldable pub choice_met : List Event → ℕ → ℕ
-choice_met journal wait =
-    unwrap_or (option_and_then (taken_choice journal) (option_and_then wait_in (event_at journal wait))) 0
+choice_met journal wait = unwrap_or (option_and_then (taken_choice journal) (wait_at journal wait)) 0
 
 -- what a wait that ended without a rendezvous took (9.7.1)
 abbrev pub took : Way → Outcome
@@ -44,8 +29,8 @@ took way.Otherwise = TookElse
 took (way.Delay n) = TookDelay n
 took way.ProgramError = ProgramError
 
--- what becomes of a call, wait, delay, start or close by the event that releases it; the journal is
--- what was before that event
+-- what becomes of a call, wait, delay, start or close by the event that releases it, by which alone it is
+-- asked; the journal is what was before that event
 unfoldable pub released_to : List Event → Event → Outcome
 released_to journal (event.Ended by call raised) = if raised then Raised else Served
 released_to journal (event.Failed call) = TaskingError

@@ -1,19 +1,22 @@
 -- What has become of a task: elaborated (9.3), completed, terminated (9.4), abnormal (9.10), started,
 -- suspended, running.
-use Rattle.std.specs.Prelude.{ℕ, Bool, false, not, ◌==◌, nat_lt, ◌&&◌, ◌||◌, List, [], ◌∷◌}
-use Rattle.std.specs.Option.{option_map_or}
+use Rattle.std.specs.Prelude.{ℕ, Bool, false, not, ◌==◌, ◌&&◌, ◌||◌, List, [], ◌∷◌}
 use Rattle.std.specs.List.{list_any}
 use Rattle.ada_events.specs.declared.event.Event.{Event}
 use Rattle.ada_events.specs.declared.names.TaskNo.{TaskNo}
 use Rattle.ada_events.specs.declared.names.Master.TheVariants.{Body}
-use Rattle.ada_events.specs.Search.{is_number, any_event}
+use Rattle.ada_events.specs.Search.{is_number, is_some_and, any_event}
 use Rattle.ada_events.specs.Says.{elaborated_in, failed_in, completed_in, gone_in, quit_in, aborted_in, started_in, held_in, released_in}
-use Rattle.ada_events.specs.Tasks.{task_count}
+use Rattle.ada_events.specs.Tasks.{has_task}
 use Rattle.ada_events.specs.Masters.{depends_on}
 
 -- whether a list names a task
 abbrev pub lists_task : ℕ → List TaskNo → Bool
 lists_task task = list_any (λ (t : TaskNo). t.0 == task)
+
+-- a start names the task (9.3)
+unfoldable pub has_start : List Event → ℕ → Bool
+has_start journal task = list_any (λ (e : Event). lists_task task (started_in e)) journal
 
 -- the task has ended its activation, or is the main program (9.3)
 unfoldable pub is_elaborated : List Event → ℕ → Bool
@@ -32,7 +35,7 @@ is_completed journal task = list_any (λ (e : Event). is_number task (completed_
 unfoldable pub is_terminated : List Event → ℕ → Bool
 is_terminated [] task = false
 is_terminated (event ∷ before) task =
-    (is_number task (gone_in event) || option_map_or (depends_on before task) (quit_in event) false)
+    (is_number task (gone_in event) || is_some_and (quit_in event) (depends_on before task))
     || is_terminated before task
 
 -- the task is completed or terminated
@@ -45,7 +48,7 @@ unfoldable pub is_abnormal : List Event → ℕ → Bool
 is_abnormal [] task = false
 is_abnormal (event ∷ before) task =
     (list_any (λ (t : TaskNo). t.0 == task || depends_on before task (Body t)) (aborted_in event)
-    && nat_lt task (task_count before) && not (is_terminated before task))
+    && has_task before task && not (is_terminated before task))
     || is_abnormal before task
 
 -- the call, wait, delay, start or close at a position is released

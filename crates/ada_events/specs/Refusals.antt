@@ -1,11 +1,11 @@
 -- The causes for which a request is refused, each with its condition. They are checked in their order,
 -- and the first that applies is the answer.
-use Rattle.std.specs.Prelude.{ℕ, ℤ, pos, Bool, true, false, not, ◌==◌, nat_lt, nat_le, ◌&&◌, ◌||◌, ◌+◌, if◌then◌else◌, Option, Some, None, List, [], ◌∷◌, length, slice_get, int_lt}
+use Rattle.std.specs.Prelude.{ℕ, Bool, true, false, not, ◌==◌, ◌&&◌, ◌||◌, if◌then◌else◌, Option, Some, None, List, [], ◌∷◌, ◌++◌, length, slice_get}
 use Rattle.std.specs.Option.{option_map_or, is_none}
 use Rattle.std.specs.List.{list_any}
 use Rattle.ada_events.specs.declared.event.Event.{Event}
 use Rattle.ada_events.specs.declared.request.Request.{Request}
-use Rattle.ada_events.specs.declared.request.Request.TheVariants.{Open, Create, Activate, Elaborated, Call, Wait, Delay, End, Close, Complete, Abort, Tick}
+use Rattle.ada_events.specs.declared.request.Request.TheVariants.{Create, Activate, Elaborated, Call, Wait, End, Close, Complete, Abort}
 use Rattle.ada_events.specs.declared.request.Tail.TheVariants.{Delays, Terminate}
 use Rattle.ada_events.specs.declared.refusal.Refusal.{Refusal}
 use Rattle.ada_events.specs.declared.refusal.Refusal.TheVariants.{UnknownTask, NotRunning, DuringActivation, NotActivating, NotYourMaster, EmptyList, NotYourTask, NoAccept, NoSuchFamily, ConstraintError, SameFamilyNested, TerminateInAccept, NotInAccept, NoBlock, StillNested, MainTask, MomentBack, MomentTooLarge, TooManyTasks, TooManySlots, TooDeep, JournalFull}
@@ -15,47 +15,26 @@ use Rattle.ada_events.specs.declared.names.Entry.{Entry}
 use Rattle.ada_events.specs.declared.names.Family.{Family}
 use Rattle.ada_events.specs.declared.names.Member.{Member}
 use Rattle.ada_events.specs.declared.names.Member.TheVariants.{Block, Rendezvous}
-use Rattle.ada_events.specs.declared.names.Patience.TheVariants.{Timed}
-use Rattle.ada_events.specs.declared.names.Pause.{Pause}
-use Rattle.ada_events.specs.Search.{any_event}
-use Rattle.ada_events.specs.Says.{Creation, call_in, creation_in, started_in}
+use Rattle.ada_events.specs.Search.{is_some_and}
+use Rattle.ada_events.specs.Says.{Creation, call_at}
 use Rattle.ada_events.specs.Says as says
-use Rattle.ada_events.specs.Entries.{is_in_range, entries_in}
-use Rattle.ada_events.specs.Tasks.{task_count, creation_of, families_of, moment}
+use Rattle.ada_events.specs.Entries.{is_in_range}
+use Rattle.ada_events.specs.Tasks.{has_task, creation_of, families_of}
 use Rattle.ada_events.specs.Masters.{reaches}
-use Rattle.ada_events.specs.Phases.{lists_task, is_elaborated, is_running}
+use Rattle.ada_events.specs.Phases.{lists_task, has_start, is_elaborated, is_running}
 use Rattle.ada_events.specs.Nests.{nest, innermost, frame}
-use Rattle.ada_events.specs.Asks.{asker, named_tasks, due_after}
-
--- the limits
-abbrev pub most_tasks : ℕ
-most_tasks = 256
-
-abbrev pub most_slots : ℕ
-most_slots = 1024
-
-abbrev pub most_members : ℕ
-most_members = 32
-
-abbrev pub most_events : ℕ
-most_events = 65536
-
--- the most events that one request appends
-abbrev pub most_appended : ℕ
-most_appended = 769
-
-abbrev pub last_moment : ℤ
-last_moment = pos 9000000000000
+use Rattle.ada_events.specs.Asks.{asker, named_tasks}
+use Rattle.ada_events.specs.Limits.{moves_back, is_too_late, makes_too_many_tasks, makes_too_many_slots, is_too_deep, is_full}
 
 -- a task that the request names doesn't exist
 unfoldable pub names_unknown_task : List Event → Request → Bool
 names_unknown_task journal request =
-    option_map_or (nat_le (task_count journal)) (asker request) false
-    || list_any (λ (t : TaskNo). nat_le (task_count journal) t.0) (named_tasks request)
+    is_some_and (asker request) (λ t. not (has_task journal t))
+    || list_any (λ (t : TaskNo). not (has_task journal t.0)) (named_tasks request)
 
 -- the asking task isn't running
 unfoldable pub asker_not_running : List Event → Request → Bool
-asker_not_running journal request = option_map_or (λ t. not (is_running journal t)) (asker request) false
+asker_not_running journal request = is_some_and (asker request) (λ t. not (is_running journal t))
 
 -- a wait, end or completion by a task that isn't elaborated (9.3)
 unfoldable pub is_during_activation : List Event → Request → Bool
@@ -81,14 +60,10 @@ has_empty_list (Abort by tasks) = length tasks == 0
 has_empty_list (Wait by choices (Delays pauses) pick) = length pauses == 0
 has_empty_list _ = false
 
--- a start of the task's activation is in the journal
-unfoldable pub was_started : List Event → ℕ → Bool
-was_started journal task = list_any (λ (e : Event). lists_task task (started_in e)) journal
-
--- the task is made by this one, and its activation was never started
-unfoldable pub is_to_activate : List Event → ℕ → ℕ → Bool
-is_to_activate journal by task =
-    option_map_or (λ (c : Creation). c.by == by) (creation_of journal task) false && not (was_started journal task)
+-- a task may activate another (9.3): it made it, and no start names it
+unfoldable pub may_activate : List Event → ℕ → ℕ → Bool
+may_activate journal by task =
+    is_some_and (creation_of journal task) (λ (c : Creation). c.by == by) && not (has_start journal task)
 
 -- a task stands twice in a list
 unfoldable pub has_double_task : List TaskNo → Bool
@@ -98,7 +73,7 @@ has_double_task (task ∷ rest) = lists_task task.0 rest || has_double_task rest
 -- an activation of a task that isn't the asking task's to activate, or that stands twice (9.3)
 unfoldable pub is_not_your_task : List Event → Request → Bool
 is_not_your_task journal (Activate by tasks) =
-    list_any (λ (t : TaskNo). not (is_to_activate journal by.0 t.0)) tasks || has_double_task tasks
+    list_any (λ (t : TaskNo). not (may_activate journal by.0 t.0)) tasks || has_double_task tasks
 is_not_your_task journal _ = false
 
 -- a wait without accept alternatives (9.7.1)
@@ -119,7 +94,7 @@ names_no_family journal _ = false
 -- the index of an entry lies outside its family's range (9.5)
 unfoldable pub is_outside : List Event → ℕ → Entry → Bool
 is_outside journal task entry =
-    option_map_or (λ (f : Family). not (is_in_range f entry.index)) (slice_get (families_of journal task) entry.family) false
+    is_some_and (slice_get (families_of journal task) entry.family) (λ (f : Family). not (is_in_range f entry.index))
 
 -- the index of a call, or of an open choice, lies outside its family's range
 unfoldable pub breaks_constraint : List Event → Request → Bool
@@ -135,7 +110,7 @@ is_rendezvous (Block p) = false
 -- the member is a rendezvous for a family of entries
 unfoldable pub is_rendezvous_for : List Event → ℕ → Member → Bool
 is_rendezvous_for journal family (Rendezvous call) =
-    any_event (λ p e. p == call && option_map_or (λ (c : says.Call). c.entry.family == family) (call_in e) false) journal
+    is_some_and (call_at journal call) (λ (c : says.Call). c.entry.family == family)
 is_rendezvous_for journal family (Block p) = false
 
 -- a choice, open or closed, for the family of a rendezvous in the task's nest (9.5)
@@ -151,7 +126,7 @@ terminates_in_accept journal _ = false
 
 -- the end of an accept, where the innermost of the nest isn't a rendezvous
 unfoldable pub is_not_in_accept : List Event → Request → Bool
-is_not_in_accept journal (End by raised) = not (option_map_or is_rendezvous (innermost (nest journal by.0)) false)
+is_not_in_accept journal (End by raised) = not (is_some_and (innermost (nest journal by.0)) is_rendezvous)
 is_not_in_accept journal _ = false
 
 -- a close, where the innermost of the nest isn't a block
@@ -170,45 +145,6 @@ unfoldable pub aborts_main : Request → Bool
 aborts_main (Abort by tasks) = lists_task 0 tasks
 aborts_main _ = false
 
--- a tick to less than the moment
-unfoldable pub moves_back : List Event → Request → Bool
-moves_back journal (Tick now) = int_lt now (moment journal)
-moves_back journal _ = false
-
--- a tick, or the due moment of a timed call, a delay or an open delay alternative, behind the last moment
-unfoldable pub is_too_late : List Event → Request → Bool
-is_too_late journal (Tick now) = int_lt last_moment now
-is_too_late journal (Call by callee entry (Timed duration)) = int_lt last_moment (due_after (moment journal) duration)
-is_too_late journal (Delay by duration) = int_lt last_moment (due_after (moment journal) duration)
-is_too_late journal (Wait by choices (Delays pauses) pick) =
-    list_any (λ (d : Pause). d.guard && int_lt last_moment (due_after (moment journal) d.duration)) pauses
-is_too_late journal _ = false
-
--- a creation where the limit of tasks is reached
-unfoldable pub makes_too_many_tasks : List Event → Request → Bool
-makes_too_many_tasks journal (Create by master families) = nat_le most_tasks (task_count journal)
-makes_too_many_tasks journal _ = false
-
--- how many entries all tasks have
-unfoldable pub slot_count : List Event → ℕ
-slot_count [] = 0
-slot_count (event ∷ before) = option_map_or (λ (c : Creation). entries_in c.families) (creation_in event) 0 + slot_count before
-
--- a creation whose entries would pass the limit
-unfoldable pub makes_too_many_slots : List Event → Request → Bool
-makes_too_many_slots journal (Create by master families) = nat_lt most_slots (slot_count journal + entries_in families)
-makes_too_many_slots journal _ = false
-
--- an opening or a wait in a nest that has its most members
-unfoldable pub is_too_deep : List Event → Request → Bool
-is_too_deep journal (Open by) = nat_le most_members (length (nest journal by.0))
-is_too_deep journal (Wait by choices tail pick) = nat_le most_members (length (nest journal by.0))
-is_too_deep journal _ = false
-
--- the journal hasn't room for the most events that one request appends
-unfoldable pub is_full : List Event → Bool
-is_full journal = nat_lt most_events (length journal + most_appended)
-
 -- a cause with its condition
 pub record Cause : Type 0 where
   pub applies : Bool
@@ -222,25 +158,40 @@ unfoldable pub first_cause : List Cause → Option Refusal
 first_cause [] = None
 first_cause (c ∷ rest) = if c.applies then Some c.name else first_cause rest
 
--- the causes in their order
-unfoldable pub causes : List Event → Request → List Cause
-causes journal request =
+-- the causes that have to do with the tasks that are named, and with empty lists
+abbrev pub causes_by_name : List Event → Request → List Cause
+causes_by_name journal request =
     cause (names_unknown_task journal request) UnknownTask
     ∷ cause (asker_not_running journal request) NotRunning
     ∷ cause (is_during_activation journal request) DuringActivation
     ∷ cause (is_not_activating journal request) NotActivating
     ∷ cause (is_not_your_master journal request) NotYourMaster
     ∷ cause (has_empty_list request) EmptyList
-    ∷ cause (is_not_your_task journal request) NotYourTask
+    ∷ []
+
+-- those that have to do with activation and entries
+abbrev pub causes_by_entry : List Event → Request → List Cause
+causes_by_entry journal request =
+    cause (is_not_your_task journal request) NotYourTask
     ∷ cause (has_no_accept request) NoAccept
     ∷ cause (names_no_family journal request) NoSuchFamily
     ∷ cause (breaks_constraint journal request) ConstraintError
-    ∷ cause (nests_same_family journal request) SameFamilyNested
+    ∷ []
+
+-- those that have to do with the asking task's nest
+abbrev pub causes_by_nest : List Event → Request → List Cause
+causes_by_nest journal request =
+    cause (nests_same_family journal request) SameFamilyNested
     ∷ cause (terminates_in_accept journal request) TerminateInAccept
     ∷ cause (is_not_in_accept journal request) NotInAccept
     ∷ cause (has_no_block journal request) NoBlock
     ∷ cause (is_still_nested journal request) StillNested
-    ∷ cause (aborts_main request) MainTask
+    ∷ []
+
+-- those that have to do with the main program, the moment and the limits
+abbrev pub causes_by_limit : List Event → Request → List Cause
+causes_by_limit journal request =
+    cause (aborts_main request) MainTask
     ∷ cause (moves_back journal request) MomentBack
     ∷ cause (is_too_late journal request) MomentTooLarge
     ∷ cause (makes_too_many_tasks journal request) TooManyTasks
@@ -248,6 +199,11 @@ causes journal request =
     ∷ cause (is_too_deep journal request) TooDeep
     ∷ cause (is_full journal) JournalFull
     ∷ []
+
+-- the causes in their order
+unfoldable pub causes : List Event → Request → List Cause
+causes journal request =
+    causes_by_name journal request ++ causes_by_entry journal request ++ causes_by_nest journal request ++ causes_by_limit journal request
 
 -- the cause for which a request is refused, or none
 unfoldable pub refusal : List Event → Request → Option Refusal

@@ -1,5 +1,6 @@
 -- What an event says, one definition for each thing that events can say.
 use Rattle.std.specs.Prelude.{ℕ, ℤ, false, Option, Some, None, List, []}
+use Rattle.std.specs.Option.{option_and_then}
 use Rattle.ada_events.specs.declared.names.TaskNo.{TaskNo}
 use Rattle.ada_events.specs.declared.names.Master.{Master}
 use Rattle.ada_events.specs.declared.names.Entry.{Entry}
@@ -9,6 +10,7 @@ use Rattle.ada_events.specs.declared.names.Patience.{Patience}
 use Rattle.ada_events.specs.declared.event.EventTail.{EventTail}
 use Rattle.ada_events.specs.declared.event.Event.{Event}
 use Rattle.ada_events.specs.declared.event.Event.TheVariants.{Opened, Created, Started, Elaborated, Called, Waiting, Paused, Ended, Closed, Completed, Aborted, Ticked, Halted, Failed, Met, Cancelled, Passed, Woken, Activated, Gone, Quit, Left}
+use Rattle.ada_events.specs.Search.{event_at}
 
 -- a task was made (9.1): by whom, within what, depending on what, with which entries
 pub record Creation : Type 0 where
@@ -159,3 +161,15 @@ released_in (Woken pause) = Some pause
 released_in (Activated start ok) = Some start
 released_in (Left close) = Some close
 released_in _ = None
+
+-- the opening of a block at a position
+abbrev pub opening_at : List Event → ℕ → Option Opening
+opening_at journal position = option_and_then opening_in (event_at journal position)
+
+-- the call at a position
+abbrev pub call_at : List Event → ℕ → Option Call
+call_at journal position = option_and_then call_in (event_at journal position)
+
+-- the wait at a position
+abbrev pub wait_at : List Event → ℕ → Option Wait
+wait_at journal position = option_and_then wait_in (event_at journal position)

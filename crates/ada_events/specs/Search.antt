@@ -1,13 +1,17 @@
 -- Searching a journal. Its newest event comes first, so in `event ∷ before` the event came after all of
 -- `before` and stands at position `length before + 1`, and `before` is the journal as it was.
 use Rattle.std.specs.Prelude.{ℕ, zero, suc, Bool, true, false, ◌&&◌, ◌||◌, ◌==◌, if◌then◌else◌, Option, Some, None, List, [], ◌∷◌, ◌++◌, length}
-use Rattle.std.specs.Option.{option_or, option_to_list}
+use Rattle.std.specs.Option.{option_map_or, option_or, option_to_list}
 use Rattle.ada_events.specs.declared.event.Event.{Event}
 
 -- whether this is the number
 abbrev pub is_number : ℕ → Option ℕ → Bool
 is_number n None = false
 is_number n (Some m) = n == m
+
+-- there is one, and it passes
+abbrev pub is_some_and : {A : Type 0} → Option A → (A → Bool) → Bool
+is_some_and found test = option_map_or test found false
 
 -- whether an event passes, given its position
 unfoldable pub any_event : (ℕ → Event → Bool) → List Event → Bool

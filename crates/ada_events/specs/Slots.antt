@@ -9,7 +9,7 @@ use Rattle.ada_events.specs.Says.{Creation, creation_in}
 use Rattle.ada_events.specs.Entries.{is_in_range, entry_count, entries_in}
 use Rattle.ada_events.specs.Tasks.{task_count}
 use Rattle.ada_events.specs.Calls.{count_of}
-use Rattle.ada_events.specs.Refusals.{slot_count}
+use Rattle.ada_events.specs.Limits.{slot_count}
 
 -- an entry of a task
 pub record Place : Type 0 where
@@ -53,6 +53,6 @@ unfoldable pub entry_at : List Event → ℕ → Option Place
 entry_at [] slot = None
 entry_at (event ∷ before) slot = if nat_lt slot (slot_count before) then entry_at before slot else entry_made before event slot
 
--- COUNT of the entry at a slot (9.9); 0 behind the last
+-- COUNT of the entry at a slot (9.9); 0 behind the last, where a board shows nothing
 unfoldable pub count_at : List Event → ℕ → ℕ
 count_at journal slot = option_map_or (λ (p : Place). count_of journal p.task p.entry) (entry_at journal slot) 0

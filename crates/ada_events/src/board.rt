@@ -1,5 +1,7 @@
 //! The attributes of all tasks and entries at one time.
 
+use crate::limits::{MOST_SLOTS, MOST_TASKS};
+
 /// CALLABLE and TERMINATED of each task and COUNT of each entry (9.9), after so many events. A task goes
 /// by its number, and an entry by its slot: all entries of all tasks are numbered from 0 in order of
 /// task, family and index. Unused places hold false, false and 0.
@@ -12,9 +14,9 @@ pub struct Board {
     /// How many events there are, at most 65,536.
     pub events: u32,
     /// CALLABLE of each task.
-    pub callable: [bool; 256],
+    pub callable: [bool; MOST_TASKS],
     /// TERMINATED of each task.
-    pub terminated: [bool; 256],
+    pub terminated: [bool; MOST_TASKS],
     /// COUNT of each entry, at most 256.
-    pub counts: [u16; 1024],
+    pub counts: [u16; MOST_SLOTS],
 }

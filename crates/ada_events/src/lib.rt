@@ -8,6 +8,7 @@ pub mod board;
 pub mod bounded;
 pub mod event;
 pub mod journal;
+pub mod limits;
 pub mod names;
 pub mod outcome;
 pub mod refusal;

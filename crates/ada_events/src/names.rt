@@ -3,6 +3,7 @@
 ghost use Rattle.std.specs.Prelude.{◌≡◌};
 ghost use Rattle.ada_events.specs.declared.names.Member.TheVariants.{Block};
 
+use crate::limits::{MOST_CHOICES, MOST_DELAYS, MOST_FAMILIES, MOST_MEMBERS, MOST_TASKS};
 use crate::{Bounded, SmallList, Stored};
 
 /// A task by its number, 0 to 255: 0 is the main program, and task `k` was made by the `k`-th
@@ -74,32 +75,32 @@ pub struct Pause {
 }
 
 /// The tasks that an activation or an abort names, at most 256.
-pub type Tasks = Bounded<TaskNo, 256>;
+pub type Tasks = Bounded<TaskNo, MOST_TASKS>;
 
 /// The families of entries that a task declares, at most 16.
-pub type Families = Bounded<Family, 16>;
+pub type Families = Bounded<Family, MOST_FAMILIES>;
 
 /// The accept alternatives of a wait in text order, at most 16.
-pub type Choices = Bounded<Choice, 16>;
+pub type Choices = Bounded<Choice, MOST_CHOICES>;
 
 /// The delay alternatives of a wait in text order, at most 8.
-pub type Pauses = Bounded<Pause, 8>;
+pub type Pauses = Bounded<Pause, MOST_DELAYS>;
 
 /// The moments at which the delay alternatives of a wait are due, in text order, at most 8. A closed
 /// alternative has none.
-pub type Dues = Bounded<Option<i64>, 8>;
+pub type Dues = Bounded<Option<i64>, MOST_DELAYS>;
 
 /// What a task is within, outermost first, at most 32 members.
-pub type Nest = Bounded<Member, 32>;
+pub type Nest = Bounded<Member, MOST_MEMBERS>;
 
 /// The tasks that an activation or an abort named, as its event keeps them.
-pub type TaskList = SmallList<TaskNo, 8, 256>;
+pub type TaskList = SmallList<TaskNo, 8, MOST_TASKS>;
 
 /// The families of entries that a task declared, as its creation keeps them.
-pub type FamilyList = SmallList<Family, 2, 16>;
+pub type FamilyList = SmallList<Family, 2, MOST_FAMILIES>;
 
 /// The accept alternatives of a wait, as its event keeps them.
-pub type ChoiceList = SmallList<Choice, 2, 16>;
+pub type ChoiceList = SmallList<Choice, 2, MOST_CHOICES>;
 
 /// The moments at which the delay alternatives of a wait are due, as its event keeps them.
 pub type DueList = Stored<Dues>;

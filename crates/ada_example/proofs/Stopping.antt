@@ -1,9 +1,7 @@
 -- An aborted task isn't callable any more, whatever is forced behind the abort.
 use Rattle.std.proofs.Common.{◌≡◌, ℕ, Bool, true, false, not, ◌||◌, ◌<◌, None, List, [], ◌∷◌, arith, refl, ap}
-use Rattle.std.specs.Prelude.{nat_le}
 use Rattle.std.specs.List.{list_any}
-use Rattle.std.specs.Option.{option_map_or}
-use Rattle.std.proofs.lemmas.Bool.{or_left, or_right, or_parts, leb-false}
+use Rattle.std.proofs.lemmas.Bool.{or_left, or_right, or_parts, ltb-true, not-false}
 use Rattle.ada_events.specs.declared.event.Event.{Event}
 use Rattle.ada_events.specs.declared.event.Event.TheVariants.{Aborted}
 use Rattle.ada_events.specs.declared.request.Request.TheVariants.{Abort}
@@ -11,7 +9,8 @@ use Rattle.ada_events.specs.declared.names.TaskNo.{TaskNo}
 use Rattle.ada_events.specs.Asks.{asker, asked_event, named_tasks}
 use Rattle.ada_events.specs.Refusals.{refusal, names_unknown_task}
 use Rattle.ada_events.specs.Says.{aborted_in}
-use Rattle.ada_events.specs.Tasks.{task_count}
+use Rattle.ada_events.specs.Search.{is_some_and}
+use Rattle.ada_events.specs.Tasks.{task_count, has_task}
 use Rattle.ada_events.specs.Phases.{has_ended, is_completed, is_terminated, is_abnormal}
 use Rattle.ada_events.specs.Attributes.{is_callable}
 use Rattle.ada_events.specs.Lawful.{Forces}
@@ -30,9 +29,9 @@ named_exists : (journal : List Event) (by task : TaskNo) → refusal journal (Ab
 unfolding names_unknown_task named_tasks
 named_exists journal by task accepted =
     let known = (is_accepted journal (Abort by (task ∷ [])) accepted).tasks_known in
-    let fails = (or_parts (option_map_or (nat_le (task_count journal)) (asker (Abort by (task ∷ []))) false) (list_any (λ (t : TaskNo). nat_le (task_count journal) t.0) (task ∷ [])) known).1 in
-    let here = (or_parts (nat_le (task_count journal) task.0) false fails).0 in
-    leb-false (task_count journal) task.0 here
+    let fails = (or_parts (is_some_and (asker (Abort by (task ∷ []))) (λ t. not (has_task journal t))) (list_any (λ (t : TaskNo). not (has_task journal t.0)) (task ∷ [])) known).1 in
+    let here = (or_parts (not (has_task journal task.0)) false fails).0 in
+    ltb-true task.0 (task_count journal) (not-false (has_task journal task.0) here)
 
 -- one that isn't terminated becomes abnormal
 becomes_abnormal : (journal : List Event) (by task : TaskNo) → task.0 < task_count journal → is_terminated journal task.0 ≡ false → is_abnormal (Aborted by (task ∷ []) ∷ journal) task.0 ≡ true

@@ -1,14 +1,15 @@
 //! The kernel, on the plain program's searches over the journal.
-ghost use Rattle.std.specs.Prelude.{◌≡◌, [], nat_lt, IfOk, IfErr};
+ghost use Rattle.std.specs.Prelude.{◌≡◌, [], IfOk, IfErr};
 ghost use Rattle.std.specs.Bool.{then_some};
 ghost use Rattle.ada_events.specs.Lawful.{IsLawful, IsSettled};
 ghost use Rattle.ada_events.specs.Steps.{IsAccepted, IsRefused};
-ghost use Rattle.ada_events.specs.Tasks.{task_count};
+ghost use Rattle.ada_events.specs.Tasks.{task_count, has_task};
 ghost use Rattle.ada_events.specs.Phases.{is_terminated, is_running};
 ghost use Rattle.ada_events.specs.Outcomes.{outcome_of};
 ghost use Rattle.ada_events.specs.Attributes.{is_callable, own_count, is_finished};
 ghost use Rattle.ada_events.specs.Slots.{slot_of};
 ghost use Rattle.ada_events.specs.Boards.{board_of};
+ghost use Rattle.ada_laws.specs.Laws.{KeepsTheLaws};
 
 use ada_events::{Board, Entry, Journal, Outcome, Refusal, Request, TaskNo};
 use ada_plain::PlainKernel;
@@ -54,11 +55,13 @@ impl Kernel {
         self.plain.step(request)
     }
 
-    /// The journal: every event so far, lawful and settled.
+    /// The journal: every event so far, lawful and settled. It keeps the six laws.
+    #[tactic(auto, using(ada_laws::proofs::KeepingLaws::journals_keep_the_laws))]
     pub fn journal(&self) -> &Journal
         ensures events { result.now.events ≡ self.now }
         ensures lawful { IsLawful self.now }
         ensures settled { IsSettled self.now }
+        ensures laws { KeepsTheLaws self.now }
     {
         self.plain.journal()
     }
@@ -72,21 +75,21 @@ impl Kernel {
 
     /// The outcome of a task; none where there is no such task.
     pub fn outcome(&self, task: TaskNo) -> Option<Outcome>
-        ensures { result ≡ then_some (nat_lt task.0 (task_count self.now)) (outcome_of self.now task.0) }
+        ensures { result ≡ then_some (has_task self.now task.0) (outcome_of self.now task.0) }
     {
         self.plain.outcome(task)
     }
 
     /// The attribute CALLABLE of a task (9.9); none where there is no such task.
     pub fn callable(&self, task: TaskNo) -> Option<bool>
-        ensures { result ≡ then_some (nat_lt task.0 (task_count self.now)) (is_callable self.now task.0) }
+        ensures { result ≡ then_some (has_task self.now task.0) (is_callable self.now task.0) }
     {
         self.plain.callable(task)
     }
 
     /// The attribute TERMINATED of a task (9.9); none where there is no such task.
     pub fn terminated(&self, task: TaskNo) -> Option<bool>
-        ensures { result ≡ then_some (nat_lt task.0 (task_count self.now)) (is_terminated self.now task.0) }
+        ensures { result ≡ then_some (has_task self.now task.0) (is_terminated self.now task.0) }
     {
         self.plain.terminated(task)
     }
@@ -94,7 +97,7 @@ impl Kernel {
     /// Whether a task is running: started, not ended, and not suspended. None where there is no such
     /// task.
     pub fn running(&self, task: TaskNo) -> Option<bool>
-        ensures { result ≡ then_some (nat_lt task.0 (task_count self.now)) (is_running self.now task.0) }
+        ensures { result ≡ then_some (has_task self.now task.0) (is_running self.now task.0) }
     {
         self.plain.running(task)
     }

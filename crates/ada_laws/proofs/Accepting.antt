@@ -1,18 +1,20 @@
 -- What holds of a request that isn't refused: none of the causes applies.
-use Rattle.std.proofs.Common.{◌≡◌, ℕ, ◌+◌, ◌<◌, ◌≤◌, Bool, true, false, not, Some, None, List, [], ◌∷◌, length, sym, refl, ◌∙◌, arith, nat_le}
-use Rattle.std.specs.Option.{option_map_or}
+use Rattle.std.proofs.Common.{◌≡◌, ℕ, ◌+◌, ◌<◌, ◌≤◌, Bool, true, false, not, Some, None, List, [], ◌∷◌, length, sym, refl, ◌∙◌, arith}
 use Rattle.std.specs.List.{list_any}
-use Rattle.std.proofs.lemmas.Bool.{ltb-false, leb-false, not-false, or_parts}
+use Rattle.std.proofs.lemmas.Bool.{ltb-true, ltb-false, leb-false, not-false, or_parts}
 use Rattle.std.proofs.lemmas.Option.{none-some}
 use Rattle.ada_events.specs.declared.event.Event.{Event}
 use Rattle.ada_events.specs.declared.request.Request.{Request}
 use Rattle.ada_events.specs.declared.request.Request.TheVariants as request
 use Rattle.ada_events.specs.declared.names.TaskNo.{TaskNo}
-use Rattle.ada_events.specs.Tasks.{task_count}
+use Rattle.ada_events.specs.Search.{is_some_and}
+use Rattle.ada_events.specs.Tasks.{task_count, has_task}
 use Rattle.ada_events.specs.Phases.{has_ended, is_suspended, is_started, is_running}
 use Rattle.ada_events.specs.Says.{creation_in}
 use Rattle.ada_events.specs.Asks.{asker, asked_event, named_tasks}
-use Rattle.ada_events.specs.Refusals.{most_events, most_appended, most_tasks, names_unknown_task, asker_not_running, is_during_activation, is_not_activating, is_not_your_master, has_empty_list, is_not_your_task, has_no_accept, names_no_family, breaks_constraint, nests_same_family, terminates_in_accept, is_not_in_accept, has_no_block, is_still_nested, aborts_main, moves_back, is_too_late, makes_too_many_tasks, makes_too_many_slots, is_too_deep, is_full, Cause, first_cause, causes, refusal}
+use Rattle.ada_events.specs.Refusals.{names_unknown_task, asker_not_running, is_during_activation, is_not_activating, is_not_your_master, has_empty_list, is_not_your_task, has_no_accept, names_no_family, breaks_constraint, nests_same_family, terminates_in_accept, is_not_in_accept, has_no_block, is_still_nested, aborts_main, Cause, first_cause, causes, refusal}
+use Rattle.ada_events.specs.declared.limits.TheConstants.{MOST_EVENTS, MOST_APPENDED, MOST_TASKS}
+use Rattle.ada_events.specs.Limits.{moves_back, is_too_late, makes_too_many_tasks, makes_too_many_slots, is_too_deep, is_full}
 use Rattle.ada_laws.proofs.Searching.{three_parts, option_map_or-false}
 
 -- no cause of the list applies
@@ -90,8 +92,9 @@ pub asker_exists : (journal : List Event) (r : Request) (task : ℕ) → refusal
 unfolding names_unknown_task
 asker_exists journal r task accepted asks =
     let known = (is_accepted journal r accepted).tasks_known in
-    let fails = (or_parts (option_map_or (nat_le (task_count journal)) (asker r) false) (list_any (λ (t : TaskNo). nat_le (task_count journal) t.0) (named_tasks r)) known).0 in
-    leb-false (task_count journal) task (option_map_or-false (nat_le (task_count journal)) (asker r) task fails asks)
+    let fails = (or_parts (is_some_and (asker r) (λ t. not (has_task journal t))) (list_any (λ (t : TaskNo). not (has_task journal t.0)) (named_tasks r)) known).0 in
+    let known_one = option_map_or-false (λ t. not (has_task journal t)) (asker r) task fails asks in
+    ltb-true task (task_count journal) (not-false (has_task journal task) known_one)
 
 pub asker_runs : (journal : List Event) (r : Request) (task : ℕ) → refusal journal r ≡ None → asker r ≡ Some task → is_running journal task ≡ true
 unfolding asker_not_running
@@ -111,7 +114,7 @@ unfolding is_running
 running_free journal task runs = (three_parts (is_started journal task) (has_ended journal task) (is_suspended journal task) runs).2
 
 -- a request makes a task only where there are fewer than the most
-pub creates_within : (journal : List Event) (r : Request) → refusal journal r ≡ None → task_count journal ≤ most_tasks → task_count (asked_event journal r ∷ journal) ≤ most_tasks
+pub creates_within : (journal : List Event) (r : Request) → refusal journal r ≡ None → task_count journal ≤ MOST_TASKS → task_count (asked_event journal r ∷ journal) ≤ MOST_TASKS
 unfolding task_count asked_event creation_in makes_too_many_tasks
 creates_within journal (request.Create by master families) accepted few =
     let fewer : task_count journal < 256 = leb-false 256 (task_count journal) (is_accepted journal (request.Create by master families) accepted).few_tasks in
@@ -119,6 +122,6 @@ creates_within journal (request.Create by master families) accepted few =
 creates_within journal _ accepted few = omega arith
 
 -- a request is accepted only where the journal has room
-pub accepted_has_room : (journal : List Event) (r : Request) → refusal journal r ≡ None → length journal + most_appended ≤ most_events
+pub accepted_has_room : (journal : List Event) (r : Request) → refusal journal r ≡ None → length journal + MOST_APPENDED ≤ MOST_EVENTS
 unfolding is_full
-accepted_has_room journal r accepted = ltb-false most_events (length journal + most_appended) (is_accepted journal r accepted).has_room
+accepted_has_room journal r accepted = ltb-false MOST_EVENTS (length journal + MOST_APPENDED) (is_accepted journal r accepted).has_room

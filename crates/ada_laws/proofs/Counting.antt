@@ -36,7 +36,7 @@ caller_apart journal task entry p q lawful has_p has_q less = λ same.
     let a = queue-found journal task entry p has_p in
     let b = queue-found journal task entry q has_q in
     let callers : a.call.by ≡ b.call.by = sym (caller_at-call journal a.call p a.opened.stands) ∙ same ∙ caller_at-call journal b.call q b.opened.stands in
-    let one : p ≡ q = one_open_call_each journal a.call b.call p q lawful a.opened b.opened callers in
+    let one : p ≡ q = one_open_call_each journal lawful a.call b.call p q a.opened b.opened callers in
     omega arith
 
 callers_apart : (journal : List Event) (task : ℕ) (entry : Entry) → IsLawful journal → AllPairs (λ x y. x ≢ y) (map (caller_at journal) (queue journal task entry))
@@ -74,4 +74,4 @@ queues_hold_one_call_of_each journal task entry c d p q lawful has_p has_q at_p 
     let callers : a.call.by ≡ b.call.by =
     sym (caller_at-call journal a.call p a.opened.stands) ∙ caller_at-call journal c p at_p ∙ same
     ∙ sym (caller_at-call journal d q at_q) ∙ caller_at-call journal b.call q b.opened.stands in
-    one_open_call_each journal a.call b.call p q lawful a.opened b.opened callers
+    one_open_call_each journal lawful a.call b.call p q a.opened b.opened callers

@@ -15,9 +15,11 @@ use Rattle.ada_events.specs.Says.{Creation, creation_in, gone_in, quit_in}
 use Rattle.ada_events.specs.Asks.{asked_event}
 use Rattle.ada_events.specs.Tasks.{task_count, creation_of}
 use Rattle.ada_events.specs.Masters.{depends_on}
-use Rattle.ada_events.specs.Phases.{is_completed, is_terminated}
-use Rattle.ada_events.specs.Forced.{all_terminated, is_complete, is_never_started, is_abandoned, is_to_go}
+use Rattle.ada_events.specs.Phases.{has_start, is_completed, is_terminated}
+use Rattle.ada_events.specs.Forced.{is_to_go}
+use Rattle.ada_events.specs.Termination.{all_terminated, is_complete, is_abandoned}
 use Rattle.ada_events.specs.Lawful.{IsLawful, MayFollow}
+use Rattle.ada_laws.specs.Laws.{OfLawful}
 use Rattle.ada_laws.specs.Dependents.{ATerminatedBodyHasNoLiveDependent}
 use Rattle.ada_laws.proofs.Searching.{is_number-some, option_map_or-true, all_below-holds}
 use Rattle.ada_laws.proofs.Growing.{is_terminated-more, is_terminated-quit, has_ended-terminated}
@@ -74,12 +76,12 @@ going event before task (inl forces) says = row_going before event task (forced-
 going event before task (inr asked) says =
     absurd (none-some task (sym (gone_in-asked before asked.request) ∙ (ap gone_in (sym asked.becomes) ∙ says)))
 
-abandoned_parts : (journal : List Event) (task : ℕ) → is_abandoned journal task ≡ true → (c : Creation) × (creation_of journal task ≡ Some c) × (is_never_started journal task ≡ true)
+abandoned_parts : (journal : List Event) (task : ℕ) → is_abandoned journal task ≡ true → (c : Creation) × (creation_of journal task ≡ Some c) × (has_start journal task ≡ false)
 unfolding is_abandoned
 abandoned_parts journal task abandoned =
-    let both = and_parts (option_map_or (λ (c : Creation). is_complete journal c.under || is_terminated journal c.by) (creation_of journal task) false) (is_never_started journal task) abandoned in
+    let both = and_parts (option_map_or (λ (c : Creation). is_complete journal c.under || is_terminated journal c.by) (creation_of journal task) false) (not (has_start journal task)) abandoned in
     let (c, says, complete) = option_map_or-true (λ (c : Creation). is_complete journal c.under || is_terminated journal c.by) (creation_of journal task) both.0 in
-    (c, says, both.1)
+    (c, says, not-true (has_start journal task) both.1)
 
 -- nobody depends on the body of an abandoned task
 abandoned_alone : (journal : List Event) (u : ℕ) (t : TaskNo) → IsLawful journal → is_abandoned journal t.0 ≡ true → depends_on journal u (Body t) ≡ true → ⊥
@@ -88,7 +90,7 @@ abandoned_alone journal u t lawful abandoned depends =
     let positive : 0 < t.0 = created_positive journal t.0 c says in
     elim (started_named journal t.0 (dependents_started journal u t lawful depends)) [
       | inl main ↦ absurd (omega arith)
-      | inr named ↦ true≢false (sym never ∙ named)
+      | inr named ↦ true≢false (sym named ∙ never)
     ]
 
 all_terminated_at : (journal : List Event) (m : Master) (u : ℕ) → all_terminated journal m ≡ true → depends_on journal u m ≡ true → is_terminated journal u ≡ true
@@ -130,15 +132,15 @@ end_dependents event before u t lawful dependents (together m says on_m) depends
 end_dependents event before u t lawful dependents (earlier was) depends =
     is_terminated-more event before u (dependents u was depends)
 
-pub a_terminated_body_has_no_live_dependent : ATerminatedBodyHasNoLiveDependent
+pub a_terminated_body_has_no_live_dependent : OfLawful ATerminatedBodyHasNoLiveDependent
 unfolding is_terminated
-a_terminated_body_has_no_live_dependent [] t u lawful ended depends = absurd (false≢true ended)
-a_terminated_body_has_no_live_dependent (event ∷ before) t u lawful ended depends =
+a_terminated_body_has_no_live_dependent [] lawful t u ended depends = absurd (false≢true ended)
+a_terminated_body_has_no_live_dependent (event ∷ before) lawful t u ended depends =
     let way = is_terminated-cases event before t.0 ended in
     elim (depends_on-cases event before u (Body t) depends) [
       | inl made ↦
           let was = terminated_before event before t.0 made.creation made.says way in
-          absurd (no_late_dependent event before u t lawful was (λ v on. a_terminated_body_has_no_live_dependent before t v lawful.0 was on) made)
+          absurd (no_late_dependent event before u t lawful was (λ v on. a_terminated_body_has_no_live_dependent before lawful.0 t v was on) made)
       | inr older ↦
-          end_dependents event before u t lawful (λ v was on. a_terminated_body_has_no_live_dependent before t v lawful.0 was on) way older
+          end_dependents event before u t lawful (λ v was on. a_terminated_body_has_no_live_dependent before lawful.0 t v was on) way older
     ]

@@ -1,8 +1,8 @@
 -- Dependents: who depends on a master, and by what.
-use Rattle.std.proofs.Common.{◌≡◌, ℕ, ◌<◌, true, false, not, ◌&&◌, ◌||◌, cond, Option, Some, None, List, [], ◌∷◌, sym, refl, ap, ◌∙◌, subst, arith, ◌⊎◌, inl, inr, eqb}
+use Rattle.std.proofs.Common.{◌≡◌, ℕ, ◌<◌, true, false, not, ◌&&◌, cond, Option, Some, None, List, [], ◌∷◌, sym, refl, ap, ◌∙◌, subst, arith, ◌⊎◌, inl, inr, eqb}
 use Rattle.std.specs.Option.{option_map_or, option_len}
 use Rattle.std.specs.List.{list_any}
-use Rattle.std.proofs.lemmas.Bool.{or_cases, or_left, or_right, and_parts, and_from, cases_eq, eq-eqb, eqb-true, not-false, not_from_true, false≢true}
+use Rattle.std.proofs.lemmas.Bool.{or_cases, or_left, or_right, and_parts, and_from, cases_eq, eq-eqb, eqb-true, false≢true}
 use Rattle.std.proofs.lemmas.Option.{none-some}
 use Rattle.ada_events.specs.declared.event.Event.{Event}
 use Rattle.ada_events.specs.declared.names.TaskNo.{TaskNo}
@@ -12,9 +12,8 @@ use Rattle.ada_events.specs.Search.{event_at}
 use Rattle.ada_events.specs.Says.{Creation, creation_in, opening_in, started_in}
 use Rattle.ada_events.specs.Tasks.{task_count, creation_of}
 use Rattle.ada_events.specs.Masters.{same_master, parent_in, reaches, depends_on}
-use Rattle.ada_events.specs.Phases.{lists_task, has_ended, is_started, is_running}
+use Rattle.ada_events.specs.Phases.{lists_task, has_start, has_ended, is_started, is_running}
 use Rattle.ada_events.specs.Nests.{frame}
-use Rattle.ada_events.specs.Forced.{is_never_started}
 use Rattle.ada_events.specs.Lawful.{IsLawful}
 use Rattle.ada_laws.proofs.Searching.{option_map_or-true, option_or-some, if_some, event_at-cases}
 use Rattle.ada_laws.proofs.Accepting.{running_started}
@@ -214,18 +213,18 @@ dependents_started (event ∷ before) u t lawful depends =
     ])
 
 -- a task that was started is the main program, or a start names it
-pub started_named : (journal : List Event) (task : ℕ) → is_started journal task ≡ true → (task ≡ 0) ⊎ (is_never_started journal task ≡ false)
-unfolding is_started is_never_started
+pub started_named : (journal : List Event) (task : ℕ) → is_started journal task ≡ true → (task ≡ 0) ⊎ (has_start journal task ≡ true)
+unfolding is_started has_start
 started_named [] task started = inl (eqb-true task 0 started)
 started_named (event ∷ before) task started =
     let names = lists_task task (started_in event) in
     let named = list_any (λ (e : Event). lists_task task (started_in e)) before in
     elim (or_cases (names && not (has_ended before task)) (is_started before task) started) [
-      | inl both ↦ inr (not_from_true (names || named) (or_left names named (and_parts names (not (has_ended before task)) both).0))
+      | inl both ↦ inr (or_left names named (and_parts names (not (has_ended before task)) both).0)
       | inr older ↦
           elim (started_named before task older) [
             | inl main ↦ inl main
-            | inr there ↦ inr (not_from_true (names || named) (or_right names named (not-false named there)))
+            | inr there ↦ inr (or_right names named there)
           ]
     ]
 

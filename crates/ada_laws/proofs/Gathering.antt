@@ -1,7 +1,7 @@
 -- What is gathered from a journal, and what a map that leaves some out keeps.
-use Rattle.std.proofs.Common.{◌≡◌, ℕ, zero, suc, ◌<◌, ◌≤◌, Option, Some, None, List, [], ◌∷◌, ◌++◌, length, get_or, sym, refl, ap, ◌∙◌, arith, subst, inl, inr}
+use Rattle.std.proofs.Common.{◌≡◌, ℕ, zero, suc, ◌<◌, ◌≤◌, Option, Some, None, List, [], ◌∷◌, ◌++◌, length, get_or, refl, ap, arith, subst, inl, inr}
 use Rattle.std.specs.Option.{option_to_list}
-use Rattle.std.specs.List.{AllPairs, All, Contains, filter_map, slice_get, cons_option}
+use Rattle.std.specs.List.{AllPairs, All, Contains}
 use Rattle.std.proofs.lemmas.List.Elements.{Contains-append_left, Contains-append_right, Contains-append_cases, All-append, All-cons, All-nil, All-weaker}
 use Rattle.std.proofs.lemmas.List.Quantifiers.{all_pairs_push}
 use Rattle.std.proofs.lemmas.List.{append-nil}
@@ -76,30 +76,6 @@ gathered-rises give (event ∷ before) gives_itself =
     rises_one (gathered give before) (give (suc (length before)) event) (suc (length before))
     (All-weaker (λ q. q ≤ length before) (λ q. q < suc (length before)) (λ q below. omega arith) (gathered give before) (gathered-within give before gives_itself))
     (gathered-rises give before gives_itself) (λ q gives. gives_itself (suc (length before)) q event gives)
-
-kept : {A B : Type 0} (h : A → Option B) (x : A) (xs : List A) (o : Option B) → h x ≡ o → (k : ℕ) (y : B) → slice_get (cons_option o (filter_map h xs)) k ≡ Some y → ((k : ℕ) → slice_get (filter_map h xs) k ≡ Some y → (z : A) × Contains xs z × (h z ≡ Some y)) → (z : A) × Contains (x ∷ xs) z × (h z ≡ Some y)
-kept h x xs None same k y found rest =
-    let (z, contains, gives) = rest k found in
-    (z, Contains-later x z xs contains, gives)
-kept h x xs (Some w) same zero y found rest = (x, Contains-first x xs, same ∙ found)
-kept h x xs (Some w) same (suc k) y found rest =
-    let (z, contains, gives) = rest k found in
-    (z, Contains-later x z xs contains, gives)
-
--- what a map that leaves some out keeps is what it gives of an element
-pub filter_map-found : {A B : Type 0} (h : A → Option B) (xs : List A) (k : ℕ) (y : B) → slice_get (filter_map h xs) k ≡ Some y → (x : A) × Contains xs x × (h x ≡ Some y)
-filter_map-found h [] k y found = absurd (none-some y found)
-filter_map-found h (x ∷ xs) k y found = kept h x xs (h x) refl k y found (λ j there. filter_map-found h xs j y there)
-
-none_kept : {B : Type 0} (o : Option B) (rest : List B) → cons_option o rest ≡ [] → (o ≡ None) × (rest ≡ [])
-none_kept None rest empty = (refl, empty)
-none_kept (Some y) rest empty = absurd (cc)
-
--- where nothing is kept, it gives nothing of any element
-pub filter_map-empty : {A B : Type 0} (h : A → Option B) (xs : List A) (x : A) → filter_map h xs ≡ [] → Contains xs x → h x ≡ None
-filter_map-empty h [] x empty (k, below, same) = absurd (omega arith)
-filter_map-empty h (y ∷ xs) x empty (zero, below, same) = ap h (sym same) ∙ (none_kept (h y) (filter_map h xs) empty).0
-filter_map-empty h (y ∷ xs) x empty (suc k, below, same) = filter_map-empty h xs x (none_kept (h y) (filter_map h xs) empty).1 (k, omega arith, same)
 
 -- where nothing is given first, nothing is given
 pub first_given-none : {A : Type 0} (give : ℕ → Event → Option A) (journal : List Event) (p : ℕ) (e : Event) → first_given give journal ≡ None → event_at journal p ≡ Some e → give p e ≡ None

@@ -17,7 +17,8 @@ use Rattle.ada_events.specs.Masters.{depends_on}
 use Rattle.ada_events.specs.Phases.{has_ended, is_terminated, is_abnormal}
 use Rattle.ada_events.specs.Attributes.{is_callable}
 use Rattle.ada_events.specs.Asks.{asked_event}
-use Rattle.ada_events.specs.Refusals.{moves_back, refusal}
+use Rattle.ada_events.specs.Refusals.{refusal}
+use Rattle.ada_events.specs.Limits.{moves_back}
 use Rattle.ada_laws.specs.Lasting.{TerminatedTasksStaySo, CompletedTasksStaySo, UncallableTasksStaySo, MomentsNeverGoBack}
 use Rattle.ada_laws.proofs.Growing.{is_completed-more, is_terminated-more, has_ended-more}
 use Rattle.ada_laws.proofs.Accepting.{is_accepted}

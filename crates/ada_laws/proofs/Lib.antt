@@ -11,6 +11,9 @@ pub mod Sums
 pub mod Working
 pub mod LimitLaws
 pub mod Gathering
+pub mod Numbering
+pub mod Parents
+pub mod Releasing
 pub mod Queueing
 pub mod Meeting
 pub mod CallLaws
@@ -22,8 +25,8 @@ pub mod Counting
 pub mod SlotLaws
 pub mod LastingLaws
 pub mod GroupLaws
-pub mod ChoosingLaws
 pub mod ShowingLaws
 pub mod SlotPlaces
 pub mod SlotOrder
 pub mod OutcomeLaws
+pub mod KeepingLaws

@@ -5,7 +5,8 @@ use Rattle.ada_events.specs.declared.request.Request.{Request}
 use Rattle.ada_events.specs.Tasks.{task_count}
 use Rattle.ada_events.specs.Forced.{forced}
 use Rattle.ada_events.specs.Asks.{asked_event}
-use Rattle.ada_events.specs.Refusals.{most_tasks, most_events, most_appended, refusal}
+use Rattle.ada_events.specs.Refusals.{refusal}
+use Rattle.ada_events.specs.declared.limits.TheConstants.{MOST_TASKS, MOST_EVENTS, MOST_APPENDED}
 use Rattle.ada_events.specs.Lawful.{IsLawful, IsSettled, Forces}
 use Rattle.ada_events.specs.Lawful.Forces.{nothing, one_more}
 use Rattle.ada_laws.specs.Work.{work_left}
@@ -26,7 +27,7 @@ pub tasks_are_few : TasksAreFew
 unfolding task_count
 tasks_are_few [] lawful = omega arith
 tasks_are_few (event ∷ before) lawful =
-    let few : task_count before ≤ most_tasks = tasks_are_few before lawful.0 in
+    let few : task_count before ≤ MOST_TASKS = tasks_are_few before lawful.0 in
     elim lawful.1 [
       | inl forces ↦ rw (task_count-same event before (forced-step before event forces).makes_none) few
       | inr asked ↦ rw asked.becomes (creates_within before asked.request asked.accepted few)
@@ -61,30 +62,30 @@ appends_few old request new lawful settled accepted after =
 
 pub leads_to_few_events : LeadsToFewEvents
 leads_to_few_events old request new lawful settled accepted after =
-    let few : length new ≤ length old + most_appended = appends_few old request new lawful settled accepted after in
-    let room : length old + most_appended ≤ most_events = accepted_has_room old request accepted in
+    let few : length new ≤ length old + MOST_APPENDED = appends_few old request new lawful settled accepted after in
+    let room : length old + MOST_APPENDED ≤ MOST_EVENTS = accepted_has_room old request accepted in
     omega arith
 
 -- there is room for the work that is left
-pub room_for_work : (journal : List Event) → IsLawful journal → length journal + work_left journal ≤ most_events
+pub room_for_work : (journal : List Event) → IsLawful journal → length journal + work_left journal ≤ MOST_EVENTS
 room_for_work [] lawful =
     let most : work_left [] ≤ 768 = work_left-most [] lawful in
     omega arith
 room_for_work (event ∷ before) lawful =
     elim lawful.1 [
       | inl forces ↦
-          let room : length before + work_left before ≤ most_events = room_for_work before lawful.0 in
+          let room : length before + work_left before ≤ MOST_EVENTS = room_for_work before lawful.0 in
           let less : work_left (event ∷ before) < work_left before = work_left-forced event before lawful.0 forces in
           omega arith
       | inr asked ↦
-          let room : length before + most_appended ≤ most_events = accepted_has_room before asked.request asked.accepted in
+          let room : length before + MOST_APPENDED ≤ MOST_EVENTS = accepted_has_room before asked.request asked.accepted in
           let most : work_left (event ∷ before) ≤ 768 = work_left-most (event ∷ before) lawful in
           omega arith
     ]
 
 pub events_are_few : EventsAreFew
 events_are_few journal lawful =
-    let room : length journal + work_left journal ≤ most_events = room_for_work journal lawful in
+    let room : length journal + work_left journal ≤ MOST_EVENTS = room_for_work journal lawful in
     omega arith
 
 -- the forced steps from a journal on, while there is work left

@@ -1,24 +1,22 @@
 -- Rendezvous: what a wait takes, and that a call is taken once.
-use Rattle.std.proofs.Common.{◌≡◌, ℕ, suc, ◌≤◌, ◌%◌, true, false, Some, None, List, [], ◌∷◌, length, sym, refl, ap, ◌∙◌, subst, arith, inl, inr, ◌≢◌}
-use Rattle.std.specs.Option.{option_map}
+use Rattle.std.proofs.Common.{◌≡◌, ℕ, suc, ◌≤◌, Bool, ◌==◌, eqb, true, false, Some, None, List, [], ◌∷◌, length, sym, refl, ap, ◌∙◌, subst, arith, inl, inr, ◌≢◌}
+use Rattle.std.specs.Option.{option_and_then}
 use Rattle.std.specs.List.{Contains, list_any, slice_get}
-use Rattle.std.proofs.lemmas.Bool.{or_cases, or_left, or_right, ne_eqb, eq-eqb, true≢false, false≢true}
+use Rattle.std.proofs.lemmas.Bool.{or_cases, or_left, or_right, ne_eqb, eq-eqb, eqb-true, true≢false, false≢true}
 use Rattle.std.proofs.lemmas.Option.{same_Some, none-some, slice_get_within, get_or_from_slice_get}
 use Rattle.ada_events.specs.declared.event.Event.{Event}
 use Rattle.ada_events.specs.declared.event.Event.TheVariants.{Met}
 use Rattle.ada_events.specs.declared.names.Choice.{Choice}
 use Rattle.ada_events.specs.declared.request.Request.{Request}
 use Rattle.ada_events.specs.declared.request.Request.TheVariants as request
-use Rattle.ada_events.specs.Search.{is_number, event_at}
+use Rattle.ada_events.specs.Search.{is_some_and, event_at}
 use Rattle.ada_events.specs.Says.{Call, Wait, Meeting, meeting_in}
 use Rattle.ada_events.specs.Asks.{asked_event}
-use Rattle.ada_events.specs.Calls.{is_met, queue}
-use Rattle.ada_events.specs.Waits.{front_of, fronts, taken_call}
-use Rattle.ada_events.specs.Forced.{is_pending}
+use Rattle.ada_events.specs.Calls.{is_met, queue, is_pending}
+use Rattle.ada_events.specs.Waits.{front_of, taken_choice, taken_call}
 use Rattle.ada_events.specs.Lawful.{IsLawful, MayFollow}
 use Rattle.ada_laws.specs.Calls.{IsCallAt, IsWaitAt, IsFrontFor, events_before}
-use Rattle.ada_laws.proofs.Searching.{if_some, option_map-some, is_number-some, event_at-cases, event_at-newest, event_at-older, event_at-within}
-use Rattle.ada_laws.proofs.Gathering.{filter_map-found}
+use Rattle.ada_laws.proofs.Searching.{if_some, option_map_or-true, option_and_then-some, event_at-cases, event_at-newest, event_at-older, event_at-within}
 use Rattle.ada_laws.proofs.Rows.{IsRow, forced-row}
 use Rattle.ada_laws.proofs.Rows.IsRow.{meets}
 use Rattle.ada_laws.proofs.Queueing.{IsQueuedCall, queue-found}
@@ -49,22 +47,24 @@ met_taking journal event m (inl forces) meeting = row_taking journal event m (fo
 met_taking journal event m (inr asked) meeting =
     absurd (none-some m (sym (meeting_in-asked journal asked.request) ∙ (ap meeting_in (sym asked.becomes) ∙ meeting)))
 
+-- what is in a list at some place is among its items
+contained_at : {A : Type 0} (xs : List A) (k : ℕ) (x : A) → slice_get xs k ≡ Some x → Contains xs x
+contained_at xs k x found = (k, slice_get_within xs k x found, get_or_from_slice_get xs k x x found)
+
 -- the call that a wait takes is at the front of the queue of an open choice
 pub taken_front : (journal : List Event) (wait : Wait) (call : ℕ) → taken_call journal wait ≡ Some call → IsFrontFor journal wait call
-unfolding taken_call fronts
+unfolding taken_call
 taken_front journal wait call taken =
-    let (choice, among, front) = filter_map-found (front_of journal wait.by) wait.choices (wait.pick % length (fronts journal wait.by wait.choices)) call taken in
-    record { choice = choice; among = among; front = front }
-
-first_contained : (xs : List ℕ) (x : ℕ) → slice_get xs 0 ≡ Some x → Contains xs x
-first_contained xs x found = (0, slice_get_within xs 0 x found, get_or_from_slice_get xs 0 x x found)
+    let (choice, chosen, front) = option_and_then-some (front_of journal wait.by) (option_and_then (slice_get wait.choices) (taken_choice journal wait)) call taken in
+    let (number, picked, stands) = option_and_then-some (slice_get wait.choices) (taken_choice journal wait) choice chosen in
+    record { choice = choice; among = contained_at wait.choices number choice stands; front = front }
 
 -- what is at the front of a choice's queue is a call of the choice's entry
 pub front_queued : (journal : List Event) (task call : ℕ) (choice : Choice) → front_of journal task choice ≡ Some call → IsQueuedCall journal task choice.entry call
 unfolding front_of
 front_queued journal task call choice front =
     let found = if_some choice.guard (slice_get (queue journal task choice.entry) 0) call front in
-    queue-found journal task choice.entry call (first_contained (queue journal task choice.entry) call found.1)
+    queue-found journal task choice.entry call (contained_at (queue journal task choice.entry) 0 call found.1)
 
 pub taken_queued : (journal : List Event) (call position : ℕ) (taking : IsTaking journal call position) → (choice : Choice) × IsQueuedCall journal taking.wait.by choice.entry call
 taken_queued journal call position taking =
@@ -77,16 +77,18 @@ unfolding meeting_in
 meeting_in-met (Met call wait) m says = ap (λ (x : Meeting). Met x.call x.wait) (same_Some _ m says)
 meeting_in-met _ m says = absurd (none-some m says)
 
+abbrev begins_with : ℕ → Event → Bool
+begins_with call event = is_some_and (meeting_in event) (λ (m : Meeting). m.call == call)
+
 -- a call is met exactly where a rendezvous began with it
 pub is_met-found : (journal : List Event) (call : ℕ) → is_met journal call ≡ true → (position : ℕ) × (p : ℕ) × (event_at journal p ≡ Some (Met call position))
 unfolding is_met
 is_met-found [] call met = absurd (false≢true met)
 is_met-found (event ∷ before) call met =
-    elim (or_cases (is_number call (option_map (λ (m : Meeting). m.call) (meeting_in event))) (list_any (λ (e : Event). is_number call (option_map (λ (m : Meeting). m.call) (meeting_in e))) before) met) [
+    elim (or_cases (begins_with call event) (list_any (begins_with call) before) met) [
       | inl here ↦
-          let says = is_number-some call (option_map (λ (m : Meeting). m.call) (meeting_in event)) here in
-          let (m, meeting, same) = option_map-some (λ (m : Meeting). m.call) (meeting_in event) call says in
-          (m.wait, suc (length before), event_at-newest event before ∙ ap Some (meeting_in-met event m meeting ∙ ap (λ (c : ℕ). Met c m.wait) same))
+          let (m, meeting, same) = option_map_or-true (λ (m : Meeting). eqb m.call call) (meeting_in event) here in
+          (m.wait, suc (length before), event_at-newest event before ∙ ap Some (meeting_in-met event m meeting ∙ ap (λ (c : ℕ). Met c m.wait) (eqb-true m.call call same)))
       | inr there ↦
           let (position, p, at) = is_met-found before call there in
           (position, p, event_at-older event before p (Met call position) at)
@@ -98,11 +100,9 @@ is_met-from [] call position p at = absurd (none-some _ at)
 is_met-from (event ∷ before) call position p at =
     elim (event_at-cases event before p (Met call position) at) [
       | inl newest ↦
-          or_left (is_number call (option_map (λ (m : Meeting). m.call) (meeting_in event))) (list_any (λ (e : Event). is_number call (option_map (λ (m : Meeting). m.call) (meeting_in e))) before)
-          (rw newest.1 (eq-eqb call call refl))
+          or_left (begins_with call event) (list_any (begins_with call) before) (rw newest.1 (eq-eqb call call refl))
       | inr older ↦
-          or_right (is_number call (option_map (λ (m : Meeting). m.call) (meeting_in event))) (list_any (λ (e : Event). is_number call (option_map (λ (m : Meeting). m.call) (meeting_in e))) before)
-          (is_met-from before call position p older)
+          or_right (begins_with call event) (list_any (begins_with call) before) (is_met-from before call position p older)
     ]
 
 -- a rendezvous begins only with a call with which none began

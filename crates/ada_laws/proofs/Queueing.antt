@@ -11,7 +11,7 @@ use Rattle.ada_events.specs.Search.{event_at}
 use Rattle.ada_events.specs.Says.{Call, call_in}
 use Rattle.ada_events.specs.Entries.{same_entry, same_index}
 use Rattle.ada_events.specs.Phases.{is_released, has_ended}
-use Rattle.ada_events.specs.Calls.{is_met, is_open_at, is_queued_at, is_call_of, queue}
+use Rattle.ada_events.specs.Calls.{is_pending, is_met, is_open_at, is_queued_at, is_call_of, queue}
 use Rattle.ada_laws.specs.Suspension.{IsSuspendedAt}
 use Rattle.ada_laws.specs.Calls.{IsOpenCallAt}
 use Rattle.ada_laws.proofs.Searching.{then_some-some, option_map_or-true}
@@ -29,13 +29,13 @@ same_entry-same e =
 
 -- an open call, as the definitions test it
 pub is_open_at-from : (journal : List Event) (call : Call) (position : ℕ) (opened : IsOpenCallAt journal call position) → is_open_at journal position opened.stands.event ≡ true
-unfolding is_open_at
+unfolding is_open_at is_pending
 is_open_at-from journal call position opened =
     rw opened.stands.says
     (and_from (not (is_released journal position)) (not (has_ended journal call.by)) (not_from_false (is_released journal position) opened.unreleased) (not_from_false (has_ended journal call.by) opened.live))
 
 pub is_open_at-call : (journal : List Event) (position : ℕ) (event : Event) → event_at journal position ≡ Some event → is_open_at journal position event ≡ true → (call : Call) × (call_in event ≡ Some call) × IsOpenCallAt journal call position
-unfolding is_open_at
+unfolding is_open_at is_pending
 is_open_at-call journal position event at opened =
     let (call, says, pending) = option_map_or-true (λ (c : Call). not (is_released journal position) && not (has_ended journal c.by)) (call_in event) opened in
     let both = and_parts (not (is_released journal position)) (not (has_ended journal call.by)) pending in (

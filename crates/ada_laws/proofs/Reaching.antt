@@ -10,7 +10,6 @@ use Rattle.ada_events.specs.declared.request.Request.TheVariants as request
 use Rattle.ada_events.specs.declared.names.TaskNo.{TaskNo}
 use Rattle.ada_events.specs.declared.names.Master.{Master}
 use Rattle.ada_events.specs.declared.names.Master.TheVariants.{Body, Block}
-use Rattle.ada_events.specs.Search.{event_at}
 use Rattle.ada_events.specs.Says.{Creation, Opening, creation_in, opening_in}
 use Rattle.ada_events.specs.Tasks.{task_count}
 use Rattle.ada_events.specs.Masters.{same_master, parent_in, reaches}
@@ -19,6 +18,7 @@ use Rattle.ada_events.specs.Nests.{frame}
 use Rattle.ada_events.specs.Asks.{asker, asked_event}
 use Rattle.ada_events.specs.Refusals.{refusal, is_not_your_master}
 use Rattle.ada_events.specs.Lawful.{IsLawful, MayFollow}
+use Rattle.ada_laws.specs.Masters.{IsKnown}
 use Rattle.ada_laws.proofs.Searching.{event_at-cases, event_at-older, event_at-within}
 use Rattle.ada_laws.proofs.Growing.{task_count-more}
 use Rattle.ada_laws.proofs.Accepting.{is_accepted, asker_exists, asker_runs}
@@ -40,18 +40,6 @@ pub reaches-same : (journal : List Event) (x : Master) → reaches journal x x �
 unfolding reaches
 reaches-same [] x = same_master-same x
 reaches-same (event ∷ before) x = or_left (same_master x x) (reaches before (parent_in before event x) x) (same_master-same x)
-
--- a block was opened at the position
-pub record IsOpeningAt (journal : List Event) (position : ℕ) : Type 0 where
-  pub event : Event
-  pub opening : Opening
-  pub stands : event_at journal position ≡ Some event
-  pub says : opening_in event ≡ Some opening
-
--- the master was made in the journal, or is the main program's body
-abbrev pub IsKnown : List Event → Master → Type 0
-IsKnown journal (Body t) = t.0 < task_count journal
-IsKnown journal (Block p) = IsOpeningAt journal p
 
 pub known_later : (event : Event) (before : List Event) (x : Master) → IsKnown before x → IsKnown (event ∷ before) x
 known_later event before (Body t) known =

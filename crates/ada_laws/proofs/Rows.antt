@@ -16,7 +16,8 @@ use Rattle.ada_events.specs.Says.{Opening, Start, Wait, Delay, Closing, wait_in,
 use Rattle.ada_events.specs.Tasks.{task_count, moment}
 use Rattle.ada_events.specs.Phases.{has_failed}
 use Rattle.ada_events.specs.Waits.{taken_call, way_of}
-use Rattle.ada_events.specs.Forced.{task_no, is_done_activating, is_pending, is_to_halt, halted, is_to_fail, failed, met_at, met, is_to_cancel, cancelled, passed_at, passed, is_to_wake, woken, activated_at, activated, is_to_go, gone, is_to_quit, quit_body, quit_block, is_to_leave, left, first_of_all, forced}
+use Rattle.ada_events.specs.Forced.{task_no, is_done_activating, is_to_halt, halted, is_to_fail, failed, met_at, met, is_to_cancel, cancelled, passed_at, passed, is_to_wake, woken, activated_at, activated, is_to_go, gone, is_to_quit, quit_body, quit_block, is_to_leave, left, first_of_all, forced}
+use Rattle.ada_events.specs.Calls.{is_pending}
 use Rattle.ada_laws.proofs.Searching.{option_or-some, option_or-none, then_some-some, if_some, option_map-some, first_given-found, first_below-found}
 
 -- a step with its conditions

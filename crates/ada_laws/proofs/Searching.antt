@@ -1,6 +1,6 @@
 -- What a search of a journal finds, and what is found where something passes.
 use Rattle.std.proofs.Common.{◌≡◌, ℕ, zero, suc, ◌<◌, ◌≤◌, Bool, true, false, cond, not, ◌&&◌, Option, Some, None, List, [], ◌∷◌, length, sym, refl, ap, ◌∙◌, arith, ◌⊎◌, inl, inr, ◌≢◌}
-use Rattle.std.specs.Option.{option_or, option_map, option_map_or}
+use Rattle.std.specs.Option.{option_or, option_map, option_map_or, option_and_then}
 use Rattle.std.specs.Bool.{then_some}
 use Rattle.std.proofs.lemmas.Bool.{ne_eqb, eq-eqb, eqb-true, cases_eq, or_cases, and_cases, and_parts, or_left, or_right, true≢false, false≢true}
 use Rattle.std.proofs.lemmas.Option.{same_Some, none-some}
@@ -42,6 +42,10 @@ option_map_or-true test (Some x) passes = (x, refl, passes)
 pub option_map_or-false : {A : Type 0} (test : A → Bool) (a : Option A) (x : A) → option_map_or test a false ≡ false → a ≡ Some x → test x ≡ false
 option_map_or-false test None x fails same = absurd (none-some x same)
 option_map_or-false test (Some y) x fails same = ap test (sym (same_Some y x same)) ∙ fails
+
+pub option_and_then-some : {A B : Type 0} (f : A → Option B) (a : Option A) (y : B) → option_and_then f a ≡ Some y → (x : A) × (a ≡ Some x) × (f x ≡ Some y)
+option_and_then-some f None y same = absurd (none-some y same)
+option_and_then-some f (Some x) y same = (x, refl, same)
 
 pub is_number-some : (n : ℕ) (o : Option ℕ) → is_number n o ≡ true → o ≡ Some n
 is_number-some n None passes = absurd (false≢true passes)

@@ -16,7 +16,9 @@ use Rattle.ada_events.specs.Says.{Creation, creation_in}
 use Rattle.ada_events.specs.Entries.{is_in_range, entry_count, entries_in}
 use Rattle.ada_events.specs.Tasks.{task_count}
 use Rattle.ada_events.specs.Asks.{asked_event}
-use Rattle.ada_events.specs.Refusals.{most_slots, slot_count, makes_too_many_slots, refusal}
+use Rattle.ada_events.specs.Refusals.{refusal}
+use Rattle.ada_events.specs.declared.limits.TheConstants.{MOST_SLOTS}
+use Rattle.ada_events.specs.Limits.{slot_count, makes_too_many_slots}
 use Rattle.ada_events.specs.Slots.{Place, number_within, slot_made, slot_of, entry_within, entry_made, entry_at}
 use Rattle.ada_laws.specs.Slots.{SlotsAreFew, SlotsAreNumbered, SlotsAreOfTasks}
 use Rattle.ada_laws.proofs.Searching.{then_some-some, option_or-some, option_map-some, if_some}
@@ -27,7 +29,7 @@ slot_count-same : (event : Event) (before : List Event) → creation_in event �
 unfolding slot_count
 slot_count-same event before says = rw says (omega arith)
 
-creates_slots_within : (journal : List Event) (r : Request) → refusal journal r ≡ None → slot_count journal ≤ most_slots → slot_count (asked_event journal r ∷ journal) ≤ most_slots
+creates_slots_within : (journal : List Event) (r : Request) → refusal journal r ≡ None → slot_count journal ≤ MOST_SLOTS → slot_count (asked_event journal r ∷ journal) ≤ MOST_SLOTS
 unfolding slot_count asked_event creation_in makes_too_many_slots
 creates_slots_within journal (request.Create by master families) accepted few =
     let fewer : slot_count journal + entries_in families ≤ 1024 = ltb-false 1024 (slot_count journal + entries_in families) (is_accepted journal (request.Create by master families) accepted).few_slots in
@@ -38,7 +40,7 @@ pub slots_are_few : SlotsAreFew
 unfolding slot_count
 slots_are_few [] lawful = omega arith
 slots_are_few (event ∷ before) lawful =
-    let few : slot_count before ≤ most_slots = slots_are_few before lawful.0 in
+    let few : slot_count before ≤ MOST_SLOTS = slots_are_few before lawful.0 in
     elim lawful.1 [
       | inl forces ↦ rw (slot_count-same event before (forced-step before event forces).makes_none) few
       | inr asked ↦ rw asked.becomes (creates_slots_within before asked.request asked.accepted few)

@@ -11,7 +11,7 @@ use Rattle.ada_events.specs.declared.names.Family.{Family}
 use Rattle.ada_events.specs.Says.{Creation, creation_in}
 use Rattle.ada_events.specs.Entries.{entry_count, entries_in}
 use Rattle.ada_events.specs.Tasks.{task_count}
-use Rattle.ada_events.specs.Refusals.{slot_count}
+use Rattle.ada_events.specs.Limits.{slot_count}
 use Rattle.ada_events.specs.Slots.{Place, number_within, slot_made, slot_of}
 use Rattle.ada_laws.specs.Slots.{ComesBefore, SlotsAreInOrder}
 use Rattle.ada_laws.proofs.Searching.{option_or-some, option_map-some, if_some}

@@ -13,7 +13,8 @@ use Rattle.ada_events.specs.declared.names.Family.{Family}
 use Rattle.ada_events.specs.Says.{Creation, creation_in}
 use Rattle.ada_events.specs.Entries.{is_in_range, entry_count, entries_in}
 use Rattle.ada_events.specs.Tasks.{task_count, creation_of, families_of}
-use Rattle.ada_events.specs.Refusals.{slot_count, lacks_family, is_outside}
+use Rattle.ada_events.specs.Refusals.{lacks_family, is_outside}
+use Rattle.ada_events.specs.Limits.{slot_count}
 use Rattle.ada_events.specs.Slots.{Place, number_within, slot_made, slot_of, entry_within, entry_made, entry_at}
 use Rattle.ada_laws.specs.Slots.{EntriesStandAtTheirSlots, SlotsAreOfTheirEntries, SlotsAreFilled, DeclaredEntriesHaveSlots}
 use Rattle.ada_laws.proofs.Searching.{then_some-some, option_or-some, option_map-some, if_some}

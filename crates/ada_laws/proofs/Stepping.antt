@@ -13,8 +13,10 @@ use Rattle.ada_events.specs.Says.{Call, call_in, opening_in, creation_in, held_i
 use Rattle.ada_events.specs.Tasks.{task_count, moment}
 use Rattle.ada_events.specs.Masters.{depends_on}
 use Rattle.ada_events.specs.Phases.{is_completed, is_terminated, has_ended, is_abnormal, is_released}
-use Rattle.ada_events.specs.Calls.{is_open_at, is_queued_at, is_met, is_caller_in_rendezvous}
-use Rattle.ada_events.specs.Forced.{task_no, all_terminated, is_complete, is_abandoned, is_ready_to_quit, is_conditional, is_due, is_pending, is_to_halt, is_to_fail, is_to_cancel, is_to_wake, is_to_go, is_to_quit, is_to_leave, forced}
+use Rattle.ada_events.specs.Calls.{is_open_at, is_queued_at, is_met, is_caller_in_rendezvous, is_pending}
+use Rattle.ada_events.specs.Waits.{is_due}
+use Rattle.ada_events.specs.Forced.{task_no, is_conditional, is_to_halt, is_to_fail, is_to_cancel, is_to_wake, is_to_go, is_to_quit, is_to_leave, forced}
+use Rattle.ada_events.specs.Termination.{all_terminated, is_complete, is_abandoned, is_ready_to_quit}
 use Rattle.ada_laws.specs.Suspension.{IsSuspendedAt}
 use Rattle.ada_laws.proofs.Searching.{three_parts, option_map_or-true, all_below-fails}
 use Rattle.ada_laws.proofs.Saying.{held_in-call, held_in-wait, held_in-delay, held_in-start, held_in-closing}
@@ -33,7 +35,7 @@ pub record IsStep (journal : List Event) (event : Event) : Type 0 where
   pub makes_none : creation_in event ≡ None
   pub holds_none : held_in event ≡ None
 
-pending_parts : (journal : List Event) (position task : ℕ) → is_pending journal position task ≡ true → (is_released journal position ≡ false) × (has_ended journal task ≡ false)
+pub pending_parts : (journal : List Event) (position task : ℕ) → is_pending journal position task ≡ true → (is_released journal position ≡ false) × (has_ended journal task ≡ false)
 unfolding is_pending
 pending_parts journal position task pending =
     let both = and_parts (not (is_released journal position)) (not (has_ended journal task)) pending in
@@ -46,7 +48,7 @@ release journal position task held event at holds pending frees makes_none holds
 
 -- the step that releases an open call
 release_call : (journal : List Event) (position : ℕ) (held event : Event) → event_at journal position ≡ Some held → is_open_at journal position held ≡ true → released_in event ≡ Some position → creation_in event ≡ None → held_in event ≡ None → IsStep journal event
-unfolding is_open_at
+unfolding is_open_at is_pending
 release_call journal position held event at opened frees makes_none holds_none =
     let (call, says, pending) = option_map_or-true (λ (c : Call). not (is_released journal position) && not (has_ended journal c.by)) (call_in held) opened in
     let both = and_parts (not (is_released journal position)) (not (has_ended journal call.by)) pending in

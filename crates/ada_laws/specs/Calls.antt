@@ -1,4 +1,4 @@
--- Laws of entry calls (9.5): of every lawful journal, and where it says so of every settled one.
+-- Laws of entry calls (9.5), each as a property of a journal.
 use Rattle.std.specs.Prelude.{◌≡◌, ◌⊎◌, ℕ, suc, ◌<◌, true, false, ◌==◌, if◌then◌else◌, Some, List, [], ◌∷◌, length}
 use Rattle.std.specs.List.{AllPairs, Contains}
 use Rattle.ada_events.specs.declared.event.Event.{Event}
@@ -11,7 +11,6 @@ use Rattle.ada_events.specs.Entries.{same_entry}
 use Rattle.ada_events.specs.Phases.{is_released, has_ended, is_abnormal}
 use Rattle.ada_events.specs.Calls.{is_met, queue}
 use Rattle.ada_events.specs.Waits.{front_of}
-use Rattle.ada_events.specs.Lawful.{IsLawful, IsSettled}
 use Rattle.ada_laws.specs.Suspension.{IsSuspendedAt}
 
 -- an entry call stands at the position
@@ -33,35 +32,34 @@ pub record IsOpenCallAt (journal : List Event) (call : Call) (position : ℕ) : 
   pub live : has_ended journal call.by ≡ false
 
 -- a task has one open call at most
-abbrev pub OneOpenCallEach : Type 0
-OneOpenCallEach =
-    (journal : List Event) (c d : Call) (p q : ℕ) → IsLawful journal
-    → IsOpenCallAt journal c p → IsOpenCallAt journal d q → c.by ≡ d.by → p ≡ q
+abbrev pub OneOpenCallEach : List Event → Type 0
+OneOpenCallEach journal =
+    (c d : Call) (p q : ℕ) → IsOpenCallAt journal c p → IsOpenCallAt journal d q → c.by ≡ d.by → p ≡ q
 
 -- the caller of an open call is suspended at it
-abbrev pub OpenCallsSuspend : Type 0
-OpenCallsSuspend =
-    (journal : List Event) (call : Call) (position : ℕ) → IsOpenCallAt journal call position → IsSuspendedAt journal call.by position
+abbrev pub OpenCallsSuspend : List Event → Type 0
+OpenCallsSuspend journal =
+    (call : Call) (position : ℕ) → IsOpenCallAt journal call position → IsSuspendedAt journal call.by position
 
 -- a task that is suspended at a call has it open
-abbrev pub CallsThatSuspendAreOpen : Type 0
-CallsThatSuspendAreOpen =
-    (journal : List Event) (call : Call) (position : ℕ) → IsCallAt journal call position → IsSuspendedAt journal call.by position
+abbrev pub CallsThatSuspendAreOpen : List Event → Type 0
+CallsThatSuspendAreOpen journal =
+    (call : Call) (position : ℕ) → IsCallAt journal call position → IsSuspendedAt journal call.by position
     → IsOpenCallAt journal call position
 
 -- an open call is joined, and then stands in no queue, or it stands in the queue of its entry and in no
 -- other
-abbrev pub OpenCallsAreJoinedOrQueued : Type 0
-OpenCallsAreJoinedOrQueued =
-    (journal : List Event) (call : Call) (position : ℕ) → IsLawful journal → IsOpenCallAt journal call position
+abbrev pub OpenCallsAreJoinedOrQueued : List Event → Type 0
+OpenCallsAreJoinedOrQueued journal =
+    (call : Call) (position : ℕ) → IsOpenCallAt journal call position
     → ((is_met journal position ≡ true)
     × ((task : ℕ) (entry : Entry) → Contains (queue journal task entry) position → ⊥))
     ⊎ (Contains (queue journal call.callee call.entry) position
     × ((task : ℕ) (entry : Entry) → Contains (queue journal task entry) position → (call.callee ≡ task) × (same_entry call.entry entry ≡ true)))
 
 -- a queue is in the order of arrival
-abbrev pub QueuesRise : Type 0
-QueuesRise = (journal : List Event) (task : ℕ) (entry : Entry) → AllPairs (λ p q. p < q) (queue journal task entry)
+abbrev pub QueuesRise : List Event → Type 0
+QueuesRise journal = (task : ℕ) (entry : Entry) → AllPairs (λ p q. p < q) (queue journal task entry)
 
 -- the events before a position
 unfoldable pub events_before : List Event → ℕ → List Event
@@ -75,9 +73,9 @@ pub record IsFrontFor (journal : List Event) (wait : Wait) (call : ℕ) : Type 0
   pub front : front_of journal wait.by choice ≡ Some call
 
 -- a rendezvous began with the call that was at the front of the queue of an open choice of the wait
-abbrev pub FrontsAreMet : Type 0
-FrontsAreMet =
-    (journal : List Event) (call position p : ℕ) → IsLawful journal → event_at journal p ≡ Some (Met call position)
+abbrev pub FrontsAreMet : List Event → Type 0
+FrontsAreMet journal =
+    (call position p : ℕ) → event_at journal p ≡ Some (Met call position)
     → (wait : Wait) × IsWaitAt (events_before journal p) wait position × IsFrontFor (events_before journal p) wait call
 
 -- the one rendezvous that began with a call, by a wait of the task called
@@ -91,20 +89,19 @@ pub record IsTheMeeting (journal : List Event) (call position p : ℕ) : Type 0 
   pub one : (other q : ℕ) → event_at journal q ≡ Some (Met call other) → q ≡ p
 
 -- with a call one rendezvous began at most, by a wait of the task called
-abbrev pub OneMeetingForAJoinedCall : Type 0
-OneMeetingForAJoinedCall =
-    (journal : List Event) (call : ℕ) → IsLawful journal → is_met journal call ≡ true
-    → (position : ℕ) × (p : ℕ) × IsTheMeeting journal call position p
+abbrev pub OneMeetingForAJoinedCall : List Event → Type 0
+OneMeetingForAJoinedCall journal =
+    (call : ℕ) → is_met journal call ≡ true → (position : ℕ) × (p : ℕ) × IsTheMeeting journal call position p
 
--- in a settled journal no call to a completed, terminated or abnormal task is open
-abbrev pub NoOpenCallToAFinishedTask : Type 0
-NoOpenCallToAFinishedTask =
-    (journal : List Event) (call : Call) (position : ℕ) → IsSettled journal → IsOpenCallAt journal call position
+-- no call to a completed, terminated or abnormal task is open
+abbrev pub NoOpenCallToAFinishedTask : List Event → Type 0
+NoOpenCallToAFinishedTask journal =
+    (call : Call) (position : ℕ) → IsOpenCallAt journal call position
     → (has_ended journal call.callee ≡ false) × (is_abnormal journal call.callee ≡ false)
 
--- in a settled journal no task waits at an open choice whose queue isn't empty
-abbrev pub NoAcceptorWaitsAtAQueuedChoice : Type 0
-NoAcceptorWaitsAtAQueuedChoice =
-    (journal : List Event) (wait : Wait) (position : ℕ) (choice : Choice) → IsSettled journal
+-- no task waits at an open choice whose queue isn't empty
+abbrev pub NoAcceptorWaitsAtAQueuedChoice : List Event → Type 0
+NoAcceptorWaitsAtAQueuedChoice journal =
+    (wait : Wait) (position : ℕ) (choice : Choice)
     → IsWaitAt journal wait position → is_released journal position ≡ false → has_ended journal wait.by ≡ false
     → Contains wait.choices choice → choice.guard ≡ true → queue journal wait.by choice.entry ≡ []

@@ -7,6 +7,7 @@ pub mod Dependents
 pub mod Slots
 pub mod Lasting
 pub mod Groups
-pub mod Choosing
 pub mod Showing
 pub mod Outcomes
+pub mod Masters
+pub mod Laws

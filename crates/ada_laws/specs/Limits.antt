@@ -4,13 +4,14 @@ use Rattle.ada_events.specs.declared.event.Event.{Event}
 use Rattle.ada_events.specs.declared.request.Request.{Request}
 use Rattle.ada_events.specs.Tasks.{task_count}
 use Rattle.ada_events.specs.Forced.{forced}
-use Rattle.ada_events.specs.Refusals.{most_tasks, most_events, most_appended, refusal}
+use Rattle.ada_events.specs.Refusals.{refusal}
+use Rattle.ada_events.specs.declared.limits.TheConstants.{MOST_TASKS, MOST_EVENTS, MOST_APPENDED}
 use Rattle.ada_events.specs.Lawful.{IsLawful, IsSettled, After}
 use Rattle.ada_laws.specs.Work.{work_left}
 
 -- there are at most 256 tasks
 abbrev pub TasksAreFew : Type 0
-TasksAreFew = (journal : List Event) → IsLawful journal → task_count journal ≤ most_tasks
+TasksAreFew = (journal : List Event) → IsLawful journal → task_count journal ≤ MOST_TASKS
 
 -- the work left is at most three for each task
 abbrev pub WorkIsThreeForEachTask : Type 0
@@ -26,7 +27,7 @@ StepsLessenTheWork =
 abbrev pub AppendsFew : Type 0
 AppendsFew =
     (old : List Event) (request : Request) (new : List Event) → IsLawful old → IsSettled old → refusal old request ≡ None
-    → After old request new → length new ≤ length old + most_appended
+    → After old request new → length new ≤ length old + MOST_APPENDED
 
 -- what a request leads to exists wherever the request isn't refused
 abbrev pub LeadsToAJournal : Type 0
@@ -38,8 +39,8 @@ LeadsToAJournal =
 abbrev pub LeadsToFewEvents : Type 0
 LeadsToFewEvents =
     (old : List Event) (request : Request) (new : List Event) → IsLawful old → IsSettled old → refusal old request ≡ None
-    → After old request new → length new ≤ most_events
+    → After old request new → length new ≤ MOST_EVENTS
 
 -- there are at most 65,536 events
 abbrev pub EventsAreFew : Type 0
-EventsAreFew = (journal : List Event) → IsLawful journal → length journal ≤ most_events
+EventsAreFew = (journal : List Event) → IsLawful journal → length journal ≤ MOST_EVENTS

@@ -6,18 +6,20 @@ use Rattle.ada_events.specs.declared.names.Entry.{Entry}
 use Rattle.ada_events.specs.Tasks.{task_count}
 use Rattle.ada_events.specs.Says.{Call}
 use Rattle.ada_events.specs.Calls.{queue, count_of}
-use Rattle.ada_events.specs.Refusals.{most_tasks, most_slots, slot_count, lacks_family, is_outside}
+use Rattle.ada_events.specs.Refusals.{lacks_family, is_outside}
+use Rattle.ada_events.specs.declared.limits.TheConstants.{MOST_TASKS, MOST_SLOTS}
+use Rattle.ada_events.specs.Limits.{slot_count}
 use Rattle.ada_events.specs.Slots.{Place, slot_of, entry_at}
 use Rattle.ada_events.specs.Lawful.{IsLawful}
 use Rattle.ada_laws.specs.Calls.{IsCallAt}
 
 -- a lawful journal has at most 1,024 entries
 abbrev pub SlotsAreFew : Type 0
-SlotsAreFew = (journal : List Event) → IsLawful journal → slot_count journal ≤ most_slots
+SlotsAreFew = (journal : List Event) → IsLawful journal → slot_count journal ≤ MOST_SLOTS
 
 -- in a lawful journal at most 256 calls are queued at an entry
 abbrev pub QueuesAreShort : Type 0
-QueuesAreShort = (journal : List Event) (task : ℕ) (entry : Entry) → IsLawful journal → count_of journal task entry ≤ most_tasks
+QueuesAreShort = (journal : List Event) (task : ℕ) (entry : Entry) → IsLawful journal → count_of journal task entry ≤ MOST_TASKS
 
 -- in a lawful journal a queue doesn't hold two calls of one task
 abbrev pub QueuesHoldOneCallOfEach : Type 0

@@ -2,7 +2,7 @@
 use Rattle.std.specs.Prelude.{◌≡◌, ℕ, ◌<◌, ◌≤◌, true, false, Some, List}
 use Rattle.ada_events.specs.declared.event.Event.{Event}
 use Rattle.ada_events.specs.Search.{event_at}
-use Rattle.ada_events.specs.Says.{held_in}
+use Rattle.ada_events.specs.Says.{held_in, released_in}
 use Rattle.ada_events.specs.Tasks.{task_count}
 use Rattle.ada_events.specs.Phases.{is_released, has_ended, is_suspended}
 use Rattle.ada_events.specs.Lawful.{IsLawful}
@@ -41,3 +41,10 @@ SuspendedAtOnePosition =
 abbrev pub SuspendedTasksExist : Type 0
 SuspendedTasksExist =
     (journal : List Event) (task position : ℕ) → IsLawful journal → IsSuspendedAt journal task position → task < task_count journal
+
+-- one event at most releases a position
+abbrev pub OneReleaseEach : Type 0
+OneReleaseEach =
+    (journal : List Event) (position p q : ℕ) (d e : Event) → IsLawful journal
+    → event_at journal p ≡ Some d → event_at journal q ≡ Some e
+    → released_in d ≡ Some position → released_in e ≡ Some position → p ≡ q

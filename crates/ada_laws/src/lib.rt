@@ -5,11 +5,12 @@
 #![tactic(auto)]
 
 pub mod calls;
-pub mod choosing;
 pub mod dependents;
 pub mod groups;
 pub mod lasting;
+pub mod laws;
 pub mod limits;
+pub mod masters;
 pub mod outcomes;
 pub mod requests;
 pub mod showing;

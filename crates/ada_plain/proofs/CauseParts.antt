@@ -5,8 +5,7 @@ use Rattle.std.specs.Option.{option_or}
 use Rattle.ada_events.specs.declared.event.Event.{Event}
 use Rattle.ada_events.specs.declared.refusal.Refusal.{Refusal}
 use Rattle.ada_events.specs.declared.request.Request.{Request}
-use Rattle.ada_events.specs.Refusals.{Cause, first_cause, causes, refusal}
-use Rattle.ada_plain.specs.Causes.{causes_by_name, causes_by_entry, causes_by_nest, causes_by_limit}
+use Rattle.ada_events.specs.Refusals.{Cause, first_cause, causes_by_name, causes_by_entry, causes_by_nest, causes_by_limit, causes, refusal}
 
 if-option_or : (b : Bool) (name : Refusal) (x y : Option Refusal) → (if b then Some name else option_or x y) ≡ option_or (if b then Some name else x) y
 if-option_or true name x y = refl

@@ -14,7 +14,7 @@ use Rattle.ada_events.specs.declared.names.TaskNo.{TaskNo}
 use Rattle.ada_events.specs.declared.names.Choice.{Choice}
 use Rattle.ada_events.specs.declared.names.Pause.{Pause}
 use Rattle.ada_events.specs.Asks.{pause_due, asked_tail, asked_event}
-use Rattle.ada_events.specs.Refusals.{is_too_late}
+use Rattle.ada_events.specs.Limits.{is_too_late}
 use Rattle.ada_events.specs.Tasks.{moment}
 use Rattle.ada_plain.specs.Late.{is_late_tail}
 

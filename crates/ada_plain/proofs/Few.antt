@@ -7,7 +7,7 @@ use Rattle.ada_events.specs.Search.{gathered}
 use Rattle.ada_events.specs.Calls.{count_of}
 use Rattle.ada_events.specs.Lawful.{IsLawful}
 use Rattle.ada_events.specs.Tasks.{task_count}
-use Rattle.ada_events.specs.Refusals.{slot_count}
+use Rattle.ada_events.specs.Limits.{slot_count}
 use Rattle.ada_events.specs.Slots.{Place, slot_of, entry_at}
 use Rattle.ada_laws.proofs.Searching.{option_map-some}
 use Rattle.ada_laws.proofs.LimitLaws.{tasks_are_few}

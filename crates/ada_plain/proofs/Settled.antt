@@ -5,7 +5,8 @@ use Rattle.ada_events.specs.declared.request.Request.{Request}
 use Rattle.ada_events.specs.Journals.{Kept}
 use Rattle.ada_events.specs.Tasks.{task_count}
 use Rattle.ada_events.specs.Forced.{forced}
-use Rattle.ada_events.specs.Refusals.{refusal, is_too_late}
+use Rattle.ada_events.specs.Refusals.{refusal}
+use Rattle.ada_events.specs.Limits.{is_too_late}
 use Rattle.ada_events.specs.Asks.{asked_event}
 use Rattle.ada_events.specs.Lawful.{IsLawful, IsSettled, Forces, nothing, one_more, After}
 use Rattle.ada_laws.specs.Work.{work_left}

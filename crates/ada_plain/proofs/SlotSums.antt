@@ -8,7 +8,7 @@ use Rattle.ada_events.specs.declared.event.Event.{Event}
 use Rattle.ada_events.specs.declared.names.Family.{Family}
 use Rattle.ada_events.specs.Says.{Creation, creation_in}
 use Rattle.ada_events.specs.Entries.{entry_count, entries_in}
-use Rattle.ada_events.specs.Refusals.{slot_count}
+use Rattle.ada_events.specs.Limits.{slot_count}
 use Rattle.ada_plain.proofs.Loops.{journal_more}
 
 pub entries_in_more : (families : List Family) (i : ℕ) (d : Family) → i < length families → entries_in (take (i + 1) families) ≡ entries_in (take i families) + entry_count (get_or families i d)

@@ -1,4 +1,3 @@
-pub mod Causes
 pub mod Frames
 pub mod Late
 pub mod Makings

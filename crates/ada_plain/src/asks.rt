@@ -3,6 +3,7 @@ ghost use Rattle.std.specs.Prelude.{◌≡◌, ◌<◌, ◌≤◌, ◌^◌, ◌&
 ghost use Rattle.std.specs.List.{list_any};
 ghost use Rattle.ada_events.specs.Asks as asks;
 ghost use Rattle.ada_events.specs.Nests as nests;
+ghost use Rattle.ada_events.specs.Limits as limits;
 ghost use Rattle.ada_events.specs.Refusals as refusals;
 ghost use Rattle.ada_events.specs.declared.names.Pause.{Pause as PauseValue};
 ghost use Rattle.ada_plain.specs.Late.{is_late_tail, is_late_call};
@@ -18,13 +19,13 @@ use std::alloc::Global;
 /// The moment at which a duration is over, unless it is behind the last moment.
 #[tactic(auto, unfolding(ada_events::specs::Asks::due_after))]
 fn due_after(now: i64, duration: i64) -> i64
-    ensures { int_lt refusals.last_moment (asks.due_after now duration) ≡ false → result ≡ asks.due_after now duration }
+    ensures { limits.ends_too_late now duration ≡ false → result ≡ asks.due_after now duration }
 {
     now.saturating_add(duration.max(0))
 }
 
 fn pause_due(now: i64, pause: Pause) -> Option<i64>
-    ensures { (pause.guard && int_lt refusals.last_moment (asks.due_after now pause.duration)) ≡ false → result ≡ asks.pause_due now pause }
+    ensures { (pause.guard && limits.ends_too_late now pause.duration) ≡ false → result ≡ asks.pause_due now pause }
 {
     if pause.guard {
         Some(due_after(now, pause.duration))
@@ -36,7 +37,7 @@ fn pause_due(now: i64, pause: Pause) -> Option<i64>
 // The moments at which delay alternatives are due.
 fn pauses_due(now: i64, pauses: &[Pause]) -> Dues
     requires { length pauses.now ≤ 8 }
-    ensures { list_any (λ (d : PauseValue). d.guard && int_lt refusals.last_moment (asks.due_after now d.duration)) pauses.now ≡ false → result ≡ map (asks.pause_due now) pauses.now }
+    ensures { list_any (λ (d : PauseValue). d.guard && limits.ends_too_late now d.duration) pauses.now ≡ false → result ≡ map (asks.pause_due now) pauses.now }
 {
     let mut dues = Dues::new();
     for pause in pauses {
@@ -81,10 +82,10 @@ fn innermost_position(events: &[Event], task: TaskNo) -> u32
 
 /// The event that a request becomes when it is accepted: the same, with each duration replaced by the
 /// moment at which it is over.
-#[tactic(auto, unfolding(ada_events::specs::Asks::asked_event, ada_events::specs::Refusals::is_too_late))]
+#[tactic(auto, unfolding(ada_events::specs::Asks::asked_event, ada_events::specs::Limits::is_too_late))]
 pub fn asked_event(alloc: Global, events: &[Event], request: &Request) -> Result<Event, Refusal>
     requires short { length events.now < 2 ^ 32 }
-    requires in_time { refusals.is_too_late (reverse events.now) request.now ≡ false }
+    requires in_time { limits.is_too_late (reverse events.now) request.now ≡ false }
     ensures ok { IfOk result (λ event. event ≡ asks.asked_event (reverse events.now) request.now) }
     ensures err { IfErr result (λ cause. cause ≡ Refusal.OutOfMemory) }
 {

@@ -1,10 +1,10 @@
 //! The attributes of tasks and entries (9.9), and what else may be asked of a task that exists.
-ghost use Rattle.std.specs.Prelude.{◌≡◌, ◌+◌, ◌<◌, ◌≤◌, ◌^◌, ◌&&◌, nat_lt, length, reverse};
+ghost use Rattle.std.specs.Prelude.{◌≡◌, ◌+◌, ◌<◌, ◌≤◌, ◌^◌, ◌&&◌, length, reverse};
 ghost use Rattle.std.specs.Option.{option_len};
 ghost use Rattle.std.specs.Bool.{then_some};
 ghost use Rattle.ada_events.specs.Calls as calls;
 ghost use Rattle.ada_events.specs.Phases as phases;
-ghost use Rattle.ada_events.specs.Tasks.{task_count as count_of_tasks};
+ghost use Rattle.ada_events.specs.Tasks as tasks;
 ghost use Rattle.ada_events.specs.Lawful.{IsLawful};
 ghost use Rattle.ada_events.specs.Outcomes as outcomes;
 ghost use Rattle.ada_events.specs.Attributes as attributes;
@@ -13,7 +13,7 @@ use crate::calls::is_queued_for;
 use crate::outcomes::outcome;
 use crate::phases::{has_ended, is_abnormal, is_running, is_terminated};
 use crate::refusals::{is_outside, lacks_family};
-use crate::tasks::task_count;
+use crate::tasks::has_task;
 use ada_events::{Entry, Event, Outcome, Refusal, TaskNo};
 
 /// The attribute CALLABLE (9.9): neither completed, nor terminated, nor abnormal.
@@ -34,20 +34,12 @@ pub fn is_finished(events: &[Event]) -> bool
     is_terminated(events, TaskNo(0))
 }
 
-/// There is a task of that number.
-pub fn exists(events: &[Event], task: TaskNo) -> bool
-    requires { length events.now < 2 ^ 32 }
-    ensures { result ≡ nat_lt task.0 (count_of_tasks (reverse events.now)) }
-{
-    u64::from(task.0) < task_count(events)
-}
-
 /// The outcome of a task that exists.
 pub fn known_outcome(events: &[Event], task: TaskNo) -> Option<Outcome>
     requires { length events.now < 2 ^ 32 }
-    ensures { result ≡ then_some (nat_lt task.0 (count_of_tasks (reverse events.now))) (outcomes.outcome_of (reverse events.now) task.0) }
+    ensures { result ≡ then_some (tasks.has_task (reverse events.now) task.0) (outcomes.outcome_of (reverse events.now) task.0) }
 {
-    if exists(events, task) {
+    if has_task(events, task) {
         Some(outcome(events, task))
     } else {
         None
@@ -57,9 +49,9 @@ pub fn known_outcome(events: &[Event], task: TaskNo) -> Option<Outcome>
 /// CALLABLE of a task that exists.
 pub fn known_callable(events: &[Event], task: TaskNo) -> Option<bool>
     requires { length events.now < 2 ^ 32 }
-    ensures { result ≡ then_some (nat_lt task.0 (count_of_tasks (reverse events.now))) (attributes.is_callable (reverse events.now) task.0) }
+    ensures { result ≡ then_some (tasks.has_task (reverse events.now) task.0) (attributes.is_callable (reverse events.now) task.0) }
 {
-    if exists(events, task) {
+    if has_task(events, task) {
         Some(is_callable(events, task))
     } else {
         None
@@ -69,9 +61,9 @@ pub fn known_callable(events: &[Event], task: TaskNo) -> Option<bool>
 /// TERMINATED of a task that exists.
 pub fn known_terminated(events: &[Event], task: TaskNo) -> Option<bool>
     requires { length events.now < 2 ^ 32 }
-    ensures { result ≡ then_some (nat_lt task.0 (count_of_tasks (reverse events.now))) (phases.is_terminated (reverse events.now) task.0) }
+    ensures { result ≡ then_some (tasks.has_task (reverse events.now) task.0) (phases.is_terminated (reverse events.now) task.0) }
 {
-    if exists(events, task) {
+    if has_task(events, task) {
         Some(is_terminated(events, task))
     } else {
         None
@@ -81,9 +73,9 @@ pub fn known_terminated(events: &[Event], task: TaskNo) -> Option<bool>
 /// Whether a task that exists is running.
 pub fn known_running(events: &[Event], task: TaskNo) -> Option<bool>
     requires { length events.now < 2 ^ 32 }
-    ensures { result ≡ then_some (nat_lt task.0 (count_of_tasks (reverse events.now))) (phases.is_running (reverse events.now) task.0) }
+    ensures { result ≡ then_some (tasks.has_task (reverse events.now) task.0) (phases.is_running (reverse events.now) task.0) }
 {
-    if exists(events, task) {
+    if has_task(events, task) {
         Some(is_running(events, task))
     } else {
         None
@@ -133,7 +125,7 @@ pub fn count_refusal(events: &[Event], by: TaskNo, entry: Entry) -> Option<Refus
     requires { length events.now < 2 ^ 32 }
     ensures { result ≡ attributes.count_refusal (reverse events.now) by.0 entry }
 {
-    if task_count(events) <= u64::from(by.0) {
+    if !has_task(events, by) {
         Some(Refusal::UnknownTask)
     } else if !is_running(events, by) {
         Some(Refusal::NotRunning)

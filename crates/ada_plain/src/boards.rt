@@ -2,7 +2,7 @@
 ghost use Rattle.std.specs.Prelude.{◌≡◌, ◌<◌, ◌^◌, ◌&&◌, nat_lt, if◌then◌else◌, length, reverse};
 ghost use Rattle.ada_events.specs.Tasks.{task_count as count_of_tasks};
 ghost use Rattle.ada_events.specs.Phases as phases;
-ghost use Rattle.ada_events.specs.Refusals.{slot_count as count_of_slots};
+ghost use Rattle.ada_events.specs.Limits.{slot_count as count_of_slots};
 ghost use Rattle.ada_events.specs.Attributes as attributes;
 ghost use Rattle.ada_events.specs.Slots as places;
 ghost use Rattle.ada_events.specs.Boards as boards;

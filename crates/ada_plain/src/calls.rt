@@ -1,23 +1,23 @@
 //! Entry calls (9.5): open, joined in a rendezvous or queued, and the queue of an entry.
 ghost use Rattle.std.specs.Prelude.{◌≡◌, ◌<◌, ◌^◌, ◌&&◌, ◌==◌, not, length, reverse, slice_get};
-ghost use Rattle.std.specs.Option.{option_map, option_or};
+ghost use Rattle.std.specs.Option.{option_or};
 ghost use Rattle.std.specs.Bool.{then_some};
-ghost use Rattle.ada_events.specs.Search.{is_number, any_event};
+ghost use Rattle.ada_events.specs.Search.{is_some_and};
 ghost use Rattle.ada_events.specs.Says as said;
 ghost use Rattle.ada_events.specs.Entries as entries;
 ghost use Rattle.ada_events.specs.Calls as calls;
 ghost use Rattle.ada_events.specs.Forced as forced;
 
 use crate::phases::{has_ended, is_released};
-use crate::says;
-use crate::says::{is_position, is_task};
+use crate::says::{is_call_by, is_meeting_of};
+use ada_events::journal::event_in;
 use ada_events::{Entry, Event, TaskNo};
 
 /// What is at a position is neither released, nor has its task ended.
-#[tactic(auto, unfolding(ada_events::specs::Forced::is_pending))]
+#[tactic(auto, unfolding(ada_events::specs::Calls::is_pending))]
 pub fn is_pending(events: &[Event], position: u32, task: TaskNo) -> bool
     requires { length events.now < 2 ^ 32 }
-    ensures { result ≡ forced.is_pending (reverse events.now) position task.0 }
+    ensures { result ≡ calls.is_pending (reverse events.now) position task.0 }
 {
     !is_released(events, position) && !has_ended(events, task)
 }
@@ -27,14 +27,11 @@ pub fn is_pending(events: &[Event], position: u32, task: TaskNo) -> bool
 pub fn is_met(events: &[Event], call: u32) -> bool
     ensures { result ≡ calls.is_met (reverse events.now) call }
 {
-    events
-        .iter()
-        .rev()
-        .any(|event| is_position(call, says::met_call_in(event)))
+    events.iter().rev().any(|event| is_meeting_of(call, event))
 }
 
 /// The event at a position is an open call.
-#[tactic(auto, unfolding(ada_events::specs::Calls::is_open_at, ada_events::specs::Says::call_in, ada_events::specs::Forced::is_pending))]
+#[tactic(auto, unfolding(ada_events::specs::Calls::is_open_at, ada_events::specs::Says::call_in, ada_events::specs::Calls::is_pending))]
 pub fn is_open_at(events: &[Event], position: u32, event: &Event) -> bool
     requires { length events.now < 2 ^ 32 }
     ensures { result ≡ calls.is_open_at (reverse events.now) position event.now }
@@ -63,31 +60,23 @@ pub fn is_queued_at(events: &[Event], position: u32, event: &Event) -> bool
     is_open_at(events, position, event) && !is_met(events, position)
 }
 
-fn is_this_open_call(events: &[Event], call: u32, position: u32, event: &Event) -> bool
-    requires { length events.now < 2 ^ 32 }
-    ensures { result ≡ ((position == call) && calls.is_open_at (reverse events.now) position event.now) }
-{
-    position == call && is_open_at(events, position, event)
-}
-
 /// There is an open call at a position.
-#[tactic(auto, unfolding(ada_events::specs::Calls::is_open_call, ada_events::specs::Search::any_event), using(crate::proofs::Loops::any_event_more))]
+#[tactic(auto, unfolding(ada_events::specs::Calls::is_open_call))]
 pub fn is_open_call(events: &[Event], call: u32) -> bool
     requires { length events.now < 2 ^ 32 }
     ensures { result ≡ calls.is_open_call (reverse events.now) call }
 {
-    let mut found = false;
-    for (i, event) in events.iter().enumerate() {
-        found = is_this_open_call(events, call, i as u32 + 1, event) || found;
+    match event_in(events, call) {
+        Some(event) => is_open_at(events, call, event),
+        None => false,
     }
-    found
 }
 
 fn is_joined_caller(events: &[Event], task: TaskNo, position: u32, event: &Event) -> bool
     requires { length events.now < 2 ^ 32 }
-    ensures { result ≡ (is_number task.0 (option_map (λ (c : said.Call). c.by) (said.call_in event.now)) && calls.is_joined_at (reverse events.now) position event.now) }
+    ensures { result ≡ (is_some_and (said.call_in event.now) (λ (c : said.Call). c.by == task.0) && calls.is_joined_at (reverse events.now) position event.now) }
 {
-    is_task(task, says::caller_in(event)) && is_joined_at(events, position, event)
+    is_call_by(task, event) && is_joined_at(events, position, event)
 }
 
 /// The task is the caller of a joined call.

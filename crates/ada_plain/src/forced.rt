@@ -1,15 +1,17 @@
 //! The step that a journal forces: one function for each row, and the first that applies.
-ghost use Rattle.std.specs.Prelude.{◌≡◌, ◌<◌, ◌≤◌, ◌^◌, ◌&&◌, ◌||◌, not, false, if◌then◌else◌, int_le, length, reverse};
+ghost use Rattle.std.specs.Prelude.{◌≡◌, ◌<◌, ◌≤◌, ◌^◌, ◌&&◌, ◌||◌, not, if◌then◌else◌, int_le, length, reverse, slice_get};
 ghost use Rattle.std.specs.List.{list_any, list_all};
-ghost use Rattle.std.specs.Option.{option_map, option_map_or, option_or, option_and_then};
+ghost use Rattle.std.specs.Option.{option_map, option_or, option_and_then};
 ghost use Rattle.std.specs.Bool.{then_some};
 ghost use Rattle.ada_events.specs.declared.event.Event.TheVariants as event_of;
 ghost use Rattle.ada_events.specs.declared.names.TaskNo.{TaskNo as Task};
 ghost use Rattle.ada_events.specs.declared.names.Master.TheVariants.{Body, Block};
+ghost use Rattle.ada_events.specs.Search.{is_some_and};
 ghost use Rattle.ada_events.specs.Says as said;
 ghost use Rattle.ada_events.specs.Phases as phases;
 ghost use Rattle.ada_events.specs.Calls as calls;
 ghost use Rattle.ada_events.specs.Waits as waits;
+ghost use Rattle.ada_events.specs.Termination as ending;
 ghost use Rattle.ada_events.specs.Forced as forced;
 ghost use Rattle.ada_events.specs.Tasks.{task_count as count_of_tasks, moment as moment_of};
 
@@ -19,7 +21,7 @@ use crate::phases::{
 };
 use crate::tasks::{moment, task_count};
 use crate::termination::{all_terminated, is_abandoned, is_to_quit};
-use crate::waits::{fronts, picked_call, way_of};
+use crate::waits::{is_due, taken_call, way_of};
 use ada_events::{Choice, Event, EventTail, Master, Patience, TaskNo};
 
 /// An abnormal task is to complete (9.10).
@@ -68,7 +70,7 @@ fn is_lost(events: &[Event], callee: TaskNo) -> bool
 #[tactic(auto, unfolding(ada_events::specs::Says::call_in))]
 fn calls_in_vain(events: &[Event], event: &Event) -> bool
     requires { length events.now < 2 ^ 32 }
-    ensures { result ≡ option_map_or (λ (c : said.Call). phases.has_ended (reverse events.now) c.callee || phases.is_abnormal (reverse events.now) c.callee) (said.call_in event.now) false }
+    ensures { result ≡ is_some_and (said.call_in event.now) (λ (c : said.Call). phases.has_ended (reverse events.now) c.callee || phases.is_abnormal (reverse events.now) c.callee) }
 {
     match event {
         Event::Called { callee, .. } => is_lost(events, *callee),
@@ -119,12 +121,12 @@ fn met_wait(
 ) -> Option<Event>
     requires few { length choices.now ≤ 16 }
     requires short { length events.now < 2 ^ 32 }
-    ensures { result ≡ (if forced.is_pending (reverse events.now) position by.0 then option_map (λ call. event_of.Met call position) (waits.picked pick (waits.fronts (reverse events.now) by.0 choices.now)) else None) }
+    ensures { result ≡ (if calls.is_pending (reverse events.now) position by.0 then option_map (λ call. event_of.Met call position) (option_and_then (waits.front_of (reverse events.now) by.0) (option_and_then (slice_get choices.now) (waits.picked pick (waits.numbers_from (waits.is_selectable (reverse events.now) by.0) 0 choices.now)))) else None) }
 {
     if !is_pending(events, position, by) {
         return None;
     }
-    match picked_call(pick, fronts(events, by, choices).as_slice()) {
+    match taken_call(events, by, choices, pick) {
         Some(call) => Some(Event::Met {
             call,
             wait: position,
@@ -133,7 +135,7 @@ fn met_wait(
     }
 }
 
-#[tactic(auto, unfolding(ada_events::specs::Forced::met_at, ada_events::specs::Waits::taken_call, ada_events::specs::Says::wait_in))]
+#[tactic(auto, unfolding(ada_events::specs::Forced::met_at, ada_events::specs::Waits::taken_call, ada_events::specs::Waits::taken_choice, ada_events::specs::Says::wait_in))]
 fn met_at(events: &[Event], position: u32, event: &Event) -> Option<Event>
     requires { length events.now < 2 ^ 32 }
     ensures { result ≡ option_and_then (forced.met_at (reverse events.now) position) (said.wait_in event.now) }
@@ -174,24 +176,15 @@ fn is_conditional(patience: Patience) -> bool
     }
 }
 
-fn is_due(now: i64, due: Option<i64>) -> bool
-    ensures { result ≡ forced.is_due now due }
-{
-    match due {
-        Some(due) => due <= now,
-        None => false,
-    }
-}
-
 fn is_over(now: i64, patience: Patience, due: Option<i64>) -> bool
-    ensures { result ≡ (forced.is_conditional patience || forced.is_due now due) }
+    ensures { result ≡ (forced.is_conditional patience || waits.is_due now due) }
 {
     is_conditional(patience) || is_due(now, due)
 }
 
 #[tactic(auto, unfolding(ada_events::specs::Says::call_in))]
 fn is_call_over(events: &[Event], event: &Event) -> bool
-    ensures { result ≡ option_map_or (λ (c : said.Call). forced.is_conditional c.patience || forced.is_due (moment_of (reverse events.now)) c.due) (said.call_in event.now) false }
+    ensures { result ≡ is_some_and (said.call_in event.now) (λ (c : said.Call). forced.is_conditional c.patience || waits.is_due (moment_of (reverse events.now)) c.due) }
 {
     match event {
         Event::Called { patience, due, .. } => is_over(moment(events), *patience, *due),
@@ -242,7 +235,7 @@ fn passed_wait(
     tail: &EventTail,
 ) -> Option<Event>
     requires { length events.now < 2 ^ 32 }
-    ensures { result ≡ (if forced.is_pending (reverse events.now) position by.0 then option_map (event_of.Passed position) (waits.way_of (moment_of (reverse events.now)) choices.now pick tail.now) else None) }
+    ensures { result ≡ (if calls.is_pending (reverse events.now) position by.0 then option_map (event_of.Passed position) (waits.way_of (moment_of (reverse events.now)) choices.now pick tail.now) else None) }
 {
     if !is_pending(events, position, by) {
         return None;
@@ -289,7 +282,7 @@ pub fn passed(events: &[Event]) -> Option<Event>
 
 fn is_to_wake(events: &[Event], position: u32, by: TaskNo, due: i64) -> bool
     requires { length events.now < 2 ^ 32 }
-    ensures { result ≡ (int_le due (moment_of (reverse events.now)) && forced.is_pending (reverse events.now) position by.0) }
+    ensures { result ≡ (int_le due (moment_of (reverse events.now)) && calls.is_pending (reverse events.now) position by.0) }
 {
     due <= moment(events) && is_pending(events, position, by)
 }
@@ -347,7 +340,7 @@ fn has_failed_one(events: &[Event], tasks: &[TaskNo]) -> bool
 
 fn is_to_end_activation(events: &[Event], position: u32, by: TaskNo, tasks: &[TaskNo]) -> bool
     requires { length events.now < 2 ^ 32 }
-    ensures { result ≡ (forced.is_pending (reverse events.now) position by.0 && list_all (forced.is_done_activating (reverse events.now)) tasks.now) }
+    ensures { result ≡ (calls.is_pending (reverse events.now) position by.0 && list_all (forced.is_done_activating (reverse events.now)) tasks.now) }
 {
     is_pending(events, position, by) && all_done_activating(events, tasks)
 }
@@ -393,7 +386,7 @@ pub fn activated(events: &[Event]) -> Option<Event>
 fn is_complete_body(events: &[Event], task: TaskNo) -> bool
     requires short { length events.now < 2 ^ 32 }
     requires few { count_of_tasks (reverse events.now) ≤ 256 }
-    ensures { result ≡ (phases.is_completed (reverse events.now) task.0 && forced.all_terminated (reverse events.now) (Body task)) }
+    ensures { result ≡ (phases.is_completed (reverse events.now) task.0 && ending.all_terminated (reverse events.now) (Body task)) }
 {
     is_completed(events, task) && all_terminated(events, Master::Body(task))
 }
@@ -401,7 +394,7 @@ fn is_complete_body(events: &[Event], task: TaskNo) -> bool
 fn is_at_its_end(events: &[Event], task: TaskNo) -> bool
     requires short { length events.now < 2 ^ 32 }
     requires few { count_of_tasks (reverse events.now) ≤ 256 }
-    ensures { result ≡ (phases.is_completed (reverse events.now) task.0 && forced.all_terminated (reverse events.now) (Body task) || forced.is_abandoned (reverse events.now) task.0) }
+    ensures { result ≡ (phases.is_completed (reverse events.now) task.0 && ending.all_terminated (reverse events.now) (Body task) || ending.is_abandoned (reverse events.now) task.0) }
 {
     is_complete_body(events, task) || is_abandoned(events, task)
 }
@@ -503,7 +496,7 @@ pub fn quit_block(events: &[Event]) -> Option<Event>
 fn is_to_leave(events: &[Event], position: u32, by: TaskNo, block: u32) -> bool
     requires short { length events.now < 2 ^ 32 }
     requires few { count_of_tasks (reverse events.now) ≤ 256 }
-    ensures { result ≡ (forced.is_pending (reverse events.now) position by.0 && forced.all_terminated (reverse events.now) (Block block)) }
+    ensures { result ≡ (calls.is_pending (reverse events.now) position by.0 && ending.all_terminated (reverse events.now) (Block block)) }
 {
     is_pending(events, position, by) && all_terminated(events, Master::Block(block))
 }

@@ -1,11 +1,11 @@
 //! The plain kernel: a journal, and each request answered by searches over it.
-ghost use Rattle.std.specs.Prelude.{◌≡◌, ◌+◌, ◌<◌, ◌≤◌, ◌^◌, [], None, length, reverse, nat_lt, IfOk, IfErr};
+ghost use Rattle.std.specs.Prelude.{◌≡◌, ◌+◌, ◌<◌, ◌≤◌, ◌^◌, [], None, length, reverse, IfOk, IfErr};
 ghost use Rattle.std.specs.Bool.{then_some};
 ghost use Rattle.ada_events.specs.Lawful.{IsLawful, IsSettled, Forces};
 ghost use Rattle.ada_events.specs.Refusals.{refusal as refusal_of};
 ghost use Rattle.ada_events.specs.Steps.{IsAccepted, IsRefused};
 ghost use Rattle.ada_events.specs.Asks.{asked_event as asked_of};
-ghost use Rattle.ada_events.specs.Tasks.{task_count};
+ghost use Rattle.ada_events.specs.Tasks.{task_count, has_task};
 ghost use Rattle.ada_events.specs.Phases.{is_terminated, is_running};
 ghost use Rattle.ada_events.specs.Outcomes.{outcome_of};
 ghost use Rattle.ada_events.specs.Attributes.{is_callable, own_count as count_asked, is_finished as finished_in};
@@ -124,21 +124,21 @@ impl PlainKernel {
 
     /// The outcome of a task; none where there is no such task.
     pub fn outcome(&self, task: TaskNo) -> Option<Outcome>
-        ensures { result ≡ then_some (nat_lt task.0 (task_count self.now)) (outcome_of self.now task.0) }
+        ensures { result ≡ then_some (has_task self.now task.0) (outcome_of self.now task.0) }
     {
         known_outcome(self.journal.as_slice(), task)
     }
 
     /// The attribute CALLABLE of a task (9.9); none where there is no such task.
     pub fn callable(&self, task: TaskNo) -> Option<bool>
-        ensures { result ≡ then_some (nat_lt task.0 (task_count self.now)) (is_callable self.now task.0) }
+        ensures { result ≡ then_some (has_task self.now task.0) (is_callable self.now task.0) }
     {
         known_callable(self.journal.as_slice(), task)
     }
 
     /// The attribute TERMINATED of a task (9.9); none where there is no such task.
     pub fn terminated(&self, task: TaskNo) -> Option<bool>
-        ensures { result ≡ then_some (nat_lt task.0 (task_count self.now)) (is_terminated self.now task.0) }
+        ensures { result ≡ then_some (has_task self.now task.0) (is_terminated self.now task.0) }
     {
         known_terminated(self.journal.as_slice(), task)
     }
@@ -146,7 +146,7 @@ impl PlainKernel {
     /// Whether a task is running: started, not ended, and not suspended. None where there is no such
     /// task.
     pub fn running(&self, task: TaskNo) -> Option<bool>
-        ensures { result ≡ then_some (nat_lt task.0 (task_count self.now)) (is_running self.now task.0) }
+        ensures { result ≡ then_some (has_task self.now task.0) (is_running self.now task.0) }
     {
         known_running(self.journal.as_slice(), task)
     }

@@ -6,56 +6,42 @@ ghost use Rattle.ada_events.specs.Entries as entries;
 ghost use Rattle.std.specs.Option.{option_map_or};
 ghost use Rattle.ada_events.specs.Says as said;
 ghost use Rattle.ada_events.specs.Asks as asks;
+ghost use Rattle.ada_events.specs.Limits as limits;
 ghost use Rattle.ada_events.specs.Refusals as refusals;
 ghost use Rattle.ada_events.specs.Tasks.{task_count as count_of_tasks};
 
 use crate::nests::depth;
 use crate::tasks::{moment, task_count};
+use ada_events::limits::{
+    LAST_MOMENT, MOST_APPENDED, MOST_EVENTS, MOST_MEMBERS, MOST_SLOTS, MOST_TASKS,
+};
 use ada_events::{Event, Family, Patience, Pause, Request, Tail};
-
-/// The last moment, in milliseconds.
-pub const LAST_MOMENT: i64 = 9_000_000_000_000;
-
-/// The most tasks, the main program counted.
-pub const MOST_TASKS: u64 = 256;
-
-/// The most entries over all tasks.
-pub const MOST_SLOTS: u64 = 1024;
-
-/// The most members of a task's nest.
-pub const MOST_MEMBERS: u32 = 32;
-
-/// The most events that a journal holds.
-pub const MOST_EVENTS: u64 = 65_536;
-
-/// The most events that one request appends.
-pub const MOST_APPENDED: u64 = 769;
 
 /// A duration from a moment on ends behind the last moment.
 #[tactic(auto, unfolding(ada_events::specs::Asks::due_after))]
 pub fn ends_too_late(now: i64, duration: i64) -> bool
-    ensures { result ≡ int_lt refusals.last_moment (asks.due_after now duration) }
+    ensures { result ≡ limits.ends_too_late now duration }
 {
     now.saturating_add(duration.max(0)) > LAST_MOMENT
 }
 
 fn is_open_too_late(now: i64, pause: Pause) -> bool
-    ensures { result ≡ (pause.guard && int_lt refusals.last_moment (asks.due_after now pause.duration)) }
+    ensures { result ≡ (pause.guard && limits.ends_too_late now pause.duration) }
 {
     pause.guard && ends_too_late(now, pause.duration)
 }
 
 /// An open delay alternative ends behind the last moment.
 pub fn has_open_too_late(now: i64, pauses: &[Pause]) -> bool
-    ensures { result ≡ list_any (λ (d : PauseValue). d.guard && int_lt refusals.last_moment (asks.due_after now d.duration)) pauses.now }
+    ensures { result ≡ list_any (λ (d : PauseValue). d.guard && limits.ends_too_late now d.duration) pauses.now }
 {
     pauses.iter().any(|pause| is_open_too_late(now, *pause))
 }
 
 /// A tick to less than the moment.
-#[tactic(auto, unfolding(ada_events::specs::Refusals::moves_back))]
+#[tactic(auto, unfolding(ada_events::specs::Limits::moves_back))]
 pub fn moves_back(events: &[Event], request: &Request) -> bool
-    ensures { result ≡ refusals.moves_back (reverse events.now) request.now }
+    ensures { result ≡ limits.moves_back (reverse events.now) request.now }
 {
     match request {
         Request::Tick { now } => *now < moment(events),
@@ -65,9 +51,9 @@ pub fn moves_back(events: &[Event], request: &Request) -> bool
 
 /// A tick, or the due moment of a timed call, a delay or an open delay alternative, behind the last
 /// moment.
-#[tactic(auto, unfolding(ada_events::specs::Refusals::is_too_late))]
+#[tactic(auto, unfolding(ada_events::specs::Limits::is_too_late))]
 pub fn is_too_late(events: &[Event], request: &Request) -> bool
-    ensures { result ≡ refusals.is_too_late (reverse events.now) request.now }
+    ensures { result ≡ limits.is_too_late (reverse events.now) request.now }
 {
     match request {
         Request::Tick { now } => LAST_MOMENT < *now,
@@ -85,13 +71,13 @@ pub fn is_too_late(events: &[Event], request: &Request) -> bool
 }
 
 /// A creation where the limit of tasks is reached.
-#[tactic(auto, unfolding(ada_events::specs::Refusals::makes_too_many_tasks))]
+#[tactic(auto, unfolding(ada_events::specs::Limits::makes_too_many_tasks))]
 pub fn makes_too_many_tasks(events: &[Event], request: &Request) -> bool
     requires { length events.now < 2 ^ 32 }
-    ensures { result ≡ refusals.makes_too_many_tasks (reverse events.now) request.now }
+    ensures { result ≡ limits.makes_too_many_tasks (reverse events.now) request.now }
 {
     match request {
-        Request::Create { .. } => MOST_TASKS <= task_count(events),
+        Request::Create { .. } => MOST_TASKS as u64 <= task_count(events),
         _ => false,
     }
 }
@@ -132,9 +118,9 @@ pub fn slots_in(event: &Event) -> u64
 }
 
 /// How many entries all tasks have, at most 2^64 - 1.
-#[tactic(auto, unfolding(ada_events::specs::Refusals::slot_count), using(crate::proofs::SlotSums::slot_count_more))]
+#[tactic(auto, unfolding(ada_events::specs::Limits::slot_count), using(crate::proofs::SlotSums::slot_count_more))]
 pub fn slot_count(events: &[Event]) -> u64
-    ensures { result ≡ min (refusals.slot_count (reverse events.now)) (2 ^ 64 - 1) }
+    ensures { result ≡ min (limits.slot_count (reverse events.now)) (2 ^ 64 - 1) }
 {
     let mut total = 0u64;
     for event in events {
@@ -144,34 +130,36 @@ pub fn slot_count(events: &[Event]) -> u64
 }
 
 /// A creation whose entries would pass the limit.
-#[tactic(auto, unfolding(ada_events::specs::Refusals::makes_too_many_slots))]
+#[tactic(auto, unfolding(ada_events::specs::Limits::makes_too_many_slots))]
 pub fn makes_too_many_slots(events: &[Event], request: &Request) -> bool
-    ensures { result ≡ refusals.makes_too_many_slots (reverse events.now) request.now }
+    ensures { result ≡ limits.makes_too_many_slots (reverse events.now) request.now }
 {
     match request {
-        Request::Create { families, .. } => MOST_SLOTS
-            < slot_count(events).saturating_add(entries_in(families.as_slice())),
+        Request::Create { families, .. } => slot_count(events).saturating_add(entries_in(
+            families.as_slice(),
+        )) > MOST_SLOTS as u64,
         _ => false,
     }
 }
 
 /// An opening or a wait in a nest that has its most members.
-#[tactic(auto, unfolding(ada_events::specs::Refusals::is_too_deep))]
+#[tactic(auto, unfolding(ada_events::specs::Limits::is_too_deep))]
 pub fn is_too_deep(events: &[Event], request: &Request) -> bool
     requires { length events.now < 2 ^ 32 }
-    ensures { result ≡ refusals.is_too_deep (reverse events.now) request.now }
+    ensures { result ≡ limits.is_too_deep (reverse events.now) request.now }
 {
     match request {
-        Request::Open { by } | Request::Wait { by, .. } => MOST_MEMBERS <= depth(events, *by),
+        Request::Open { by } | Request::Wait { by, .. } => MOST_MEMBERS
+            <= depth(events, *by) as usize,
         _ => false,
     }
 }
 
 /// The journal hasn't room for the most events that one request appends.
-#[tactic(auto, unfolding(ada_events::specs::Refusals::is_full), using(crate::proofs::Loops::length_reversed))]
+#[tactic(auto, unfolding(ada_events::specs::Limits::is_full), using(crate::proofs::Loops::length_reversed))]
 pub fn is_full(events: &[Event]) -> bool
     requires { length events.now < 2 ^ 32 }
-    ensures { result ≡ refusals.is_full (reverse events.now) }
+    ensures { result ≡ limits.is_full (reverse events.now) }
 {
-    MOST_EVENTS < events.len() as u64 + MOST_APPENDED
+    MOST_EVENTS < events.len() + MOST_APPENDED
 }

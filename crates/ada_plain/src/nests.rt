@@ -2,8 +2,8 @@
 //! and hasn't ended.
 ghost use Rattle.std.specs.Prelude.{◌≡◌, ◌<◌, ◌≤◌, ◌+◌, ◌^◌, ◌&&◌, ◌||◌, ◌==◌, not, false, length, reverse, slice_get};
 ghost use Rattle.std.specs.List.{list_any};
-ghost use Rattle.std.specs.Option.{option_map, option_map_or, option_or, option_len};
-ghost use Rattle.ada_events.specs.Search.{is_number, any_event};
+ghost use Rattle.std.specs.Option.{option_map_or, option_or, option_len};
+ghost use Rattle.ada_events.specs.Search.{is_some_and};
 ghost use Rattle.ada_events.specs.Says as said;
 ghost use Rattle.ada_events.specs.Calls as calls;
 ghost use Rattle.ada_events.specs.Nests as nests;
@@ -12,7 +12,8 @@ ghost use Rattle.ada_plain.specs.Frames.{frame_with};
 
 use crate::calls::is_open_call;
 use crate::says;
-use crate::says::{is_position, is_task};
+use crate::says::{is_close_of, is_position, is_wait_by};
+use ada_events::journal::event_in;
 use ada_events::{Event, Master, Member, TaskNo};
 
 /// The close at a position was followed by the task's leaving the block (9.4).
@@ -27,9 +28,9 @@ pub fn is_left_close(events: &[Event], close: u32) -> bool
 }
 
 fn leaves(events: &[Event], block: u32, position: u32, event: &Event) -> bool
-    ensures { result ≡ (is_number block (option_map (λ (c : said.Closing). c.block) (said.closing_in event.now)) && nests.is_left_close (reverse events.now) position) }
+    ensures { result ≡ (is_some_and (said.closing_in event.now) (λ (c : said.Closing). c.block == block) && nests.is_left_close (reverse events.now) position) }
 {
-    is_position(block, says::closed_block_in(event)) && is_left_close(events, position)
+    is_close_of(block, event) && is_left_close(events, position)
 }
 
 /// The block is left.
@@ -45,23 +46,15 @@ pub fn is_left(events: &[Event], block: u32) -> bool
     left
 }
 
-fn is_this_wait(task: TaskNo, wait: u32, position: u32, event: &Event) -> bool
-    ensures { result ≡ ((position == wait) && is_number task.0 (option_map (λ (w : said.Wait). w.by) (said.wait_in event.now))) }
-{
-    position == wait && is_task(task, says::waiter_in(event))
-}
-
 /// The wait at a position is the task's.
-#[tactic(auto, unfolding(ada_events::specs::Nests::is_wait_of, ada_events::specs::Search::any_event), using(crate::proofs::Loops::any_event_more))]
+#[tactic(auto, unfolding(ada_events::specs::Nests::is_wait_of))]
 pub fn is_wait_of(events: &[Event], task: TaskNo, wait: u32) -> bool
-    requires { length events.now < 2 ^ 32 }
     ensures { result ≡ nests.is_wait_of (reverse events.now) task.0 wait }
 {
-    let mut found = false;
-    for (i, event) in events.iter().enumerate() {
-        found = is_this_wait(task, wait, i as u32 + 1, event) || found;
+    match event_in(events, wait) {
+        Some(event) => is_wait_by(task, event),
+        None => false,
     }
-    found
 }
 
 fn is_within_block(events: &[Event], task: TaskNo, by: TaskNo, block: u32) -> bool
@@ -190,7 +183,7 @@ pub fn is_in_rendezvous(events: &[Event], task: TaskNo) -> bool
 
 #[tactic(auto, unfolding(ada_events::specs::Says::call_in))]
 fn calls_family(event: &Event, family: u8) -> bool
-    ensures { result ≡ option_map_or (λ (c : said.Call). c.entry.family == family) (said.call_in event.now) false }
+    ensures { result ≡ is_some_and (said.call_in event.now) (λ (c : said.Call). c.entry.family == family) }
 {
     match event {
         Event::Called { entry, .. } => entry.family == family,
@@ -198,23 +191,14 @@ fn calls_family(event: &Event, family: u8) -> bool
     }
 }
 
-fn is_call_for(call: u32, family: u8, position: u32, event: &Event) -> bool
-    ensures { result ≡ ((position == call) && option_map_or (λ (c : said.Call). c.entry.family == family) (said.call_in event.now) false) }
-{
-    position == call && calls_family(event, family)
-}
-
 // The call at a position is for the family.
-#[tactic(auto, unfolding(ada_events::specs::Search::any_event), using(crate::proofs::Loops::any_event_more))]
 fn has_call_for(events: &[Event], call: u32, family: u8) -> bool
-    requires { length events.now < 2 ^ 32 }
-    ensures { result ≡ any_event (λ p e. (p == call) && option_map_or (λ (c : said.Call). c.entry.family == family) (said.call_in e) false) (reverse events.now) }
+    ensures { result ≡ is_some_and (said.call_at (reverse events.now) call) (λ (c : said.Call). c.entry.family == family) }
 {
-    let mut found = false;
-    for (i, event) in events.iter().enumerate() {
-        found = is_call_for(call, family, i as u32 + 1, event) || found;
+    match event_in(events, call) {
+        Some(event) => calls_family(event, family),
+        None => false,
     }
-    found
 }
 
 #[tactic(auto, unfolding(ada_events::specs::Refusals::is_rendezvous_for))]

@@ -1,5 +1,5 @@
 //! The outcome of a task: that it ended, or what became of its latest doing.
-ghost use Rattle.std.specs.Prelude.{◌≡◌, ◌<◌, ◌≤◌, ◌^◌, ◌++◌, if◌then◌else◌, ◌∷◌, [], length, reverse};
+ghost use Rattle.std.specs.Prelude.{◌≡◌, ◌<◌, ◌^◌, if◌then◌else◌, length, reverse};
 ghost use Rattle.std.specs.Option.{option_map, option_or, option_and_then};
 ghost use Rattle.ada_events.specs.Search.{is_number};
 ghost use Rattle.ada_events.specs.Says as said;
@@ -9,12 +9,9 @@ ghost use Rattle.ada_events.specs.Outcomes as outcomes;
 use crate::phases::{is_completed, is_terminated};
 use crate::says;
 use crate::says::{is_position, is_task};
-use crate::waits::{front_of, picked_delay};
+use crate::waits::taken_choice;
 use ada_events::journal::event_in;
-use ada_events::{Bounded, Choice, Event, Outcome, TaskNo, Way};
-
-/// The numbers of a wait's selectable choices, at most 16.
-pub type ChoiceNumbers = Bounded<u8, 16>;
+use ada_events::{Event, Outcome, TaskNo, Way};
 
 /// The task that ends a rendezvous by an exception (11.5).
 #[tactic(auto, unfolding(ada_events::specs::Outcomes::raised_in))]
@@ -31,51 +28,11 @@ pub fn raised_in(event: &Event) -> Option<TaskNo>
     }
 }
 
-/// A call is at the front of an open choice's queue.
-#[tactic(auto, unfolding(ada_events::specs::Outcomes::is_selectable))]
-pub fn is_selectable(events: &[Event], task: TaskNo, choice: Choice) -> bool
+// The choice by which the wait that the event is takes a call, counted over all of its choices from 0.
+#[tactic(auto, unfolding(ada_events::specs::Waits::taken_choice, ada_events::specs::Says::wait_in))]
+fn choice_taken_in(events: &[Event], event: &Event) -> Option<u8>
     requires { length events.now < 2 ^ 32 }
-    ensures { result ≡ outcomes.is_selectable (reverse events.now) task.0 choice }
-{
-    front_of(events, task, choice).is_some()
-}
-
-fn push_if(numbers: &mut ChoiceNumbers, passes: bool, number: u8)
-    requires { length numbers.old < 16 }
-    ensures { numbers.new ≡ numbers.old ++ (if passes then number ∷ [] else []) }
-{
-    if passes {
-        numbers.push(number);
-    }
-}
-
-/// The numbers of the selectable choices, counted over all from 0.
-#[tactic(auto, unfolding(ada_events::specs::Outcomes::numbers_from))]
-pub fn selectable(events: &[Event], task: TaskNo, choices: &[Choice]) -> ChoiceNumbers
-    requires few { length choices.now ≤ 16 }
-    requires short { length events.now < 2 ^ 32 }
-    ensures { result ≡ outcomes.numbers_from (outcomes.is_selectable (reverse events.now) task.0) 0 choices.now }
-{
-    let mut numbers = ChoiceNumbers::new();
-    for (i, choice) in choices.iter().enumerate() {
-        push_if(&mut numbers, is_selectable(events, task, *choice), i as u8);
-    }
-    numbers
-}
-
-fn picked_choice(events: &[Event], task: TaskNo, choices: &[Choice], pick: u32) -> Option<u8>
-    requires few { length choices.now ≤ 16 }
-    requires short { length events.now < 2 ^ 32 }
-    ensures { result ≡ waits.picked pick (outcomes.numbers_from (outcomes.is_selectable (reverse events.now) task.0) 0 choices.now) }
-{
-    picked_delay(pick, selectable(events, task, choices).as_slice())
-}
-
-/// The choice by which a wait takes a call (9.7.1), counted over all of its choices from 0.
-#[tactic(auto, unfolding(ada_events::specs::Outcomes::taken_choice, ada_events::specs::Says::wait_in))]
-pub fn taken_choice(events: &[Event], event: &Event) -> Option<u8>
-    requires { length events.now < 2 ^ 32 }
-    ensures { result ≡ option_and_then (outcomes.taken_choice (reverse events.now)) (said.wait_in event.now) }
+    ensures { result ≡ option_and_then (waits.taken_choice (reverse events.now)) (said.wait_in event.now) }
 {
     match event {
         Event::Waiting {
@@ -83,7 +40,7 @@ pub fn taken_choice(events: &[Event], event: &Event) -> Option<u8>
             choices,
             pick,
             ..
-        } => picked_choice(events, *by, choices.as_slice(), *pick),
+        } => taken_choice(events, *by, choices.as_slice(), *pick),
         _ => None,
     }
 }
@@ -95,7 +52,7 @@ pub fn choice_met(events: &[Event], wait: u32) -> u8
     ensures { result ≡ outcomes.choice_met (reverse events.now) wait }
 {
     match event_in(events, wait) {
-        Some(event) => taken_choice(events, event).unwrap_or(0),
+        Some(event) => choice_taken_in(events, event).unwrap_or(0),
         None => 0,
     }
 }

@@ -25,6 +25,17 @@ pub fn lists_task(tasks: &[TaskNo], task: TaskNo) -> bool
     tasks.iter().any(|other| other.0 == task.0)
 }
 
+/// A start names the task (9.3).
+#[tactic(auto, unfolding(ada_events::specs::Phases::has_start))]
+pub fn has_start(events: &[Event], task: TaskNo) -> bool
+    ensures { result ≡ phases.has_start (reverse events.now) task.0 }
+{
+    events
+        .iter()
+        .rev()
+        .any(|event| lists_task(says::started_in(event), task))
+}
+
 /// The task has ended its activation, or is the main program (9.3).
 #[tactic(auto, unfolding(ada_events::specs::Phases::is_elaborated))]
 pub fn is_elaborated(events: &[Event], task: TaskNo) -> bool

@@ -1,17 +1,17 @@
 //! The causes for which a request is refused, each a test, and the first that applies.
-ghost use Rattle.std.specs.Prelude.{◌≡◌, ◌<◌, ◌≤◌, ◌^◌, ◌+◌, ◌&&◌, ◌||◌, ◌==◌, nat_le, nat_lt, not, false, true, length, reverse, slice_get, int_lt, if◌then◌else◌, is_none};
+ghost use Rattle.std.specs.Prelude.{◌≡◌, ◌<◌, ◌≤◌, ◌^◌, ◌+◌, ◌&&◌, ◌||◌, ◌==◌, nat_lt, not, false, true, length, reverse, slice_get, int_lt, if◌then◌else◌, is_none};
 ghost use Rattle.std.specs.List.{list_any};
 ghost use Rattle.std.specs.Option.{option_map, option_map_or, option_or};
 ghost use Rattle.ada_events.specs.declared.event.Event.{Event as EventValue};
 ghost use Rattle.ada_events.specs.declared.names.TaskNo.{TaskNo as Task};
 ghost use Rattle.ada_events.specs.declared.names.Choice.{Choice as ChoiceValue};
 ghost use Rattle.ada_events.specs.declared.names.Family.{Family as FamilyValue};
+ghost use Rattle.ada_events.specs.Search.{is_some_and};
 ghost use Rattle.ada_events.specs.Says as said;
 ghost use Rattle.ada_events.specs.Phases as phases;
 ghost use Rattle.ada_events.specs.Entries as entries;
 ghost use Rattle.ada_events.specs.Asks as asks;
 ghost use Rattle.ada_events.specs.Refusals as refusals;
-ghost use Rattle.ada_plain.specs.Causes.{causes_by_name, causes_by_entry, causes_by_nest, causes_by_limit};
 ghost use Rattle.ada_events.specs.Nests as nests;
 ghost use Rattle.ada_events.specs.Tasks.{task_count as count_of_tasks, creation_of};
 
@@ -20,8 +20,7 @@ use crate::limits::{
 };
 use crate::masters::reaches;
 use crate::nests::{depth, frame, innermost, is_in_rendezvous, is_in_rendezvous_for};
-use crate::phases::{is_elaborated, is_running, lists_task};
-use crate::says;
+use crate::phases::{has_start, is_elaborated, is_running, lists_task};
 use crate::tasks::{families, making_of, task_count};
 use ada_events::{Choice, Entry, Event, Family, Master, Member, Refusal, Request, Tail, TaskNo};
 
@@ -46,30 +45,30 @@ pub fn asker(request: &Request) -> Option<TaskNo>
     }
 }
 
-fn is_unknown(count: u64, task: TaskNo) -> bool
-    ensures { result ≡ nat_le count task.0 }
+fn is_known(count: u64, task: TaskNo) -> bool
+    ensures { result ≡ nat_lt task.0 count }
 {
-    count <= u64::from(task.0)
+    u64::from(task.0) < count
 }
 
 fn lists_unknown(count: u64, tasks: &[TaskNo]) -> bool
-    ensures { result ≡ list_any (λ (t : Task). nat_le count t.0) tasks.now }
+    ensures { result ≡ list_any (λ (t : Task). not (nat_lt t.0 count)) tasks.now }
 {
-    tasks.iter().any(|task| is_unknown(count, *task))
+    tasks.iter().any(|task| !is_known(count, *task))
 }
 
 fn is_unknown_body(count: u64, master: Master) -> bool
-    ensures { result ≡ list_any (λ (t : Task). nat_le count t.0) (asks.body_task master) }
+    ensures { result ≡ list_any (λ (t : Task). not (nat_lt t.0 count)) (asks.body_task master) }
 {
     match master {
-        Master::Body(task) => is_unknown(count, task),
+        Master::Body(task) => !is_known(count, task),
         Master::Block(_) => false,
     }
 }
 
 #[tactic(auto, unfolding(ada_events::specs::Asks::named_tasks))]
 fn names_unknown(count: u64, request: &Request) -> bool
-    ensures { result ≡ list_any (λ (t : Task). nat_le count t.0) (asks.named_tasks request.now) }
+    ensures { result ≡ list_any (λ (t : Task). not (nat_lt t.0 count)) (asks.named_tasks request.now) }
 {
     match request {
         Request::Create { master, .. } => is_unknown_body(count, *master),
@@ -77,16 +76,16 @@ fn names_unknown(count: u64, request: &Request) -> bool
             count,
             tasks.as_slice(),
         ),
-        Request::Call { callee, .. } => is_unknown(count, *callee),
+        Request::Call { callee, .. } => !is_known(count, *callee),
         _ => false,
     }
 }
 
 fn is_unknown_asker(count: u64, asker: Option<TaskNo>) -> bool
-    ensures { result ≡ option_map_or (nat_le count) (option_map (λ (t : Task). t.0) asker) false }
+    ensures { result ≡ is_some_and (option_map (λ (t : Task). t.0) asker) (λ t. not (nat_lt t count)) }
 {
     match asker {
-        Some(task) => is_unknown(count, task),
+        Some(task) => !is_known(count, task),
         None => false,
     }
 }
@@ -102,7 +101,7 @@ fn names_unknown_task(events: &[Event], request: &Request) -> bool
 
 fn is_halted_asker(events: &[Event], asker: Option<TaskNo>) -> bool
     requires { length events.now < 2 ^ 32 }
-    ensures { result ≡ option_map_or (λ t. not (phases.is_running (reverse events.now) t)) (option_map (λ (t : Task). t.0) asker) false }
+    ensures { result ≡ is_some_and (option_map (λ (t : Task). t.0) asker) (λ t. not (phases.is_running (reverse events.now) t)) }
 {
     match asker {
         Some(task) => !is_running(events, task),
@@ -164,19 +163,9 @@ fn has_empty_list(request: &Request) -> bool
     }
 }
 
-#[tactic(auto, unfolding(ada_events::specs::Refusals::was_started))]
-fn was_started(events: &[Event], task: TaskNo) -> bool
-    ensures { result ≡ refusals.was_started (reverse events.now) task.0 }
-{
-    events
-        .iter()
-        .rev()
-        .any(|event| lists_task(says::started_in(event), task))
-}
-
 fn is_made_by(events: &[Event], by: TaskNo, task: TaskNo) -> bool
     requires { length events.now < 2 ^ 32 }
-    ensures { result ≡ option_map_or (λ (c : said.Creation). c.by == by.0) (creation_of (reverse events.now) task.0) false }
+    ensures { result ≡ is_some_and (creation_of (reverse events.now) task.0) (λ (c : said.Creation). c.by == by.0) }
 {
     match making_of(events, task) {
         Some(making) => making.by.0 == by.0,
@@ -184,19 +173,19 @@ fn is_made_by(events: &[Event], by: TaskNo, task: TaskNo) -> bool
     }
 }
 
-#[tactic(auto, unfolding(ada_events::specs::Refusals::is_to_activate))]
-fn is_to_activate(events: &[Event], by: TaskNo, task: TaskNo) -> bool
+#[tactic(auto, unfolding(ada_events::specs::Refusals::may_activate))]
+fn may_activate(events: &[Event], by: TaskNo, task: TaskNo) -> bool
     requires { length events.now < 2 ^ 32 }
-    ensures { result ≡ refusals.is_to_activate (reverse events.now) by.0 task.0 }
+    ensures { result ≡ refusals.may_activate (reverse events.now) by.0 task.0 }
 {
-    is_made_by(events, by, task) && !was_started(events, task)
+    is_made_by(events, by, task) && !has_start(events, task)
 }
 
 fn lists_anothers(events: &[Event], by: TaskNo, tasks: &[TaskNo]) -> bool
     requires { length events.now < 2 ^ 32 }
-    ensures { result ≡ list_any (λ (t : Task). not (refusals.is_to_activate (reverse events.now) by.0 t.0)) tasks.now }
+    ensures { result ≡ list_any (λ (t : Task). not (refusals.may_activate (reverse events.now) by.0 t.0)) tasks.now }
 {
-    tasks.iter().any(|task| !is_to_activate(events, by, *task))
+    tasks.iter().any(|task| !may_activate(events, by, *task))
 }
 
 /// A task stands twice in a list.
@@ -215,7 +204,7 @@ pub fn has_double_task(tasks: &[TaskNo]) -> bool
 
 fn is_not_to_activate(events: &[Event], by: TaskNo, tasks: &[TaskNo]) -> bool
     requires { length events.now < 2 ^ 32 }
-    ensures { result ≡ (list_any (λ (t : Task). not (refusals.is_to_activate (reverse events.now) by.0 t.0)) tasks.now || refusals.has_double_task tasks.now) }
+    ensures { result ≡ (list_any (λ (t : Task). not (refusals.may_activate (reverse events.now) by.0 t.0)) tasks.now || refusals.has_double_task tasks.now) }
 {
     lists_anothers(events, by, tasks) || has_double_task(tasks)
 }
@@ -408,7 +397,7 @@ fn aborts_main(request: &Request) -> bool
 #[tactic(auto, unfolding(ada_events::specs::Refusals::first_cause))]
 fn refused_name(events: &[Event], request: &Request) -> Option<Refusal>
     requires { length events.now < 2 ^ 32 }
-    ensures { result ≡ refusals.first_cause (causes_by_name (reverse events.now) request.now) }
+    ensures { result ≡ refusals.first_cause (refusals.causes_by_name (reverse events.now) request.now) }
 {
     if names_unknown_task(events, request) {
         return Some(Refusal::UnknownTask);
@@ -435,7 +424,7 @@ fn refused_name(events: &[Event], request: &Request) -> Option<Refusal>
 #[tactic(auto, unfolding(ada_events::specs::Refusals::first_cause))]
 fn refused_entry(events: &[Event], request: &Request) -> Option<Refusal>
     requires { length events.now < 2 ^ 32 }
-    ensures { result ≡ refusals.first_cause (causes_by_entry (reverse events.now) request.now) }
+    ensures { result ≡ refusals.first_cause (refusals.causes_by_entry (reverse events.now) request.now) }
 {
     if is_not_your_task(events, request) {
         return Some(Refusal::NotYourTask);
@@ -456,7 +445,7 @@ fn refused_entry(events: &[Event], request: &Request) -> Option<Refusal>
 #[tactic(auto, unfolding(ada_events::specs::Refusals::first_cause))]
 fn refused_nest(events: &[Event], request: &Request) -> Option<Refusal>
     requires { length events.now < 2 ^ 32 }
-    ensures { result ≡ refusals.first_cause (causes_by_nest (reverse events.now) request.now) }
+    ensures { result ≡ refusals.first_cause (refusals.causes_by_nest (reverse events.now) request.now) }
 {
     if nests_same_family(events, request) {
         return Some(Refusal::SameFamilyNested);
@@ -480,7 +469,7 @@ fn refused_nest(events: &[Event], request: &Request) -> Option<Refusal>
 #[tactic(auto, unfolding(ada_events::specs::Refusals::first_cause))]
 fn refused_limit(events: &[Event], request: &Request) -> Option<Refusal>
     requires { length events.now < 2 ^ 32 }
-    ensures { result ≡ refusals.first_cause (causes_by_limit (reverse events.now) request.now) }
+    ensures { result ≡ refusals.first_cause (refusals.causes_by_limit (reverse events.now) request.now) }
 {
     if aborts_main(request) {
         return Some(Refusal::MainTask);

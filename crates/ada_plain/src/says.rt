@@ -1,8 +1,8 @@
 //! What one event says.
-ghost use Rattle.std.specs.Prelude.{◌≡◌};
+ghost use Rattle.std.specs.Prelude.{◌≡◌, ◌==◌};
 ghost use Rattle.std.specs.Option.{option_map};
 ghost use Rattle.ada_events.specs.Says as says;
-ghost use Rattle.ada_events.specs.Search.{is_number};
+ghost use Rattle.ada_events.specs.Search.{is_number, is_some_and};
 
 use ada_events::{Event, Master, TaskNo};
 
@@ -158,57 +158,57 @@ pub fn left_in(event: &Event) -> Option<u32>
     }
 }
 
-/// The call with which an event begins a rendezvous (9.5).
+/// With the call the event begins a rendezvous (9.5).
 #[tactic(auto, unfolding(ada_events::specs::Says::meeting_in))]
-pub fn met_call_in(event: &Event) -> Option<u32>
-    ensures { result ≡ option_map (λ (m : says.Meeting). m.call) (says.meeting_in event.now) }
+pub fn is_meeting_of(call: u32, event: &Event) -> bool
+    ensures { result ≡ is_some_and (says.meeting_in event.now) (λ (m : says.Meeting). m.call == call) }
 {
     match event {
-        Event::Met { call, .. } => Some(*call),
-        _ => None,
+        Event::Met { call: met, .. } => *met == call,
+        _ => false,
     }
 }
 
-/// The task that an event makes a caller (9.5).
+/// The event is a call by the task (9.5).
 #[tactic(auto, unfolding(ada_events::specs::Says::call_in))]
-pub fn caller_in(event: &Event) -> Option<TaskNo>
-    ensures { option_map (λ (t : TaskNo). t.0) result ≡ option_map (λ (c : says.Call). c.by) (says.call_in event.now) }
+pub fn is_call_by(task: TaskNo, event: &Event) -> bool
+    ensures { result ≡ is_some_and (says.call_in event.now) (λ (c : says.Call). c.by == task.0) }
 {
     match event {
-        Event::Called { by, .. } => Some(*by),
-        _ => None,
+        Event::Called { by, .. } => by.0 == task.0,
+        _ => false,
     }
 }
 
-/// The task that an event calls (9.5).
+/// The event is a call to the task (9.5).
 #[tactic(auto, unfolding(ada_events::specs::Says::call_in))]
-pub fn callee_in(event: &Event) -> Option<TaskNo>
-    ensures { option_map (λ (t : TaskNo). t.0) result ≡ option_map (λ (c : says.Call). c.callee) (says.call_in event.now) }
+pub fn is_call_to(task: TaskNo, event: &Event) -> bool
+    ensures { result ≡ is_some_and (says.call_in event.now) (λ (c : says.Call). c.callee == task.0) }
 {
     match event {
-        Event::Called { callee, .. } => Some(*callee),
-        _ => None,
+        Event::Called { callee, .. } => callee.0 == task.0,
+        _ => false,
     }
 }
 
-/// The task that an event makes wait (9.7.1).
+/// The event is a wait by the task (9.7.1).
 #[tactic(auto, unfolding(ada_events::specs::Says::wait_in))]
-pub fn waiter_in(event: &Event) -> Option<TaskNo>
-    ensures { option_map (λ (t : TaskNo). t.0) result ≡ option_map (λ (w : says.Wait). w.by) (says.wait_in event.now) }
+pub fn is_wait_by(task: TaskNo, event: &Event) -> bool
+    ensures { result ≡ is_some_and (says.wait_in event.now) (λ (w : says.Wait). w.by == task.0) }
 {
     match event {
-        Event::Waiting { by, .. } => Some(*by),
-        _ => None,
+        Event::Waiting { by, .. } => by.0 == task.0,
+        _ => false,
     }
 }
 
-/// The block whose end an event reaches (9.4).
+/// The event is a close of the block (9.4).
 #[tactic(auto, unfolding(ada_events::specs::Says::closing_in))]
-pub fn closed_block_in(event: &Event) -> Option<u32>
-    ensures { result ≡ option_map (λ (c : says.Closing). c.block) (says.closing_in event.now) }
+pub fn is_close_of(block: u32, event: &Event) -> bool
+    ensures { result ≡ is_some_and (says.closing_in event.now) (λ (c : says.Closing). c.block == block) }
 {
     match event {
-        Event::Closed { block, .. } => Some(*block),
-        _ => None,
+        Event::Closed { block: closed, .. } => *closed == block,
+        _ => false,
     }
 }

@@ -5,6 +5,7 @@ ghost use Rattle.std.specs.Bool.{then_some};
 ghost use Rattle.ada_events.specs.declared.names.Entry.{Entry as EntryValue};
 ghost use Rattle.ada_events.specs.Says as said;
 ghost use Rattle.ada_events.specs.Entries as entries;
+ghost use Rattle.ada_events.specs.Limits as limits;
 ghost use Rattle.ada_events.specs.Refusals as refusals;
 ghost use Rattle.ada_events.specs.Slots as places;
 ghost use Rattle.ada_events.specs.Lawful.{IsLawful};
@@ -65,7 +66,7 @@ fn behind(first: u64, number: Option<u64>) -> Option<u64>
 // The slot of an entry of the task that an event makes, at most 2^64 - 1.
 #[tactic(auto, unfolding(ada_events::specs::Says::creation_in), using(crate::proofs::Places::capped_sum))]
 fn slot_in(before: &[Event], event: &Event, entry: Entry) -> Option<u64>
-    ensures { result ≡ option_map capped (option_and_then (λ (c : said.Creation). option_map (λ n. refusals.slot_count (reverse before.now) + n) (places.number_within c.families entry)) (said.creation_in event.now)) }
+    ensures { result ≡ option_map capped (option_and_then (λ (c : said.Creation). option_map (λ n. limits.slot_count (reverse before.now) + n) (places.number_within c.families entry)) (said.creation_in event.now)) }
 {
     match event {
         Event::Created { families, .. } => behind(
@@ -78,7 +79,7 @@ fn slot_in(before: &[Event], event: &Event, entry: Entry) -> Option<u64>
 
 // The slot of an entry of a task where the event makes it as the one of that number, at most 2^64 - 1.
 fn slot_made(before: &[Event], event: &Event, task: TaskNo, entry: Entry, count: u64) -> Option<u64>
-    ensures { result ≡ option_map capped (if task.0 == count then option_and_then (λ (c : said.Creation). option_map (λ n. refusals.slot_count (reverse before.now) + n) (places.number_within c.families entry)) (said.creation_in event.now) else None) }
+    ensures { result ≡ option_map capped (if task.0 == count then option_and_then (λ (c : said.Creation). option_map (λ n. limits.slot_count (reverse before.now) + n) (places.number_within c.families entry)) (said.creation_in event.now) else None) }
 {
     if u64::from(task.0) == count {
         slot_in(before, event, entry)
@@ -194,7 +195,7 @@ fn later_entry(
 }
 
 /// The entry at a slot; none behind the last.
-#[tactic(auto, unfolding(ada_events::specs::Slots::entry_at, ada_events::specs::Tasks::task_count, ada_events::specs::Refusals::slot_count), using(crate::proofs::Loops::task_count_more, crate::proofs::SlotSums::slot_count_more, crate::proofs::Places::entry_at_more))]
+#[tactic(auto, unfolding(ada_events::specs::Slots::entry_at, ada_events::specs::Tasks::task_count, ada_events::specs::Limits::slot_count), using(crate::proofs::Loops::task_count_more, crate::proofs::SlotSums::slot_count_more, crate::proofs::Places::entry_at_more))]
 pub fn entry_at(events: &[Event], slot: u16) -> Option<TaskEntry>
     requires { length events.now < 2 ^ 32 }
     ensures { option_map place_seen result ≡ places.entry_at (reverse events.now) slot }

@@ -64,6 +64,14 @@ pub fn task_count(events: &[Event]) -> u64
     count
 }
 
+/// There is a task of that number.
+pub fn has_task(events: &[Event], task: TaskNo) -> bool
+    requires { length events.now < 2 ^ 32 }
+    ensures { result ≡ tasks.has_task (reverse events.now) task.0 }
+{
+    u64::from(task.0) < task_count(events)
+}
+
 /// The creation of the task of that number, if the event is its creation.
 fn making_at(event: &Event, task: TaskNo, count: u64) -> Option<Making<'_>>
     ensures { option_map creation_seen result ≡ (if task.0 == count then creation_in event.now else None) }

@@ -2,22 +2,22 @@
 //! are ready to quit.
 ghost use Rattle.std.specs.Prelude.{◌≡◌, ◌<◌, ◌≤◌, ◌^◌, ◌&&◌, ◌||◌, ◌==◌, not, false, length, reverse};
 ghost use Rattle.std.specs.List.{list_any};
-ghost use Rattle.std.specs.Option.{option_map, option_map_or};
 ghost use Rattle.ada_events.specs.declared.event.Event.{Event as EventValue};
-ghost use Rattle.ada_events.specs.Search.{is_number, any_event, all_below};
+ghost use Rattle.ada_events.specs.Search.{is_some_and, any_event, all_below};
 ghost use Rattle.ada_events.specs.Says as said;
 ghost use Rattle.ada_events.specs.Phases as phases;
 ghost use Rattle.ada_events.specs.Masters as masters;
 ghost use Rattle.ada_events.specs.Calls as calls;
+ghost use Rattle.ada_events.specs.Termination as ending;
 ghost use Rattle.ada_events.specs.Forced as forced;
 ghost use Rattle.ada_events.specs.Tasks.{task_count as count_of_tasks, creation_of};
 
 use crate::calls::is_queued_at;
 use crate::masters::depends_on;
-use crate::phases::{has_ended, is_completed, is_released, is_terminated, lists_task};
-use crate::says;
-use crate::says::{is_position, is_task};
+use crate::phases::{has_ended, has_start, is_completed, is_released, is_terminated};
+use crate::says::{is_call_to, is_close_of};
 use crate::tasks::{making_of, task_count};
+use ada_events::journal::event_in;
 use ada_events::{Event, EventTail, Master, TaskNo};
 
 fn is_terminated_if_dependent(events: &[Event], task: TaskNo, master: Master) -> bool
@@ -28,11 +28,11 @@ fn is_terminated_if_dependent(events: &[Event], task: TaskNo, master: Master) ->
 }
 
 /// Every dependent of the master is terminated.
-#[tactic(auto, unfolding(ada_events::specs::Forced::all_terminated, ada_events::specs::Search::all_below), using(crate::proofs::Numbers::all_below_more))]
+#[tactic(auto, unfolding(ada_events::specs::Termination::all_terminated, ada_events::specs::Search::all_below), using(crate::proofs::Numbers::all_below_more))]
 pub fn all_terminated(events: &[Event], master: Master) -> bool
     requires short { length events.now < 2 ^ 32 }
     requires few { count_of_tasks (reverse events.now) ≤ 256 }
-    ensures { result ≡ forced.all_terminated (reverse events.now) master }
+    ensures { result ≡ ending.all_terminated (reverse events.now) master }
 {
     let mut all = true;
     for task in 0..task_count(events) as u16 {
@@ -43,18 +43,15 @@ pub fn all_terminated(events: &[Event], master: Master) -> bool
 
 // A close of the block is in the journal.
 fn has_close(events: &[Event], block: u32) -> bool
-    ensures { result ≡ list_any (λ (e : EventValue). is_number block (option_map (λ (c : said.Closing). c.block) (said.closing_in e))) (reverse events.now) }
+    ensures { result ≡ list_any (λ (e : EventValue). is_some_and (said.closing_in e) (λ (c : said.Closing). c.block == block)) (reverse events.now) }
 {
-    events
-        .iter()
-        .rev()
-        .any(|event| is_position(block, says::closed_block_in(event)))
+    events.iter().rev().any(|event| is_close_of(block, event))
 }
 
 #[tactic(auto, unfolding(ada_events::specs::Says::opening_in))]
 fn is_by_ended(events: &[Event], event: &Event) -> bool
     requires { length events.now < 2 ^ 32 }
-    ensures { result ≡ option_map_or (λ (o : said.Opening). phases.has_ended (reverse events.now) o.by) (said.opening_in event.now) false }
+    ensures { result ≡ is_some_and (said.opening_in event.now) (λ (o : said.Opening). phases.has_ended (reverse events.now) o.by) }
 {
     match event {
         Event::Opened { by, .. } => has_ended(events, *by),
@@ -62,40 +59,31 @@ fn is_by_ended(events: &[Event], event: &Event) -> bool
     }
 }
 
-fn is_ended_block(events: &[Event], block: u32, position: u32, event: &Event) -> bool
-    requires { length events.now < 2 ^ 32 }
-    ensures { result ≡ ((position == block) && option_map_or (λ (o : said.Opening). phases.has_ended (reverse events.now) o.by) (said.opening_in event.now) false) }
-{
-    position == block && is_by_ended(events, event)
-}
-
 // The task of the block has ended.
-#[tactic(auto, unfolding(ada_events::specs::Search::any_event), using(crate::proofs::Loops::any_event_more))]
 fn has_ended_task(events: &[Event], block: u32) -> bool
     requires { length events.now < 2 ^ 32 }
-    ensures { result ≡ any_event (λ p e. (p == block) && option_map_or (λ (o : said.Opening). phases.has_ended (reverse events.now) o.by) (said.opening_in e) false) (reverse events.now) }
+    ensures { result ≡ is_some_and (said.opening_at (reverse events.now) block) (λ (o : said.Opening). phases.has_ended (reverse events.now) o.by) }
 {
-    let mut found = false;
-    for (i, event) in events.iter().enumerate() {
-        found = is_ended_block(events, block, i as u32 + 1, event) || found;
+    match event_in(events, block) {
+        Some(event) => is_by_ended(events, event),
+        None => false,
     }
-    found
 }
 
 /// The block has its close, or its task has ended.
-#[tactic(auto, unfolding(ada_events::specs::Forced::is_complete_block))]
+#[tactic(auto, unfolding(ada_events::specs::Termination::is_complete_block))]
 pub fn is_complete_block(events: &[Event], block: u32) -> bool
     requires { length events.now < 2 ^ 32 }
-    ensures { result ≡ forced.is_complete_block (reverse events.now) block }
+    ensures { result ≡ ending.is_complete_block (reverse events.now) block }
 {
     has_close(events, block) || has_ended_task(events, block)
 }
 
 /// The master is complete (9.4).
-#[tactic(auto, unfolding(ada_events::specs::Forced::is_complete))]
+#[tactic(auto, unfolding(ada_events::specs::Termination::is_complete))]
 pub fn is_complete(events: &[Event], master: Master) -> bool
     requires { length events.now < 2 ^ 32 }
-    ensures { result ≡ forced.is_complete (reverse events.now) master }
+    ensures { result ≡ ending.is_complete (reverse events.now) master }
 {
     match master {
         Master::Body(task) => is_completed(events, task),
@@ -103,27 +91,9 @@ pub fn is_complete(events: &[Event], master: Master) -> bool
     }
 }
 
-// A start of the task's activation is in the journal.
-fn has_start(events: &[Event], task: TaskNo) -> bool
-    ensures { result ≡ list_any (λ (e : EventValue). phases.lists_task task.0 (said.started_in e)) (reverse events.now) }
-{
-    events
-        .iter()
-        .rev()
-        .any(|event| lists_task(says::started_in(event), task))
-}
-
-/// No activation of the task was ever started (9.3).
-#[tactic(auto, unfolding(ada_events::specs::Forced::is_never_started))]
-pub fn is_never_started(events: &[Event], task: TaskNo) -> bool
-    ensures { result ≡ forced.is_never_started (reverse events.now) task.0 }
-{
-    !has_start(events, task)
-}
-
 fn is_made_in_vain(events: &[Event], under: Master, by: TaskNo) -> bool
     requires { length events.now < 2 ^ 32 }
-    ensures { result ≡ (forced.is_complete (reverse events.now) under || phases.is_terminated (reverse events.now) by.0) }
+    ensures { result ≡ (ending.is_complete (reverse events.now) under || phases.is_terminated (reverse events.now) by.0) }
 {
     is_complete(events, under) || is_terminated(events, by)
 }
@@ -131,7 +101,7 @@ fn is_made_in_vain(events: &[Event], under: Master, by: TaskNo) -> bool
 // What the task was made within is complete, or its maker is terminated.
 fn has_lost_its_maker(events: &[Event], task: TaskNo) -> bool
     requires { length events.now < 2 ^ 32 }
-    ensures { result ≡ option_map_or (λ (c : said.Creation). forced.is_complete (reverse events.now) c.under || phases.is_terminated (reverse events.now) c.by) (creation_of (reverse events.now) task.0) false }
+    ensures { result ≡ is_some_and (creation_of (reverse events.now) task.0) (λ (c : said.Creation). ending.is_complete (reverse events.now) c.under || phases.is_terminated (reverse events.now) c.by) }
 {
     match making_of(events, task) {
         Some(making) => is_made_in_vain(events, making.under, making.by),
@@ -140,26 +110,26 @@ fn has_lost_its_maker(events: &[Event], task: TaskNo) -> bool
 }
 
 /// The task will never be activated (9.3, 9.4).
-#[tactic(auto, unfolding(ada_events::specs::Forced::is_abandoned))]
+#[tactic(auto, unfolding(ada_events::specs::Termination::is_abandoned))]
 pub fn is_abandoned(events: &[Event], task: TaskNo) -> bool
     requires { length events.now < 2 ^ 32 }
-    ensures { result ≡ forced.is_abandoned (reverse events.now) task.0 }
+    ensures { result ≡ ending.is_abandoned (reverse events.now) task.0 }
 {
-    has_lost_its_maker(events, task) && is_never_started(events, task)
+    has_lost_its_maker(events, task) && !has_start(events, task)
 }
 
 fn is_queued_call_to(events: &[Event], task: TaskNo, position: u32, event: &Event) -> bool
     requires { length events.now < 2 ^ 32 }
-    ensures { result ≡ (is_number task.0 (option_map (λ (c : said.Call). c.callee) (said.call_in event.now)) && calls.is_queued_at (reverse events.now) position event.now) }
+    ensures { result ≡ (is_some_and (said.call_in event.now) (λ (c : said.Call). c.callee == task.0) && calls.is_queued_at (reverse events.now) position event.now) }
 {
-    is_task(task, says::callee_in(event)) && is_queued_at(events, position, event)
+    is_call_to(task, event) && is_queued_at(events, position, event)
 }
 
 // A call is queued at an entry of the task.
 #[tactic(auto, unfolding(ada_events::specs::Search::any_event), using(crate::proofs::Loops::any_event_more))]
 fn has_queued_call(events: &[Event], task: TaskNo) -> bool
     requires { length events.now < 2 ^ 32 }
-    ensures { result ≡ any_event (λ p e. is_number task.0 (option_map (λ (c : said.Call). c.callee) (said.call_in e)) && calls.is_queued_at (reverse events.now) p e) (reverse events.now) }
+    ensures { result ≡ any_event (λ p e. is_some_and (said.call_in e) (λ (c : said.Call). c.callee == task.0) && calls.is_queued_at (reverse events.now) p e) (reverse events.now) }
 {
     let mut found = false;
     for (i, event) in events.iter().enumerate() {
@@ -169,7 +139,7 @@ fn has_queued_call(events: &[Event], task: TaskNo) -> bool
 }
 
 fn is_open_terminate(tail: &EventTail) -> bool
-    ensures { result ≡ forced.is_open_terminate tail.now }
+    ensures { result ≡ ending.is_open_terminate tail.now }
 {
     match tail {
         EventTail::Terminate(guard) => *guard,
@@ -178,14 +148,14 @@ fn is_open_terminate(tail: &EventTail) -> bool
 }
 
 fn is_quittable_by(task: TaskNo, by: TaskNo, tail: &EventTail) -> bool
-    ensures { result ≡ ((by.0 == task.0) && forced.is_open_terminate tail.now) }
+    ensures { result ≡ ((by.0 == task.0) && ending.is_open_terminate tail.now) }
 {
     by.0 == task.0 && is_open_terminate(tail)
 }
 
 #[tactic(auto, unfolding(ada_events::specs::Says::wait_in))]
 fn is_quittable_wait(task: TaskNo, event: &Event) -> bool
-    ensures { result ≡ option_map_or (λ (w : said.Wait). (w.by == task.0) && forced.is_open_terminate w.tail) (said.wait_in event.now) false }
+    ensures { result ≡ is_some_and (said.wait_in event.now) (λ (w : said.Wait). (w.by == task.0) && ending.is_open_terminate w.tail) }
 {
     match event {
         Event::Waiting { by, tail, .. } => is_quittable_by(task, *by, tail),
@@ -194,7 +164,7 @@ fn is_quittable_wait(task: TaskNo, event: &Event) -> bool
 }
 
 fn is_held_at_terminate(events: &[Event], task: TaskNo, position: u32, event: &Event) -> bool
-    ensures { result ≡ (option_map_or (λ (w : said.Wait). (w.by == task.0) && forced.is_open_terminate w.tail) (said.wait_in event.now) false && not (phases.is_released (reverse events.now) position)) }
+    ensures { result ≡ (is_some_and (said.wait_in event.now) (λ (w : said.Wait). (w.by == task.0) && ending.is_open_terminate w.tail) && not (phases.is_released (reverse events.now) position)) }
 {
     is_quittable_wait(task, event) && !is_released(events, position)
 }
@@ -203,7 +173,7 @@ fn is_held_at_terminate(events: &[Event], task: TaskNo, position: u32, event: &E
 #[tactic(auto, unfolding(ada_events::specs::Search::any_event), using(crate::proofs::Loops::any_event_more))]
 fn is_at_terminate(events: &[Event], task: TaskNo) -> bool
     requires { length events.now < 2 ^ 32 }
-    ensures { result ≡ any_event (λ p e. option_map_or (λ (w : said.Wait). (w.by == task.0) && forced.is_open_terminate w.tail) (said.wait_in e) false && not (phases.is_released (reverse events.now) p)) (reverse events.now) }
+    ensures { result ≡ any_event (λ p e. is_some_and (said.wait_in e) (λ (w : said.Wait). (w.by == task.0) && ending.is_open_terminate w.tail) && not (phases.is_released (reverse events.now) p)) (reverse events.now) }
 {
     let mut found = false;
     for (i, event) in events.iter().enumerate() {
@@ -214,17 +184,17 @@ fn is_at_terminate(events: &[Event], task: TaskNo) -> bool
 
 /// The task is suspended at an open terminate alternative, with no call queued at an entry of its own
 /// (9.4, 9.7.1).
-#[tactic(auto, unfolding(ada_events::specs::Forced::is_ready_to_quit, ada_events::specs::Forced::has_empty_queues))]
+#[tactic(auto, unfolding(ada_events::specs::Termination::is_ready_to_quit, ada_events::specs::Termination::has_empty_queues))]
 pub fn is_ready_to_quit(events: &[Event], task: TaskNo) -> bool
     requires { length events.now < 2 ^ 32 }
-    ensures { result ≡ forced.is_ready_to_quit (reverse events.now) task.0 }
+    ensures { result ≡ ending.is_ready_to_quit (reverse events.now) task.0 }
 {
     is_at_terminate(events, task) && !has_ended(events, task) && !has_queued_call(events, task)
 }
 
 fn is_ready_if_dependent(events: &[Event], task: TaskNo, master: Master) -> bool
     requires { length events.now < 2 ^ 32 }
-    ensures { result ≡ (not (masters.depends_on (reverse events.now) task.0 master) || phases.is_terminated (reverse events.now) task.0 || forced.is_ready_to_quit (reverse events.now) task.0) }
+    ensures { result ≡ (not (masters.depends_on (reverse events.now) task.0 master) || phases.is_terminated (reverse events.now) task.0 || ending.is_ready_to_quit (reverse events.now) task.0) }
 {
     !depends_on(events, task, master)
         || is_terminated(events, task)
@@ -236,7 +206,7 @@ fn is_ready_if_dependent(events: &[Event], task: TaskNo, master: Master) -> bool
 fn all_ready(events: &[Event], master: Master) -> bool
     requires short { length events.now < 2 ^ 32 }
     requires few { count_of_tasks (reverse events.now) ≤ 256 }
-    ensures { result ≡ all_below (λ u. not (masters.depends_on (reverse events.now) u master) || phases.is_terminated (reverse events.now) u || forced.is_ready_to_quit (reverse events.now) u) (count_of_tasks (reverse events.now)) }
+    ensures { result ≡ all_below (λ u. not (masters.depends_on (reverse events.now) u master) || phases.is_terminated (reverse events.now) u || ending.is_ready_to_quit (reverse events.now) u) (count_of_tasks (reverse events.now)) }
 {
     let mut all = true;
     for task in 0..task_count(events) as u16 {

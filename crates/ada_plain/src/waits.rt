@@ -1,18 +1,18 @@
 //! What a selective wait may take (9.7.1): a queued call at an open choice, its else part, or a delay
 //! alternative that is due.
-ghost use Rattle.std.specs.Prelude.{◌≡◌, ◌<◌, ◌≤◌, ◌^◌, ◌++◌, ◌&&◌, if◌then◌else◌, ◌∷◌, [], length, reverse};
-ghost use Rattle.std.specs.Option.{option_to_list, option_map, option_map_or};
+ghost use Rattle.std.specs.Prelude.{◌≡◌, ◌<◌, ◌≤◌, ◌^◌, ◌++◌, if◌then◌else◌, ◌∷◌, [], length, reverse, slice_get};
+ghost use Rattle.std.specs.Option.{option_map, option_and_then};
 ghost use Rattle.ada_events.specs.declared.event.Way.TheVariants.{Delay};
 ghost use Rattle.ada_events.specs.Waits as waits;
 
 use crate::calls::front;
 use ada_events::{Bounded, Choice, Event, EventTail, TaskNo, Way};
 
-/// The calls at the fronts of a wait's selectable choices, at most 16.
-pub type Fronts = Bounded<u32, 16>;
+/// The numbers of some of a wait's choices, at most 16.
+pub type ChoiceNumbers = Bounded<u8, 16>;
 
-/// The numbers of a wait's delay alternatives that are due, at most 8.
-pub type DueNumbers = Bounded<u8, 8>;
+/// The numbers of some of a wait's delay alternatives, at most 8.
+pub type DelayNumbers = Bounded<u8, 8>;
 
 /// The call at the front of an open choice's queue.
 #[tactic(auto, unfolding(ada_events::specs::Waits::front_of))]
@@ -27,41 +27,40 @@ pub fn front_of(events: &[Event], task: TaskNo, choice: Choice) -> Option<u32>
     }
 }
 
-fn push_some<const N: usize>(list: &mut Bounded<u32, N>, item: Option<u32>)
-    requires { length list.old < N }
-    ensures { list.new ≡ list.old ++ option_to_list item }
+/// A call is at the front of an open choice's queue.
+#[tactic(auto, unfolding(ada_events::specs::Waits::is_selectable))]
+pub fn is_selectable(events: &[Event], task: TaskNo, choice: Choice) -> bool
+    requires { length events.now < 2 ^ 32 }
+    ensures { result ≡ waits.is_selectable (reverse events.now) task.0 choice }
 {
-    if let Some(item) = item {
-        list.push(item);
+    front_of(events, task, choice).is_some()
+}
+
+fn push_if<const N: usize>(numbers: &mut Bounded<u8, N>, passes: bool, number: u8)
+    requires { length numbers.old < N }
+    ensures { numbers.new ≡ numbers.old ++ (if passes then number ∷ [] else []) }
+{
+    if passes {
+        numbers.push(number);
     }
 }
 
-/// The calls at the fronts of the selectable choices' queues, in text order.
-#[tactic(auto, unfolding(ada_events::specs::Waits::fronts))]
-pub fn fronts(events: &[Event], task: TaskNo, choices: &[Choice]) -> Fronts
+/// The numbers of the selectable choices, counted over all from 0.
+#[tactic(auto, unfolding(ada_events::specs::Waits::numbers_from))]
+pub fn selectable(events: &[Event], task: TaskNo, choices: &[Choice]) -> ChoiceNumbers
     requires few { length choices.now ≤ 16 }
     requires short { length events.now < 2 ^ 32 }
-    ensures { result ≡ waits.fronts (reverse events.now) task.0 choices.now }
+    ensures { result ≡ waits.numbers_from (waits.is_selectable (reverse events.now) task.0) 0 choices.now }
 {
-    let mut list = Fronts::new();
-    for choice in choices {
-        push_some(&mut list, front_of(events, task, *choice));
+    let mut numbers = ChoiceNumbers::new();
+    for (i, choice) in choices.iter().enumerate() {
+        push_if(&mut numbers, is_selectable(events, task, *choice), i as u8);
     }
-    list
+    numbers
 }
 
 /// Number `pick % k` of `k` alternatives, none where there is none.
-pub fn picked_call(pick: u32, fronts: &[u32]) -> Option<u32>
-    ensures { result ≡ waits.picked pick fronts.now }
-{
-    if fronts.is_empty() {
-        return None;
-    }
-    fronts.get(pick as usize % fronts.len()).copied()
-}
-
-/// Number `pick % k` of `k` alternatives, none where there is none.
-pub fn picked_delay(pick: u32, numbers: &[u8]) -> Option<u8>
+pub fn picked(pick: u32, numbers: &[u8]) -> Option<u8>
     ensures { result ≡ waits.picked pick numbers.now }
 {
     if numbers.is_empty() {
@@ -70,11 +69,69 @@ pub fn picked_delay(pick: u32, numbers: &[u8]) -> Option<u8>
     numbers.get(pick as usize % numbers.len()).copied()
 }
 
+/// The choice by which a wait takes a call (9.7.1), counted over all of its choices from 0.
+pub fn taken_choice(events: &[Event], task: TaskNo, choices: &[Choice], pick: u32) -> Option<u8>
+    requires few { length choices.now ≤ 16 }
+    requires short { length events.now < 2 ^ 32 }
+    ensures { result ≡ waits.picked pick (waits.numbers_from (waits.is_selectable (reverse events.now) task.0) 0 choices.now) }
+{
+    picked(pick, selectable(events, task, choices).as_slice())
+}
+
+fn front_of_number(events: &[Event], task: TaskNo, choices: &[Choice], number: u8) -> Option<u32>
+    requires { length events.now < 2 ^ 32 }
+    ensures { result ≡ option_and_then (waits.front_of (reverse events.now) task.0) (slice_get choices.now number) }
+{
+    match choices.get(number as usize) {
+        Some(choice) => front_of(events, task, *choice),
+        None => None,
+    }
+}
+
+/// The call that a wait takes (9.7.1): the one at the front of that choice's queue.
+pub fn taken_call(events: &[Event], task: TaskNo, choices: &[Choice], pick: u32) -> Option<u32>
+    requires few { length choices.now ≤ 16 }
+    requires short { length events.now < 2 ^ 32 }
+    ensures { result ≡ option_and_then (waits.front_of (reverse events.now) task.0) (option_and_then (slice_get choices.now) (waits.picked pick (waits.numbers_from (waits.is_selectable (reverse events.now) task.0) 0 choices.now))) }
+{
+    match taken_choice(events, task, choices, pick) {
+        Some(number) => front_of_number(events, task, choices, number),
+        None => None,
+    }
+}
+
 /// A choice is open.
 pub fn has_open_choice(choices: &[Choice]) -> bool
     ensures { result ≡ waits.has_open_choice choices.now }
 {
     choices.iter().any(|choice| choice.guard)
+}
+
+/// A delay alternative is open: a closed one has no due moment.
+pub fn has_open_delay(dues: &[Option<i64>]) -> bool
+    ensures { result ≡ waits.has_open_delay dues.now }
+{
+    dues.iter().any(|due| due.is_some())
+}
+
+/// The due moment, where there is one, has come.
+pub fn is_due(now: i64, due: Option<i64>) -> bool
+    ensures { result ≡ waits.is_due now due }
+{
+    match due {
+        Some(due) => due <= now,
+        None => false,
+    }
+}
+
+/// The due moment is that moment.
+pub fn is_due_exactly(moment: Option<i64>, due: Option<i64>) -> bool
+    ensures { result ≡ waits.is_due_exactly moment due }
+{
+    match (moment, due) {
+        (Some(moment), Some(due)) => due <= moment && moment <= due,
+        _ => false,
+    }
 }
 
 /// The earlier of two moments, where there are two.
@@ -89,7 +146,7 @@ fn earlier(a: Option<i64>, b: Option<i64>) -> Option<i64>
     }
 }
 
-/// The least due moment of the open delay alternatives; a closed one has none.
+/// The least due moment of the open delay alternatives.
 #[tactic(auto, unfolding(ada_events::specs::Waits::least_due), using(crate::proofs::Lists::least_due_less, crate::proofs::Lists::least_due_past))]
 pub fn least_due(dues: &[Option<i64>]) -> Option<i64>
     ensures { result ≡ waits.least_due dues.now }
@@ -103,33 +160,15 @@ pub fn least_due(dues: &[Option<i64>]) -> Option<i64>
     least
 }
 
-fn is_due_at(least: i64, due: Option<i64>) -> bool
-    ensures { result ≡ waits.is_due_at least due }
-{
-    match due {
-        Some(due) => due <= least && least <= due,
-        None => false,
-    }
-}
-
-fn push_if(numbers: &mut DueNumbers, due: bool, number: u8)
-    requires { length numbers.old < 8 }
-    ensures { numbers.new ≡ numbers.old ++ (if due then number ∷ [] else []) }
-{
-    if due {
-        numbers.push(number);
-    }
-}
-
-/// The numbers of the delay alternatives that are due at that moment, counted over all from 0.
-#[tactic(auto, unfolding(ada_events::specs::Waits::due_at))]
-pub fn due_at(least: i64, dues: &[Option<i64>]) -> DueNumbers
+/// The numbers of the delay alternatives that are due at that very moment, counted over all from 0.
+#[tactic(auto, unfolding(ada_events::specs::Waits::numbers_from))]
+pub fn due_exactly(moment: Option<i64>, dues: &[Option<i64>]) -> DelayNumbers
     requires { length dues.now ≤ 8 }
-    ensures { result ≡ waits.due_at least 0 dues.now }
+    ensures { result ≡ waits.numbers_from (waits.is_due_exactly moment) 0 dues.now }
 {
-    let mut numbers = DueNumbers::new();
+    let mut numbers = DelayNumbers::new();
     for (i, due) in dues.iter().enumerate() {
-        push_if(&mut numbers, is_due_at(least, *due), i as u8);
+        push_if(&mut numbers, is_due_exactly(moment, *due), i as u8);
     }
     numbers
 }
@@ -140,13 +179,11 @@ pub fn taken_delay(now: i64, pick: u32, dues: &[Option<i64>]) -> Option<u8>
     requires { length dues.now ≤ 8 }
     ensures { result ≡ waits.taken_delay now pick dues.now }
 {
-    match least_due(dues) {
-        Some(least) => if least <= now {
-            picked_delay(pick, due_at(least, dues).as_slice())
-        } else {
-            None
-        },
-        None => None,
+    let least = least_due(dues);
+    if is_due(now, least) {
+        picked(pick, due_exactly(least, dues).as_slice())
+    } else {
+        None
     }
 }
 
@@ -185,10 +222,11 @@ pub fn way_of(now: i64, choices: &[Choice], pick: u32, tail: &EventTail) -> Opti
 
 fn delayed_way(now: i64, choices: &[Choice], pick: u32, dues: &[Option<i64>]) -> Option<Way>
     requires { length dues.now ≤ 8 }
-    ensures { result ≡ option_map_or (λ _. option_map Delay (waits.taken_delay now pick dues.now)) (waits.least_due dues.now) (waits.without_choice choices.now) }
+    ensures { result ≡ (if waits.has_open_delay dues.now then option_map Delay (waits.taken_delay now pick dues.now) else waits.without_choice choices.now) }
 {
-    match least_due(dues) {
-        Some(_) => delay_way(taken_delay(now, pick, dues)),
-        None => without_choice(choices),
+    if has_open_delay(dues) {
+        delay_way(taken_delay(now, pick, dues))
+    } else {
+        without_choice(choices)
     }
 }

@@ -7,7 +7,7 @@ use Rattle.ada_events.specs.Tasks.{task_count, creation_of, families_of}
 use Rattle.ada_events.specs.Masters.{depends_on}
 use Rattle.ada_events.specs.Phases.{is_completed, is_terminated, has_ended, is_suspended, is_started, is_running}
 use Rattle.ada_events.specs.Nests.{nest}
-use Rattle.ada_events.specs.Forced.{is_ready_to_quit}
+use Rattle.ada_events.specs.Termination.{is_ready_to_quit}
 use Rattle.ada_events.specs.Slots.{number_within}
 use Rattle.ada_tables.specs.Dependents.{task_at, reaches, count_below, main_facts, live_dependents, Stands}
 use Rattle.ada_tables.specs.Queues.{queue_at}

@@ -13,7 +13,7 @@ use Rattle.ada_events.specs.Masters.{depends_on}
 use Rattle.ada_events.specs.Phases.{is_completed, is_terminated, is_suspended, is_running}
 use Rattle.ada_events.specs.Calls.{queue}
 use Rattle.ada_events.specs.Nests.{nest}
-use Rattle.ada_events.specs.Forced.{is_at_open_terminate, is_ready_to_quit}
+use Rattle.ada_events.specs.Termination.{is_at_open_terminate, is_ready_to_quit}
 use Rattle.ada_tables.specs.declared.phase.Phase.{Phase}
 use Rattle.ada_tables.specs.declared.phase.Phase.TheVariants.{Unstarted, Active, Held, Quittable, Completed, Terminated}
 use Rattle.ada_tables.specs.Dependents.{Facts, task_at, count_below, live_dependents, Stands}

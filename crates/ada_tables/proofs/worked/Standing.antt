@@ -16,9 +16,9 @@ use Rattle.ada_events.specs.Says.{creation_in, opening_in, call_in, wait_in, clo
 use Rattle.ada_events.specs.Tasks.{task_count, creation_of, families_of}
 use Rattle.ada_events.specs.Masters.{parent_in, reaches, depends_on}
 use Rattle.ada_events.specs.Phases.{is_completed, is_terminated, has_ended, is_released, is_suspended, is_started, is_running}
-use Rattle.ada_events.specs.Calls.{is_met, is_open_at, is_queued_at, is_open_call, is_call_of, queue}
+use Rattle.ada_events.specs.Calls.{is_pending, is_met, is_open_at, is_queued_at, is_open_call, is_call_of, queue}
 use Rattle.ada_events.specs.Nests.{is_left_close, is_left, is_wait_of, member_at, nest}
-use Rattle.ada_events.specs.Forced.{has_empty_queues, is_ready_to_quit}
+use Rattle.ada_events.specs.Termination.{has_empty_queues, is_ready_to_quit}
 use Rattle.ada_tables.specs.declared.phase.Phase.TheVariants.{Unstarted, Active, Held, Quittable, Completed as IsCompleted, Terminated}
 use Rattle.ada_tables.specs.Dependents.{count_below}
 use Rattle.ada_tables.specs.Queues.{QueuedCall}
@@ -26,7 +26,7 @@ use Rattle.ada_tables.specs.Standing.{facts_in, caller_of, AreQueued, live_count
 
 -- opens every definition
 unfoldable everything : Unit {0}
-unfolding any_event gathered event_at creation_in opening_in call_in wait_in closing_in meeting_in started_in elaborated_in completed_in gone_in quit_in left_in held_in released_in task_count creation_of families_of parent_in reaches depends_on is_completed is_terminated has_ended is_released is_suspended is_started is_running is_met is_open_at is_queued_at is_open_call is_call_of queue is_left_close is_left is_wait_of member_at nest has_empty_queues is_ready_to_quit count_below
+unfolding any_event gathered event_at creation_in opening_in call_in wait_in closing_in meeting_in started_in elaborated_in completed_in gone_in quit_in left_in held_in released_in task_count creation_of families_of parent_in reaches depends_on is_completed is_terminated has_ended is_released is_suspended is_started is_running is_pending is_met is_open_at is_queued_at is_open_call is_call_of queue is_left_close is_left is_wait_of member_at nest has_empty_queues is_ready_to_quit count_below
 everything = tt
 
 abbrev task : ℕ → TaskNo

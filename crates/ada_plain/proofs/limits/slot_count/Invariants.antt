@@ -1,5 +1,5 @@
 use Rattle.std.proofs.Common.{◌≡◌, ◌-◌, ◌^◌, min, reverse, take}
-use Rattle.ada_events.specs.Refusals.{slot_count}
+use Rattle.ada_events.specs.Limits.{slot_count}
 use Rattle.ada_plain.proofs.limits.slot_count.Given as goal
 
 abbrev pub invariant-loop-event : goal.invariant-loop-event

@@ -1,7 +1,7 @@
 use Rattle.std.proofs.Common.{◌≡◌, ◌+◌, ◌≤◌, reverse, take}
 use Rattle.std.specs.Option.{option_map}
 use Rattle.ada_events.specs.Tasks.{task_count}
-use Rattle.ada_events.specs.Refusals.{slot_count}
+use Rattle.ada_events.specs.Limits.{slot_count}
 use Rattle.ada_events.specs.Slots.{entry_at}
 use Rattle.ada_plain.specs.Places.{capped, place_seen}
 use Rattle.ada_plain.proofs.slots.entry_at.Given as goal

@@ -2,7 +2,7 @@ use Rattle.std.proofs.Common.{◌≡◌, not, ◌||◌, reverse}
 use Rattle.ada_events.specs.Search.{all_below}
 use Rattle.ada_events.specs.Masters.{depends_on}
 use Rattle.ada_events.specs.Phases.{is_terminated}
-use Rattle.ada_events.specs.Forced.{is_ready_to_quit}
+use Rattle.ada_events.specs.Termination.{is_ready_to_quit}
 use Rattle.ada_plain.proofs.termination.all_ready.Given as goal
 
 abbrev pub invariant-loop-task : goal.invariant-loop-task

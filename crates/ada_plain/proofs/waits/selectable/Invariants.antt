@@ -1,6 +1,6 @@
 use Rattle.std.proofs.Common.{◌≡◌, ◌≤◌, length, reverse, take}
-use Rattle.ada_events.specs.Outcomes.{numbers_from, is_selectable}
-use Rattle.ada_plain.proofs.outcomes.selectable.Given as goal
+use Rattle.ada_events.specs.Waits.{numbers_from, is_selectable}
+use Rattle.ada_plain.proofs.waits.selectable.Given as goal
 
 abbrev pub invariant-loop-i : goal.invariant-loop-i
 invariant-loop-i l =
