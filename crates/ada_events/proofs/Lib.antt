@@ -1,2 +1,3 @@
 pub mod Positions
 mod worked
+mod Entries

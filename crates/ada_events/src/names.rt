@@ -1,7 +1,8 @@
 //! What requests and events name: tasks, masters, entries, and the parts of a selective wait.
 
-ghost use Rattle.std.specs.Prelude.{◌≡◌};
+ghost use Rattle.std.specs.Prelude.{◌≡◌, ◌^◌, ◌-◌, ◌-ℤ◌, min, unsigned_abs};
 ghost use Rattle.ada_events.specs.declared.names.Member.TheVariants.{Block};
+ghost use Rattle.ada_events.specs.Entries as entries;
 
 use crate::limits::{MOST_CHOICES, MOST_DELAYS, MOST_FAMILIES, MOST_MEMBERS, MOST_TASKS};
 use crate::{Bounded, SmallList, Stored};
@@ -40,6 +41,46 @@ impl Default for Member {
 pub struct Family {
     pub low: i32,
     pub high: i32,
+}
+
+impl Family {
+    /// Whether an index lies in the range.
+    pub fn contains(self, index: i32) -> bool
+        ensures { result ≡ entries.is_in_range self index }
+    {
+        self.low <= index && index <= self.high
+    }
+
+    /// How many entries the family has, at most 2^32.
+    #[tactic(auto, unfolding(crate::specs::Entries::entry_count))]
+    pub fn entry_count(self) -> u64
+        ensures { result ≡ entries.entry_count self }
+    {
+        if self.low <= self.high {
+            (i64::from(self.high) - i64::from(self.low)).unsigned_abs() + 1
+        } else {
+            0
+        }
+    }
+
+    /// How far an index is from the low bound, at most 2^32 - 1.
+    pub fn offset(self, index: i32) -> u64
+        ensures { result ≡ unsigned_abs (index -ℤ self.low) }
+    {
+        (i64::from(index) - i64::from(self.low)).unsigned_abs()
+    }
+
+    /// How many entries some families have, at most 2^64 - 1.
+    #[tactic(auto, unfolding(crate::specs::Entries::entries_in), using(crate::proofs::Entries::entries_in_more))]
+    pub fn entries_in(families: &[Family]) -> u64
+        ensures { result ≡ min (entries.entries_in families.now) (2 ^ 64 - 1) }
+    {
+        let mut total = 0u64;
+        for family in families {
+            total = total.saturating_add(family.entry_count());
+        }
+        total
+    }
 }
 
 /// An entry of a task (9.5): the place of its family in the task's declaration, from 0, and its

@@ -1,5 +1,4 @@
 pub mod CauseParts
-pub mod Chains
 pub mod Doubles
 pub mod Dues
 pub mod Few

@@ -32,10 +32,6 @@ pub innermost-append : (xs : List Member) (o : Option Member) → innermost (xs 
 innermost-append xs None = ap innermost (append-nil xs)
 innermost-append xs (Some x) = last-push xs x
 
-pub length-append_option : (xs : List Member) (o : Option Member) → length (xs ++ option_to_list o) ≡ length xs + option_len o
-length-append_option xs None = length-append xs []
-length-append_option xs (Some x) = length-append xs (x ∷ [])
-
 pub innermost_block-append : (outer : Master) (xs : List Member) (o : Option Member) → innermost_block outer (xs ++ option_to_list o) ≡ frame_with (innermost_block outer xs) o
 unfolding innermost_block
 innermost_block-append outer [] None = refl

@@ -22,9 +22,6 @@ few_tasks events journal same lawful = rw same (tasks_are_few journal lawful)
 pub forced_step : (events journal : List Event) (step : Event) → reverse events ≡ journal → Some step ≡ forced (reverse events) → forced journal ≡ Some step
 forced_step events journal step same found = sym (rw same at found)
 
-pub forced_none : (events journal : List Event) → reverse events ≡ journal → None ≡ forced (reverse events) → forced journal ≡ None
-forced_none events journal same found = sym (rw same at found)
-
 pub room_left : (from : List Event) (journal : Kept) (step : Event) → IsSettling from journal → forced journal.events ≡ Some step → 0 < journal.spare
 room_left from journal step settling found =
     omega (arith, steps_lessen_the_work journal.events step settling.lawful found, settling.room)
@@ -55,12 +52,6 @@ asked_room old request before after event lawful settled unrefused same room spa
     let whole : after.events ≡ asked_event old request ∷ old = appended ∙ ap (λ e. e ∷ before.events) is ∙ ap (λ j. asked_event old request ∷ j) same in
     let after_lawful : IsLawful after.events = subst (λ j. IsLawful j) (sym whole) asked in
     (after_lawful, omega (arith, work_left-most after.events after_lawful))
-
-pub leads_to : (old : List Event) (request : Request) (asked new : List Event) → asked ≡ asked_event old request ∷ old → Forces asked new → IsSettled new → After old request new
-leads_to old request asked new is forces settled = record {
-  forces = subst (λ j. Forces j new) is forces;
-  settled = settled;
-}
 
 pub stays : (old : List Event) (request : Request) (new : List Event) → IsLawful old → IsSettled old → refusal old request ≡ None → After old request new → IsLawful new
 stays = stays_lawful

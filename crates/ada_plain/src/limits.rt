@@ -82,37 +82,13 @@ pub fn makes_too_many_tasks(events: &[Event], request: &Request) -> bool
     }
 }
 
-/// How many entries a family has.
-#[tactic(auto, unfolding(ada_events::specs::Entries::entry_count))]
-pub fn entry_count(family: Family) -> u64
-    ensures { result ≡ entries.entry_count family }
-{
-    if family.low <= family.high {
-        (i64::from(family.high) - i64::from(family.low)).unsigned_abs() + 1
-    } else {
-        0
-    }
-}
-
-/// How many entries some families have, at most 2^64 - 1.
-#[tactic(auto, unfolding(ada_events::specs::Entries::entries_in), using(crate::proofs::SlotSums::entries_in_more))]
-pub fn entries_in(families: &[Family]) -> u64
-    ensures { result ≡ min (entries.entries_in families.now) (2 ^ 64 - 1) }
-{
-    let mut total = 0u64;
-    for family in families {
-        total = total.saturating_add(entry_count(*family));
-    }
-    total
-}
-
 /// How many entries the task has that an event makes, at most 2^64 - 1.
 #[tactic(auto, unfolding(ada_events::specs::Says::creation_in))]
 pub fn slots_in(event: &Event) -> u64
     ensures { result ≡ min (option_map_or (λ (c : said.Creation). entries.entries_in c.families) (said.creation_in event.now) 0) (2 ^ 64 - 1) }
 {
     match event {
-        Event::Created { families, .. } => entries_in(families.as_slice()),
+        Event::Created { families, .. } => Family::entries_in(families.as_slice()),
         _ => 0,
     }
 }
@@ -135,7 +111,7 @@ pub fn makes_too_many_slots(events: &[Event], request: &Request) -> bool
     ensures { result ≡ limits.makes_too_many_slots (reverse events.now) request.now }
 {
     match request {
-        Request::Create { families, .. } => slot_count(events).saturating_add(entries_in(
+        Request::Create { families, .. } => slot_count(events).saturating_add(Family::entries_in(
             families.as_slice(),
         )) > MOST_SLOTS as u64,
         _ => false,

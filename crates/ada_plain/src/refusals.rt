@@ -260,13 +260,6 @@ fn names_no_family(events: &[Event], request: &Request) -> bool
     }
 }
 
-/// The index lies in the family's range.
-pub fn is_in_range(family: Family, index: i32) -> bool
-    ensures { result ≡ entries.is_in_range family index }
-{
-    family.low <= index && index <= family.high
-}
-
 /// The index of an entry lies outside its family's range (9.5).
 #[tactic(auto, unfolding(ada_events::specs::Refusals::is_outside))]
 pub fn is_outside(events: &[Event], task: TaskNo, entry: Entry) -> bool
@@ -274,7 +267,7 @@ pub fn is_outside(events: &[Event], task: TaskNo, entry: Entry) -> bool
     ensures { result ≡ refusals.is_outside (reverse events.now) task.0 entry }
 {
     match families(events, task).get(entry.family as usize) {
-        Some(family) => !is_in_range(*family, entry.index),
+        Some(family) => !family.contains(entry.index),
         None => false,
     }
 }

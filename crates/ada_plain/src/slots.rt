@@ -12,8 +12,7 @@ ghost use Rattle.ada_events.specs.Lawful.{IsLawful};
 ghost use Rattle.ada_plain.specs.Places.{capped, entry_here, place_made, place_seen};
 
 use crate::attributes::short_count;
-use crate::limits::{entries_in, entry_count, slot_count, slots_in};
-use crate::refusals::is_in_range;
+use crate::limits::{slot_count, slots_in};
 use crate::tasks::made_in;
 use ada_events::{Entry, Event, Family, TaskNo};
 
@@ -24,19 +23,12 @@ pub struct TaskEntry {
     pub entry: Entry,
 }
 
-// How far an index is from the low bound of a family.
-fn offset_in(family: Family, index: i32) -> u64
-    ensures { result ≡ unsigned_abs (index -ℤ family.low) }
-{
-    (i64::from(index) - i64::from(family.low)).unsigned_abs()
-}
-
 // The number of an entry of a family among all of that and of these before it, at most 2^64 - 1.
 fn number_in(before: &[Family], family: Family, index: i32) -> Option<u64>
     ensures { result ≡ option_map capped (then_some (entries.is_in_range family index) (entries.entries_in before.now + unsigned_abs (index -ℤ family.low))) }
 {
-    if is_in_range(family, index) {
-        Some(entries_in(before).saturating_add(offset_in(family, index)))
+    if family.contains(index) {
+        Some(Family::entries_in(before).saturating_add(family.offset(index)))
     } else {
         None
     }
@@ -120,7 +112,7 @@ pub fn slot(events: &[Event], task: TaskNo, entry: Entry) -> Option<u16>
 fn entry_of(place: u8, family: Family, number: u64) -> Option<Entry>
     ensures { result ≡ entry_here place family number }
 {
-    if number < entry_count(family) {
+    if number < family.entry_count() {
         let index = i64::from(family.low) + number as i64;
         Some(Entry {
             family: place,
@@ -150,7 +142,7 @@ pub fn entry_within(families: &[Family], number: u64) -> Option<Entry>
     let mut found = None;
     for (place, family) in families.iter().enumerate() {
         found = or_entry_of(found, place as u8, *family, left);
-        left = left.saturating_sub(entry_count(*family));
+        left = left.saturating_sub(family.entry_count());
     }
     found
 }

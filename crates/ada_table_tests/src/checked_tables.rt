@@ -6,7 +6,6 @@ ghost use Rattle.ada_tables.specs.Queues as queues;
 ghost use Rattle.ada_tables.specs.Tables.{HasEntry};
 
 use ada_events::{Entry, Families, Family, Master, Member, Refusal, TaskNo};
-use ada_plain::limits::entries_in;
 use ada_plain::slots::number_within;
 use ada_tables::{Layers, Phase, Tables};
 use std::alloc::Global;
@@ -199,7 +198,7 @@ impl CheckedTables {
         }
         let declared = Families::from_slice(families);
         let slots = u64::from(self.tables.slots());
-        if entries_in(declared.as_slice()).saturating_add(slots) > 1024 {
+        if Family::entries_in(declared.as_slice()).saturating_add(slots) > 1024 {
             return Err(Unmet::TooManySlots);
         }
         is_open(&self.tables, master)?;

@@ -1,5 +1,5 @@
 -- Tables that stand for a journal.
-use Rattle.std.proofs.Common.{◌≡◌, ℕ, zero, suc, ◌<◌, List, [], ◌∷◌, refl, arith}
+use Rattle.std.proofs.Common.{◌≡◌, ℕ, zero, suc, ◌<◌, [], ◌∷◌, refl, arith}
 use Rattle.ada_events.specs.declared.names.Entry.{Entry}
 use Rattle.ada_events.specs.declared.names.Master.{Master}
 use Rattle.ada_events.specs.Search.{any_event, gathered}
@@ -9,14 +9,9 @@ use Rattle.ada_events.specs.Phases.{is_completed, is_terminated, has_ended, is_s
 use Rattle.ada_events.specs.Nests.{nest}
 use Rattle.ada_events.specs.Termination.{is_ready_to_quit}
 use Rattle.ada_events.specs.Slots.{number_within}
-use Rattle.ada_tables.specs.Dependents.{task_at, reaches, count_below, main_facts, live_dependents, Stands}
-use Rattle.ada_tables.specs.Queues.{queue_at}
-use Rattle.ada_tables.specs.Tables.{State, slot_at, unready_dependents, HasEntry}
-use Rattle.ada_tables.specs.Standing.{facts_in, AreQueued, live_count, unready_count, StandFor}
-
--- the main program alone, before the first event
-abbrev at_first : ℕ → State
-at_first spare = record { tasks = main_facts ∷ []; queues = []; spare = spare }
+use Rattle.ada_tables.specs.Dependents.{task_at, reaches, count_below, main_facts, live_dependents}
+use Rattle.ada_tables.specs.Tables.{State, unready_dependents, HasEntry}
+use Rattle.ada_tables.specs.Standing.{facts_in, live_count, unready_count, StandFor}
 
 first_task : (task : ℕ) → task < 1 → task_at (main_facts ∷ []) task ≡ facts_in [] task
 unfolding task_count creation_of families_of nest gathered is_terminated is_completed is_suspended any_event is_running is_started has_ended

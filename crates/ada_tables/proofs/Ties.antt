@@ -1,11 +1,9 @@
 -- What ties the parts of the tables to one another.
-use Rattle.std.proofs.Common.{◌≡◌, ℕ, zero, suc, ◌+◌, ◌<◌, ◌≤◌, List, [], ◌∷◌, ◌++◌, length, get_or, set, replicate, refl, ap, sym, ◌∙◌, arith, inl, inr, length-append}
+use Rattle.std.proofs.Common.{◌≡◌, ℕ, zero, suc, ◌+◌, ◌<◌, ◌≤◌, List, [], ◌∷◌, length, get_or, set, refl, ap, sym, ◌∙◌, arith}
 use Rattle.std.specs.List.{sum_by}
 use Rattle.std.specs.Prelude.{slice_index}
-use Rattle.std.proofs.lemmas.Bool.{cases_eq}
-use Rattle.std.proofs.lemmas.List.{map-set, length-set, length-map, set-get_or, map-append, get_or_append_left, get_or_push, get_or_read, take-append-le, take_all, length-replicate}
-use Rattle.std.proofs.lemmas.List.Sums.{sum_by_push, sum_by_more_le}
-use Rattle.ada_events.specs.declared.names.Family.{Family}
+use Rattle.std.proofs.lemmas.List.{map-set, length-set, length-map, set-get_or, get_or_read, take_all}
+use Rattle.std.proofs.lemmas.List.Sums.{sum_by_more_le}
 use Rattle.ada_events.specs.declared.names.Member.{Member}
 use Rattle.ada_events.specs.Entries.{entries_in}
 use Rattle.ada_tables.specs.declared.phase.Phase.{Phase}
@@ -40,44 +38,6 @@ tied_nest old new queues callers firsts task nest is tied =
 pub tied_phase : (old new : Known) (queues : List (List QueuedCall)) (callers : ℕ) (firsts : List ℕ) (task : ℕ) (phase : Phase) → new ≡ record old { tasks = with_phase task phase old.tasks } → AreTied old.tasks queues callers firsts → AreTied new.tasks queues callers firsts
 tied_phase old new queues callers firsts task phase is tied =
     rw is (tied_same old.tasks (with_phase task phase old.tasks) queues callers firsts (length-set old.tasks task _) (declared-set old.tasks task (record (task_at old.tasks task) { phase = phase }) refl) tied)
-
--- a task is added with its queues behind all others
-pub tied_more : (tasks : List Facts) (queues : List (List QueuedCall)) (callers : ℕ) (firsts : List ℕ) (new : Facts) (many : ℕ) → AreTied tasks queues callers firsts → many ≡ entries_in new.families → length queues + many ≤ 1024 → AreTied (tasks ++ new ∷ []) (queues ++ replicate many []) (callers + 1) (firsts ++ length queues ∷ [])
-tied_more tasks queues callers firsts new many tied many_is room =
-    record {
-      callers_known = omega (arith, tied.callers_known, length-append tasks (new ∷ []));
-      firsts_known = omega (arith, tied.firsts_known, length-append tasks (new ∷ []), length-append firsts (length queues ∷ []));
-      first = λ task low. first_of task low;
-      all = omega (arith, length-append queues (replicate many []), length-replicate {A = List QueuedCall} many [], all_now, tied.all);
-      few = omega (arith, length-append queues (replicate many []), length-replicate {A = List QueuedCall} many []);
-    }
-  where
-    many_tasks : length (declared tasks) ≡ length tasks
-    many_tasks = length-map tasks (λ (f : Facts). f.families)
-
-    split : declared (tasks ++ new ∷ []) ≡ declared tasks ++ new.families ∷ []
-    split = map-append (λ (f : Facts). f.families) tasks (new ∷ [])
-
-    before : (task : ℕ) → task ≤ length tasks → slots_before (declared (tasks ++ new ∷ [])) task ≡ slots_before (declared tasks) task
-    before task low = ap (λ (fs : List (List Family)). slots_before fs task) split ∙ ap (sum_by entries_in) (take-append-le task (declared tasks) (new.families ∷ []) (omega (arith, many_tasks)))
-
-    all_now : slots_before (declared (tasks ++ new ∷ [])) (length (tasks ++ new ∷ [])) ≡ slots_before (declared tasks) (length tasks) + many
-    all_now =
-        let longer : length (declared tasks ++ new.families ∷ []) ≤ length (tasks ++ new ∷ []) = omega (arith, many_tasks, length-append tasks (new ∷ []), length-append (declared tasks) (new.families ∷ [])) in
-        let whole : length (declared tasks) ≤ length tasks = omega (arith, many_tasks) in
-        ap (λ (fs : List (List Family)). slots_before fs (length (tasks ++ new ∷ []))) split
-        ∙ ap (sum_by entries_in) (take_all (length (tasks ++ new ∷ [])) (declared tasks ++ new.families ∷ []) longer)
-        ∙ sum_by_push entries_in (declared tasks) new.families
-        ∙ rw (take_all (length tasks) (declared tasks) whole, many_is) refl
-
-    first_of : (task : ℕ) → task < length (tasks ++ new ∷ []) → slice_index (firsts ++ length queues ∷ []) task ≡ slots_before (declared (tasks ++ new ∷ [])) task
-    first_of task low =
-        elim (cases_eq task (length tasks)) [
-          | inl same ↦ rw same (get_or_push firsts (length queues) 0 (length tasks) tied.firsts_known ∙ tied.all ∙ sym (before (length tasks) (omega arith)))
-          | inr differs ↦
-              let old : task < length tasks = omega (arith, length-append tasks (new ∷ [])) in
-              get_or_append_left firsts (length queues ∷ []) 0 task (omega (arith, tied.firsts_known)) ∙ tied.first task old ∙ sym (before task (omega arith))
-        ]
 
 -- the main program alone, which runs
 pub tied_main : (tasks : List Facts) (queues : List (List QueuedCall)) (callers : ℕ) (firsts : List ℕ) → tasks ≡ main_facts ∷ [] → queues ≡ [] → callers ≡ 1 → firsts ≡ 0 ∷ [] → AreTied tasks queues callers firsts
