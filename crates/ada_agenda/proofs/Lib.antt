@@ -1,0 +1,3 @@
+pub mod RowsHeld
+pub mod ThreeLevels
+pub mod Words

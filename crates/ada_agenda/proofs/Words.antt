@@ -1,0 +1,135 @@
+-- One level of bits.
+use Rattle.std.proofs.Common.{◌≡◌, ◌≢◌, ℕ, ◌+◌, ◌-◌, ◌*◌, ◌/◌, ◌%◌, ◌^◌, ◌<◌, ◌≤◌, true, false, List, length, get_or, sym, refl, ap, ◌∙◌, arith, inl, inr, eq-eqb, w64}
+use Rattle.std.specs.Prelude.{bit_and, bit_or, ◌==◌}
+use Rattle.std.specs.Int.{bit_at, bit_not, trailing_zeros}
+use Rattle.std.proofs.lemmas.Bool.{cases_eq, cases_lt, ne_eqb, eqb-true, true≢false, cases_Bool}
+use Rattle.std.proofs.lemmas.Nat.{and_le_l}
+use Rattle.std.proofs.lemmas.List.{length-set, get_or-set_same, get_or-set_other}
+use Rattle.std.proofs.lemmas.Nat.Bits.{bit_at-zero, bit_at_set_same, bit_at_set_other, bit_at_clear_same, bit_at_clear_other, bit_at-trailing_zeros}
+use Rattle.ada_agenda.specs.Bits.{has, with_bit, without_bit, AreHeads}
+
+pub set_here : (words : List ℕ) (n : ℕ) → n < 64 * length words → has (with_bit words n) n ≡ true
+unfolding has
+set_here words n within =
+    rw (get_or-set_same words (n / 64) (bit_or (get_or words (n / 64) 0) (1 * 2 ^ (n % 64) % 2 ^ 64)) 0 (omega arith))
+    (eq-eqb _ 1 (bit_at_set_same w64 (get_or words (n / 64) 0) (n % 64) (omega arith)))
+
+pub set_others : (words : List ℕ) (n k : ℕ) → n < 64 * length words → k ≢ n → has (with_bit words n) k ≡ has words k
+unfolding has
+set_others words n k within differs =
+    elim (cases_eq (k / 64) (n / 64)) [
+      | inl same ↦
+          let apart : k % 64 ≢ n % 64 = λ e. differs (omega arith) in
+          rw (same, get_or-set_same words (n / 64) (bit_or (get_or words (n / 64) 0) (1 * 2 ^ (n % 64) % 2 ^ 64)) 0 (omega arith), bit_at_set_other w64 (get_or words (n / 64) 0) (n % 64) (omega arith) (k % 64) apart) refl
+      | inr other ↦ rw (get_or-set_other words (n / 64) (k / 64) (bit_or (get_or words (n / 64) 0) (1 * 2 ^ (n % 64) % 2 ^ 64)) 0 other) refl
+    ]
+
+pub clear_here : (words : List ℕ) (n : ℕ) → n < 64 * length words → has (without_bit words n) n ≡ false
+unfolding has
+clear_here words n within =
+    rw (get_or-set_same words (n / 64) (bit_and (get_or words (n / 64) 0) (bit_not w64 (1 * 2 ^ (n % 64) % 2 ^ 64))) 0 (omega arith), bit_at_clear_same w64 (get_or words (n / 64) 0) (n % 64) (omega arith)) refl
+
+pub clear_others : (words : List ℕ) (n k : ℕ) → n < 64 * length words → k ≢ n → has (without_bit words n) k ≡ has words k
+unfolding has
+clear_others words n k within differs =
+    elim (cases_eq (k / 64) (n / 64)) [
+      | inl same ↦
+          let apart : k % 64 ≢ n % 64 = λ e. differs (omega arith) in
+          rw (same, get_or-set_same words (n / 64) (bit_and (get_or words (n / 64) 0) (bit_not w64 (1 * 2 ^ (n % 64) % 2 ^ 64))) 0 (omega arith), bit_at_clear_other w64 (get_or words (n / 64) 0) (n % 64) (omega arith) (k % 64) (omega arith) apart) refl
+      | inr other ↦ rw (get_or-set_other words (n / 64) (k / 64) (bit_and (get_or words (n / 64) 0) (bit_not w64 (1 * 2 ^ (n % 64) % 2 ^ 64))) 0 other) refl
+    ]
+
+-- the least number of a word
+pub least_is : (words : List ℕ) (word : ℕ) → 0 < get_or words word 0 → get_or words word 0 < 2 ^ 64 → (trailing_zeros w64 (get_or words word 0) < 64) × (has words (word * 64 + trailing_zeros w64 (get_or words word 0)) ≡ true) × ((k : ℕ) → k < word * 64 + trailing_zeros w64 (get_or words word 0) → 64 * word ≤ k → has words k ≡ false)
+unfolding has
+least_is words word some fits =
+    let z = trailing_zeros w64 (get_or words word 0) in
+    let lowest = bit_at-trailing_zeros w64 (get_or words word 0) some fits in
+    let below : z < 64 = lowest.0 in
+    let place : (word * 64 + z) / 64 ≡ word = omega arith in
+    let bit : (word * 64 + z) % 64 ≡ z = omega arith in (
+      below,
+      rw (place, bit) (eq-eqb _ 1 lowest.1),
+      λ k less above.
+          let here : k / 64 ≡ word = omega arith in
+          rw (here, lowest.2 (k % 64) (omega arith)) refl,
+    )
+
+-- a word in which a number stands isn't empty
+pub word_some : (words : List ℕ) (n : ℕ) → has words n ≡ true → (get_or words (n / 64) 0 == 0) ≡ false
+unfolding has
+word_some words n stands =
+    ne_eqb (get_or words (n / 64) 0) 0 (λ none.
+    let zero_bit : bit_at (get_or words (n / 64) 0) (n % 64) ≡ 0 = ap (λ x. bit_at x (n % 64)) none ∙ bit_at-zero (n % 64) in
+    let one_bit : bit_at (get_or words (n / 64) 0) (n % 64) ≡ 1 = eqb-true _ 1 stands in
+    omega arith)
+
+pub heads_put : (low high : List ℕ) (n : ℕ) → AreHeads low high → n < 64 * length low → AreHeads (with_bit low n) (with_bit high (n / 64))
+heads_put low high n tied within =
+    let word = bit_or (get_or low (n / 64) 0) (1 * 2 ^ (n % 64) % 2 ^ 64) in
+    let above : n / 64 < 64 * length high = omega (arith, tied.room) in
+    record {
+      room = omega (arith, length-set low (n / 64) word, length-set high (n / 64 / 64) (bit_or (get_or high (n / 64 / 64) 0) (1 * 2 ^ (n / 64 % 64) % 2 ^ 64)), tied.room);
+      heads = λ w below.
+          elim (cases_eq w (n / 64)) [
+            | inl same ↦ rw (same, set_here high (n / 64) above, word_some (with_bit low n) n (set_here low n within)) refl
+            | inr other ↦
+                rw (set_others high (n / 64) w above other, get_or-set_other low (n / 64) w word 0 other)
+                (tied.heads w (omega (arith, length-set low (n / 64) word)))
+          ];
+      few = omega (arith, length-set low (n / 64) word, tied.few);
+    }
+
+-- a number is taken out of a word that it empties
+pub heads_emptied : (low high : List ℕ) (n : ℕ) → AreHeads low high → n < 64 * length low → get_or (without_bit low n) (n / 64) 0 ≡ 0 → AreHeads (without_bit low n) (without_bit high (n / 64))
+heads_emptied low high n tied within empty =
+    let word = bit_and (get_or low (n / 64) 0) (2 ^ 64 - 1 - 1 * 2 ^ (n % 64) % 2 ^ 64) in
+    let above : n / 64 < 64 * length high = omega (arith, tied.room) in
+    record {
+      room = omega (arith, length-set low (n / 64) word, length-set high (n / 64 / 64) (bit_and (get_or high (n / 64 / 64) 0) (2 ^ 64 - 1 - 1 * 2 ^ (n / 64 % 64) % 2 ^ 64)), tied.room);
+      heads = λ w below.
+          elim (cases_eq w (n / 64)) [
+            | inl same ↦ rw (same, clear_here high (n / 64) above, empty) refl
+            | inr other ↦
+                rw (clear_others high (n / 64) w above other, get_or-set_other low (n / 64) w word 0 other)
+                (tied.heads w (omega (arith, length-set low (n / 64) word)))
+          ];
+      few = omega (arith, length-set low (n / 64) word, tied.few);
+    }
+
+-- a number is taken out of a word that keeps others
+pub heads_kept : (low high : List ℕ) (n : ℕ) → AreHeads low high → n < 64 * length low → (get_or (without_bit low n) (n / 64) 0 == 0) ≡ false → AreHeads (without_bit low n) high
+heads_kept low high n tied within some =
+    let word = bit_and (get_or low (n / 64) 0) (2 ^ 64 - 1 - 1 * 2 ^ (n % 64) % 2 ^ 64) in
+    let place : n / 64 < length low = omega arith in
+    record {
+      room = omega (arith, length-set low (n / 64) word, tied.room);
+      heads = λ w below.
+          elim (cases_eq w (n / 64)) [
+            | inl same ↦
+                let here : get_or (without_bit low n) (n / 64) 0 ≡ word = get_or-set_same low (n / 64) word 0 place in
+                let was : (get_or low (n / 64) 0 == 0) ≡ false =
+                ne_eqb (get_or low (n / 64) 0) 0 (λ none.
+                let less : word ≤ get_or low (n / 64) 0 = and_le_l (get_or low (n / 64) 0) (2 ^ 64 - 1 - 1 * 2 ^ (n % 64) % 2 ^ 64) in
+                let gone : word ≡ 0 = omega arith in
+                true≢false (sym (eq-eqb _ 0 (here ∙ gone)) ∙ some)) in
+                rw (same, some, tied.heads (n / 64) place, was) refl
+            | inr other ↦
+                rw (get_or-set_other low (n / 64) w word 0 other) (tied.heads w (omega (arith, length-set low (n / 64) word)))
+          ];
+      few = omega (arith, length-set low (n / 64) word, tied.few);
+    }
+
+-- the least of the upper level is the first word with a number, and its least is the least of all
+pub least_of_all : (low high : List ℕ) (m n : ℕ) → AreHeads low high → ((w : ℕ) → w < m → has high w ≡ false) → n < 64 * m + 64 → ((k : ℕ) → k < n → 64 * m ≤ k → has low k ≡ false) → n < 64 * length low → (k : ℕ) → k < n → has low k ≡ false
+least_of_all low high m n tied none near least within k less =
+    elim (cases_Bool (has low k)) [
+      | inr absent ↦ absent
+      | inl stands ↦
+          let place : k / 64 < length low = omega arith in
+          let head : has high (k / 64) ≡ true = tied.heads (k / 64) place ∙ rw (word_some low k stands) refl in
+          elim (cases_lt (k / 64) m) [
+            | inl before ↦ absurd (true≢false (sym head ∙ none (k / 64) before))
+            | inr after ↦ least k less (omega arith)
+          ]
+    ]

@@ -1,0 +1,75 @@
+//! Sets of numbers in rows, of which the first comes first.
+
+ghost use Rattle.std.specs.Prelude.{◌≡◌, ◌≢◌, ◌<◌, ◌≤◌, ◌⊎◌, ℕ, true, false, length, IfOk, IfSome, IfNone};
+ghost use Rattle.ada_agenda.specs.Rows.{keeps};
+
+use crate::Numbers;
+use std::alloc::{AllocError, Global};
+use std::marker::Model;
+
+/// What is to be looked at, in rows: numbers below 69,632, of which the least of the first row that has one
+/// comes first. All calls but `new` take no memory, and look at a few words for each row. Contracts see
+/// it as the list of its rows, each as the words of its bits.
+#[derive(Drop)]
+pub struct Agenda {
+    rows: Vec<Numbers>,
+}
+
+impl Model for Agenda {
+    ghost use Rattle.std.specs.Prelude.{List, ℕ};
+
+    ghost Value = { List (List ℕ) };
+
+    ghost view = { λ a. a.rows.items };
+}
+
+impl Agenda {
+    /// So many rows with nothing in them.
+    pub fn new(alloc: Global, rows: usize) -> Result<Self, AllocError>
+        ensures rows { IfOk result (λ agenda. length agenda ≡ rows) }
+        ensures empty { IfOk result (λ agenda. (row k : ℕ) → keeps agenda row k ≡ false) }
+    {
+        let mut sets = Vec::new(alloc);
+        for _ in 0..rows {
+            sets.push(Numbers::new(alloc)?)?;
+        }
+        Ok(Agenda { rows: sets })
+    }
+
+    /// Puts a number into a row, where it may be already.
+    pub fn insert(&mut self, row: usize, number: usize)
+        requires row { row < length self.old }
+        requires number { number < 69632 }
+        ensures rows { length self.new ≡ length self.old }
+        ensures here { keeps self.new row number ≡ true }
+        ensures others { (r k : ℕ) → (r ≢ row) ⊎ (k ≢ number) → keeps self.new r k ≡ keeps self.old r k }
+    {
+        self.rows[row].insert(number);
+    }
+
+    /// Takes a number out of a row, if it is there.
+    pub fn remove(&mut self, row: usize, number: usize)
+        requires row { row < length self.old }
+        requires number { number < 69632 }
+        ensures rows { length self.new ≡ length self.old }
+        ensures here { keeps self.new row number ≡ false }
+        ensures others { (r k : ℕ) → (r ≢ row) ⊎ (k ≢ number) → keeps self.new r k ≡ keeps self.old r k }
+    {
+        self.rows[row].remove(number);
+    }
+
+    /// The first row that has a number, and its least.
+    pub fn first(&self) -> Option<(usize, usize)>
+        ensures here { IfSome result (λ key. keeps self.now key.0 key.1 ≡ true) }
+        ensures rows { IfSome result (λ key. (r k : ℕ) → r < key.0 → keeps self.now r k ≡ false) }
+        ensures least { IfSome result (λ key. (k : ℕ) → k < key.1 → keeps self.now key.0 k ≡ false) }
+        ensures none { IfNone result ((r k : ℕ) → keeps self.now r k ≡ false) }
+    {
+        for (row, numbers) in self.rows.iter().enumerate() {
+            if let Some(number) = numbers.least() {
+                return Some((row, number));
+            }
+        }
+        None
+    }
+}

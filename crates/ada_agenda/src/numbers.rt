@@ -1,0 +1,86 @@
+//! A set of small numbers.
+
+ghost use Rattle.std.specs.Prelude.{◌≡◌, ◌≢◌, ◌<◌, ℕ, true, false, length, slice_index_or, IfOk, IfSome, IfNone};
+ghost use Rattle.ada_agenda.specs.Bits.{has};
+
+use crate::levels::{first, put, take};
+use std::alloc::{AllocError, Global};
+use std::marker::Model;
+
+/// How many words of 64 numbers a set has, on its lowest level and on the one above it.
+const WORDS: usize = 1_088;
+
+const HEADS: usize = 17;
+
+/// So many words of no bit.
+fn zeros(alloc: Global, count: usize) -> Result<Vec<u64>, AllocError>
+    ensures many { IfOk result (λ words. length words.items ≡ count) }
+    ensures zeros { IfOk result (λ words. (w : ℕ) → w < count → slice_index_or words.items w 0 ≡ 0) }
+{
+    vec![in alloc; 0u64; count]
+}
+
+/// A set of numbers below 69,632. Whether a number is in it, putting one in, taking one out, and the least
+/// of all each look at a few words; none takes memory. Contracts see it as the words of its bits.
+#[derive(Drop)]
+pub struct Numbers {
+    /// A bit for each number.
+    low: Vec<u64>,
+    /// A bit for each word of `low` that isn't 0.
+    mid: Vec<u64>,
+    /// A bit for each word of `mid` that isn't 0.
+    top: Vec<u64>,
+}
+
+impl Model for Numbers {
+    ghost use Rattle.std.specs.Prelude.{List, ℕ};
+    ghost use Rattle.ada_agenda.specs.Bits.{AreLevels};
+
+    ghost Value = { List ℕ };
+
+    ghost view = { λ n. n.low.items };
+
+    ghost invariant = { λ n. AreLevels n.low.items n.mid.items n.top.items };
+}
+
+impl Numbers {
+    /// The empty set.
+    pub fn new(alloc: Global) -> Result<Self, AllocError>
+        ensures { IfOk result (λ numbers. (k : ℕ) → has numbers k ≡ false) }
+    {
+        let low = zeros(alloc, WORDS)?;
+        let mid = zeros(alloc, HEADS)?;
+        let top = zeros(alloc, 1)?;
+        Ok(Numbers { low, mid, top })
+    }
+
+    /// Puts a number in, which may be there already.
+    pub fn insert(&mut self, number: usize)
+        requires { number < 69632 }
+        ensures here { has self.new number ≡ true }
+        ensures others { (k : ℕ) → k ≢ number → has self.new k ≡ has self.old k }
+    {
+        put(&mut self.low, &mut self.mid, &mut self.top, number);
+    }
+
+    /// Takes a number out, if it is there.
+    pub fn remove(&mut self, number: usize)
+        requires { number < 69632 }
+        ensures here { has self.new number ≡ false }
+        ensures others { (k : ℕ) → k ≢ number → has self.new k ≡ has self.old k }
+    {
+        take(&mut self.low, &mut self.mid, &mut self.top, number);
+    }
+
+    /// The least number of the set.
+    pub fn least(&self) -> Option<usize>
+        ensures here { IfSome result (λ n. has self.now n ≡ true) }
+        ensures least { IfSome result (λ n. (k : ℕ) → k < n → has self.now k ≡ false) }
+        ensures none { IfNone result ((k : ℕ) → has self.now k ≡ false) }
+    {
+        if self.top[0] == 0 {
+            return None;
+        }
+        Some(first(&self.low, &self.mid, &self.top))
+    }
+}
