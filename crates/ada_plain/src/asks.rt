@@ -1,18 +1,17 @@
 //! The event that a request becomes when it is accepted.
-ghost use Rattle.std.specs.Prelude.{◌≡◌, ◌<◌, ◌≤◌, ◌^◌, ◌&&◌, ◌++◌, ◌∷◌, [], false, length, reverse, int_lt, map, IfOk, IfErr};
+ghost use Rattle.std.specs.Prelude.{◌≡◌, ◌<◌, ◌≤◌, ◌^◌, ◌&&◌, false, length, reverse, map, IfOk, IfErr};
 ghost use Rattle.std.specs.List.{list_any};
 ghost use Rattle.ada_events.specs.Asks as asks;
 ghost use Rattle.ada_events.specs.Nests as nests;
 ghost use Rattle.ada_events.specs.Limits as limits;
-ghost use Rattle.ada_events.specs.Refusals as refusals;
 ghost use Rattle.ada_events.specs.declared.names.Pause.{Pause as PauseValue};
 ghost use Rattle.ada_plain.specs.Late.{is_late_tail, is_late_call};
 
 use crate::nests::{frame, innermost};
 use crate::tasks::moment;
 use ada_events::{
-    ChoiceList, DueList, Dues, Event, EventTail, FamilyList, Member, Patience, Pause, Pauses,
-    Refusal, Request, Tail, TaskList, TaskNo,
+    ChoiceList, DueList, Dues, Event, EventTail, FamilyList, Member, Patience, Pause, Refusal,
+    Request, Tail, TaskList, TaskNo,
 };
 use std::alloc::Global;
 

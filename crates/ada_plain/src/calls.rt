@@ -1,12 +1,11 @@
 //! Entry calls (9.5): open, joined in a rendezvous or queued, and the queue of an entry.
-ghost use Rattle.std.specs.Prelude.{◌≡◌, ◌<◌, ◌^◌, ◌&&◌, ◌==◌, not, length, reverse, slice_get};
+ghost use Rattle.std.specs.Prelude.{◌≡◌, ◌<◌, ◌^◌, ◌&&◌, ◌==◌, length, reverse, slice_get};
 ghost use Rattle.std.specs.Option.{option_or};
 ghost use Rattle.std.specs.Bool.{then_some};
 ghost use Rattle.ada_events.specs.Search.{is_some_and};
 ghost use Rattle.ada_events.specs.Says as said;
 ghost use Rattle.ada_events.specs.Entries as entries;
 ghost use Rattle.ada_events.specs.Calls as calls;
-ghost use Rattle.ada_events.specs.Forced as forced;
 
 use crate::phases::{has_ended, is_released};
 use crate::says::{is_call_by, is_meeting_of};

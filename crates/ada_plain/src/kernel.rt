@@ -1,10 +1,9 @@
 //! The plain kernel: a journal, and each request answered by searches over it.
-ghost use Rattle.std.specs.Prelude.{◌≡◌, ◌+◌, ◌<◌, ◌≤◌, ◌^◌, [], None, length, reverse, IfOk, IfErr};
+ghost use Rattle.std.specs.Prelude.{◌≡◌, ◌+◌, ◌<◌, ◌≤◌, [], None, IfOk, IfErr};
 ghost use Rattle.std.specs.Bool.{then_some};
 ghost use Rattle.ada_events.specs.Lawful.{IsLawful, IsSettled, Forces};
 ghost use Rattle.ada_events.specs.Refusals.{refusal as refusal_of};
 ghost use Rattle.ada_events.specs.Steps.{IsAccepted, IsRefused};
-ghost use Rattle.ada_events.specs.Asks.{asked_event as asked_of};
 ghost use Rattle.ada_events.specs.Tasks.{task_count, has_task};
 ghost use Rattle.ada_events.specs.Phases.{is_terminated, is_running};
 ghost use Rattle.ada_events.specs.Outcomes.{outcome_of};

@@ -1,14 +1,11 @@
 //! The causes that have to do with moments and limits.
-ghost use Rattle.std.specs.Prelude.{◌≡◌, ◌<◌, ◌≤◌, ◌^◌, ◌+◌, ◌-◌, ◌&&◌, nat_le, nat_lt, false, length, reverse, int_lt, min};
+ghost use Rattle.std.specs.Prelude.{◌≡◌, ◌<◌, ◌^◌, ◌+◌, ◌-◌, ◌&&◌, false, length, reverse, min};
 ghost use Rattle.std.specs.List.{list_any};
 ghost use Rattle.ada_events.specs.declared.names.Pause.{Pause as PauseValue};
 ghost use Rattle.ada_events.specs.Entries as entries;
 ghost use Rattle.std.specs.Option.{option_map_or};
 ghost use Rattle.ada_events.specs.Says as said;
-ghost use Rattle.ada_events.specs.Asks as asks;
 ghost use Rattle.ada_events.specs.Limits as limits;
-ghost use Rattle.ada_events.specs.Refusals as refusals;
-ghost use Rattle.ada_events.specs.Tasks.{task_count as count_of_tasks};
 
 use crate::nests::depth;
 use crate::tasks::{moment, task_count};

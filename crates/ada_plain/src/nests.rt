@@ -1,8 +1,8 @@
 //! What a task is within: the blocks that it opened and hasn't left, and the rendezvous that it accepted
 //! and hasn't ended.
-ghost use Rattle.std.specs.Prelude.{◌≡◌, ◌<◌, ◌≤◌, ◌+◌, ◌^◌, ◌&&◌, ◌||◌, ◌==◌, not, false, length, reverse, slice_get};
+ghost use Rattle.std.specs.Prelude.{◌≡◌, ◌<◌, ◌≤◌, ◌+◌, ◌^◌, ◌&&◌, ◌||◌, ◌==◌, not, false, length, reverse};
 ghost use Rattle.std.specs.List.{list_any};
-ghost use Rattle.std.specs.Option.{option_map_or, option_or, option_len};
+ghost use Rattle.std.specs.Option.{option_map_or, option_len};
 ghost use Rattle.ada_events.specs.Search.{is_some_and};
 ghost use Rattle.ada_events.specs.Says as said;
 ghost use Rattle.ada_events.specs.Calls as calls;

@@ -1,11 +1,9 @@
 //! The causes for which a request is refused, each a test, and the first that applies.
-ghost use Rattle.std.specs.Prelude.{◌≡◌, ◌<◌, ◌≤◌, ◌^◌, ◌+◌, ◌&&◌, ◌||◌, ◌==◌, nat_lt, not, false, true, length, reverse, slice_get, int_lt, if◌then◌else◌, is_none};
+ghost use Rattle.std.specs.Prelude.{◌≡◌, ◌<◌, ◌^◌, ◌+◌, ◌&&◌, ◌||◌, ◌==◌, nat_lt, not, false, true, length, reverse, is_none};
 ghost use Rattle.std.specs.List.{list_any};
-ghost use Rattle.std.specs.Option.{option_map, option_map_or, option_or};
-ghost use Rattle.ada_events.specs.declared.event.Event.{Event as EventValue};
+ghost use Rattle.std.specs.Option.{option_map, option_map_or};
 ghost use Rattle.ada_events.specs.declared.names.TaskNo.{TaskNo as Task};
 ghost use Rattle.ada_events.specs.declared.names.Choice.{Choice as ChoiceValue};
-ghost use Rattle.ada_events.specs.declared.names.Family.{Family as FamilyValue};
 ghost use Rattle.ada_events.specs.Search.{is_some_and};
 ghost use Rattle.ada_events.specs.Says as said;
 ghost use Rattle.ada_events.specs.Phases as phases;
@@ -13,7 +11,7 @@ ghost use Rattle.ada_events.specs.Entries as entries;
 ghost use Rattle.ada_events.specs.Asks as asks;
 ghost use Rattle.ada_events.specs.Refusals as refusals;
 ghost use Rattle.ada_events.specs.Nests as nests;
-ghost use Rattle.ada_events.specs.Tasks.{task_count as count_of_tasks, creation_of};
+ghost use Rattle.ada_events.specs.Tasks.{creation_of};
 
 use crate::limits::{
     is_full, is_too_deep, is_too_late, makes_too_many_slots, makes_too_many_tasks, moves_back,
