@@ -101,7 +101,9 @@ impl<'a> Words<'a> {
     pub fn new(line: &'a [u8]) -> Self
         ensures { result ≡ words_in line.now }
     {
-        Words { next: cut_word(line) }
+        Words {
+            next: cut_word(line),
+        }
     }
 
     /// Takes the next word.

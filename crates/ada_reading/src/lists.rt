@@ -5,9 +5,9 @@ ghost use Rattle.std.specs.Str.{bytes_eq};
 ghost use Rattle.std.specs.List.{list_any};
 ghost use Rattle.ada_reading.specs.Reading.{Gives, GivesInMemory, tasks_at, family_at, families_at};
 
-use crate::parts::{read_bounds, read_name, read_task};
 use crate::cursor::Words;
 use crate::fault::Fault;
+use crate::parts::{read_bounds, read_name, read_task};
 use ada_statements::{Declaration, Declarations, Name, Names, TaskNames};
 use std::alloc::Global;
 

@@ -3,9 +3,9 @@
 ghost use Rattle.std.specs.Prelude.{◌≡◌, ◌⊎◌, [], Ok, Err, IfOk, IfErr};
 ghost use Rattle.ada_reading.specs.Reading.{Gives, GivesInMemory, passed_over, kind_of, branch_at, tail_of, link_at, pause_at, next_pause_at, pauses_at, choice_at, tail_from, choices_at, alternatives_at};
 
-use crate::parts::{read_entry, read_keyword, read_moment, read_word};
 use crate::cursor::Words;
 use crate::fault::Fault;
+use crate::parts::{read_entry, read_keyword, read_moment, read_word};
 use ada_events::{Bounded, Pause, Pauses, Stored, Tail};
 use ada_statements::{Alternative, Alternatives, Name, Names};
 use std::alloc::Global;

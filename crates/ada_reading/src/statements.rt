@@ -3,14 +3,14 @@
 ghost use Rattle.std.specs.Prelude.{◌≡◌, ◌⊎◌, Ok, Err, option_copied, OnOk, IfErr};
 ghost use Rattle.ada_reading.specs.Reading.{Gives, Writes, verb_at, open_at, create_at, activate_at, abort_at, call_at, try_at, accept_at, delay_at, tick_at, select_at, show_at, act_at, before_colon, speaker_of, speech_at, statement_at, statement_of};
 
+use crate::cursor::Words;
+use crate::fault::Fault;
 use crate::lists::{read_families, read_tasks};
 use crate::parts::{
     is_name, read_end, read_entry, read_keyword, read_master, read_moment, read_new_name,
     read_pick, read_task, read_word,
 };
 use crate::select::read_alternatives;
-use crate::cursor::Words;
-use crate::fault::Fault;
 use ada_spelling::{Verb, verb_of};
 use ada_statements::{Name, Names, Statement};
 use std::alloc::Global;

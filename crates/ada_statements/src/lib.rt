@@ -14,4 +14,6 @@ pub use meaning::{Bound, EntryNames, Made, Meaning};
 pub use name::Name;
 pub use names::Names;
 pub use requests::{asked, request};
-pub use statement::{Alternative, Alternatives, Declaration, Declarations, EntryName, Statement, TaskNames};
+pub use statement::{
+    Alternative, Alternatives, Declaration, Declarations, EntryName, Statement, TaskNames,
+};
