@@ -1,5 +1,5 @@
 //! The kernel, on the plain program's searches over the journal.
-ghost use Rattle.std.specs.Prelude.{◌≡◌, [], IfOk, IfErr};
+ghost use Rattle.std.specs.Prelude.{◌≡◌, ◌<◌, ◌^◌, [], length, reverse, IfOk, IfErr};
 ghost use Rattle.std.specs.Bool.{then_some};
 ghost use Rattle.ada_events.specs.Lawful.{IsLawful, IsSettled};
 ghost use Rattle.ada_events.specs.Steps.{IsAccepted, IsRefused};
@@ -11,8 +11,11 @@ ghost use Rattle.ada_events.specs.Slots.{slot_of};
 ghost use Rattle.ada_events.specs.Boards.{board_of};
 ghost use Rattle.ada_laws.specs.Laws.{KeepsTheLaws};
 
-use ada_events::{Board, Entry, Journal, Outcome, Refusal, Request, TaskNo};
+use ada_events::{Board, Entry, Event, Journal, Outcome, Refusal, Request, TaskNo};
 use ada_plain::PlainKernel;
+use ada_plain::attributes::{self, known_callable, known_outcome, known_running, known_terminated};
+use ada_plain::boards::{board, tasks_in};
+use ada_plain::slots::slot;
 use std::alloc::Global;
 use std::marker::Model;
 
@@ -66,32 +69,41 @@ impl Kernel {
         self.plain.journal()
     }
 
+    // The events in the order of their arrival.
+    fn events(&self) -> &[Event]
+        ensures events { reverse result.now ≡ self.now }
+        ensures short { length result.now < 2 ^ 32 }
+        ensures lawful { IsLawful self.now }
+    {
+        self.plain.journal().as_slice()
+    }
+
     /// How many tasks there are, the main program counted: 1 to 256.
     pub fn tasks(&self) -> u16
         ensures { result ≡ task_count self.now }
     {
-        self.plain.tasks()
+        tasks_in(self.events())
     }
 
     /// The outcome of a task; none where there is no such task.
     pub fn outcome(&self, task: TaskNo) -> Option<Outcome>
         ensures { result ≡ then_some (has_task self.now task.0) (outcome_of self.now task.0) }
     {
-        self.plain.outcome(task)
+        known_outcome(self.events(), task)
     }
 
     /// The attribute CALLABLE of a task (9.9); none where there is no such task.
     pub fn callable(&self, task: TaskNo) -> Option<bool>
         ensures { result ≡ then_some (has_task self.now task.0) (is_callable self.now task.0) }
     {
-        self.plain.callable(task)
+        known_callable(self.events(), task)
     }
 
     /// The attribute TERMINATED of a task (9.9); none where there is no such task.
     pub fn terminated(&self, task: TaskNo) -> Option<bool>
         ensures { result ≡ then_some (has_task self.now task.0) (is_terminated self.now task.0) }
     {
-        self.plain.terminated(task)
+        known_terminated(self.events(), task)
     }
 
     /// Whether a task is running: started, not ended, and not suspended. None where there is no such
@@ -99,7 +111,7 @@ impl Kernel {
     pub fn running(&self, task: TaskNo) -> Option<bool>
         ensures { result ≡ then_some (has_task self.now task.0) (is_running self.now task.0) }
     {
-        self.plain.running(task)
+        known_running(self.events(), task)
     }
 
     /// The attribute COUNT of an entry of the asking task's own (9.9), at most 256. Refused for the first
@@ -107,7 +119,7 @@ impl Kernel {
     pub fn count(&self, by: TaskNo, entry: Entry) -> Result<u16, Refusal>
         ensures { result ≡ own_count self.now by.0 entry }
     {
-        self.plain.count(by, entry)
+        attributes::own_count(self.events(), by, entry)
     }
 
     /// The slot of an entry, below 1,024: all entries of all tasks are numbered from 0 in order of task,
@@ -115,20 +127,20 @@ impl Kernel {
     pub fn slot(&self, task: TaskNo, entry: Entry) -> Option<u16>
         ensures { result ≡ slot_of self.now task.0 entry }
     {
-        self.plain.slot(task, entry)
+        slot(self.events(), task, entry)
     }
 
     /// The attributes of all tasks and entries.
     pub fn board(&self) -> Board
         ensures { result ≡ board_of self.now }
     {
-        self.plain.board()
+        board(self.events())
     }
 
     /// Whether the main program is terminated.
     pub fn finished(&self) -> bool
         ensures { result ≡ is_finished self.now }
     {
-        self.plain.finished()
+        attributes::is_finished(self.events())
     }
 }

@@ -1,27 +1,14 @@
 //! The plain kernel: a journal, and each request answered by searches over it.
 ghost use Rattle.std.specs.Prelude.{◌≡◌, ◌+◌, ◌<◌, ◌≤◌, [], None, IfOk, IfErr};
-ghost use Rattle.std.specs.Bool.{then_some};
 ghost use Rattle.ada_events.specs.Lawful.{IsLawful, IsSettled, Forces};
 ghost use Rattle.ada_events.specs.Refusals.{refusal as refusal_of};
 ghost use Rattle.ada_events.specs.Steps.{IsAccepted, IsRefused};
-ghost use Rattle.ada_events.specs.Tasks.{task_count, has_task};
-ghost use Rattle.ada_events.specs.Phases.{is_terminated, is_running};
-ghost use Rattle.ada_events.specs.Outcomes.{outcome_of};
-ghost use Rattle.ada_events.specs.Attributes.{is_callable, own_count as count_asked, is_finished as finished_in};
-ghost use Rattle.ada_events.specs.Slots.{slot_of};
-ghost use Rattle.ada_events.specs.Boards.{board_of};
 ghost use Rattle.ada_laws.specs.Work.{work_left};
 
 use crate::asks::asked_event;
-use crate::attributes::{
-    is_finished, known_callable, known_outcome, known_running, known_terminated, own_count,
-};
-use crate::boards::board;
 use crate::forced::forced;
 use crate::refusals::refusal;
-use crate::slots::slot;
-use crate::tasks;
-use ada_events::{Board, Entry, Journal, Outcome, Refusal, Request, TaskNo};
+use ada_events::{Journal, Refusal, Request};
 use std::alloc::Global;
 use std::marker::Model;
 
@@ -112,71 +99,5 @@ impl PlainKernel {
         ensures settled { IsSettled self.now }
     {
         &self.journal
-    }
-
-    /// How many tasks there are, the main program counted: 1 to 256.
-    pub fn tasks(&self) -> u16
-        ensures { result ≡ task_count self.now }
-    {
-        tasks::task_count(self.journal.as_slice()) as u16
-    }
-
-    /// The outcome of a task; none where there is no such task.
-    pub fn outcome(&self, task: TaskNo) -> Option<Outcome>
-        ensures { result ≡ then_some (has_task self.now task.0) (outcome_of self.now task.0) }
-    {
-        known_outcome(self.journal.as_slice(), task)
-    }
-
-    /// The attribute CALLABLE of a task (9.9); none where there is no such task.
-    pub fn callable(&self, task: TaskNo) -> Option<bool>
-        ensures { result ≡ then_some (has_task self.now task.0) (is_callable self.now task.0) }
-    {
-        known_callable(self.journal.as_slice(), task)
-    }
-
-    /// The attribute TERMINATED of a task (9.9); none where there is no such task.
-    pub fn terminated(&self, task: TaskNo) -> Option<bool>
-        ensures { result ≡ then_some (has_task self.now task.0) (is_terminated self.now task.0) }
-    {
-        known_terminated(self.journal.as_slice(), task)
-    }
-
-    /// Whether a task is running: started, not ended, and not suspended. None where there is no such
-    /// task.
-    pub fn running(&self, task: TaskNo) -> Option<bool>
-        ensures { result ≡ then_some (has_task self.now task.0) (is_running self.now task.0) }
-    {
-        known_running(self.journal.as_slice(), task)
-    }
-
-    /// The attribute COUNT of an entry of the asking task's own (9.9), at most 256. Refused for the first
-    /// that applies of `UnknownTask`, `NotRunning`, `NoSuchFamily` and `ConstraintError`.
-    pub fn count(&self, by: TaskNo, entry: Entry) -> Result<u16, Refusal>
-        ensures { result ≡ count_asked self.now by.0 entry }
-    {
-        own_count(self.journal.as_slice(), by, entry)
-    }
-
-    /// The slot of an entry, below 1,024: all entries of all tasks are numbered from 0 in order of task,
-    /// family and index. None where there is no such task or entry.
-    pub fn slot(&self, task: TaskNo, entry: Entry) -> Option<u16>
-        ensures { result ≡ slot_of self.now task.0 entry }
-    {
-        slot(self.journal.as_slice(), task, entry)
-    }
-
-    /// The attributes of all tasks and entries.
-    pub fn board(&self) -> Board
-        ensures { result ≡ board_of self.now }
-    {
-        board(self.journal.as_slice())
-    }
-
-    /// Whether the main program is terminated.
-    pub fn finished(&self) -> bool
-        ensures { result ≡ finished_in self.now }
-    {
-        is_finished(self.journal.as_slice())
     }
 }
