@@ -1,5 +1,5 @@
 -- What a reader keeps, and what a read gives.
-use Rattle.std.proofs.Common.{◌≡◌, List, [], ◌∷◌, refl}
+use Rattle.std.proofs.Common.{◌≡◌, List, [], ◌∷◌, Option, Some, None, IfSome, refl}
 use Rattle.std.specs.List.{All}
 use Rattle.std.proofs.lemmas.List.Elements.{All-cons, All-weaker}
 use mathlib.Core.List.{IsPrefix}
@@ -32,3 +32,9 @@ reads book known after seen told reader later kept = record {
   told = all_later known.boards after.boards told later reader.told_first;
   fresh = refl;
 }
+
+-- what a place has seen begins what is known, and later more
+pub sighted_later : {P : Type 0} (sight : P → List Board) (xs ys : List Board) (place : Option P) → IsPrefix xs ys → IfSome place (λ p. IsPrefix (sight p) xs)
+    → IfSome place (λ p. IsPrefix (sight p) ys)
+sighted_later sight xs ys None later known = tt
+sighted_later sight xs ys (Some p) later known = prefix_trans (sight p) xs ys known later

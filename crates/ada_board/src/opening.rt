@@ -1,6 +1,7 @@
 //! Opening a board, and the places of its readers.
 ghost use Rattle.std.specs.Prelude.{◌≡◌, ◌+◌, ◌<◌, ◌≤◌, ◌^◌, [], ◌∷◌, drop, IfOk, MatchResult, IsTrue, vec_len, vec_capacity};
-ghost use Rattle.std.specs.Arc.{arc_value};
+ghost use Rattle.std.specs.List.{All};
+ghost use Rattle.left_right.specs.Sides.{view as sight_of};
 ghost use Rattle.ada_board.specs.Sights.{Posted, Sight};
 
 use crate::edition::Edition;
@@ -24,12 +25,15 @@ pub struct Readers<J: Naming> {
 
 impl<J: Naming> Model for Readers<J> {
     ghost use Rattle.std.specs.Prelude.{◌≡◌, ℕ, [], vec_len};
+    ghost use Rattle.std.specs.List.{All};
+    ghost use Rattle.left_right.specs.Sides.{view as sight_of};
 
     ghost Value = { ℕ };
 
     ghost view = { λ r. vec_len r.places };
 
-    ghost invariant = { λ r. (r.reached.book ≡ J.book) × (r.reached.log ≡ []) };
+    ghost invariant = { λ r. (r.reached.book ≡ J.book) × (r.reached.log ≡ [])
+        × All (λ place. sight_of place.place ≡ []) r.places.items };
 }
 
 impl<J: Naming> Readers<J> {
@@ -101,8 +105,9 @@ fn fill<J: Naming>(
     factory: &Factory<Shown, Sighted, Publishing<J>>,
     readers: usize,
 ) -> bool
-    requires { (vec_len places.old ≡ 0) × (readers ≤ vec_capacity places.old) }
-    ensures { IsTrue result → vec_len places.new ≡ readers }
+    requires { (places.old.items ≡ []) × (vec_len places.old ≡ 0) × (readers ≤ vec_capacity places.old) }
+    ensures many { IsTrue result → vec_len places.new ≡ readers }
+    ensures unseen { All (λ place. sight_of place.place ≡ []) places.new.items }
 {
     for taken in 0..readers {
         let Ok(place) = factory.reader() else {

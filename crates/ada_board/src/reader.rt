@@ -1,7 +1,7 @@
 //! A reader of the board.
-ghost use Rattle.std.specs.Prelude.{◌≡◌, [], ◌∷◌, Some};
+ghost use Rattle.std.specs.Prelude.{◌≡◌, [], ◌∷◌, IfSome};
 ghost use mathlib.Core.List.{IsPrefix};
-ghost use Rattle.logbook.specs.Pages.{Book};
+ghost use Rattle.left_right.specs.Sides.{view as sight_of};
 ghost use Rattle.ada_events.specs.Boards.{AreTrue};
 ghost use Rattle.ada_board.specs.Answers.{latest, callable_on, terminated_on, count_on};
 ghost use Rattle.ada_board.specs.Sights.{Sight, Reads};
@@ -32,6 +32,9 @@ pub struct BoardReader<J: Naming> {
 }
 
 impl<J: Naming> Model for BoardReader<J> {
+    ghost use Rattle.std.specs.Prelude.{IfSome};
+    ghost use mathlib.Core.List.{IsPrefix};
+    ghost use Rattle.left_right.specs.Sides.{view as sight_of};
     ghost use Rattle.ada_board.specs.Sights.{Sight};
     ghost use Rattle.ada_board.specs.Readers.{IsReader};
 
@@ -39,14 +42,18 @@ impl<J: Naming> Model for BoardReader<J> {
 
     ghost view = { λ r. record { seen = r.seen.log; told = r.told } };
 
-    ghost invariant = { λ r. IsReader J.book r.known r.seen.log r.told };
+    // what its place has seen by the rule, this reader knows
+    ghost invariant = { λ r. IsReader J.book r.known r.seen.log r.told
+        × IfSome r.place (λ place. IsPrefix (sight_of place.place) r.known.boards) };
 }
 
 // Looks once at what is published, and takes it where it is newer.
 fn look<J: Naming>(place: Place<J>, known: &mut Edition) -> Place<J>
-    requires { known.old.book ≡ J.book }
+    requires book { known.old.book ≡ J.book }
+    requires sight { IsPrefix (sight_of place.place) known.old.boards }
     ensures book { known.new.book ≡ J.book }
     ensures later { IsPrefix known.old.boards known.new.boards }
+    ensures sight { IsPrefix (sight_of result.place) known.new.boards }
 {
     match place.enter_as::<Sees<J>>() {
         Ok(reading) => {
@@ -59,9 +66,11 @@ fn look<J: Naming>(place: Place<J>, known: &mut Edition) -> Place<J>
 
 // Takes the place out for one look.
 fn visit<J: Naming>(place: &mut Option<Place<J>>, known: &mut Edition)
-    requires { known.old.book ≡ J.book }
+    requires book { known.old.book ≡ J.book }
+    requires sight { IfSome place.old (λ at. IsPrefix (sight_of at.place) known.old.boards) }
     ensures book { known.new.book ≡ J.book }
     ensures later { IsPrefix known.old.boards known.new.boards }
+    ensures sight { IfSome place.new (λ at. IsPrefix (sight_of at.place) known.new.boards) }
 {
     if let Some(taken) = place.take() {
         *place = Some(look(taken, known));
@@ -72,6 +81,7 @@ impl<J: Naming> BoardReader<J> {
     pub(crate) fn at(place: Place<J>, seen: Reached) -> BoardReader<J>
         requires book { seen.book ≡ J.book }
         requires empty { seen.log ≡ [] }
+        requires sight { sight_of place.place ≡ [] }
         ensures { result ≡ record { seen = []; told = [] } }
     {
         BoardReader {
