@@ -72,6 +72,7 @@ impl Naming for Brand {
 }
 
 /// A history without a board, of which a board may be opened. Contracts see which one it is.
+#[derive(Drop)]
 pub struct History {
     pub(crate) head: Head,
     pub(crate) reached: Reached,
