@@ -53,7 +53,8 @@ impl<J: Naming> Readers<J> {
 // The opening edition, in memory of its own.
 fn opening(alloc: Global, reached: &Reached) -> Result<Box<Edition>, AllocError>
     requires { reached.now.log ≡ [] }
-    ensures { IfOk result (λ edition. edition.value ≡ record { book = reached.now.book; boards = [] }) }
+    ensures { IfOk result (λ edition.
+        edition.value ≡ record { book = reached.now.book; boards = [] }) }
 {
     Ok(Box::new(alloc, Edition::opening(reached.again()))?)
 }
@@ -87,10 +88,12 @@ fn make_room<J: Naming, R: Wait>(
     edition: Box<Edition>,
 ) -> (Publisher<J>, Result<(), AllocError>)
     requires clear { drop publisher.behind publisher.log.items ≡ [] }
-    requires shown { publisher.desk.shown.value.edition.value ≡ record { book = J.book; boards = [] } }
+    requires shown { publisher.desk.shown.value.edition.value
+        ≡ record { book = J.book; boards = [] } }
     requires same { edition.value ≡ record { book = J.book; boards = [] } }
     ensures clear { drop result.0.behind result.0.log.items ≡ [] }
-    ensures shown { result.0.desk.shown.value.edition.value ≡ record { book = J.book; boards = [] } }
+    ensures shown { result.0.desk.shown.value.edition.value
+        ≡ record { book = J.book; boards = [] } }
 {
     let mut publisher = publisher;
     if publisher.append(edition).is_err() {
@@ -105,7 +108,8 @@ fn fill<J: Naming>(
     factory: &Factory<Shown, Sighted, Publishing<J>>,
     readers: usize,
 ) -> bool
-    requires { (places.old.items ≡ []) × (vec_len places.old ≡ 0) × (readers ≤ vec_capacity places.old) }
+    requires { (places.old.items ≡ []) × (vec_len places.old ≡ 0)
+        × (readers ≤ vec_capacity places.old) }
     ensures many { IsTrue result → vec_len places.new ≡ readers }
     ensures unseen { All (λ place. sight_of place.place ≡ []) places.new.items }
 {
@@ -129,7 +133,8 @@ pub fn open_board<J: Naming, R: Wait>(
 ) -> Result<(BoardWriter<J>, Readers<J>), BoardFault>
     requires readers { (0 < readers) × (readers ≤ 256) }
     requires named { history ≡ J.book }
-    ensures { IfOk result (λ ends. (ends.0 ≡ record { published = []; offered = [] }) × (ends.1 ≡ readers)) }
+    ensures { IfOk result (λ ends.
+        (ends.0 ≡ record { published = []; offered = [] }) × (ends.1 ≡ readers)) }
 {
     let (head, reached) = history.into_parts();
     let mut places = Vec::with_capacity(alloc, readers)?;

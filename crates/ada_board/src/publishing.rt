@@ -36,7 +36,8 @@ pub struct Sees<J> {
 impl<J: Naming> Outcome<Shown, Sighted> for Sees<J> {
     ghost use Rattle.ada_board.specs.Publishing.{Follows};
 
-    ghost then = { λ seen before after now. Follows J.book seen before.edition.value after.edition.value now };
+    ghost then = { λ seen before after now.
+        Follows J.book seen before.edition.value after.edition.value now };
 }
 
 /// A reader's place.

@@ -40,9 +40,11 @@ impl<J: Naming> Model for BoardWriter<J> {
 
     ghost view = { λ w. posted w.publisher.desk.shown.value.edition.value.boards w.reached.log };
 
-    ghost invariant = { λ w. (w.head ≡ head_of J.book) × (drop w.publisher.behind w.publisher.log.items ≡ [])
+    ghost invariant = { λ w. (w.head ≡ head_of J.book)
+        × (drop w.publisher.behind w.publisher.log.items ≡ [])
         × (let published = w.publisher.desk.shown.value.edition.value in
-        IsWriter J.book published (option_map_or (λ b. b.value) w.offered published) (record { book = w.reached.book; boards = w.reached.log })) };
+        IsWriter J.book published (option_map_or (λ b. b.value) w.offered published)
+        (record { book = w.reached.book; boards = w.reached.log })) };
 }
 
 // What is published next, to be added to: what was offered, or else a copy of what is published.
@@ -51,7 +53,8 @@ fn draft(
     offered: Option<Box<Edition>>,
     published: &Edition,
 ) -> Result<Box<Edition>, AllocError>
-    ensures ok { IfOk result (λ next. next.value ≡ option_map_or (λ b. b.value) offered published.now) }
+    ensures ok { IfOk result (λ next.
+        next.value ≡ option_map_or (λ b. b.value) offered published.now) }
     ensures err { IfErr result (λ _. offered ≡ None) }
 {
     match offered {
@@ -117,7 +120,8 @@ impl<J: Naming> BoardWriter<J> {
     ) -> BoardWriter<J>
         requires head { head ≡ head_of J.book }
         requires clear { drop publisher.behind publisher.log.items ≡ [] }
-        requires shown { publisher.desk.shown.value.edition.value ≡ record { book = J.book; boards = [] } }
+        requires shown { publisher.desk.shown.value.edition.value
+            ≡ record { book = J.book; boards = [] } }
         requires reached { (reached.book ≡ J.book) × (reached.log ≡ []) }
         ensures { result ≡ record { published = []; offered = [] } }
     {
@@ -139,7 +143,8 @@ impl<J: Naming> BoardWriter<J> {
           published = self.old.published;
           offered = self.old.offered ++ board ∷ [];
         }) }
-        ensures err { IfErr result (λ fault. (fault ≡ BoardFault.OutOfMemory) × (self.new ≡ self.old)) }
+        ensures err { IfErr result (λ fault.
+            (fault ≡ BoardFault.OutOfMemory) × (self.new ≡ self.old)) }
     {
         let published = &self.publisher.published().edition;
         let Ok(mut next) = draft(self.alloc, self.offered.take(), published) else {
@@ -158,7 +163,10 @@ impl<J: Naming> BoardWriter<J> {
     /// Publishes what was offered, all at once. It may wait for readers that look at the copy before last to
     /// leave it. It takes no memory.
     pub fn show<R: Wait>(&mut self, rt: &R)
-        ensures { self.new ≡ record { published = self.old.published ++ self.old.offered; offered = [] } }
+        ensures { self.new ≡ record {
+          published = self.old.published ++ self.old.offered;
+          offered = [];
+        } }
     {
         if let Some(next) = self.offered.take() {
             replace_with(&mut self.publisher, (rt, next), publish::<J, R>);
