@@ -25,7 +25,8 @@ impl<J: Naming> Model for Station<J> {
 
     ghost view = { λ s. s.kernel };
 
-    ghost invariant = { λ s. AreTrueOf s.kernel s.writer.published × IsSettled s.kernel × (s.writer.offered ≡ []) };
+    ghost invariant = { λ s. AreTrueOf s.kernel s.writer.published × IsSettled s.kernel
+        × (s.writer.offered ≡ []) };
 }
 
 impl<J: Naming> Station<J> {
