@@ -1,0 +1,25 @@
+-- What the two ends of a board know.
+use Rattle.std.specs.Prelude.{◌≡◌, List, []}
+use Rattle.std.specs.List.{All}
+use mathlib.Core.List.{IsPrefix}
+use Rattle.ada_events.specs.declared.board.Board.{Board}
+use Rattle.ada_events.specs.Boards.{AreTrue}
+
+-- a writer: the list that is published, and the boards that were offered since
+pub record Posted : Type 0 where
+  pub published : List Board
+  pub offered : List Board
+
+-- a reader: the list that it has seen, and the lists of the marks that it learnt since its last read, the
+-- newest first
+pub record Sight : Type 0 where
+  pub seen : List Board
+  pub told : List (List Board)
+
+-- a read: what is seen afterwards is a true list that begins with all that was seen before, and with each
+-- list that was told
+pub record Reads (before after : Sight) : Type 0 where
+  pub true_list : AreTrue after.seen
+  pub seen : IsPrefix before.seen after.seen
+  pub told : All (λ boards. IsPrefix boards after.seen) before.told
+  pub fresh : after.told ≡ []

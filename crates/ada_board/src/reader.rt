@@ -1,0 +1,149 @@
+//! A reader of the board.
+ghost use Rattle.std.specs.Prelude.{◌≡◌, [], ◌∷◌, IfSome};
+ghost use mathlib.Core.List.{IsPrefix};
+ghost use Rattle.left_right.specs.Sides.{view as sight_of};
+ghost use Rattle.ada_events.specs.Boards.{AreTrue};
+ghost use Rattle.ada_board.specs.Answers.{latest, callable_on, terminated_on, count_on};
+ghost use Rattle.ada_board.specs.Sights.{Sight, Reads};
+
+use crate::answers::{callable_on, count_on, terminated_on};
+use crate::edition::Edition;
+use crate::history::{Naming, Reached};
+use crate::mark::Mark;
+use crate::publishing::{Place, Sees};
+use crate::told::Told;
+use ada_events::{Board, TaskNo};
+use std::marker::Model;
+
+/// A reader: it answers CALLABLE, TERMINATED and COUNT (9.9) with no lock and no wait, and takes no memory.
+/// Contracts see the list of boards that it has seen, and the lists that it was told of since.
+///
+/// It answers from the board of a true list which begins with all that it has seen and was told of: so its
+/// answers never go back. It still answers once the writer is closed.
+#[derive(Drop)]
+pub struct BoardReader<J: Naming> {
+    /// None only while it looks.
+    place: Option<Place<J>>,
+    /// The newest edition that it has seen or was told of.
+    known: Edition,
+    /// The list that it has seen. It takes no bytes.
+    seen: Reached,
+    told: Told,
+}
+
+impl<J: Naming> Model for BoardReader<J> {
+    ghost use Rattle.std.specs.Prelude.{IfSome};
+    ghost use mathlib.Core.List.{IsPrefix};
+    ghost use Rattle.left_right.specs.Sides.{view as sight_of};
+    ghost use Rattle.ada_board.specs.Sights.{Sight};
+    ghost use Rattle.ada_board.specs.Readers.{IsReader};
+
+    ghost Value = { Sight };
+
+    ghost view = { λ r. record { seen = r.seen.log; told = r.told } };
+
+    // what its place has seen by the rule, this reader knows
+    ghost invariant = { λ r. IsReader J.book r.known r.seen.log r.told
+        × IfSome r.place (λ place. IsPrefix (sight_of place.place) r.known.boards) };
+}
+
+// Looks once at what is published, and takes it where it is newer.
+fn look<J: Naming>(place: Place<J>, known: &mut Edition) -> Place<J>
+    requires book { known.old.book ≡ J.book }
+    requires sight { IsPrefix (sight_of place.place) known.old.boards }
+    ensures book { known.new.book ≡ J.book }
+    ensures later { IsPrefix known.old.boards known.new.boards }
+    ensures sight { IsPrefix (sight_of result.place) known.new.boards }
+{
+    match place.enter_as::<Sees<J>>() {
+        Ok(reading) => {
+            known.advance(&reading.get().edition);
+            reading.leave()
+        }
+        Err(place) => place,
+    }
+}
+
+// Takes the place out for one look.
+fn visit<J: Naming>(place: &mut Option<Place<J>>, known: &mut Edition)
+    requires book { known.old.book ≡ J.book }
+    requires sight { IfSome place.old (λ at. IsPrefix (sight_of at.place) known.old.boards) }
+    ensures book { known.new.book ≡ J.book }
+    ensures later { IsPrefix known.old.boards known.new.boards }
+    ensures sight { IfSome place.new (λ at. IsPrefix (sight_of at.place) known.new.boards) }
+{
+    if let Some(taken) = place.take() {
+        *place = Some(look(taken, known));
+    }
+}
+
+impl<J: Naming> BoardReader<J> {
+    pub(crate) fn at(place: Place<J>, seen: Reached) -> BoardReader<J>
+        requires book { seen.book ≡ J.book }
+        requires empty { seen.log ≡ [] }
+        requires sight { sight_of place.place ≡ [] }
+        ensures { result ≡ record { seen = []; told = [] } }
+    {
+        BoardReader {
+            place: Some(place),
+            known: Edition::opening(seen.again()),
+            seen,
+            told: Told::nothing(),
+        }
+    }
+
+    /// Learns what was published when the mark was made: the next answer is no older.
+    pub fn learn(&mut self, mark: Mark<J>)
+        ensures { self.new ≡ record { seen = self.old.seen; told = mark ∷ self.old.told } }
+    {
+        let edition = mark.edition();
+        self.known.advance(edition);
+        self.told.add(edition);
+    }
+
+    /// CALLABLE of a task (9.9): neither completed, nor terminated, nor abnormal. None where the board that
+    /// is read has no such task.
+    pub fn callable(&mut self, task: TaskNo) -> Option<bool>
+        ensures reads { Reads self.old self.new }
+        ensures answer { result ≡ callable_on (latest self.new.seen) task.0 }
+    {
+        self.refresh();
+        callable_on(self.board(), task)
+    }
+
+    /// TERMINATED of a task (9.9). None where the board that is read has no such task.
+    pub fn terminated(&mut self, task: TaskNo) -> Option<bool>
+        ensures reads { Reads self.old self.new }
+        ensures answer { result ≡ terminated_on (latest self.new.seen) task.0 }
+    {
+        self.refresh();
+        terminated_on(self.board(), task)
+    }
+
+    /// COUNT of the entry at a slot (9.9): how many calls are queued. None where the board that is read has
+    /// no such slot.
+    pub fn count(&mut self, slot: u16) -> Option<u16>
+        ensures reads { Reads self.old self.new }
+        ensures answer { result ≡ count_on (latest self.new.seen) slot }
+    {
+        self.refresh();
+        count_on(self.board(), slot)
+    }
+
+    // Looks at what is published. All that is then known has been seen.
+    fn refresh(&mut self)
+        ensures { Reads self.old self.new }
+    {
+        visit(&mut self.place, &mut self.known);
+        self.seen = self.known.reached();
+        self.told = Told::nothing();
+    }
+
+    // The board that was read last.
+    fn board(&self) -> &Board
+        requires { self.now.told ≡ [] }
+        ensures { result.now ≡ latest self.now.seen }
+    {
+        self.known.board()
+    }
+}

@@ -1,0 +1,15 @@
+//! Tests of the board: a kernel whose boards are published, and readers beside it, in one thread and in many.
+#![tactic(auto)]
+
+pub mod station;
+
+pub use station::Station;
+
+#[cfg(test)]
+mod asking;
+#[cfg(test)]
+mod opened;
+#[cfg(test)]
+mod reading;
+#[cfg(test)]
+mod threads;
