@@ -1,4 +1,5 @@
 -- What a task is within after a rendezvous ended.
+use Rattle.ada_records.specs.Changes.{is_apart_from}
 use Rattle.std.proofs.Common.{◌≡◌, ℕ, suc, Bool, true, false, cond, not, ◌&&◌, ◌||◌, Option, Some, None, List, [], ◌∷◌, ◌++◌, length, refl, ap, inl, inr, eqb, append-nil}
 use Rattle.std.specs.Option.{option_map_or, option_or, option_to_list}
 use Rattle.std.specs.Bool.{then_some}
@@ -39,11 +40,6 @@ gathered-filtered give more keep (event ∷ before) same =
     rw (gathered-filtered give more keep before (λ p e at. same p e (event_at-older event before p e at)), same (suc (length before)) event (event_at-newest event before), filter-append keep (gathered give before) (option_to_list (give (suc (length before)) event)))
     (ap (λ xs. filter keep (gathered give before) ++ xs) (kept_list keep (give (suc (length before)) event)))
 
--- the member isn't the rendezvous with that call
-abbrev pub isnt : ℕ → Member → Bool
-isnt call (Block p) = true
-isnt call (Rendezvous met) = not (eqb met call)
-
 open_released : (event : Event) (before : List Event) (p r : ℕ) (e : Event) → IsQuiet event → released_in event ≡ Some r → is_open_at (event ∷ before) p e ≡ (is_open_at before p e && not (eqb p r))
 unfolding is_open_at is_pending is_released
 open_released event before p r e quiet frees = of_call (call_in e)
@@ -73,16 +69,16 @@ open_call_released event before call r quiet calls frees = elim (cases_eq call (
 
 -- what a task is within after an event that releases something, but leaves no block and meets nobody: as before,
 -- without the rendezvous with what is released
-pub nest_released : (event : Event) (before : List Event) (task r : ℕ) → released_in event ≡ Some r → left_in event ≡ None → meeting_in event ≡ None → nest (event ∷ before) task ≡ filter (isnt r) (nest before task)
+pub nest_released : (event : Event) (before : List Event) (task r : ℕ) → released_in event ≡ Some r → left_in event ≡ None → meeting_in event ≡ None → nest (event ∷ before) task ≡ filter (is_apart_from r) (nest before task)
 unfolding nest gathered member_at
 nest_released event before task r frees leaves meets =
     let only = (release_only event r frees).plain.quiet in
     let says = says_release event r frees in
     rw (says.1.opens, meets, append-nil (gathered (member_at (event ∷ before) task) before))
-    (gathered-filtered (member_at before task) (member_at (event ∷ before) task) (isnt r) before
+    (gathered-filtered (member_at before task) (member_at (event ∷ before) task) (is_apart_from r) before
     (λ p e at. rw (left_same event before p leaves says.1.closes) (both (opening_in e) (meeting_in e) p only says)))
   where
-    chosen : (b k : Bool) (met : ℕ) → not (eqb met r) ≡ k → then_some (b && k) (Rendezvous met) ≡ kept (isnt r) (then_some b (Rendezvous met))
+    chosen : (b k : Bool) (met : ℕ) → not (eqb met r) ≡ k → then_some (b && k) (Rendezvous met) ≡ kept (is_apart_from r) (then_some b (Rendezvous met))
     chosen true true met same = rw same refl
     chosen true false met same = rw same refl
     chosen false k met same = refl
@@ -91,17 +87,17 @@ nest_released event before task r frees leaves meets =
     apart true b k = refl
     apart false b k = refl
 
-    by_meeting : (m : Option Meeting) → IsQuiet event → (call_in event ≡ None) × SaysCall event → option_map_or (λ (m : Meeting). then_some (is_wait_of (event ∷ before) task m.wait && is_open_call (event ∷ before) m.call) (Rendezvous m.call)) m None ≡ kept (isnt r) (option_map_or (λ (m : Meeting). then_some (is_wait_of before task m.wait && is_open_call before m.call) (Rendezvous m.call)) m None)
+    by_meeting : (m : Option Meeting) → IsQuiet event → (call_in event ≡ None) × SaysCall event → option_map_or (λ (m : Meeting). then_some (is_wait_of (event ∷ before) task m.wait && is_open_call (event ∷ before) m.call) (Rendezvous m.call)) m None ≡ kept (is_apart_from r) (option_map_or (λ (m : Meeting). then_some (is_wait_of before task m.wait && is_open_call before m.call) (Rendezvous m.call)) m None)
     by_meeting None only says = refl
     by_meeting (Some m) only says =
         rw (wait_same event before task m.wait says.1.waits, open_call_released event before m.call r only says.0 frees, apart (is_wait_of before task m.wait) (is_open_call before m.call) (not (eqb m.call r)))
         (chosen (is_wait_of before task m.wait && is_open_call before m.call) (not (eqb m.call r)) m.call refl)
 
-    by_opening : (b : Bool) (p : ℕ) (x y : Option Member) → x ≡ kept (isnt r) y → option_or (then_some b (Block p)) x ≡ kept (isnt r) (option_or (then_some b (Block p)) y)
+    by_opening : (b : Bool) (p : ℕ) (x y : Option Member) → x ≡ kept (is_apart_from r) y → option_or (then_some b (Block p)) x ≡ kept (is_apart_from r) (option_or (then_some b (Block p)) y)
     by_opening true p x y same = refl
     by_opening false p x y same = same
 
-    both : (o : Option Opening) (m : Option Meeting) (p : ℕ) → IsQuiet event → (call_in event ≡ None) × SaysCall event → option_or (option_map_or (λ (o : Opening). then_some (eqb o.by task && not (is_left before p)) (Block p)) o None) (option_map_or (λ (m : Meeting). then_some (is_wait_of (event ∷ before) task m.wait && is_open_call (event ∷ before) m.call) (Rendezvous m.call)) m None) ≡ kept (isnt r) (option_or (option_map_or (λ (o : Opening). then_some (eqb o.by task && not (is_left before p)) (Block p)) o None) (option_map_or (λ (m : Meeting). then_some (is_wait_of before task m.wait && is_open_call before m.call) (Rendezvous m.call)) m None))
+    both : (o : Option Opening) (m : Option Meeting) (p : ℕ) → IsQuiet event → (call_in event ≡ None) × SaysCall event → option_or (option_map_or (λ (o : Opening). then_some (eqb o.by task && not (is_left before p)) (Block p)) o None) (option_map_or (λ (m : Meeting). then_some (is_wait_of (event ∷ before) task m.wait && is_open_call (event ∷ before) m.call) (Rendezvous m.call)) m None) ≡ kept (is_apart_from r) (option_or (option_map_or (λ (o : Opening). then_some (eqb o.by task && not (is_left before p)) (Block p)) o None) (option_map_or (λ (m : Meeting). then_some (is_wait_of before task m.wait && is_open_call before m.call) (Rendezvous m.call)) m None))
     both None m p only says = by_meeting m only says
     both (Some o) m p only says =
         by_opening (eqb o.by task && not (is_left before p)) p _ _ (by_meeting m only says)
