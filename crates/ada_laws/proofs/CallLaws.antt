@@ -150,7 +150,7 @@ none_taken_by journal wait choice (Some number) chosen none among =
     let (call, taken) = chosen_taken journal wait number chosen in
     absurd (none-some call (sym none ∙ taken))
 
-none_taken : (journal : List Event) (wait : Wait) (choice : Choice) → taken_call journal wait ≡ None → Contains wait.choices choice → front_of journal wait.by choice ≡ None
+pub none_taken : (journal : List Event) (wait : Wait) (choice : Choice) → taken_call journal wait ≡ None → Contains wait.choices choice → front_of journal wait.by choice ≡ None
 none_taken journal wait choice none among = none_taken_by journal wait choice (taken_choice journal wait) refl none among
 
 no_front : (journal : List Event) (task : ℕ) (choice : Choice) → choice.guard ≡ true → front_of journal task choice ≡ None → queue journal task choice.entry ≡ []

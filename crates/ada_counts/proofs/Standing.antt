@@ -1,0 +1,28 @@
+-- Tables that hold what a journal says of tasks and queues stand for it, where dependence is the same.
+use Rattle.std.proofs.Common.{List}
+use Rattle.ada_events.specs.declared.event.Event.{Event}
+use Rattle.ada_events.specs.declared.names.Master.{Master}
+use Rattle.ada_events.specs.Lawful.{IsLawful}
+use Rattle.ada_tables.specs.Dependents.{Stands}
+use Rattle.ada_tables.specs.Tables.{State}
+use Rattle.ada_tables.specs.Standing.{StandFor}
+use Rattle.ada_counts.specs.Facing.{HoldFacts, HoldQueues, SameDependents}
+use Rattle.ada_counts.proofs.Phases.{live_alike, unready_alike}
+use Rattle.ada_counts.proofs.Empty.{empty_alike}
+use Rattle.ada_counts.specs.Holders.{AreHeld}
+use Rattle.ada_counts.proofs.Walking.{same_dependents}
+
+-- the counts follow from the facts, the queues and dependence
+pub stand_by_dependence : (tables : State) (journal : List Event) → IsLawful journal → HoldFacts tables.tasks journal → HoldQueues tables journal → ((master : Master) → Stands tables.tasks master → SameDependents tables.tasks journal master) → StandFor tables journal
+stand_by_dependence tables journal lawful hold queues same = record {
+  many = hold.many;
+  tasks = hold.facts;
+  queues = queues;
+  live = λ master stands. live_alike tables.tasks journal master hold (same master stands);
+  unready = λ master stands. unready_alike tables journal master hold (empty_alike tables journal lawful hold queues) (same master stands);
+}
+
+-- all the counts follow where what live tasks were made under is held by live tasks
+pub stand_held : (tables : State) (journal : List Event) → IsLawful journal → HoldFacts tables.tasks journal → HoldQueues tables journal → AreHeld journal → StandFor tables journal
+stand_held tables journal lawful hold queues held =
+    stand_by_dependence tables journal lawful hold queues (λ master stands. same_dependents tables.tasks journal lawful hold held master)

@@ -1,0 +1,4 @@
+pub mod Agendas
+pub mod Newly
+pub mod Rows
+pub mod Touching

@@ -1,0 +1,29 @@
+//! The rows of the forced steps.
+
+/// What a journal forces, in the order in which it is forced: of the rows that give a step the first one
+/// counts, and in it the step at the least task number or position.
+#[derive(Clone, Copy, Debug, PartialEq, Eq)]
+pub enum Row {
+    /// An abnormal task completes (9.10). By task.
+    Halting,
+    /// An open call to a completed, terminated or abnormal task fails (9.5, 9.10). By position of the call.
+    Failing,
+    /// A wait takes the call at the front of a queue (9.5, 9.7.1). By position of the wait.
+    Taking,
+    /// A queued call that is conditional or due is cancelled (9.7.2, 9.7.3). By position of the call.
+    Cancelling,
+    /// A wait ends by its else part, by a delay, or by PROGRAM_ERROR (9.7.1). By position of the wait.
+    Passing,
+    /// A delay ends (9.6). By position of the delay.
+    Waking,
+    /// An activation ends (9.3). By position of the start.
+    Activating,
+    /// A task terminates (9.3, 9.4). By task.
+    Going,
+    /// All that depend on a body terminate together (9.4). By task.
+    QuittingBody,
+    /// All that depend on a block terminate together (9.4). By position of the block.
+    QuittingBlock,
+    /// A task leaves the block that it closed (9.4). By position of the close.
+    Leaving,
+}

@@ -1,0 +1,10 @@
+pub mod Calling
+pub mod Holding
+pub mod Nesting
+pub mod QueueKinds
+pub mod Queues
+pub mod Recording
+pub mod Releasing
+pub mod Sweeping
+pub mod Unnesting
+pub mod Within

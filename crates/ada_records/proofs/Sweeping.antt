@@ -1,0 +1,100 @@
+-- What one more event changes in the records where it may change those of all tasks.
+use Rattle.std.proofs.Common.{◌≡◌, ℕ, ◌+◌, ◌≤◌, ◌<◌, Bool, true, false, not, ◌&&◌, ◌||◌, None, List, ◌∷◌, length, set, sym, refl, ap, subst, ◌∙◌, arith, inl, inr}
+use Rattle.std.proofs.lemmas.Bool.{cases_eq, lt-ltb}
+use Rattle.std.proofs.lemmas.List.{length-set, get_or-set_same, get_or-set_other}
+use Rattle.ada_events.specs.declared.event.Event.{Event}
+use Rattle.ada_events.specs.declared.event.Event.TheVariants as event
+use Rattle.ada_events.specs.declared.names.TaskNo.{TaskNo}
+use Rattle.ada_events.specs.declared.names.Master.{Master}
+use Rattle.ada_events.specs.Says.{held_in, released_in, completed_in, gone_in, quit_in, started_in, aborted_in, elaborated_in, failed_in, meeting_in, creation_in}
+use Rattle.ada_events.specs.Tasks.{task_count}
+use Rattle.ada_events.specs.Masters.{depends_on}
+use Rattle.ada_events.specs.Phases.{is_elaborated, has_failed, is_abnormal, is_terminated}
+use Rattle.ada_events.specs.Calls.{is_met}
+use Rattle.ada_events.specs.Phases.{has_start}
+use Rattle.ada_laws.proofs.Growing.{task_count-same}
+use Rattle.ada_records.specs.declared.record.Record.{Record}
+use Rattle.ada_records.specs.Records.{no_record, record_at, IsRecordOf, AreRecords, is_hit, quit_record, abort_record, AreUpTo}
+use Rattle.ada_records.proofs.Holding.{held_same, held_ended}
+
+-- one record after all that depend on a master terminated together
+pub quit_record_of : (before : List Event) (m : Master) (task : ℕ) (was : Record) (depends : Bool) → depends_on before task m ≡ depends → IsRecordOf before task was → IsRecordOf (event.Quit m ∷ before) task (quit_record depends was)
+unfolding has_start is_elaborated has_failed is_abnormal is_terminated is_met held_in released_in completed_in gone_in quit_in started_in aborted_in elaborated_in failed_in meeting_in
+quit_record_of before m task was true says old = record {
+  at = held_ended (event.Quit m) before task says;
+  joined = λ some. absurd (omega arith);
+  named = old.named;
+  elaborated = old.elaborated;
+  failed = old.failed;
+  abnormal = old.abnormal;
+  terminated = rw says refl;
+}
+quit_record_of before m task was false says old = record {
+  at = held_same (event.Quit m) before task was.at old.at refl refl says;
+  joined = old.joined;
+  named = old.named;
+  elaborated = old.elaborated;
+  failed = old.failed;
+  abnormal = old.abnormal;
+  terminated = rw says old.terminated;
+}
+
+and_within : (a b c : Bool) → (a && b || c) ≡ (a && true && b || c)
+and_within true b c = refl
+and_within false b c = refl
+
+-- one record after an abort
+pub abort_record_of : (before : List Event) (by : TaskNo) (tasks : List TaskNo) (task : ℕ) (was : Record) → task < task_count before → IsRecordOf before task was → IsRecordOf (event.Aborted by tasks ∷ before) task (abort_record (is_hit before tasks task) was)
+unfolding has_start is_elaborated has_failed is_abnormal is_terminated is_met held_in released_in completed_in gone_in quit_in started_in aborted_in elaborated_in failed_in meeting_in
+abort_record_of before by tasks task was exists old = record {
+  at = held_same (event.Aborted by tasks) before task was.at old.at refl refl refl;
+  joined = old.joined;
+  named = old.named;
+  elaborated = old.elaborated;
+  failed = old.failed;
+  abnormal = rw (lt-ltb task (task_count before) exists, old.terminated, old.abnormal) (and_within (is_hit before tasks task) (not (is_terminated before task)) (is_abnormal before task));
+  terminated = old.terminated;
+}
+
+-- one more record is brought up to date
+pub up_to_more : (event : Event) (before : List Event) (old new : List Record) (i : ℕ) (now : Record) → AreUpTo event before old new i → i < length old → IsRecordOf (event ∷ before) i now → AreUpTo event before old (set new i now) (i + 1)
+up_to_more event before old new i now so_far below right = record {
+  same = length-set new i now ∙ so_far.same;
+  done = λ task less exists.
+      elim (cases_eq task i) [
+        | inl same ↦ subst (λ (n : ℕ). IsRecordOf (event ∷ before) n (record_at (set new i now) n)) (sym same) (rw (get_or-set_same new i now no_record (omega (arith, so_far.same))) right)
+        | inr differs ↦ rw (get_or-set_other new i task now no_record differs) (so_far.done task (omega arith) exists)
+      ];
+  rest = λ task above. get_or-set_other new i task now no_record (λ same. omega arith) ∙ so_far.rest task (omega arith);
+}
+
+pub up_to_none : (event : Event) (before : List Event) (old : List Record) → AreUpTo event before old old 0
+up_to_none event before old = record { same = refl; done = λ task less exists. absurd (omega arith); rest = λ task above. refl }
+
+pub up_to_all : (event : Event) (before : List Event) (old new : List Record) (many : ℕ) → AreUpTo event before old new many → length old ≤ many → AreRecords old before → creation_in event ≡ None → AreRecords new (event ∷ before)
+up_to_all event before old new many all enough stand makes = record {
+  many = all.same ∙ stand.many ∙ sym (task_count-same event before makes);
+  each = λ task below.
+      let exists : task < length old = omega (arith, all.same) in
+      all.done task (omega arith) exists;
+}
+
+pub quit_step : (e : Event) (before : List Event) (m : Master) (old new : List Record) (i : ℕ) (now : Record) (depends : Bool) → e ≡ event.Quit m → AreRecords old before → AreUpTo e before old new i → i < length old → depends ≡ depends_on before i m → now ≡ quit_record depends (record_at new i) → AreUpTo e before old (set new i now) (i + 1)
+quit_step e before m old new i now depends says stand so_far below tells is =
+    let same : now ≡ quit_record depends (record_at old i) = is ∙ ap (λ r. quit_record depends r) (so_far.rest i (omega arith)) in
+    up_to_more e before old new i now so_far below
+    (rw (same, says) (quit_record_of before m i (record_at old i) depends (sym tells) (stand.each i below)))
+
+pub abort_step : (e : Event) (before : List Event) (by : TaskNo) (tasks : List TaskNo) (old new : List Record) (i : ℕ) (now : Record) (hit : Bool) → e ≡ event.Aborted by tasks → AreRecords old before → AreUpTo e before old new i → i < length old → hit ≡ is_hit before tasks i → now ≡ abort_record hit (record_at new i) → AreUpTo e before old (set new i now) (i + 1)
+abort_step e before by tasks old new i now hit says stand so_far below tells is =
+    let same : now ≡ abort_record (is_hit before tasks i) (record_at old i) = is ∙ ap (λ h. abort_record h (record_at new i)) tells ∙ ap (λ r. abort_record (is_hit before tasks i) r) (so_far.rest i (omega arith)) in
+    up_to_more e before old new i now so_far below
+    (rw (same, says) (abort_record_of before by tasks i (record_at old i) (omega (arith, stand.many)) (stand.each i below)))
+
+pub quit_makes_none : (e : Event) (m : Master) → e ≡ event.Quit m → creation_in e ≡ None
+unfolding creation_in
+quit_makes_none e m says = ap creation_in says
+
+pub abort_makes_none : (e : Event) (by : TaskNo) (tasks : List TaskNo) → e ≡ event.Aborted by tasks → creation_in e ≡ None
+unfolding creation_in
+abort_makes_none e by tasks says = ap creation_in says

@@ -1,0 +1,67 @@
+-- What one more event changes in the queue of an entry (9.5) and in what a task is within. Laws.
+use Rattle.std.specs.Prelude.{◌≡◌, ℕ, suc, Bool, true, not, ◌==◌, ◌&&◌, Some, None, List, ◌∷◌, ◌++◌, length, filter}
+use Rattle.std.specs.Option.{option_to_list}
+use Rattle.std.specs.Bool.{then_some}
+use Rattle.ada_events.specs.declared.event.Event.{Event}
+use Rattle.ada_events.specs.declared.event.Event.TheVariants.{Met}
+use Rattle.ada_events.specs.declared.names.Entry.{Entry}
+use Rattle.ada_events.specs.declared.names.Member.{Member}
+use Rattle.ada_events.specs.declared.names.Member.TheVariants.{Block, Rendezvous}
+use Rattle.ada_events.specs.Entries.{same_entry}
+use Rattle.ada_events.specs.Says.{Call, call_in, meeting_in, released_in, completed_in, left_in}
+use Rattle.ada_events.specs.Calls.{queue}
+use Rattle.ada_events.specs.Nests.{is_wait_of, nest}
+use Rattle.ada_events.specs.Lawful.{IsLawful}
+use Rattle.ada_laws.specs.Suspension.{IsSuspendedAt}
+
+-- a queue without the call at a position
+abbrev pub without_call : ℕ → List ℕ → List ℕ
+without_call call = filter (λ p. not (p == call))
+
+-- a call comes last in the queue of its entry
+abbrev pub CallsComeLast : Type 0
+CallsComeLast =
+    (event : Event) (before : List Event) (task : ℕ) (entry : Entry) (call : Call)
+    → IsLawful (event ∷ before) → call_in event ≡ Some call
+    → queue (event ∷ before) task entry
+    ≡ queue before task entry ++ option_to_list (then_some (call.callee == task && same_entry call.entry entry) (suc (length before)))
+
+-- a call that is released leaves its queue
+abbrev pub ReleasedCallsLeave : Type 0
+ReleasedCallsLeave =
+    (event : Event) (before : List Event) (task : ℕ) (entry : Entry) (position : ℕ)
+    → released_in event ≡ Some position → meeting_in event ≡ None → call_in event ≡ None
+    → queue (event ∷ before) task entry ≡ without_call position (queue before task entry)
+
+-- a call with which a rendezvous begins leaves its queue
+abbrev pub MetCallsLeave : Type 0
+MetCallsLeave =
+    (event : Event) (before : List Event) (task : ℕ) (entry : Entry) (call wait : ℕ)
+    → IsLawful (event ∷ before) → event ≡ Met call wait
+    → queue (event ∷ before) task entry ≡ without_call call (queue before task entry)
+
+-- where a task is completed, what it was suspended at leaves its queue
+abbrev pub CompletedCallersLeave : Type 0
+CompletedCallersLeave =
+    (event : Event) (before : List Event) (task : ℕ) (entry : Entry) (caller position : ℕ)
+    → IsLawful before → completed_in event ≡ Some caller → IsSuspendedAt before caller position
+    → queue (event ∷ before) task entry ≡ without_call position (queue before task entry)
+
+-- the member isn't the rendezvous with a call
+abbrev pub is_apart_from : ℕ → Member → Bool
+is_apart_from call (Block p) = true
+is_apart_from call (Rendezvous met) = not (met == call)
+
+-- a task whose wait takes a call is within its rendezvous
+abbrev pub RendezvousAreEntered : Type 0
+RendezvousAreEntered =
+    (event : Event) (before : List Event) (task call wait : ℕ)
+    → IsLawful (event ∷ before) → event ≡ Met call wait
+    → nest (event ∷ before) task ≡ nest before task ++ option_to_list (then_some (is_wait_of before task wait) (Rendezvous call))
+
+-- nobody is within a rendezvous whose call is released
+abbrev pub RendezvousAreLeft : Type 0
+RendezvousAreLeft =
+    (event : Event) (before : List Event) (task position : ℕ)
+    → released_in event ≡ Some position → left_in event ≡ None → meeting_in event ≡ None
+    → nest (event ∷ before) task ≡ filter (is_apart_from position) (nest before task)

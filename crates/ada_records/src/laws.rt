@@ -1,0 +1,36 @@
+//! Laws of what one more event changes.
+
+ghost use Rattle.ada_records.specs.Changes.{CallsComeLast, ReleasedCallsLeave, MetCallsLeave, CompletedCallersLeave, RendezvousAreEntered, RendezvousAreLeft};
+
+/// A call comes last in the queue of its entry (9.5).
+#[tactic(auto, using(crate::proofs::QueueKinds::queue_called))]
+pub fn calls_come_last()
+    ensures { CallsComeLast }
+{}
+
+/// A call that is cancelled or fails leaves its queue; one that ends has left it (9.5, 9.7.2, 9.7.3).
+pub fn released_calls_leave()
+    ensures { ReleasedCallsLeave }
+{}
+
+/// A call with which a rendezvous begins leaves its queue (9.5).
+pub fn met_calls_leave()
+    ensures { MetCallsLeave }
+{}
+
+/// The call of a task that is completed leaves its queue (9.10).
+pub fn completed_callers_leave()
+    ensures { CompletedCallersLeave }
+{}
+
+/// A task whose wait takes a call is then within its rendezvous, innermost (9.5).
+#[tactic(auto, using(crate::proofs::Nesting::nest_met))]
+pub fn rendezvous_are_entered()
+    ensures { RendezvousAreEntered }
+{}
+
+/// Where a call is released, nobody is within its rendezvous any more (9.5).
+#[tactic(auto, using(crate::proofs::Unnesting::nest_released))]
+pub fn rendezvous_are_left()
+    ensures { RendezvousAreLeft }
+{}
