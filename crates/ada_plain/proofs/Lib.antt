@@ -1,3 +1,4 @@
+pub mod Asking
 pub mod CauseParts
 pub mod Doubles
 pub mod Dues
@@ -10,5 +11,4 @@ pub mod Members
 pub mod Numbers
 pub mod Places
 pub mod Resting
-pub mod Settled
 pub mod SlotSums

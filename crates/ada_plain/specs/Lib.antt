@@ -2,4 +2,3 @@ pub mod Frames
 pub mod Late
 pub mod Makings
 pub mod Places
-pub mod Settling

@@ -1,49 +1,44 @@
 //! The plain kernel: a journal, and each request answered by searches over it.
-ghost use Rattle.std.specs.Prelude.{◌≡◌, ◌+◌, ◌<◌, ◌≤◌, [], None, IfOk, IfErr};
-ghost use Rattle.ada_events.specs.Lawful.{IsLawful, IsSettled, Forces};
-ghost use Rattle.ada_events.specs.Refusals.{refusal as refusal_of};
+ghost use Rattle.std.specs.Prelude.{◌≡◌, [], IfOk, IfErr};
+ghost use Rattle.ada_events.specs.Lawful.{IsLawful, IsSettled};
 ghost use Rattle.ada_events.specs.Steps.{IsAccepted, IsRefused};
-ghost use Rattle.ada_laws.specs.Work.{work_left};
 
 use crate::asks::asked_event;
 use crate::forced::forced;
 use crate::refusals::refusal;
-use ada_events::{Journal, Refusal, Request};
+use ada_events::{Event, Journal, Refusal, Request};
+use ada_steps::{Answerer, step};
 use std::alloc::Global;
 use std::marker::Model;
 
-/// How many events find room before a request changes anything: more than one request appends.
-const ROOM: u32 = 1024;
+/// What answers by a search over the whole journal. It keeps nothing.
+#[derive(Drop)]
+struct Search;
 
-// Appends the steps that the journal forces, until it forces none.
-fn settle(journal: &mut Journal)
-    requires lawful { IsLawful journal.old.events }
-    requires room { work_left journal.old.events ≤ journal.old.spare }
-    ensures forces { Forces journal.old.events journal.new.events }
-    ensures lawful { IsLawful journal.new.events }
-    ensures settled { IsSettled journal.new.events }
-{
-    while let Some(step) = forced(journal.as_slice()) {
-        journal.push_reserved(step);
+impl Answerer for Search {
+    ghost stands = { λ _ _. Unit {0} };
+
+    ghost is_ready = { λ _ _ _. Unit {0} };
+
+    fn refusal(&self, journal: &Journal, request: &Request) -> Option<Refusal> {
+        refusal(journal.as_slice(), request)
     }
-}
 
-// Appends the event of a request that isn't refused, and the steps that it forces.
-fn accept(journal: &mut Journal, request: &Request) -> Result<u32, Refusal>
-    requires lawful { IsLawful journal.old.events }
-    requires settled { IsSettled journal.old.events }
-    requires unrefused { refusal_of journal.old.events request.now ≡ None }
-    ensures ok { IfOk result (λ at. IsAccepted journal.old.events request.now at journal.new.events) }
-    ensures err { IfErr result (λ cause. IsRefused journal.old.events request.now cause journal.new.events) }
-    ensures lawful { IsLawful journal.new.events }
-    ensures settled { IsSettled journal.new.events }
-{
-    journal.reserve(ROOM)?;
-    let at = journal.len() + 1;
-    let event = asked_event(journal.allocator(), journal.as_slice(), request)?;
-    journal.push_reserved(event);
-    settle(journal);
-    Ok(at)
+    fn ask(&mut self, journal: &Journal, request: &Request) -> Result<Event, Refusal> {
+        asked_event(journal.allocator(), journal.as_slice(), request)
+    }
+
+    fn note(&mut self, _journal: &Journal, _event: &Event) {}
+
+    fn advance(&mut self, journal: &mut Journal) -> bool {
+        match forced(journal.as_slice()) {
+            Some(step) => {
+                journal.push_reserved(step);
+                true
+            }
+            None => false,
+        }
+    }
 }
 
 /// A kernel that searches its journal. Contracts see it as the journal, the newest event first.
@@ -86,10 +81,7 @@ impl PlainKernel {
         ensures lawful { IsLawful self.new }
         ensures settled { IsSettled self.new }
     {
-        if let Some(cause) = refusal(self.journal.as_slice(), &request) {
-            return Err(cause);
-        }
-        accept(&mut self.journal, &request)
+        step(&mut Search, &mut self.journal, &request)
     }
 
     /// The journal: every event so far.

@@ -1,26 +1,15 @@
 -- Appending what a request leads to, in a journal that has room for it.
-use Rattle.std.proofs.Common.{◌≡◌, ◌+◌, ◌<◌, ◌≤◌, false, Some, None, List, ◌∷◌, length, reverse, sym, ap, ◌∙◌, subst, arith, inl}
+use Rattle.std.proofs.Common.{◌≡◌, ◌+◌, ◌<◌, ◌≤◌, Some, None, List, ◌∷◌, length, sym, ap, ◌∙◌, subst, arith, inl}
 use Rattle.ada_events.specs.declared.event.Event.{Event}
 use Rattle.ada_events.specs.declared.request.Request.{Request}
 use Rattle.ada_events.specs.Journals.{Kept}
-use Rattle.ada_events.specs.Tasks.{task_count}
 use Rattle.ada_events.specs.Forced.{forced}
 use Rattle.ada_events.specs.Refusals.{refusal}
-use Rattle.ada_events.specs.Limits.{is_too_late}
 use Rattle.ada_events.specs.Asks.{asked_event}
-use Rattle.ada_events.specs.Lawful.{IsLawful, IsSettled, Forces, nothing, one_more, After}
+use Rattle.ada_events.specs.Lawful.{IsLawful, IsSettled, Forces, nothing, one_more}
 use Rattle.ada_laws.specs.Work.{work_left}
-use Rattle.ada_laws.proofs.LimitLaws.{tasks_are_few, steps_lessen_the_work, work_left-most, asked_lawful, events_are_few}
-use Rattle.ada_laws.proofs.RequestLaws.{stays_lawful}
-use Rattle.ada_laws.proofs.Accepting.{is_accepted}
-use Rattle.ada_plain.specs.Settling.{IsSettling}
-
-pub few_tasks : (events journal : List Event) → reverse events ≡ journal → IsLawful journal → task_count (reverse events) ≤ 256
-few_tasks events journal same lawful = rw same (tasks_are_few journal lawful)
-
--- the step that a search gave is the one that the journal forces
-pub forced_step : (events journal : List Event) (step : Event) → reverse events ≡ journal → Some step ≡ forced (reverse events) → forced journal ≡ Some step
-forced_step events journal step same found = sym (rw same at found)
+use Rattle.ada_laws.proofs.LimitLaws.{steps_lessen_the_work, work_left-most, asked_lawful, events_are_few}
+use Rattle.ada_steps.specs.Settling.{IsSettling}
 
 pub room_left : (from : List Event) (journal : Kept) (step : Event) → IsSettling from journal → forced journal.events ≡ Some step → 0 < journal.spare
 room_left from journal step settling found =
@@ -42,9 +31,6 @@ settling_begins journal lawful room = record { forces = nothing; lawful = lawful
 pub has_places : (journal : List Event) → IsLawful journal → length journal + 1024 < 4294967296
 has_places journal lawful = omega (arith, events_are_few journal lawful)
 
-pub in_time : (events journal : List Event) (request : Request) → reverse events ≡ journal → refusal journal request ≡ None → is_too_late (reverse events) request ≡ false
-in_time events journal request same unrefused = rw same ((is_accepted journal request unrefused).in_time)
-
 -- with the event of a request appended, the journal is lawful and the work left finds room
 pub asked_room : (old : List Event) (request : Request) (before after : Kept) (event : Event) → IsLawful old → IsSettled old → refusal old request ≡ None → before.events ≡ old → 1024 ≤ before.spare → before.spare ≤ after.spare + 1 → event ≡ asked_event old request → after.events ≡ event ∷ before.events → IsLawful after.events × (work_left after.events ≤ after.spare)
 asked_room old request before after event lawful settled unrefused same room spare is appended =
@@ -52,6 +38,3 @@ asked_room old request before after event lawful settled unrefused same room spa
     let whole : after.events ≡ asked_event old request ∷ old = appended ∙ ap (λ e. e ∷ before.events) is ∙ ap (λ j. asked_event old request ∷ j) same in
     let after_lawful : IsLawful after.events = subst (λ j. IsLawful j) (sym whole) asked in
     (after_lawful, omega (arith, work_left-most after.events after_lawful))
-
-pub stays : (old : List Event) (request : Request) (new : List Event) → IsLawful old → IsSettled old → refusal old request ≡ None → After old request new → IsLawful new
-stays = stays_lawful

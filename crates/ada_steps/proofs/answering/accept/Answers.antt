@@ -1,24 +1,19 @@
 use Rattle.std.proofs.Common.{◌∙◌, ap, arith, length}
 use Rattle.ada_events.specs.Asks.{asked_event}
-use Rattle.ada_plain.proofs.Settled.{has_places, in_time, asked_room}
-use Rattle.ada_plain.proofs.kernel.accept.Goals as goal
+use Rattle.ada_steps.proofs.Settled.{has_places, asked_room}
+use Rattle.ada_steps.proofs.answering.accept.Goals as goal
 
 pub reserve-requires : goal.reserve-requires
-reserve-requires c = has_places c.args.journal.now.events c.requires.lawful
+reserve-requires g c = has_places c.args.journal.now.events c.requires.lawful
 
 pub overflow_add-at : goal.overflow_add-at
-overflow_add-at c =
+overflow_add-at g c =
     omega (arith, has_places c.args.journal.now.events c.requires.lawful, c.len-at.ensures, ap length c.in_ok-reserve.ensures.events)
 
-pub asked_event-requires-clause-in_time : goal.asked_event-requires-clause-in_time
-asked_event-requires-clause-in_time c =
-    in_time c.as_slice.result.now c.args.journal.now.events c.args.request.now
-    (c.as_slice.ensures.value ∙ c.in_ok-reserve.ensures.events) c.requires.unrefused
-
 pub settle-requires-clause-room : goal.settle-requires-clause-room
-settle-requires-clause-room c =
+settle-requires-clause-room g c =
     (asked_room c.args.journal.now.events c.args.request.now c.reserve.new.self c.push_reserved.new.self c.in_ok-event.event
     c.requires.lawful c.requires.settled c.requires.unrefused c.in_ok-reserve.ensures.events c.in_ok-reserve.ensures.ok
     c.push_reserved.ensures.spare
-    (c.in_ok-event.ensures.ok ∙ ap (λ j. asked_event j c.args.request.now) (c.as_slice.ensures.value ∙ c.in_ok-reserve.ensures.events))
+    (c.in_ok-event.ensures.ok ∙ ap (λ j. asked_event j c.args.request.now) c.in_ok-reserve.ensures.events)
     c.push_reserved.ensures.events).1
