@@ -5,7 +5,6 @@ use Rattle.std.specs.Option.{option_map_or, option_len}
 use Rattle.std.specs.Bool.{then_some}
 use Rattle.std.proofs.lemmas.Bool.{lt-ltb, le-ltb, cases_lt, ne_eqb, eqb-true}
 use Rattle.std.proofs.lemmas.Option.{none-some, same_Some}
-use Rattle.std.proofs.lemmas.Int.{ints}
 use Rattle.ada_events.specs.declared.event.Event.{Event}
 use Rattle.ada_events.specs.declared.request.Request.{Request}
 use Rattle.ada_events.specs.declared.request.Request.TheVariants as request
@@ -20,29 +19,10 @@ use Rattle.ada_events.specs.Refusals.{refusal, lacks_family, is_outside, names_n
 use Rattle.ada_events.specs.Slots.{number_within, entry_within}
 use Rattle.ada_events.specs.Lawful.{IsLawful, MayFollow}
 use Rattle.ada_laws.proofs.Searching.{option_or-some, if_some, event_at-cases}
-use Rattle.ada_laws.proofs.SlotPlaces.{entries_in-cons, entry_within-found}
+use Rattle.ada_laws.proofs.SlotPlaces.{entries_in-cons, entry_is}
 use Rattle.ada_laws.proofs.Accepting.{is_accepted}
 use Rattle.ada_laws.proofs.Stepping.{forced-step}
 use Rattle.ada_laws.proofs.Saying.{held_in-call}
-
-offset_back : (f : Family) (offset : ℕ) → unsigned_abs ((f.low +ℤ pos offset) -ℤ f.low) ≡ offset
-offset_back f offset = grind (arith, ints)
-
-in_range_at : (f : Family) (offset : ℕ) → offset < entry_count f → is_in_range f (f.low +ℤ pos offset) ≡ true
-unfolding entry_count
-in_range_at f offset below = grind (arith, ints)
-
-number_of : (fs : List Family) (k offset n : ℕ) (f : Family) → slice_get fs k ≡ Some f → offset < entry_count f → n ≡ entries_in (take k fs) + offset → number_within fs (record { family = k; index = f.low +ℤ pos offset }) ≡ Some n
-unfolding number_within
-number_of fs k offset n f some below is =
-    rw (some, in_range_at f offset below, offset_back f offset) (ap Some (sym is))
-
-entry_is : (fs : List Family) (e : Entry) (n : ℕ) → entry_within 0 fs n ≡ Some e → number_within fs e ≡ Some n
-entry_is fs e n found =
-    let at = entry_within-found 0 fs n e found in
-    let place : 0 + at.place ≡ at.place = omega arith in
-    ap (number_within fs) (at.is ∙ ap (λ k. record { family = k; index = at.family.low +ℤ pos at.offset }) place)
-    ∙ number_of fs at.place at.offset n at.family at.stands at.below at.number
 
 none_in : entries_in [] ≡ 0
 unfolding entries_in

@@ -115,7 +115,8 @@ unfolding number_within
 number_of fs k offset n f some below is =
     rw (some, in_range_at f offset below, offset_back f offset) (ap Some (sym is))
 
-entry_is : (fs : List Family) (e : Entry) (n : ℕ) → entry_within 0 fs n ≡ Some e → number_within fs e ≡ Some n
+-- the number of an entry, from the entry at that number
+pub entry_is : (fs : List Family) (e : Entry) (n : ℕ) → entry_within 0 fs n ≡ Some e → number_within fs e ≡ Some n
 entry_is fs e n found =
     let at = entry_within-found 0 fs n e found in
     let place : 0 + at.place ≡ at.place = omega arith in
