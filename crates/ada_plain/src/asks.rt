@@ -6,6 +6,7 @@ ghost use Rattle.ada_events.specs.Nests as nests;
 ghost use Rattle.ada_events.specs.Limits as limits;
 ghost use Rattle.ada_events.specs.declared.names.Pause.{Pause as PauseValue};
 ghost use Rattle.ada_plain.specs.Late.{is_late_tail, is_late_call};
+ghost use Rattle.ada_events.specs.declared.limits.TheConstants.{MOST_DELAYS};
 
 use crate::nests::{frame, innermost};
 use crate::tasks::moment;
@@ -35,7 +36,7 @@ fn pause_due(now: i64, pause: Pause) -> Option<i64>
 
 // The moments at which delay alternatives are due.
 fn pauses_due(now: i64, pauses: &[Pause]) -> Dues
-    requires { length pauses.now ≤ 8 }
+    requires { length pauses.now ≤ MOST_DELAYS }
     ensures { list_any (λ (d : PauseValue). d.guard && limits.ends_too_late now d.duration) pauses.now ≡ false → result ≡ map (asks.pause_due now) pauses.now }
 {
     let mut dues = Dues::new();

@@ -7,6 +7,7 @@ ghost use Rattle.ada_events.specs.Attributes as attributes;
 ghost use Rattle.ada_events.specs.Slots as places;
 ghost use Rattle.ada_events.specs.Boards as boards;
 ghost use Rattle.ada_events.specs.Lawful.{IsLawful};
+ghost use Rattle.ada_events.specs.declared.limits.TheConstants.{MOST_TASKS};
 
 use crate::attributes::is_callable;
 use crate::limits::slot_count;
@@ -65,7 +66,7 @@ fn shows_count(events: &[Event], slot: u16, slots: u16) -> u16
 fn callable(events: &[Event]) -> [bool; 256]
     requires short { length events.now < 2 ^ 32 }
     requires lawful { IsLawful (reverse events.now) }
-    ensures { result ≡ boards.listed 256 (boards.shows_callable (reverse events.now)) }
+    ensures { result ≡ boards.listed MOST_TASKS (boards.shows_callable (reverse events.now)) }
 {
     let tasks = tasks_in(events);
     let mut shown = [false; 256];
@@ -80,7 +81,7 @@ fn callable(events: &[Event]) -> [bool; 256]
 fn terminated(events: &[Event]) -> [bool; 256]
     requires short { length events.now < 2 ^ 32 }
     requires lawful { IsLawful (reverse events.now) }
-    ensures { result ≡ boards.listed 256 (boards.shows_terminated (reverse events.now)) }
+    ensures { result ≡ boards.listed MOST_TASKS (boards.shows_terminated (reverse events.now)) }
 {
     let tasks = tasks_in(events);
     let mut shown = [false; 256];

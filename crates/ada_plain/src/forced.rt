@@ -14,6 +14,7 @@ ghost use Rattle.ada_events.specs.Waits as waits;
 ghost use Rattle.ada_events.specs.Termination as ending;
 ghost use Rattle.ada_events.specs.Forced as forced;
 ghost use Rattle.ada_events.specs.Tasks.{task_count as count_of_tasks, moment as moment_of};
+ghost use Rattle.ada_events.specs.declared.limits.TheConstants.{MOST_CHOICES, MOST_TASKS};
 
 use crate::calls::{is_caller_in_rendezvous, is_open_at, is_pending, is_queued_at};
 use crate::phases::{
@@ -48,7 +49,7 @@ fn halted_task(events: &[Event], task: TaskNo) -> Option<Event>
 #[tactic(auto, unfolding(ada_events::specs::Forced::halted, ada_events::specs::Search::first_below), using(crate::proofs::Numbers::first_below_more))]
 pub fn halted(events: &[Event]) -> Option<Event>
     requires short { length events.now < 2 ^ 32 }
-    requires few { count_of_tasks (reverse events.now) ≤ 256 }
+    requires few { count_of_tasks (reverse events.now) ≤ MOST_TASKS }
     ensures { result ≡ forced.halted (reverse events.now) }
 {
     let mut found = None;
@@ -119,7 +120,7 @@ fn met_wait(
     choices: &[Choice],
     pick: u32,
 ) -> Option<Event>
-    requires few { length choices.now ≤ 16 }
+    requires few { length choices.now ≤ MOST_CHOICES }
     requires short { length events.now < 2 ^ 32 }
     ensures { result ≡ (if calls.is_pending (reverse events.now) position by.0 then option_map (λ call. event_of.Met call position) (option_and_then (waits.front_of (reverse events.now) by.0) (option_and_then (slice_get choices.now) (waits.picked pick (waits.numbers_from (waits.is_selectable (reverse events.now) by.0) 0 choices.now)))) else None) }
 {
@@ -385,7 +386,7 @@ pub fn activated(events: &[Event]) -> Option<Event>
 
 fn is_complete_body(events: &[Event], task: TaskNo) -> bool
     requires short { length events.now < 2 ^ 32 }
-    requires few { count_of_tasks (reverse events.now) ≤ 256 }
+    requires few { count_of_tasks (reverse events.now) ≤ MOST_TASKS }
     ensures { result ≡ (phases.is_completed (reverse events.now) task.0 && ending.all_terminated (reverse events.now) (Body task)) }
 {
     is_completed(events, task) && all_terminated(events, Master::Body(task))
@@ -393,7 +394,7 @@ fn is_complete_body(events: &[Event], task: TaskNo) -> bool
 
 fn is_at_its_end(events: &[Event], task: TaskNo) -> bool
     requires short { length events.now < 2 ^ 32 }
-    requires few { count_of_tasks (reverse events.now) ≤ 256 }
+    requires few { count_of_tasks (reverse events.now) ≤ MOST_TASKS }
     ensures { result ≡ (phases.is_completed (reverse events.now) task.0 && ending.all_terminated (reverse events.now) (Body task) || ending.is_abandoned (reverse events.now) task.0) }
 {
     is_complete_body(events, task) || is_abandoned(events, task)
@@ -403,7 +404,7 @@ fn is_at_its_end(events: &[Event], task: TaskNo) -> bool
 #[tactic(auto, unfolding(ada_events::specs::Forced::is_to_go))]
 pub fn is_to_go(events: &[Event], task: TaskNo) -> bool
     requires short { length events.now < 2 ^ 32 }
-    requires few { count_of_tasks (reverse events.now) ≤ 256 }
+    requires few { count_of_tasks (reverse events.now) ≤ MOST_TASKS }
     ensures { result ≡ forced.is_to_go (reverse events.now) task.0 }
 {
     !is_terminated(events, task) && is_at_its_end(events, task)
@@ -411,7 +412,7 @@ pub fn is_to_go(events: &[Event], task: TaskNo) -> bool
 
 fn gone_task(events: &[Event], task: TaskNo) -> Option<Event>
     requires short { length events.now < 2 ^ 32 }
-    requires few { count_of_tasks (reverse events.now) ≤ 256 }
+    requires few { count_of_tasks (reverse events.now) ≤ MOST_TASKS }
     ensures { result ≡ then_some (forced.is_to_go (reverse events.now) task.0) (event_of.Gone task) }
 {
     if is_to_go(events, task) {
@@ -425,7 +426,7 @@ fn gone_task(events: &[Event], task: TaskNo) -> Option<Event>
 #[tactic(auto, unfolding(ada_events::specs::Forced::gone, ada_events::specs::Search::first_below), using(crate::proofs::Numbers::first_below_more))]
 pub fn gone(events: &[Event]) -> Option<Event>
     requires short { length events.now < 2 ^ 32 }
-    requires few { count_of_tasks (reverse events.now) ≤ 256 }
+    requires few { count_of_tasks (reverse events.now) ≤ MOST_TASKS }
     ensures { result ≡ forced.gone (reverse events.now) }
 {
     let mut found = None;
@@ -439,7 +440,7 @@ pub fn gone(events: &[Event]) -> Option<Event>
 
 fn quit_of(events: &[Event], master: Master) -> Option<Event>
     requires short { length events.now < 2 ^ 32 }
-    requires few { count_of_tasks (reverse events.now) ≤ 256 }
+    requires few { count_of_tasks (reverse events.now) ≤ MOST_TASKS }
     ensures { result ≡ then_some (forced.is_to_quit (reverse events.now) master) (event_of.Quit master) }
 {
     if is_to_quit(events, master) {
@@ -453,7 +454,7 @@ fn quit_of(events: &[Event], master: Master) -> Option<Event>
 #[tactic(auto, unfolding(ada_events::specs::Forced::quit_body, ada_events::specs::Search::first_below), using(crate::proofs::Numbers::first_below_more))]
 pub fn quit_body(events: &[Event]) -> Option<Event>
     requires short { length events.now < 2 ^ 32 }
-    requires few { count_of_tasks (reverse events.now) ≤ 256 }
+    requires few { count_of_tasks (reverse events.now) ≤ MOST_TASKS }
     ensures { result ≡ forced.quit_body (reverse events.now) }
 {
     let mut found = None;
@@ -468,7 +469,7 @@ pub fn quit_body(events: &[Event]) -> Option<Event>
 #[tactic(auto, unfolding(ada_events::specs::Says::opening_in))]
 fn quit_at(events: &[Event], position: u32, event: &Event) -> Option<Event>
     requires short { length events.now < 2 ^ 32 }
-    requires few { count_of_tasks (reverse events.now) ≤ 256 }
+    requires few { count_of_tasks (reverse events.now) ≤ MOST_TASKS }
     ensures { result ≡ option_and_then (λ (_ : said.Opening). then_some (forced.is_to_quit (reverse events.now) (Block position)) (event_of.Quit (Block position))) (said.opening_in event.now) }
 {
     match event {
@@ -481,7 +482,7 @@ fn quit_at(events: &[Event], position: u32, event: &Event) -> Option<Event>
 #[tactic(auto, unfolding(ada_events::specs::Forced::quit_block, ada_events::specs::Search::first_given), using(crate::proofs::Loops::first_given_more))]
 pub fn quit_block(events: &[Event]) -> Option<Event>
     requires short { length events.now < 2 ^ 32 }
-    requires few { count_of_tasks (reverse events.now) ≤ 256 }
+    requires few { count_of_tasks (reverse events.now) ≤ MOST_TASKS }
     ensures { result ≡ forced.quit_block (reverse events.now) }
 {
     let mut found = None;
@@ -495,7 +496,7 @@ pub fn quit_block(events: &[Event]) -> Option<Event>
 
 fn is_to_leave(events: &[Event], position: u32, by: TaskNo, block: u32) -> bool
     requires short { length events.now < 2 ^ 32 }
-    requires few { count_of_tasks (reverse events.now) ≤ 256 }
+    requires few { count_of_tasks (reverse events.now) ≤ MOST_TASKS }
     ensures { result ≡ (calls.is_pending (reverse events.now) position by.0 && ending.all_terminated (reverse events.now) (Block block)) }
 {
     is_pending(events, position, by) && all_terminated(events, Master::Block(block))
@@ -504,7 +505,7 @@ fn is_to_leave(events: &[Event], position: u32, by: TaskNo, block: u32) -> bool
 #[tactic(auto, unfolding(ada_events::specs::Forced::is_to_leave, ada_events::specs::Says::closing_in))]
 fn left_at(events: &[Event], position: u32, event: &Event) -> Option<Event>
     requires short { length events.now < 2 ^ 32 }
-    requires few { count_of_tasks (reverse events.now) ≤ 256 }
+    requires few { count_of_tasks (reverse events.now) ≤ MOST_TASKS }
     ensures { result ≡ option_and_then (λ (c : said.Closing). then_some (forced.is_to_leave (reverse events.now) position c) (event_of.Left position)) (said.closing_in event.now) }
 {
     match event {
@@ -521,7 +522,7 @@ fn left_at(events: &[Event], position: u32, event: &Event) -> Option<Event>
 #[tactic(auto, unfolding(ada_events::specs::Forced::left, ada_events::specs::Search::first_given), using(crate::proofs::Loops::first_given_more))]
 pub fn left(events: &[Event]) -> Option<Event>
     requires short { length events.now < 2 ^ 32 }
-    requires few { count_of_tasks (reverse events.now) ≤ 256 }
+    requires few { count_of_tasks (reverse events.now) ≤ MOST_TASKS }
     ensures { result ≡ forced.left (reverse events.now) }
 {
     let mut found = None;
@@ -556,7 +557,7 @@ fn communication(events: &[Event]) -> Option<Event>
 // The steps that end an activation, a task or a block.
 fn ending(events: &[Event]) -> Option<Event>
     requires short { length events.now < 2 ^ 32 }
-    requires few { count_of_tasks (reverse events.now) ≤ 256 }
+    requires few { count_of_tasks (reverse events.now) ≤ MOST_TASKS }
     ensures { result ≡ option_or (forced.activated (reverse events.now)) (option_or (forced.gone (reverse events.now)) (option_or (forced.quit_body (reverse events.now)) (option_or (forced.quit_block (reverse events.now)) (forced.left (reverse events.now))))) }
 {
     if let Some(step) = activated(events) {
@@ -578,7 +579,7 @@ fn ending(events: &[Event]) -> Option<Event>
 #[tactic(auto, unfolding(ada_events::specs::Forced::forced, ada_events::specs::Forced::first_of_all))]
 pub fn forced(events: &[Event]) -> Option<Event>
     requires short { length events.now < 2 ^ 32 }
-    requires few { count_of_tasks (reverse events.now) ≤ 256 }
+    requires few { count_of_tasks (reverse events.now) ≤ MOST_TASKS }
     ensures { result ≡ forced.forced (reverse events.now) }
 {
     if let Some(step) = halted(events) {

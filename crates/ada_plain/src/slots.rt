@@ -9,6 +9,7 @@ ghost use Rattle.ada_events.specs.Limits as limits;
 ghost use Rattle.ada_events.specs.Slots as places;
 ghost use Rattle.ada_events.specs.Lawful.{IsLawful};
 ghost use Rattle.ada_plain.specs.Places.{capped, entry_here, place_made, place_seen};
+ghost use Rattle.ada_events.specs.declared.limits.TheConstants.{MOST_FAMILIES};
 
 use crate::attributes::short_count;
 use crate::limits::{slot_count, slots_in};
@@ -134,7 +135,7 @@ fn or_entry_of(found: Option<Entry>, place: u8, family: Family, number: u64) -> 
 /// The entry of that number among all of some families.
 #[tactic(auto, unfolding(ada_events::specs::Slots::entry_within), using(crate::proofs::Places::entry_within_more, crate::proofs::Places::entry_within_past))]
 pub fn entry_within(families: &[Family], number: u64) -> Option<Entry>
-    requires { length families.now ≤ 16 }
+    requires { length families.now ≤ MOST_FAMILIES }
     ensures { result ≡ places.entry_within 0 families.now number }
 {
     let mut left = number;

@@ -11,6 +11,7 @@ ghost use Rattle.ada_events.specs.Calls as calls;
 ghost use Rattle.ada_events.specs.Termination as ending;
 ghost use Rattle.ada_events.specs.Forced as forced;
 ghost use Rattle.ada_events.specs.Tasks.{task_count as count_of_tasks, creation_of};
+ghost use Rattle.ada_events.specs.declared.limits.TheConstants.{MOST_TASKS};
 
 use crate::calls::is_queued_at;
 use crate::masters::depends_on;
@@ -31,7 +32,7 @@ fn is_terminated_if_dependent(events: &[Event], task: TaskNo, master: Master) ->
 #[tactic(auto, unfolding(ada_events::specs::Termination::all_terminated, ada_events::specs::Search::all_below), using(crate::proofs::Numbers::all_below_more))]
 pub fn all_terminated(events: &[Event], master: Master) -> bool
     requires short { length events.now < 2 ^ 32 }
-    requires few { count_of_tasks (reverse events.now) ≤ 256 }
+    requires few { count_of_tasks (reverse events.now) ≤ MOST_TASKS }
     ensures { result ≡ ending.all_terminated (reverse events.now) master }
 {
     let mut all = true;
@@ -205,7 +206,7 @@ fn is_ready_if_dependent(events: &[Event], task: TaskNo, master: Master) -> bool
 #[tactic(auto, unfolding(ada_events::specs::Search::all_below), using(crate::proofs::Numbers::all_below_more))]
 fn all_ready(events: &[Event], master: Master) -> bool
     requires short { length events.now < 2 ^ 32 }
-    requires few { count_of_tasks (reverse events.now) ≤ 256 }
+    requires few { count_of_tasks (reverse events.now) ≤ MOST_TASKS }
     ensures { result ≡ all_below (λ u. not (masters.depends_on (reverse events.now) u master) || phases.is_terminated (reverse events.now) u || ending.is_ready_to_quit (reverse events.now) u) (count_of_tasks (reverse events.now)) }
 {
     let mut all = true;
@@ -219,7 +220,7 @@ fn all_ready(events: &[Event], master: Master) -> bool
 #[tactic(auto, unfolding(ada_events::specs::Forced::is_to_quit))]
 pub fn is_to_quit(events: &[Event], master: Master) -> bool
     requires short { length events.now < 2 ^ 32 }
-    requires few { count_of_tasks (reverse events.now) ≤ 256 }
+    requires few { count_of_tasks (reverse events.now) ≤ MOST_TASKS }
     ensures { result ≡ forced.is_to_quit (reverse events.now) master }
 {
     is_complete(events, master) && !all_terminated(events, master) && all_ready(events, master)

@@ -4,6 +4,7 @@ ghost use Rattle.std.specs.Prelude.{◌≡◌, ◌<◌, ◌≤◌, ◌^◌, ◌+
 ghost use Rattle.std.specs.Option.{option_map, option_and_then};
 ghost use Rattle.ada_events.specs.declared.event.Way.TheVariants.{Delay};
 ghost use Rattle.ada_events.specs.Waits as waits;
+ghost use Rattle.ada_events.specs.declared.limits.TheConstants.{MOST_CHOICES, MOST_DELAYS};
 
 use crate::calls::front;
 use ada_events::{Bounded, Choice, Event, EventTail, TaskNo, Way};
@@ -48,7 +49,7 @@ fn push_if<const N: usize>(numbers: &mut Bounded<u8, N>, passes: bool, number: u
 /// The numbers of the selectable choices, counted over all from 0.
 #[tactic(auto, unfolding(ada_events::specs::Waits::numbers_from))]
 pub fn selectable(events: &[Event], task: TaskNo, choices: &[Choice]) -> ChoiceNumbers
-    requires few { length choices.now ≤ 16 }
+    requires few { length choices.now ≤ MOST_CHOICES }
     requires short { length events.now < 2 ^ 32 }
     ensures { result ≡ waits.numbers_from (waits.is_selectable (reverse events.now) task.0) 0 choices.now }
 {
@@ -71,7 +72,7 @@ pub fn picked(pick: u32, numbers: &[u8]) -> Option<u8>
 
 /// The choice by which a wait takes a call (9.7.1), counted over all of its choices from 0.
 pub fn taken_choice(events: &[Event], task: TaskNo, choices: &[Choice], pick: u32) -> Option<u8>
-    requires few { length choices.now ≤ 16 }
+    requires few { length choices.now ≤ MOST_CHOICES }
     requires short { length events.now < 2 ^ 32 }
     ensures { result ≡ waits.picked pick (waits.numbers_from (waits.is_selectable (reverse events.now) task.0) 0 choices.now) }
 {
@@ -90,7 +91,7 @@ fn front_of_number(events: &[Event], task: TaskNo, choices: &[Choice], number: u
 
 /// The call that a wait takes (9.7.1): the one at the front of that choice's queue.
 pub fn taken_call(events: &[Event], task: TaskNo, choices: &[Choice], pick: u32) -> Option<u32>
-    requires few { length choices.now ≤ 16 }
+    requires few { length choices.now ≤ MOST_CHOICES }
     requires short { length events.now < 2 ^ 32 }
     ensures { result ≡ option_and_then (waits.front_of (reverse events.now) task.0) (option_and_then (slice_get choices.now) (waits.picked pick (waits.numbers_from (waits.is_selectable (reverse events.now) task.0) 0 choices.now))) }
 {
@@ -163,7 +164,7 @@ pub fn least_due(dues: &[Option<i64>]) -> Option<i64>
 /// The numbers of the delay alternatives that are due at that very moment, counted over all from 0.
 #[tactic(auto, unfolding(ada_events::specs::Waits::numbers_from))]
 pub fn due_exactly(moment: Option<i64>, dues: &[Option<i64>]) -> DelayNumbers
-    requires { length dues.now ≤ 8 }
+    requires { length dues.now ≤ MOST_DELAYS }
     ensures { result ≡ waits.numbers_from (waits.is_due_exactly moment) 0 dues.now }
 {
     let mut numbers = DelayNumbers::new();
@@ -176,7 +177,7 @@ pub fn due_exactly(moment: Option<i64>, dues: &[Option<i64>]) -> DelayNumbers
 /// The delay alternative that a wait takes at a moment, where one is due by then.
 #[tactic(auto, unfolding(ada_events::specs::Waits::taken_delay))]
 pub fn taken_delay(now: i64, pick: u32, dues: &[Option<i64>]) -> Option<u8>
-    requires { length dues.now ≤ 8 }
+    requires { length dues.now ≤ MOST_DELAYS }
     ensures { result ≡ waits.taken_delay now pick dues.now }
 {
     let least = least_due(dues);
@@ -221,7 +222,7 @@ pub fn way_of(now: i64, choices: &[Choice], pick: u32, tail: &EventTail) -> Opti
 }
 
 fn delayed_way(now: i64, choices: &[Choice], pick: u32, dues: &[Option<i64>]) -> Option<Way>
-    requires { length dues.now ≤ 8 }
+    requires { length dues.now ≤ MOST_DELAYS }
     ensures { result ≡ (if waits.has_open_delay dues.now then option_map Delay (waits.taken_delay now pick dues.now) else waits.without_choice choices.now) }
 {
     if has_open_delay(dues) {

@@ -2,7 +2,7 @@
 use Rattle.std.proofs.Common.{◌≡◌, ℕ, ◌+◌, ◌<◌, ◌≤◌, true, false, List, ◌∷◌, ◌++◌, length, get_or, set, take, drop, refl, ap, sym, ◌∙◌, arith}
 use Rattle.std.proofs.lemmas.List.{drop_more, drop_all, take_all, take_more_set, drop-set-lt, append_assoc, append-nil, length-set, take-append-drop, drop-drop}
 use Rattle.ada_tables.specs.declared.layers.Layer.{Layer}
-use Rattle.ada_tables.specs.Layers.{moved, moved_to, is_block_at, live_at}
+use Rattle.ada_tables.specs.Layers.{live_of, moved, moved_to, is_block_at, live_at}
 
 -- the layers so far are counted, and the others are as they were
 pub record IsCounted (count : ℕ → ℕ) (block : ℕ) (old now : List Layer) (at : ℕ) : Type 0 where
@@ -48,7 +48,7 @@ live_later block layers at read before within read_is other =
     let head : drop at layers ≡ read ∷ drop (at + 1) layers = drop_more layers at read within ∙ ap (λ (x : Layer). x ∷ drop (at + 1) layers) (sym read_is) in
     before ∙ rw (head, other) refl
 
-pub live_here : (block : ℕ) (layers : List Layer) (at : ℕ) (read : Layer) → live_at block layers ≡ live_at block (drop at layers) → at < length layers → read ≡ get_or layers at read → is_block_at block read ≡ true → read.live ≡ live_at block layers
+pub live_here : (block : ℕ) (layers : List Layer) (at : ℕ) (read : Layer) → live_at block layers ≡ live_at block (drop at layers) → at < length layers → read ≡ get_or layers at read → is_block_at block read ≡ true → live_of read ≡ live_at block layers
 unfolding live_at
 live_here block layers at read before within read_is here =
     let head : drop at layers ≡ read ∷ drop (at + 1) layers = drop_more layers at read within ∙ ap (λ (x : Layer). x ∷ drop (at + 1) layers) (sym read_is) in

@@ -1,12 +1,12 @@
 -- A rendezvous leaves a nest, wherever it stands there.
-use Rattle.std.proofs.Common.{◌≡◌, ℕ, suc, ◌+◌, ◌<◌, Bool, true, false, not, ◌&&◌, List, [], ◌∷◌, length, set, refl, ap, sym, ◌∙◌, arith, inl, inr}
-use Rattle.std.specs.Prelude.{◌==◌, if◌then◌else◌}
-use Rattle.std.proofs.lemmas.Bool.{cases_Bool, both_ways}
+use Rattle.std.proofs.Common.{◌≡◌, ℕ, suc, ◌+◌, ◌<◌, Bool, true, false, List, [], ◌∷◌, length, set, refl, ap, sym, ◌∙◌, arith, inl, inr}
+use Rattle.std.specs.Prelude.{if◌then◌else◌}
+use Rattle.std.proofs.lemmas.Bool.{cases_Bool}
 use Rattle.ada_events.specs.declared.names.Master.{Master}
 use Rattle.ada_events.specs.declared.names.Master.TheVariants.{Body, Block}
-use Rattle.ada_events.specs.declared.names.Member.TheVariants.{Block as BlockMember, Rendezvous}
 use Rattle.ada_tables.specs.declared.task.Task.{Task}
 use Rattle.ada_tables.specs.declared.layers.Layer.{Layer}
+use Rattle.ada_tables.specs.declared.layers.Layer.TheVariants.{Block as BlockLayer, Rendezvous as RendezvousLayer}
 use Rattle.ada_tables.specs.Layers.{members, member_of, live_at}
 use Rattle.ada_tables.specs.Dependents.{Facts, task_at, is_block, has_block, up_to, holds, encloses}
 use Rattle.ada_tables.specs.Counts.{facts, record_at, AreCounted}
@@ -49,8 +49,8 @@ pub cut_layers_is : (call : ℕ) (layers : List Layer) → cut_layers call layer
 cut_layers_is call layers = cut_first_is (is_rendezvous_at call) layers
 
 is_rendezvous-member : (call : ℕ) (layer : Layer) → is_rendezvous call (member_of layer) ≡ is_rendezvous_at call layer
-is_rendezvous-member call layer =
-    elim layer.is_block as (λ b. is_rendezvous call (if b then BlockMember layer.position else Rendezvous layer.position) ≡ (not b && layer.position == call)) [ true ↦ refl | false ↦ refl ]
+is_rendezvous-member call (BlockLayer live opening) = refl
+is_rendezvous-member call (RendezvousLayer at) = refl
 
 pub members-cut_rec : (call : ℕ) (layers : List Layer) → members (cut_rec call layers) ≡ cut call (members layers)
 members-cut_rec call [] = refl
@@ -62,11 +62,8 @@ members-cut_rec call (layer ∷ rest) =
 
 -- a rendezvous is no block
 no_block : (call block : ℕ) (layer : Layer) → is_rendezvous_at call layer ≡ true → is_block_at block layer ≡ false
-no_block call block layer is =
-    elim (cases_Bool layer.is_block) [
-      | inl set ↦ absurd (both_ways (is_rendezvous_at call layer) (rw set refl) is)
-      | inr unset ↦ rw unset refl
-    ]
+no_block call block (BlockLayer live opening) is = absurd (cc)
+no_block call block (RendezvousLayer at) is = refl
 
 has_block-cut : (call block : ℕ) (layers : List Layer) → has_block block (members (cut_rec call layers)) ≡ has_block block (members layers)
 has_block-cut call block [] = refl

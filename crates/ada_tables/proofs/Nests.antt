@@ -1,21 +1,35 @@
 -- Nests: their members, and the counts of their blocks, where a nest changes.
-use Rattle.std.proofs.Common.{◌≡◌, ℕ, true, false, ◌&&◌, List, [], ◌∷◌, ◌++◌, refl, ap, sym, ◌∙◌, inl, inr}
-use Rattle.std.specs.Prelude.{◌==◌, if◌then◌else◌}
+use Rattle.std.proofs.Common.{◌≡◌, ℕ, true, false, List, [], ◌∷◌, ◌++◌, refl, ap, sym, ◌∙◌, inl, inr}
+use Rattle.std.specs.Prelude.{if◌then◌else◌}
 use Rattle.std.specs.List.{list_any}
 use Rattle.std.proofs.lemmas.Bool.{cases_Bool, both_ways, eq-eqb, or_parts}
 use Rattle.ada_events.specs.declared.names.Member.{Member}
-use Rattle.ada_events.specs.declared.names.Member.TheVariants.{Block, Rendezvous}
+use Rattle.ada_events.specs.declared.names.Member.TheVariants.{Block}
 use Rattle.ada_tables.specs.declared.layers.Layer.{Layer}
-use Rattle.ada_tables.specs.Layers.{member_of, members, layer_of, is_block_at, moved_to, live_at}
+use Rattle.ada_tables.specs.declared.layers.Layer.TheVariants.{Block as BlockLayer, Rendezvous as RendezvousLayer}
+use Rattle.ada_tables.specs.Layers.{member_of, members, layer_of, is_block_at, live_of, moved, moved_to, live_at}
 use Rattle.ada_tables.specs.Dependents.{is_block, has_block, up_to}
 
 pub is_block-member : (block : ℕ) (layer : Layer) → is_block block (member_of layer) ≡ is_block_at block layer
-is_block-member block layer =
-    elim layer.is_block as (λ b. is_block block (if b then Block layer.position else Rendezvous layer.position) ≡ (b && layer.position == block)) [ true ↦ refl | false ↦ refl ]
+is_block-member block (BlockLayer live opening) = refl
+is_block-member block (RendezvousLayer call) = refl
 
 pub has_block-members : (block : ℕ) (layers : List Layer) → has_block block (members layers) ≡ list_any (is_block_at block) layers
 has_block-members block [] = refl
 has_block-members block (layer ∷ rest) = rw (is_block-member block layer, has_block-members block rest) refl
+
+-- the count of a block is changed
+live_of-moved : (count : ℕ → ℕ) (block : ℕ) (layer : Layer) → is_block_at block layer ≡ true → live_of (moved count layer) ≡ count (live_of layer)
+live_of-moved count block (BlockLayer live opening) here = refl
+live_of-moved count block (RendezvousLayer call) here = absurd (cc)
+
+is_block_at-moved : (count : ℕ → ℕ) (block : ℕ) (layer : Layer) → is_block_at block (moved count layer) ≡ is_block_at block layer
+is_block_at-moved count block (BlockLayer live opening) = refl
+is_block_at-moved count block (RendezvousLayer call) = refl
+
+member_of-moved : (count : ℕ → ℕ) (layer : Layer) → member_of (moved count layer) ≡ member_of layer
+member_of-moved count (BlockLayer live opening) = refl
+member_of-moved count (RendezvousLayer call) = refl
 
 -- the member of a layer stays where its count changes
 pub members-moved_to : (count : ℕ → ℕ) (block : ℕ) (layers : List Layer) → members (moved_to count block layers) ≡ members layers
@@ -23,13 +37,9 @@ unfolding moved_to
 members-moved_to count block [] = refl
 members-moved_to count block (layer ∷ rest) =
     elim (cases_Bool (is_block_at block layer)) [
-      | inl here ↦ rw here refl
-      | inr other ↦ rw other (ap (λ (ms : List Member). member_of layer ∷ ms) (members-moved_to count block rest))
+      | inl here ↦ rw (here, member_of-moved count layer) refl
+      | inr other ↦ rw (other, member_of-moved count layer) (ap (λ (ms : List Member). member_of layer ∷ ms) (members-moved_to count block rest))
     ]
-
-is_block_at-block : (block : ℕ) (layer : Layer) → is_block_at block layer ≡ true → layer.is_block ≡ true
-is_block_at-block block layer here =
-    elim (cases_Bool layer.is_block) [ inl it ↦ it | inr unset ↦ absurd (both_ways (is_block_at block layer) (rw unset refl) here) ]
 
 -- a count is changed exactly where its block is the one or stands outside it
 pub live_at-moved_to : (count : ℕ → ℕ) (inner block : ℕ) (layers : List Layer) → has_block block (members layers) ≡ true → live_at block (moved_to count inner layers) ≡ (if has_block block (up_to inner (members layers)) then count (live_at block layers) else live_at block layers)
@@ -37,12 +47,12 @@ unfolding moved_to live_at
 live_at-moved_to count inner block [] has = absurd (cc)
 live_at-moved_to count inner block (layer ∷ rest) has =
     elim (cases_Bool (is_block_at block layer)) [
-      | inl here ↦ rw (is_block-member block layer, here, is_block_at-block block layer here) refl
+      | inl here ↦ rw (is_block-member block layer, is_block_at-moved count block layer, here, live_of-moved count block layer here) refl
       | inr other ↦
           let later : has_block block (members rest) ≡ true = rw (is_block-member block layer, other) at has in
           elim (cases_Bool (is_block_at inner layer)) [
-            | inl stop ↦ rw (is_block-member block layer, is_block-member inner layer, other, stop) refl
-            | inr on ↦ rw (is_block-member block layer, is_block-member inner layer, other, on) (live_at-moved_to count inner block rest later)
+            | inl stop ↦ rw (is_block-member block layer, is_block-member inner layer, is_block_at-moved count block layer, other, stop) refl
+            | inr on ↦ rw (is_block-member block layer, is_block-member inner layer, is_block_at-moved count block layer, other, on) (live_at-moved_to count inner block rest later)
           ]
     ]
 

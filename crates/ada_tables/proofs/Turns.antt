@@ -7,6 +7,7 @@ use Rattle.ada_events.specs.declared.names.Member.{Member}
 use Rattle.ada_events.specs.declared.names.Member.TheVariants.{Block as BlockMember, Rendezvous}
 use Rattle.ada_tables.specs.declared.task.Task.{Task}
 use Rattle.ada_tables.specs.declared.layers.Layer.{Layer}
+use Rattle.ada_tables.specs.declared.layers.Layer.TheVariants.{Rendezvous as RendezvousLayer}
 use Rattle.ada_tables.specs.declared.phase.Phase.{Phase}
 use Rattle.ada_tables.specs.Layers.{members, member_of, layer_of, live_at}
 use Rattle.ada_tables.specs.Dependents.{Facts, task_at, has_block, depends_on, is_terminated, live_dependents}
@@ -74,7 +75,7 @@ ends_with xs d some =
     sym (take-append-drop (length xs - 1) xs) ∙ ap (λ rest. take (length xs - 1) xs ++ rest) last
 
 no_layer : Layer
-no_layer = record { position = 0; live = 0; is_block = false }
+no_layer = RendezvousLayer 0
 
 -- the innermost member leaves a nest
 pub popped : (tasks : List Task) (task : ℕ) (read : Task) (nest : List Layer) → AreCounted tasks → task < length tasks → read ≡ get_or tasks task read → nest ≡ take (length read.nest - 1) read.nest → 0 < length (task_at (facts tasks) task).nest → ForSome (innermost (task_at (facts tasks) task).nest) (IsIdle (facts tasks))

@@ -1,5 +1,6 @@
 -- The records of tasks, what is known of a task by its record, and that each count is right.
 use Rattle.std.specs.Prelude.{◌≡◌, ℕ, zero, suc, ◌<◌, ◌≤◌, Bool, true, false, not, ◌==◌, ◌&&◌, if◌then◌else◌, Option, Some, None, List, [], map, length, slice_index_or}
+use Rattle.ada_events.specs.declared.limits.TheConstants.{MOST_TASKS}
 use Rattle.ada_events.specs.declared.names.Family.{Family}
 use Rattle.ada_events.specs.declared.names.Master.{Master}
 use Rattle.ada_events.specs.declared.names.Master.TheVariants.{Body, Block}
@@ -55,7 +56,7 @@ pub record AreCounted (tasks : List Task) : Type 0 where
   pub blocks : (task block : ℕ) → task < length tasks → has_block block (task_at (facts tasks) task).nest ≡ true → live_at block (record_at tasks task).nest ≡ live_dependents (facts tasks) (Block block)
   pub alone : (task other block : ℕ) → task < length tasks → other < length tasks → has_block block (task_at (facts tasks) task).nest ≡ true → has_block block (task_at (facts tasks) other).nest ≡ true → task ≡ other
   pub led : (task : ℕ) → task < length tasks → is_terminated (task_at (facts tasks) task).phase ≡ false → IsLed tasks task
-  pub few : length tasks ≤ 256
+  pub few : length tasks ≤ MOST_TASKS
 
 -- the counts of the masters that one way passes, and another doesn't, are changed
 pub record ChangesAlong (change : Change) (old new : List Task) (passed left : Master → Bool) : Type 0 where

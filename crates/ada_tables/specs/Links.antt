@@ -1,6 +1,7 @@
 -- How linked nodes keep the queues. The node of each queued call names the callers of the calls before
 -- and after it, and each slot keeps the first and the last caller and the length of its queue.
 use Rattle.std.specs.Prelude.{◌≡◌, ℕ, zero, suc, ◌<◌, ◌≤◌, false, Option, Some, None, is_some, List, [], ◌∷◌, map, length, count_by, slice_set, slice_index_or}
+use Rattle.ada_events.specs.declared.limits.TheConstants.{MOST_TASKS}
 use Rattle.std.specs.List.{sum_by}
 use Rattle.std.specs.Option.{option_map, option_map_or, option_and_then}
 use Rattle.ada_tables.specs.declared.nodes.Node.{Node}
@@ -58,7 +59,7 @@ pub record AreLinked (nodes : List (Option Node)) (queues : List Queue) : Type 0
   pub each : (slot : ℕ) → slot < length queues → IsQueue nodes slot (slice_index_or queues slot no_queue) (calls_in nodes (slice_index_or queues slot no_queue))
   pub waiting : (task : ℕ) → is_some (node_of nodes task) ≡ waits task (map (calls_in nodes) queues)
   pub total : sum_by (λ (queue : Queue). queue.len) queues ≡ count_by is_some nodes
-  pub few : length nodes ≤ 256
+  pub few : length nodes ≤ MOST_TASKS
 
 -- the nodes with another link to what stands after one
 abbrev pub relinked_after : Option ℕ → Option ℕ → List (Option Node) → List (Option Node)

@@ -1,6 +1,7 @@
 -- What a contract sees of the tables: what is known of each task, the calls that wait at each slot, and how
 -- many more calls find room.
 use Rattle.std.specs.Prelude.{◌≡◌, ℕ, ◌+◌, ◌<◌, ◌≤◌, Bool, true, false, not, ◌==◌, ◌&&◌, IsSome, List, map, length, take, slice_index}
+use Rattle.ada_events.specs.declared.limits.TheConstants.{MOST_SLOTS}
 use Rattle.std.specs.List.{sum_by}
 use Rattle.std.specs.Option.{unwrap_or}
 use Rattle.ada_events.specs.declared.names.Entry.{Entry}
@@ -43,7 +44,7 @@ pub record AreTied (tasks : List Facts) (queues : List (List QueuedCall)) (calle
   pub firsts_known : length firsts ≡ length tasks
   pub first : (task : ℕ) → task < length tasks → slice_index firsts task ≡ slots_before (declared tasks) task
   pub all : length queues ≡ slots_before (declared tasks) (length tasks)
-  pub few : length queues ≤ 1024
+  pub few : length queues ≤ MOST_SLOTS
 
 -- no call waits at any entry of the task
 abbrev pub has_no_calls : List Facts → List (List QueuedCall) → ℕ → Bool

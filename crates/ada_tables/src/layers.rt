@@ -3,24 +3,34 @@ ghost use Rattle.std.specs.Prelude.{◌≡◌, None, ◌+◌, ◌-◌, ◌<◌, 
 ghost use Rattle.std.specs.Option.{option_map};
 ghost use Rattle.std.specs.List.{list_any};
 ghost use Rattle.ada_tables.specs.Layers as nests;
+ghost use Rattle.ada_tables.specs.declared.layers.Layer.TheVariants.{Block};
 ghost use Rattle.ada_tables.specs.Dependents.{has_block, up_to, block_of, outside};
 ghost use Rattle.ada_tables.specs.Changes.{changed};
+ghost use Rattle.ada_events.specs.declared.limits.TheConstants.{MOST_MEMBERS};
 
 use crate::change::Change;
 use ada_events::Member;
+use ada_events::limits::MOST_MEMBERS;
 use arrayvec::ArrayVec;
 use std::marker::Model;
 
-/// How many members a nest has at most.
-pub const DEPTH: usize = 32;
-
-/// A member of a nest: a block by the position of its opening, with the number of its live dependents, or a
+/// A member of a nest: a block, with the number of its live dependents and the position of its opening, or a
 /// rendezvous by the position of its call.
-#[derive(Clone, Copy, Default)]
-pub struct Layer {
-    position: u32,
-    live: u16,
-    is_block: bool,
+#[derive(Clone, Copy)]
+pub enum Layer {
+    Block { live: u16, opening: u32 },
+    Rendezvous { call: u32 },
+}
+
+impl Default for Layer {
+    ghost is_default = { λ layer. layer ≡ Block 0 0 };
+
+    fn default() -> Self {
+        Layer::Block {
+            live: 0,
+            opening: 0,
+        }
+    }
 }
 
 impl Layer {
@@ -29,49 +39,52 @@ impl Layer {
         ensures { result ≡ nests.layer_of member }
     {
         match member {
-            Member::Block(position) => Layer {
-                position,
-                live: 0,
-                is_block: true,
-            },
-            Member::Rendezvous(call) => Layer {
-                position: call,
-                live: 0,
-                is_block: false,
-            },
+            Member::Block(opening) => Layer::Block { live: 0, opening },
+            Member::Rendezvous(call) => Layer::Rendezvous { call },
         }
     }
 
     fn member(self) -> Member
         ensures { result ≡ nests.member_of self }
     {
-        if self.is_block {
-            Member::Block(self.position)
-        } else {
-            Member::Rendezvous(self.position)
+        match self {
+            Layer::Block { opening, .. } => Member::Block(opening),
+            Layer::Rendezvous { call } => Member::Rendezvous(call),
         }
     }
 
     fn is_block_at(self, position: u32) -> bool
         ensures { result ≡ nests.is_block_at position self }
     {
-        self.is_block && self.position == position
+        self.block() == Some(position)
     }
 
-    fn is_rendezvous_at(self, call: u32) -> bool
-        ensures { result ≡ nests.is_rendezvous_at call self }
+    fn is_rendezvous_at(self, position: u32) -> bool
+        ensures { result ≡ nests.is_rendezvous_at position self }
     {
-        !self.is_block && self.position == call
+        match self {
+            Layer::Block { .. } => false,
+            Layer::Rendezvous { call } => call == position,
+        }
     }
 
     // The position of its opening, if this is a block.
     fn block(self) -> Option<u32>
         ensures { result ≡ block_of (nests.member_of self) }
     {
-        if self.is_block {
-            Some(self.position)
-        } else {
-            None
+        match self {
+            Layer::Block { opening, .. } => Some(opening),
+            Layer::Rendezvous { .. } => None,
+        }
+    }
+
+    // The number of its live dependents.
+    fn live(self) -> u16
+        ensures { result ≡ nests.live_of self }
+    {
+        match self {
+            Layer::Block { live, .. } => live,
+            Layer::Rendezvous { .. } => 0,
         }
     }
 
@@ -79,13 +92,12 @@ impl Layer {
     fn counted(self, change: Change) -> Layer
         ensures { result ≡ nests.moved (changed change) self }
     {
-        if self.is_block {
-            Layer {
-                live: change.of(self.live),
-                ..self
-            }
-        } else {
-            self
+        match self {
+            Layer::Block { live, opening } => Layer::Block {
+                live: change.of(live),
+                opening,
+            },
+            Layer::Rendezvous { .. } => self,
         }
     }
 }
@@ -152,7 +164,7 @@ fn live_in(layers: &[Layer], block: u32) -> u16
 {
     for layer in layers {
         if layer.is_block_at(block) {
-            return layer.live;
+            return layer.live();
         }
     }
     0
@@ -161,7 +173,7 @@ fn live_in(layers: &[Layer], block: u32) -> u16
 /// What a task is in (9.4, 9.5), outermost first, at most 32 members. Contracts see the list of its layers.
 #[derive(Drop)]
 pub struct Layers {
-    layers: ArrayVec<Layer, DEPTH>,
+    layers: ArrayVec<Layer, MOST_MEMBERS>,
 }
 
 impl Model for Layers {
@@ -186,7 +198,7 @@ impl Layers {
     /// How many members there are, at most 32.
     pub fn len(&self) -> usize
         ensures value { result ≡ length self.now }
-        ensures fits { result ≤ 32 }
+        ensures fits { result ≤ MOST_MEMBERS }
     {
         self.layers.len()
     }
@@ -208,7 +220,7 @@ impl Layers {
 
     /// Adds the innermost member. There must be room.
     pub(crate) fn push(&mut self, member: Member)
-        requires { length self.old < 32 }
+        requires { length self.old < MOST_MEMBERS }
         ensures { self.new ≡ self.old ++ nests.layer_of member ∷ [] }
     {
         self.layers.push(Layer::of(member));

@@ -3,6 +3,7 @@ ghost use Rattle.std.specs.Prelude.{◌≡◌, ◌+◌, ◌-◌, ◌<◌, ◌≤
 ghost use Rattle.std.specs.Option.{option_or};
 ghost use Rattle.ada_events.specs.Search.{all_below};
 ghost use Rattle.ada_tables.specs.Queues.{queue_at, waits, with_last, without, front_call};
+ghost use Rattle.ada_events.specs.declared.limits.TheConstants.{MOST_SLOTS, MOST_TASKS};
 
 use crate::nodes::{Node, Nodes};
 use std::alloc::{AllocError, Global};
@@ -100,8 +101,8 @@ impl Queues {
     /// Adds a task that may call, with so many slots, whose queues are empty. There are at most 256 tasks and
     /// 1,024 slots. A failure changes nothing.
     pub(crate) fn add_caller(&mut self, slots: u16) -> Result<(), AllocError>
-        requires callers { self.old.callers < 256 }
-        requires slots { length self.old.queues + slots ≤ 1024 }
+        requires callers { self.old.callers < MOST_TASKS }
+        requires slots { length self.old.queues + slots ≤ MOST_SLOTS }
         ensures ok { OnOk result (self.new ≡ record self.old {
           queues = self.old.queues ++ replicate slots [];
           callers = self.old.callers + 1;
@@ -200,7 +201,7 @@ impl Queues {
     pub(crate) fn queue_len(&self, slot: u16) -> u16
         requires { slot < length self.now.queues }
         ensures value { result ≡ length (queue_at self.now.queues slot) }
-        ensures fits { result ≤ 256 }
+        ensures fits { result ≤ MOST_TASKS }
     {
         self.queues[slot as usize].len
     }

@@ -8,6 +8,7 @@ ghost use Rattle.ada_tables.specs.Dependents.{task_at, depends_on, parent_of, ma
 ghost use Rattle.ada_tables.specs.Queues.{queue_at, waits, with_last, without, front_call};
 ghost use Rattle.ada_tables.specs.Standing.{StandFor};
 ghost use Rattle.ada_tables.specs.Tables.{slot_at, slots_before, declared, has_no_calls, is_unready, unready_dependents, HasEntry};
+ghost use Rattle.ada_events.specs.declared.limits.TheConstants.{MOST_MEMBERS, MOST_SLOTS, MOST_TASKS};
 
 use crate::queues::Queues;
 use crate::tasks::Tasks;
@@ -89,8 +90,8 @@ impl Tables {
     /// terminated, and gives its number. There are at most 256 tasks and 1,024 entries. Fails with
     /// `OutOfMemory` alone, and then changes nothing.
     pub fn add_task(&mut self, master: Master, families: &Families) -> Result<TaskNo, Refusal>
-        requires few { length self.old.tasks < 256 }
-        requires slots { length self.old.queues + entries_in families.now ≤ 1024 }
+        requires few { length self.old.tasks < MOST_TASKS }
+        requires slots { length self.old.queues + entries_in families.now ≤ MOST_SLOTS }
         requires master { IsOpen self.old.tasks master }
         ensures ok { OnOk result (self.new ≡ record self.old {
           tasks = self.old.tasks ++ made_facts (Some master) families.now ∷ [];
@@ -177,7 +178,7 @@ impl Tables {
     pub fn queue_len(&self, task: TaskNo, entry: Entry) -> u16
         requires { HasEntry self.now.tasks task.0 entry }
         ensures value { result ≡ length (queue_at self.now.queues (slot_at self.now.tasks task.0 entry)) }
-        ensures fits { result ≤ 256 }
+        ensures fits { result ≤ MOST_TASKS }
     {
         self.queues.queue_len(self.slot(task, entry))
     }
@@ -185,7 +186,7 @@ impl Tables {
     /// How many tasks there are, the main program counted, at most 256.
     pub fn tasks(&self) -> u16
         ensures value { result ≡ length self.now.tasks }
-        ensures fits { result ≤ 256 }
+        ensures fits { result ≤ MOST_TASKS }
     {
         self.tasks.len() as u16
     }
@@ -193,7 +194,7 @@ impl Tables {
     /// How many entries all tasks have together, at most 1,024.
     pub fn slots(&self) -> u16
         ensures value { result ≡ length self.now.queues }
-        ensures fits { result ≤ 1024 }
+        ensures fits { result ≤ MOST_SLOTS }
     {
         self.queues.slots() as u16
     }
@@ -243,7 +244,7 @@ impl Tables {
     /// most 32 members, and a block stands in no other.
     pub fn push_nest(&mut self, task: TaskNo, member: Member)
         requires known { task.0 < length self.old.tasks }
-        requires depth { length (task_at self.old.tasks task.0).nest < 32 }
+        requires depth { length (task_at self.old.tasks task.0).nest < MOST_MEMBERS }
         requires fresh { IsFresh member self.old.tasks }
         ensures { self.new ≡ record self.old {
           tasks = with_nest task.0 ((task_at self.old.tasks task.0).nest ++ member ∷ []) self.old.tasks;

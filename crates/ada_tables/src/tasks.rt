@@ -5,6 +5,7 @@ ghost use Rattle.ada_events.specs.Nests.{innermost};
 ghost use Rattle.ada_tables.specs.Layers.{members};
 ghost use Rattle.ada_tables.specs.Dependents.{depends_on, parent_of, task_at, has_block, holds, made_facts, with_nest, with_phase, cut, is_terminated, live_dependents, IsOpen, IsFresh, IsIdle, Stands};
 ghost use Rattle.ada_tables.specs.Counts.{facts, ChangesAlong, StandAlone, AreCounted, IsLed};
+ghost use Rattle.ada_events.specs.declared.limits.TheConstants.{MOST_MEMBERS, MOST_TASKS};
 
 use crate::change::Change;
 use crate::task::{self, Task};
@@ -60,7 +61,7 @@ fn depends_on(tasks: &[Task], task: u16, master: Master) -> bool
 
 // The number of the task in whose nest a block stands; the search ends there.
 fn holder_in(tasks: &[Task], block: u32) -> u16
-    requires few { length tasks.now ≤ 256 }
+    requires few { length tasks.now ≤ MOST_TASKS }
     requires stands { Stands (facts tasks.now) (Master.Block block) }
     ensures within { result < length tasks.now }
     ensures held { has_block block (task_at (facts tasks.now) result).nest ≡ true }
@@ -74,7 +75,7 @@ fn holder_in(tasks: &[Task], block: u32) -> u16
 
 // The number of the task that holds a master.
 fn holder_of(tasks: &[Task], master: Master) -> u16
-    requires few { length tasks.now ≤ 256 }
+    requires few { length tasks.now ≤ MOST_TASKS }
     requires stands { Stands (facts tasks.now) master }
     ensures within { result < length tasks.now }
     ensures held { holds result (task_at (facts tasks.now) result).nest master ≡ true }
@@ -142,7 +143,7 @@ impl Tasks {
     /// Adds a task that was made under a master (9.4), the body or an open block of a task that isn't
     /// terminated. There are at most 256 tasks.
     pub(crate) fn add_reserved(&mut self, master: Master, families: &Families)
-        requires few { length self.old.tasks < 256 }
+        requires few { length self.old.tasks < MOST_TASKS }
         requires master { IsOpen self.old.tasks master }
         requires room { 0 < self.old.room }
         ensures { self.new ≡ record self.old {
@@ -161,7 +162,7 @@ impl Tasks {
     /// How many tasks there are, at most 256.
     pub(crate) fn len(&self) -> usize
         ensures value { result ≡ length self.now.tasks }
-        ensures fits { result ≤ 256 }
+        ensures fits { result ≤ MOST_TASKS }
     {
         self.tasks.len()
     }
@@ -201,7 +202,7 @@ impl Tasks {
     /// Puts a task into a block or a rendezvous.
     pub(crate) fn push_nest(&mut self, task: u16, member: Member)
         requires known { task < length self.old.tasks }
-        requires depth { length (task_at self.old.tasks task).nest < 32 }
+        requires depth { length (task_at self.old.tasks task).nest < MOST_MEMBERS }
         requires fresh { IsFresh member self.old.tasks }
         ensures { self.new ≡ record self.old {
           tasks = with_nest task ((task_at self.old.tasks task).nest ++ member ∷ []) self.old.tasks;

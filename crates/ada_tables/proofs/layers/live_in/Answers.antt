@@ -10,7 +10,7 @@ loop-layer-preserved c =
 
 pub returns-then-is_block_at : goal.returns-then-is_block_at
 returns-then-is_block_at c =
-    live_here c.args.block c.args.layers.now c.loop-layer.layer-index _ c.loop-layer.invariant c.loop-layer-test.true
+    c.live.ensures ∙ live_here c.args.block c.args.layers.now c.loop-layer.layer-index _ c.loop-layer.invariant c.loop-layer-test.true
     (get_or_default c.args.layers.now c.loop-layer.layer-index _ _ c.loop-layer-test.true) (sym c.is_block_at.ensures ∙ c.if-is_block_at.true)
 
 pub returns : goal.returns
