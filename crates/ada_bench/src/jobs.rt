@@ -2,7 +2,7 @@
 
 use crate::floors::{Tokens, push_events, read_text, write_text};
 use crate::sink::Sink;
-use crate::turns::Job;
+use ada_timing::Job;
 use ada_events::{Event, Request};
 use ada_kernel::Kernel;
 use ada_run::replay;
@@ -16,7 +16,7 @@ pub struct Replaying<'a> {
     pub text: &'a [u8],
 }
 
-impl Job for Replaying<'_> {
+impl Job<HostRuntime> for Replaying<'_> {
     fn turn(&mut self, rt: &HostRuntime) -> anyhow::Result<Duration> {
         let start = Instant::now(rt)?;
         let mut reader = self.text;
@@ -32,7 +32,7 @@ pub struct Reading<'a> {
     pub text: &'a [u8],
 }
 
-impl Job for Reading<'_> {
+impl Job<HostRuntime> for Reading<'_> {
     fn turn(&mut self, rt: &HostRuntime) -> anyhow::Result<Duration> {
         let start = Instant::now(rt)?;
         let _ = read(rt.alloc(), self.text);
@@ -63,7 +63,7 @@ impl<'a> Floor<'a> {
     }
 }
 
-impl Job for Floor<'_> {
+impl Job<HostRuntime> for Floor<'_> {
     fn turn(&mut self, rt: &HostRuntime) -> anyhow::Result<Duration> {
         let start = Instant::now(rt)?;
         let text = read_text(rt.alloc(), self.text)?;
@@ -89,7 +89,7 @@ pub struct Stepping<'a, P> {
     pub plan: &'a P,
 }
 
-impl<P: Plan> Job for Stepping<'_, P> {
+impl<P: Plan> Job<HostRuntime> for Stepping<'_, P> {
     fn turn(&mut self, rt: &HostRuntime) -> anyhow::Result<Duration> {
         let mut kernel = Kernel::new(rt.alloc())?;
         step_all(&mut kernel, self.plan.before(rt.alloc())?);
@@ -113,7 +113,7 @@ pub struct Pushing<'a> {
     pub events: &'a [Event],
 }
 
-impl Job for Pushing<'_> {
+impl Job<HostRuntime> for Pushing<'_> {
     fn turn(&mut self, rt: &HostRuntime) -> anyhow::Result<Duration> {
         let start = Instant::now(rt)?;
         let _journal = push_events(rt.alloc(), self.events)?;

@@ -6,11 +6,9 @@
 mod floors;
 mod jobs;
 mod kernels;
-mod report;
 mod scripted;
 mod scripts;
 mod sink;
-mod turns;
 mod workloads;
 
 use kernels::Work;

@@ -2,11 +2,10 @@
 
 use crate::jobs::{Floor, Plan, Pushing, Reading, Replaying, Stepping, step_all};
 use crate::kernels::{Beside, Work};
-use crate::report::{print_head, print_memory, print_row};
 use crate::scripted::Scripted;
 use crate::scripts::{Kind, script};
 use crate::sink::Sink;
-use crate::turns::measure;
+use ada_timing::{measure, print_head, print_memory, print_row};
 use ada_events::Event;
 use ada_kernel::Kernel;
 use ada_run::replay;

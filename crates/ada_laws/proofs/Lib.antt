@@ -30,3 +30,4 @@ pub mod SlotPlaces
 pub mod SlotOrder
 pub mod OutcomeLaws
 pub mod KeepingLaws
+pub mod Publishing

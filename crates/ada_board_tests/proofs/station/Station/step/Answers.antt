@@ -1,5 +1,6 @@
 use Rattle.std.proofs.Common.{ap, ◌∙◌, ◌++◌}
-use Rattle.ada_board_tests.proofs.Tied.{may_offer, published_still, now_published}
+use Rattle.ada_laws.proofs.Publishing.{published_still}
+use Rattle.ada_board_tests.proofs.Tied.{may_offer, now_published}
 use Rattle.ada_board_tests.proofs.station.Station.step.Goals as goal
 
 pub offer-requires : goal.offer-requires

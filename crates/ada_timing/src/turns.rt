@@ -19,13 +19,13 @@ pub struct Turns {
 }
 
 /// Some work that can be done again and again.
-pub trait Job {
+pub trait Job<R> {
     /// Does it once, and says how long the part of it took that is measured.
-    fn turn(&mut self, rt: &HostRuntime) -> anyhow::Result<Duration>;
+    fn turn(&mut self, rt: &R) -> anyhow::Result<Duration>;
 }
 
 /// Does some work until a second is over, at least once and at most 101 times.
-pub fn measure<J: Job>(rt: &HostRuntime, job: &mut J) -> anyhow::Result<Turns> {
+pub fn measure<R: AllocGlobal, J: Job<R>>(rt: &R, job: &mut J) -> anyhow::Result<Turns> {
     let mut times = Vec::new(rt.alloc());
     let mut total: u64 = 0;
     for _ in 0..MOST {

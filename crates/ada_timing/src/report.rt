@@ -1,11 +1,16 @@
 //! The table: a line for each thing that is measured.
 
-use crate::turns::Turns;
+use crate::Turns;
 use std::{fs, io};
 
 /// Prints what something took, and its floor: first, best and median turn, and the ratio of the best
 /// turns.
-pub fn print_row(rt: &HostRuntime, name: &str, taken: Turns, floor: Turns) -> io::Result<()> {
+pub fn print_row<R: Print>(
+    rt: &R,
+    name: &str,
+    taken: Turns,
+    floor: Turns,
+) -> io::Result<()> {
     print!(rt; "  {name:<8}")?;
     for time in [
         taken.first,
@@ -21,7 +26,7 @@ pub fn print_row(rt: &HostRuntime, name: &str, taken: Turns, floor: Turns) -> io
 }
 
 /// The heads of the columns. Times are in microseconds.
-pub fn print_head(rt: &HostRuntime) -> io::Result<()> {
+pub fn print_head<R: Print>(rt: &R) -> io::Result<()> {
     print!(rt; "  {:<8}", "us")?;
     for head in [
         "first",

@@ -1,0 +1,71 @@
+//! Measures reads of a board that is published, beside reads of a board under a lock: of one reader alone, and
+//! of three while a writer publishes without pause.
+#![tactic(auto)]
+
+mod album;
+mod locked;
+mod published;
+mod race;
+mod sights;
+
+use ada_timing::{measure, print_head, print_row};
+use album::Album;
+use locked::{ReadingLocked, Storing};
+use published::{Publishing, Reading};
+use std::env;
+use std::io::Print;
+use std::sync::Wait;
+use std::thread::Threads;
+use std::time::Clock;
+
+/// The boards that are published.
+const BOARDS: usize = 4096;
+
+/// How often one reader asks.
+const TIMES: u32 = 1_000_000;
+
+/// How often all boards are published.
+const ROUNDS: u32 = 200;
+
+/// With `small`, tries all on a few boards, and says that all readers saw the last one. Without, measures
+/// and prints the tables.
+fn main(rt: HostRuntime) -> anyhow::Result<()> {
+    let words: Vec<String> = env::args(&rt)?.collect(rt.alloc())?;
+    match words.get(1) {
+        Some(word) if word.as_str() == "small" => try_all(&rt),
+        _ => measure_all(&rt),
+    }
+}
+
+fn try_all<R: Threads + Wait + Sync + Clock + AllocGlobal + Print>(rt: &R) -> anyhow::Result<()> {
+    let album = Album::of(rt.alloc(), 5)?;
+    let published = published::races(rt, &album, 2)?;
+    let stored = locked::races(rt, &album, 2)?;
+    println!(rt;
+        "{} boards published, {} stored",
+        published.boards, stored.boards
+    )?;
+    Ok(())
+}
+
+fn measure_all<R: Threads + Wait + Sync + Clock + AllocGlobal + Print>(rt: &R) -> anyhow::Result<()> {
+    let times = TIMES;
+    println!(rt; "{times} reads by one reader; the floor is a board under a lock")?;
+    print_head(rt)?;
+    let floor = measure(rt, &mut ReadingLocked { times })?;
+    print_row(rt, "read", measure(rt, &mut Reading { times })?, floor)?;
+    let album = &Album::of(rt.alloc(), BOARDS)?;
+    println!(rt; "{BOARDS} boards published; the floor is to store them under a lock")?;
+    print_head(rt)?;
+    let floor = measure(rt, &mut Storing { album })?;
+    print_row(
+        rt,
+        "publish",
+        measure(rt, &mut Publishing { album })?,
+        floor,
+    )?;
+    println!(rt; "three readers beside a writer: answers and boards in a millisecond")?;
+    published::races(rt, album, ROUNDS)?.print(rt, "published")?;
+    locked::races(rt, album, ROUNDS)?.print(rt, "locked")?;
+    Ok(())
+}
