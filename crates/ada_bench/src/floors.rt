@@ -3,6 +3,7 @@
 //! are.
 ghost use Rattle.std.specs.Prelude.{◌<◌};
 
+use ada_events::limits::MOST_EVENTS;
 use ada_events::{
     ChoiceList, DueList, Dues, Event, EventTail, FamilyList, Journal, Refusal, TaskList,
 };
@@ -13,9 +14,6 @@ use std::{io, str};
 
 /// How many bytes are read or written at a time.
 const PIECE: usize = 65_536;
-
-/// The most events of a journal.
-const MOST_EVENTS: u32 = 65_536;
 
 /// The text, read in pieces into memory of its own.
 pub fn read_text(alloc: Global, text: &[u8]) -> Result<Vec<u8>, AllocError> {
@@ -104,7 +102,7 @@ fn put_line(out: &mut Vec<u8>, line: &[u8]) -> Result<(), AllocError> {
 pub fn push_events(alloc: Global, events: &[Event]) -> Result<Journal, Refusal> {
     let mut journal = Journal::new(alloc);
     for event in events {
-        if journal.len() >= MOST_EVENTS {
+        if journal.len() as usize >= MOST_EVENTS {
             return Err(Refusal::JournalFull);
         }
         journal.reserve(1)?;

@@ -5,11 +5,11 @@ use crate::kernels::{Beside, Work};
 use crate::scripted::Scripted;
 use crate::scripts::{Kind, script};
 use crate::sink::Sink;
-use ada_timing::{measure, print_head, print_memory, print_row};
 use ada_events::Event;
 use ada_kernel::Kernel;
 use ada_run::replay;
 use ada_script::{Script, read};
+use ada_timing::{measure, print_head, print_memory, print_row};
 
 /// Plays a script of so many lines, and prints how much it came to.
 pub fn try_script(rt: &HostRuntime, kind: Kind, lines: usize) -> anyhow::Result<()> {

@@ -3,21 +3,22 @@ ghost use Rattle.std.specs.Prelude.{◌≡◌, []};
 ghost use Rattle.ada_events.specs.Boards.{board_of};
 ghost use Rattle.ada_board.specs.Answers.{callable_on, terminated_on, count_on};
 
+use ada_events::limits::{MOST_SLOTS, MOST_TASKS};
 use ada_events::{Board, TaskNo};
 
 /// The board of the empty journal: the main program alone, callable and not terminated.
 pub fn opening_board() -> Board
     ensures { result ≡ board_of [] }
 {
-    let mut callable = [false; 256];
+    let mut callable = [false; MOST_TASKS];
     callable[0] = true;
     Board {
         tasks: 1,
         slots: 0,
         events: 0,
         callable,
-        terminated: [false; 256],
-        counts: [0; 1024],
+        terminated: [false; MOST_TASKS],
+        counts: [0; MOST_SLOTS],
     }
 }
 

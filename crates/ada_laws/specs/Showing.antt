@@ -1,5 +1,6 @@
 -- Which lists of boards are true, as a journal grows.
-use Rattle.std.specs.Prelude.{◌≡◌, ◌<◌, ◌≤◌, None, List, [], ◌∷◌, ◌++◌, length}
+use Rattle.std.specs.Prelude.{◌≡◌, ◌+◌, ◌<◌, ◌≤◌, None, List, [], ◌∷◌, ◌++◌, length}
+use Rattle.ada_events.specs.declared.limits.TheConstants.{MOST_EVENTS}
 use Rattle.ada_events.specs.declared.event.Event.{Event}
 use Rattle.ada_events.specs.declared.board.Board.{Board}
 use Rattle.ada_events.specs.declared.request.Request.{Request}
@@ -32,4 +33,4 @@ AnswersAreShown =
 
 -- a true list has at most 65,537 boards: one for each number of events
 abbrev pub TrueBoardsAreFew : Type 0
-TrueBoardsAreFew = (boards : List Board) → AreTrue boards → length boards ≤ 65537
+TrueBoardsAreFew = (boards : List Board) → AreTrue boards → length boards ≤ MOST_EVENTS + 1

@@ -7,13 +7,14 @@ ghost use Rattle.ada_events.specs.Attributes as attributes;
 ghost use Rattle.ada_events.specs.Slots as places;
 ghost use Rattle.ada_events.specs.Boards as boards;
 ghost use Rattle.ada_events.specs.Lawful.{IsLawful};
-ghost use Rattle.ada_events.specs.declared.limits.TheConstants.{MOST_TASKS};
+ghost use Rattle.ada_events.specs.declared.limits.TheConstants.{MOST_SLOTS, MOST_TASKS};
 
 use crate::attributes::is_callable;
 use crate::limits::slot_count;
 use crate::phases::is_terminated;
 use crate::slots::count_at;
 use crate::tasks::task_count;
+use ada_events::limits::{MOST_SLOTS, MOST_TASKS};
 use ada_events::{Board, Event, TaskNo};
 
 /// How many tasks a lawful journal has, at most 256.
@@ -63,14 +64,14 @@ fn shows_count(events: &[Event], slot: u16, slots: u16) -> u16
 
 // CALLABLE of each task.
 #[tactic(auto, unfolding(ada_events::specs::Boards::shows_callable))]
-fn callable(events: &[Event]) -> [bool; 256]
+fn callable(events: &[Event]) -> [bool; MOST_TASKS]
     requires short { length events.now < 2 ^ 32 }
     requires lawful { IsLawful (reverse events.now) }
     ensures { result ≡ boards.listed MOST_TASKS (boards.shows_callable (reverse events.now)) }
 {
     let tasks = tasks_in(events);
-    let mut shown = [false; 256];
-    for task in 0..256u16 {
+    let mut shown = [false; MOST_TASKS];
+    for task in 0..MOST_TASKS as u16 {
         shown[usize::from(task)] = shows_callable(events, task, tasks);
     }
     shown
@@ -78,14 +79,14 @@ fn callable(events: &[Event]) -> [bool; 256]
 
 // TERMINATED of each task.
 #[tactic(auto, unfolding(ada_events::specs::Boards::shows_terminated))]
-fn terminated(events: &[Event]) -> [bool; 256]
+fn terminated(events: &[Event]) -> [bool; MOST_TASKS]
     requires short { length events.now < 2 ^ 32 }
     requires lawful { IsLawful (reverse events.now) }
     ensures { result ≡ boards.listed MOST_TASKS (boards.shows_terminated (reverse events.now)) }
 {
     let tasks = tasks_in(events);
-    let mut shown = [false; 256];
-    for task in 0..256u16 {
+    let mut shown = [false; MOST_TASKS];
+    for task in 0..MOST_TASKS as u16 {
         shown[usize::from(task)] = shows_terminated(events, task, tasks);
     }
     shown
@@ -93,14 +94,14 @@ fn terminated(events: &[Event]) -> [bool; 256]
 
 // COUNT of each entry.
 #[tactic(auto, unfolding(ada_events::specs::Boards::shows_count))]
-fn counts(events: &[Event]) -> [u16; 1024]
+fn counts(events: &[Event]) -> [u16; MOST_SLOTS]
     requires short { length events.now < 2 ^ 32 }
     requires lawful { IsLawful (reverse events.now) }
-    ensures { result ≡ boards.listed 1024 (boards.shows_count (reverse events.now)) }
+    ensures { result ≡ boards.listed MOST_SLOTS (boards.shows_count (reverse events.now)) }
 {
     let slots = entries_of(events);
-    let mut shown = [0u16; 1024];
-    for slot in 0..1024u16 {
+    let mut shown = [0u16; MOST_SLOTS];
+    for slot in 0..MOST_SLOTS as u16 {
         shown[usize::from(slot)] = shows_count(events, slot, slots);
     }
     shown

@@ -4,6 +4,7 @@ use Rattle.std.specs.Prelude.{◌≡◌, ◌⊎◌, ℕ, zero, suc, ℤ, ◌^◌
 use Rattle.std.specs.Borrow.{Bor}
 use Rattle.std.specs.List.{list_any}
 use Rattle.std.specs.Str.{bytes_eq}
+use Rattle.ada_events.specs.declared.limits.TheConstants.{MOST_CHOICES, MOST_FAMILIES, MOST_TASKS}
 use Rattle.ada_events.specs.declared.names.Family.{Family}
 use Rattle.ada_events.specs.declared.names.Pause.{Pause}
 use Rattle.ada_events.specs.declared.request.Tail.{Tail}
@@ -157,7 +158,7 @@ repeat_at step (suc room) before (word ∷ words) = do
   repeat_at step room (before ++ x.0 ∷ []) x.1
 
 abbrev pub tasks_at : Scope → List (List ℕ) → Read (List (List ℕ))
-tasks_at names words = repeat_at (λ before rest. task_at names rest) 256 [] words
+tasks_at names words = repeat_at (λ before rest. task_at names rest) MOST_TASKS [] words
 
 unfoldable pub family_at : List Declaration → List (List ℕ) → Read Declaration
 family_at before words = do
@@ -165,7 +166,7 @@ family_at before words = do
   if list_any (λ family. bytes_eq name.0 family.name) before then Err DoubleName else (bounds_at name.1 >>= λ bounds. Ok (record { name = name.0; bounds = bounds.0 }, bounds.1))
 
 abbrev pub families_at : List (List ℕ) → Read (List Declaration)
-families_at words = repeat_at family_at 16 [] words
+families_at words = repeat_at family_at MOST_FAMILIES [] words
 
 -- ---- statements
 
@@ -316,7 +317,7 @@ choices_at names by (suc room) before words = do
 
 unfoldable pub alternatives_at : Scope → List ℕ → List (List ℕ) → Read (List Alternative × Tail)
 alternatives_at names by words =
-    if is_over words then Ok (([], tails.Nothing), words) else (if (passed_over (codes "else") words).0 then Ok (([], tails.Otherwise), (passed_over (codes "else") words).1) else choices_at names by 16 [] (passed_over (codes "else") words).1)
+    if is_over words then Ok (([], tails.Nothing), words) else (if (passed_over (codes "else") words).0 then Ok (([], tails.Otherwise), (passed_over (codes "else") words).1) else choices_at names by MOST_CHOICES [] (passed_over (codes "else") words).1)
 
 unfoldable pub select_at : Scope → List ℕ → List (List ℕ) → Read Statement
 select_at names by words = do

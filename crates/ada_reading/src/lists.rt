@@ -16,6 +16,7 @@ pub fn read_tasks(alloc: Global, names: &Names, words: &mut Words) -> Result<Tas
     ensures { GivesInMemory result words.new (tasks_at names.now words.old) }
 {
     let mut tasks = TaskNames::new(alloc);
+    tasks.reserve(words.room())?;
     while !words.is_over() {
         if tasks.is_full() {
             return Err(Fault::BadStatement);

@@ -5,6 +5,7 @@ use Rattle.std.specs.List.{list_any, AllByRecursion}
 use Rattle.std.specs.Map.{lookup}
 use Rattle.std.specs.Str.{bytes_eq}
 use Rattle.indexmap.specs.IndexMap.{insert_entry}
+use Rattle.ada_events.specs.declared.limits.TheConstants.{MOST_CHOICES, MOST_DELAYS, MOST_FAMILIES, MOST_TASKS}
 use Rattle.ada_events.specs.declared.request.Tail.{Tail}
 use Rattle.ada_events.specs.declared.request.Tail.TheVariants.{Nothing, Otherwise, Delays, Terminate}
 use Rattle.ada_statements.specs.declared.meaning.Meaning.{Meaning}
@@ -69,7 +70,7 @@ abbrev pub IsNewName : Scope → List ℕ → Type 0
 IsNewName names name = IsTrue (is_name name) × (is_declared names name ≡ false)
 
 abbrev pub AreTaskNames : Scope → List (List ℕ) → Type 0
-AreTaskNames names tasks = (length tasks ≤ 256) × AllByRecursion (IsTaskName names) tasks
+AreTaskNames names tasks = (length tasks ≤ MOST_TASKS) × AllByRecursion (IsTaskName names) tasks
 
 abbrev pub IsMoment : ℤ → Type 0
 IsMoment moment = FitsSigned w64 moment
@@ -90,15 +91,15 @@ AreApart before [] = Unit {0}
 AreApart before (family ∷ families) = (list_any (bytes_eq family.name) before ≡ false) × AreApart (before ++ family.name ∷ []) families
 
 abbrev pub AreFamilies : List Declaration → Type 0
-AreFamilies families = (length families ≤ 16) × AllByRecursion IsFamily families × AreApart [] families
+AreFamilies families = (length families ≤ MOST_FAMILIES) × AllByRecursion IsFamily families × AreApart [] families
 
 abbrev pub AreChoices : Scope → List ℕ → List Alternative → Type 0
-AreChoices names by choices = (length choices ≤ 16) × AllByRecursion (λ choice. IsEntryName names by choice.entry) choices
+AreChoices names by choices = (length choices ≤ MOST_CHOICES) × AllByRecursion (λ choice. IsEntryName names by choice.entry) choices
 
 abbrev pub IsTail : Tail → Type 0
 IsTail Nothing = Unit {0}
 IsTail Otherwise = Unit {0}
-IsTail (Delays pauses) = (1 ≤ length pauses) × (length pauses ≤ 8) × AllByRecursion (λ pause. IsMoment pause.duration) pauses
+IsTail (Delays pauses) = (1 ≤ length pauses) × (length pauses ≤ MOST_DELAYS) × AllByRecursion (λ pause. IsMoment pause.duration) pauses
 IsTail (Terminate guard) = Unit {0}
 
 -- the statement's names and numbers have their form, and its names are declared

@@ -3,12 +3,13 @@
 ghost use Rattle.std.specs.Prelude.{◌≡◌, false, IfOk};
 
 use crate::Name;
+use ada_events::limits::MOST_FAMILIES;
 use ada_events::{SmallList, TaskNo};
 use std::alloc::{AllocError, Global};
 
 /// The names of a task's entries, in the order of its declaration, at most 16. One lies in place, and
 /// more in memory.
-pub type EntryNames = SmallList<Name, 1, 16>;
+pub type EntryNames = SmallList<Name, 1, MOST_FAMILIES>;
 
 /// A task that was made: its number, and the position of the event that made it, 0 for the main
 /// program.

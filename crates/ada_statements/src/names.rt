@@ -3,6 +3,7 @@
 ghost use Rattle.std.specs.Prelude.{◌≡◌, ◌≤◌, None, Some, Ok, Err, length, map, option_map, IfOk, IfSome, OnOk, OnErr, IsOkUnless, option_copied};
 ghost use Rattle.ada_statements.specs.Binding.{place_of as found_place};
 ghost use Rattle.ada_statements.specs.Places.{kept, AreKept, IsNoted};
+ghost use Rattle.ada_events.specs.declared.limits.TheConstants.{MOST_FAMILIES};
 
 use crate::meaning::{Binding, Bound};
 use crate::places::Places;
@@ -323,7 +324,7 @@ fn with_place(places: Option<Places>, meaning: &Meaning, place: usize) -> Option
 
 /// The names of some families.
 fn names_of(families: &[Declaration], alloc: Global) -> Result<EntryNames, AllocError>
-    requires { length families.now ≤ 16 }
+    requires { length families.now ≤ MOST_FAMILIES }
     ensures { IfOk result (λ names. names ≡ map (λ f. f.name) families.now) }
 {
     let mut names = EntryNames::new(alloc);

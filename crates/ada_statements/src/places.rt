@@ -6,6 +6,7 @@ ghost use Rattle.ada_statements.specs.Places.{kept, IsNoted};
 use crate::Meaning;
 use crate::meaning::Bound;
 use ada_events::TaskNo;
+use ada_events::limits::{MOST_EVENTS, MOST_TASKS};
 use std::alloc::{AllocError, Global};
 
 /// What an event of a journal made, with the place of its name.
@@ -30,9 +31,9 @@ impl Places {
         ensures { IfOk result (λ places. (bound : Bound) → kept places bound ≡ None) }
     {
         let mut tasks = Vec::new(alloc);
-        tasks.resize(256, None)?;
+        tasks.resize(MOST_TASKS, None)?;
         let mut events = Vec::new(alloc);
-        events.resize(65_536, Spot::Nothing)?;
+        events.resize(MOST_EVENTS, Spot::Nothing)?;
         Ok(Places { tasks, events })
     }
 

@@ -3,6 +3,7 @@
 ghost use Rattle.std.specs.Prelude.{◌≡◌};
 
 use crate::Name;
+use ada_events::limits::{MOST_CHOICES, MOST_FAMILIES, MOST_TASKS};
 use ada_events::{Family, SmallList, Stored, Tail};
 
 /// An entry as a statement names it: the name of its family, and an index where one is written. An
@@ -29,13 +30,13 @@ pub struct Alternative {
 }
 
 /// The tasks that an activation or an abort names, at most 256.
-pub type TaskNames = SmallList<Name, 3, 256>;
+pub type TaskNames = SmallList<Name, 3, MOST_TASKS>;
 
 /// The families of entries that a task declares, at most 16.
-pub type Declarations = SmallList<Declaration, 0, 16>;
+pub type Declarations = SmallList<Declaration, 0, MOST_FAMILIES>;
 
 /// The accept alternatives of a selective wait, at most 16.
-pub type Alternatives = SmallList<Alternative, 1, 16>;
+pub type Alternatives = SmallList<Alternative, 1, MOST_CHOICES>;
 
 /// A statement of a script. `by` is the task that makes the request.
 #[derive(Debug, Drop, PartialEq, Eq)]
