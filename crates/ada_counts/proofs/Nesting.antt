@@ -23,7 +23,7 @@ use Rattle.ada_events.specs.Nests.{is_left_close, is_left, is_wait_of, member_at
 use Rattle.ada_events.specs.Asks.{asked_event, member_position}
 use Rattle.ada_events.specs.Refusals.{refusal, has_no_block, is_rendezvous}
 use Rattle.ada_laws.proofs.Accepting.{is_accepted, running_free}
-use Rattle.ada_laws.proofs.Stepping.{forced-step}
+use Rattle.ada_laws.proofs.Stepping.{forced-step, pending_parts}
 use Rattle.ada_laws.proofs.Saying.{held_in-closing}
 use Rattle.ada_laws.proofs.Gathering.{gathered-found}
 use Rattle.ada_laws.proofs.Framing.{IsBlockOf}
@@ -154,16 +154,16 @@ close_released (e ∷ before) c left =
     ]
 
 -- the event leaves the block
-record Leaves (event : Event) (before : List Event) (p : ℕ) : Type 0 where
-  at : ℕ
-  closed : Event
-  closing : Closing
-  leaves : left_in event ≡ Some at
-  stands : event_at before at ≡ Some closed
-  says : closing_in closed ≡ Some closing
-  block : closing.block ≡ p
+pub record Leaves (event : Event) (before : List Event) (p : ℕ) : Type 0 where
+  pub at : ℕ
+  pub closed : Event
+  pub closing : Closing
+  pub leaves : left_in event ≡ Some at
+  pub stands : event_at before at ≡ Some closed
+  pub says : closing_in closed ≡ Some closing
+  pub block : closing.block ≡ p
 
-left_cases : (event : Event) (before : List Event) (p : ℕ) → IsLawful (event ∷ before) → is_left (event ∷ before) p ≡ true → Leaves event before p ⊎ (is_left before p ≡ true)
+pub left_cases : (event : Event) (before : List Event) (p : ℕ) → IsLawful (event ∷ before) → is_left (event ∷ before) p ≡ true → Leaves event before p ⊎ (is_left before p ≡ true)
 unfolding is_left is_left_close
 left_cases event before p lawful left =
     let (q, e, at, passes) = any_event-found (λ q e. is_some_and (closing_in e) (λ (c : Closing). eqb c.block p) && is_left_close (event ∷ before) q) (event ∷ before) left in
@@ -380,15 +380,13 @@ pending_innermost (newest ∷ before) c e k lawful at says unreleased live =
           was
     ]
 
-row_leaving : (journal : List Event) (event : Event) (c : ℕ) (e : Event) (k : Closing) → IsRow journal event → left_in event ≡ Some c → event_at journal c ≡ Some e → closing_in e ≡ Some k → (is_released journal c ≡ false) × (has_ended journal k.by ≡ false)
-unfolding left_in is_to_leave is_pending
+row_leaving : (journal : List Event) (event : Event) (c : ℕ) (e : Event) (k : Closing) → IsRow journal event → left_in event ≡ Some c → event_at journal c ≡ Some e → closing_in e ≡ Some k → is_to_leave journal c k ≡ true
+unfolding left_in
 row_leaving journal event c e k (leaves p f closing at closes leave) says stands closed =
     let place : p ≡ c = same_Some p c says in
     let one : f ≡ e = same_Some f e (sym at ∙ ap (event_at journal) place ∙ stands) in
     let same : closing ≡ k = same_Some closing k (sym closes ∙ ap closing_in one ∙ closed) in
-    let pending = and_parts (not (is_released journal p) && not (has_ended journal closing.by)) (all_terminated journal (BlockMaster closing.block)) leave in
-    let both = and_parts (not (is_released journal p)) (not (has_ended journal closing.by)) pending.0 in
-    (subst (λ (n : ℕ). is_released journal n ≡ false) place (not-true (is_released journal p) both.0), subst (λ (x : Closing). has_ended journal x.by ≡ false) same (not-true (has_ended journal closing.by) both.1))
+    subst (λ (n : ℕ). is_to_leave journal n k ≡ true) place (subst (λ (x : Closing). is_to_leave journal p x ≡ true) same leave)
 row_leaving journal event c e k _ says stands closed = absurd (none-some c says)
 
 left_in-asked : (journal : List Event) (r : Request) → left_in (asked_event journal r) ≡ None
@@ -396,14 +394,17 @@ unfolding left_in asked_event
 left_in-asked journal (request.Open by) = refl
 left_in-asked journal _ = refl
 
+-- a block is left where its close is pending and all of its dependents are terminated
+pub leaves_ready : (event : Event) (before : List Event) (p : ℕ) → MayFollow before event → (gone : Leaves event before p) → is_to_leave before gone.at gone.closing ≡ true
+leaves_ready event before p (inl forces) gone = row_leaving before event gone.at gone.closed gone.closing (forced-row before event forces) gone.leaves gone.stands gone.says
+leaves_ready event before p (inr asked) gone = absurd (none-some gone.at (sym (ap left_in asked.becomes ∙ left_in-asked before asked.request) ∙ gone.leaves))
+
 leaving : (event : Event) (before : List Event) (p : ℕ) → IsLawful (event ∷ before) → Leaves event before p → (t : ℕ) × IsInnermost before t p
+unfolding is_to_leave
 leaving event before p lawful gone =
-    let free = by_way lawful.1 in
+    let pending = and_parts (is_pending before gone.at gone.closing.by) (all_terminated before (BlockMaster gone.closing.block)) (leaves_ready event before p lawful.1 gone) in
+    let free = pending_parts before gone.at gone.closing.by pending.0 in
     (gone.closing.by, subst (λ (b : ℕ). IsInnermost before gone.closing.by b) gone.block (pending_innermost before gone.at gone.closed gone.closing lawful.0 gone.stands gone.says free.0 free.1))
-  where
-    by_way : MayFollow before event → (is_released before gone.at ≡ false) × (has_ended before gone.closing.by ≡ false)
-    by_way (inl forces) = row_leaving before event gone.at gone.closed gone.closing (forced-row before event forces) gone.leaves gone.stands gone.says
-    by_way (inr asked) = absurd (none-some gone.at (sym (ap left_in asked.becomes ∙ left_in-asked before asked.request) ∙ gone.leaves))
 
 leaves_last : (event : Event) (before : List Event) (task : ℕ) → IsLawful (event ∷ before) → IsLast event before task before
 leaves_last event before task lawful p q e f at_p at_q was_p was_q left less =

@@ -93,7 +93,7 @@ abandoned_alone journal u t lawful abandoned depends =
       | inr named ↦ true≢false (sym named ∙ never)
     ]
 
-all_terminated_at : (journal : List Event) (m : Master) (u : ℕ) → all_terminated journal m ≡ true → depends_on journal u m ≡ true → is_terminated journal u ≡ true
+pub all_terminated_at : (journal : List Event) (m : Master) (u : ℕ) → all_terminated journal m ≡ true → depends_on journal u m ≡ true → is_terminated journal u ≡ true
 unfolding all_terminated
 all_terminated_at journal m u all depends =
     let here = all_below-holds (λ u. not (depends_on journal u m) || is_terminated journal u) (task_count journal) u all (depends_exists journal u m depends) in
