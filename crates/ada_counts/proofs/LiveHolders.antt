@@ -28,7 +28,8 @@ use Rattle.ada_laws.proofs.DependentLaws.{all_terminated_at, a_terminated_body_h
 use Rattle.ada_laws.proofs.Parents.{master_known, tasks_depend_by_parents}
 use Rattle.ada_tables.specs.Dependents.{is_block, has_block, up_to, holds, encloses}
 use Rattle.ada_counts.specs.Holders.{IsHeld, ALeftBlockHasNoLiveDependent, MastersAreHeld}
-use Rattle.ada_counts.proofs.Nesting.{Leaves, left_cases, leaves_ready}
+use Rattle.ada_records.proofs.LeftBlocks.{Leaves, left_cases}
+use Rattle.ada_counts.proofs.Nesting.{leaves_ready}
 use Rattle.ada_counts.proofs.Owners.{block_in_nest, nest_has_block, one_holder}
 use Rattle.ada_counts.proofs.Enclosing.{reaches_held}
 

@@ -8,3 +8,6 @@ pub mod Releasing
 pub mod Sweeping
 pub mod Unnesting
 pub mod Within
+pub mod Callers
+pub mod LeftBlocks
+pub mod NestKinds

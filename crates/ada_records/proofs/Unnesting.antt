@@ -21,7 +21,7 @@ use Rattle.ada_records.proofs.Calling.{SaysCall}
 use Rattle.ada_records.proofs.Releasing.{says_release}
 use Rattle.ada_records.proofs.Nesting.{left_same, wait_same, no_open, nothing_beyond}
 
-abbrev kept : {A : Type 0} → (A → Bool) → Option A → Option A
+abbrev pub kept : {A : Type 0} → (A → Bool) → Option A → Option A
 kept keep None = None
 kept keep (Some x) = cond (keep x) (Some x) None
 

@@ -1,6 +1,6 @@
 //! Laws of what one more event changes.
 
-ghost use Rattle.ada_records.specs.Changes.{CallsComeLast, ReleasedCallsLeave, MetCallsLeave, CompletedCallersLeave, RendezvousAreEntered, RendezvousAreLeft};
+ghost use Rattle.ada_records.specs.Changes.{CallsComeLast, ReleasedCallsLeave, MetCallsLeave, CompletedCallersLeave, RendezvousAreEntered, RendezvousAreLeft, BlocksAreEntered, BlocksAreLeft, OthersKeepNests};
 
 /// A call comes last in the queue of its entry (9.5).
 #[tactic(auto, using(crate::proofs::QueueKinds::queue_called))]
@@ -33,4 +33,22 @@ pub fn rendezvous_are_entered()
 #[tactic(auto, using(crate::proofs::Unnesting::nest_released))]
 pub fn rendezvous_are_left()
     ensures { RendezvousAreLeft }
+{}
+
+/// A task that opens a block is then within it, innermost (9.4).
+#[tactic(auto, using(crate::proofs::NestKinds::blocks_are_entered))]
+pub fn blocks_are_entered()
+    ensures { BlocksAreEntered }
+{}
+
+/// Where a task leaves the block that it closed, nobody is within that block any more (9.4).
+pub fn blocks_are_left()
+    ensures { BlocksAreLeft }
+{}
+
+/// An event that opens no block, begins no rendezvous and releases nothing, as the completion or the termination of
+/// a task, leaves each task within what it was in.
+#[tactic(auto, using(crate::proofs::NestKinds::others_keep_nests))]
+pub fn others_keep_nests()
+    ensures { OthersKeepNests }
 {}
