@@ -1,6 +1,6 @@
 -- Who holds a master, and how blocks nest; and that tables which hold what a journal says of each task and each
 -- queue stand for it. Laws.
-use Rattle.std.specs.Prelude.{◌≡◌, ℕ, ◌<◌, true, false, Some, List, [], ◌∷◌}
+use Rattle.std.specs.Prelude.{◌≡◌, ℕ, ◌<◌, true, false, Some, List, [], ◌∷◌, filter}
 use Rattle.ada_events.specs.declared.event.Event.{Event}
 use Rattle.ada_events.specs.declared.names.Master.{Master}
 use Rattle.ada_events.specs.declared.names.Master.TheVariants.{Body, Block as BlockMaster}
@@ -13,9 +13,10 @@ use Rattle.ada_events.specs.Masters.{depends_on}
 use Rattle.ada_events.specs.Nests.{is_left, nest}
 use Rattle.ada_events.specs.Phases.{is_terminated}
 use Rattle.ada_events.specs.Lawful.{IsLawful}
-use Rattle.ada_tables.specs.Dependents.{holds}
+use Rattle.ada_tables.specs.Dependents.{holds, cut}
 use Rattle.ada_tables.specs.Tables.{State}
 use Rattle.ada_tables.specs.Standing.{StandFor}
+use Rattle.ada_records.specs.Changes.{is_apart_from}
 use Rattle.ada_counts.specs.Facing.{HoldFacts, HoldQueues}
 
 -- the block was opened within the master
@@ -67,3 +68,9 @@ abbrev pub HeldTablesStand : Type 0
 HeldTablesStand =
     (tables : State) (journal : List Event) → IsLawful journal
     → HoldFacts tables.tasks journal → HoldQueues tables journal → StandFor tables journal
+
+-- to take the rendezvous with a call out of a nest is to keep all else
+abbrev pub CutsKeepTheRest : Type 0
+CutsKeepTheRest =
+    (journal : List Event) (task call : ℕ) → IsLawful journal
+    → filter (is_apart_from call) (nest journal task) ≡ cut call (nest journal task)

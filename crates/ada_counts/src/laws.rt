@@ -1,6 +1,6 @@
 //! Laws of nests and of tables that stand for a journal.
 
-ghost use Rattle.ada_counts.specs.Holders.{BlocksNestProperly, OneHolderEach, ALeftBlockHasNoLiveDependent, MastersAreHeld, HeldTablesStand};
+ghost use Rattle.ada_counts.specs.Holders.{BlocksNestProperly, OneHolderEach, ALeftBlockHasNoLiveDependent, MastersAreHeld, HeldTablesStand, CutsKeepTheRest};
 
 /// Each block that a task is within was opened within the block before it, the first within the task's body
 /// (9.4).
@@ -33,4 +33,10 @@ pub fn masters_are_held()
 #[tactic(auto, using(crate::proofs::Standing::held_tables_stand))]
 pub fn held_tables_stand()
     ensures { HeldTablesStand }
+{}
+
+/// The rendezvous with a call stands in a nest once, so that the tables, which take out the first that they find,
+/// leave there what the journal says once the call is released (9.5).
+pub fn cuts_keep_the_rest()
+    ensures { CutsKeepTheRest }
 {}

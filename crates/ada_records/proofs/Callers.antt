@@ -1,6 +1,6 @@
 -- Whom an event ends while a call of that task is open: only whom it completes, and only while no rendezvous has begun
 -- with the call.
-use Rattle.std.proofs.Common.{◌≡◌, ℕ, ◌<◌, Bool, true, false, not, ◌&&◌, ◌||◌, eqb, Some, None, List, [], ◌∷◌, sym, refl, ap, ◌∙◌, subst, arith, inl, inr}
+use Rattle.std.proofs.Common.{◌≡◌, ℕ, ◌<◌, true, false, not, ◌&&◌, ◌||◌, eqb, Some, None, List, [], ◌∷◌, sym, refl, ap, ◌∙◌, subst, arith, inl, inr}
 use Rattle.std.specs.Option.{option_map_or}
 use Rattle.std.proofs.lemmas.Bool.{and_parts, and_from, or_cases, not-true, eq-eqb, eqb-true, false_from_ne_true, true≢false}
 use Rattle.std.proofs.lemmas.Option.{same_Some, none-some}
@@ -13,11 +13,10 @@ use Rattle.ada_events.specs.Search.{is_number, is_some_and, event_at, all_below}
 use Rattle.ada_events.specs.Says.{Call, Wait, call_in, wait_in, held_in, completed_in, gone_in, quit_in}
 use Rattle.ada_events.specs.Tasks.{task_count}
 use Rattle.ada_events.specs.Masters.{depends_on}
-use Rattle.ada_events.specs.Phases.{is_completed, is_terminated, has_ended, is_abnormal, is_released, is_started, has_start}
+use Rattle.ada_events.specs.Phases.{is_completed, is_terminated, has_ended, is_abnormal, is_released, is_started}
 use Rattle.ada_events.specs.Calls.{is_open_at, is_met, is_joined_at, is_caller_in_rendezvous}
 use Rattle.ada_events.specs.Termination.{all_terminated, is_complete, is_abandoned, is_open_terminate, is_at_open_terminate, has_empty_queues, is_ready_to_quit}
 use Rattle.ada_events.specs.Asks.{asker, asked_event}
-use Rattle.ada_events.specs.Refusals.{refusal}
 use Rattle.ada_events.specs.Forced.{is_to_halt, is_to_go, is_to_quit, task_no}
 use Rattle.ada_events.specs.Lawful.{IsLawful, MayFollow}
 use Rattle.ada_laws.specs.Calls.{IsWaitAt, IsOpenCallAt}

@@ -11,3 +11,4 @@ pub mod Within
 pub mod Callers
 pub mod LeftBlocks
 pub mod NestKinds
+pub mod Distinct

@@ -1,8 +1,8 @@
 -- What each kind of event changes in what a task is within.
-use Rattle.std.proofs.Common.{◌≡◌, ◌≢◌, ℕ, suc, ◌-◌, ◌≤◌, Bool, true, false, cond, not, ◌&&◌, ◌||◌, eqb, Option, Some, None, List, [], ◌∷◌, ◌++◌, length, sym, refl, ap, ◌∙◌, subst, arith, inl, inr, append-nil}
+use Rattle.std.proofs.Common.{◌≡◌, ℕ, suc, ◌-◌, ◌≤◌, Bool, true, false, not, ◌&&◌, eqb, Option, Some, None, List, [], ◌∷◌, ◌++◌, length, sym, refl, ap, ◌∙◌, subst, arith, inl, inr, append-nil}
 use Rattle.std.specs.Option.{option_map_or, option_or, option_to_list}
 use Rattle.std.specs.Bool.{then_some}
-use Rattle.std.specs.List.{filter, Contains, slice_get, list_any}
+use Rattle.std.specs.List.{filter, Contains, list_any}
 use Rattle.std.proofs.lemmas.Bool.{and_parts, and_from, or_left, cases_eq, ne_eqb, eq-eqb, eqb-true, not-true, not_from_false, false_from_ne_true, true≢false}
 use Rattle.std.proofs.lemmas.Option.{none-some, same_Some, slice_get_within, get_or_from_slice_get}
 use Rattle.ada_events.specs.declared.event.Event.{Event}
@@ -12,20 +12,20 @@ use Rattle.ada_events.specs.declared.request.Request.TheVariants as request
 use Rattle.ada_events.specs.declared.names.TaskNo.{TaskNo}
 use Rattle.ada_events.specs.declared.names.Member.{Member}
 use Rattle.ada_events.specs.declared.names.Member.TheVariants.{Block, Rendezvous}
-use Rattle.ada_events.specs.Search.{is_number, any_event, event_at, gathered, is_some_and}
-use Rattle.ada_events.specs.Says.{Call, Opening, Meeting, Closing, Wait, call_in, wait_in, opening_in, meeting_in, closing_in, left_in, released_in}
-use Rattle.ada_events.specs.Phases.{is_released, has_ended}
+use Rattle.ada_events.specs.Search.{is_number, event_at, gathered, is_some_and}
+use Rattle.ada_events.specs.Says.{Call, Opening, Meeting, Closing, call_in, opening_in, meeting_in, closing_in, left_in, released_in}
+use Rattle.ada_events.specs.Phases.{is_released}
 use Rattle.ada_events.specs.Calls.{is_open_at, is_open_call, is_met}
 use Rattle.ada_events.specs.Nests.{is_left, is_left_close, is_wait_of, member_at, nest, innermost}
 use Rattle.ada_events.specs.Asks.{asked_event, member_position}
 use Rattle.ada_events.specs.Refusals.{refusal, has_no_block, is_rendezvous}
-use Rattle.ada_events.specs.Lawful.{IsLawful, MayFollow}
+use Rattle.ada_events.specs.Lawful.{IsLawful}
 use Rattle.ada_laws.specs.Calls.{IsOpenCallAt}
-use Rattle.ada_laws.proofs.Searching.{event_at-older, event_at-newest, event_at-other, event_at-within, event_at-cases, any_event-found, any_event-from, option_or-some, then_some-some, option_map_or-true, is_number-some, is_number-from}
+use Rattle.ada_laws.proofs.Searching.{event_at-older, event_at-other, event_at-within, event_at-cases, any_event-found, any_event-from, option_or-some, then_some-some, option_map_or-true, is_number-some, is_number-from}
 use Rattle.ada_laws.proofs.Gathering.{gathered-found, Contains-first, Contains-later}
 use Rattle.ada_laws.proofs.Growing.{is_released-before, has_ended-before}
 use Rattle.ada_laws.proofs.Accepting.{is_accepted}
-use Rattle.ada_laws.proofs.Framing.{IsBlockOf, nest_block}
+use Rattle.ada_laws.proofs.Framing.{nest_block}
 use Rattle.ada_laws.proofs.Meeting.{meeting_in-met, meeting_at, is_met-from}
 use Rattle.ada_laws.proofs.Queueing.{is_open_at-from, is_open_at-call}
 use Rattle.ada_laws.proofs.Saying.{held_in-closing}
@@ -35,7 +35,6 @@ use Rattle.ada_records.proofs.Callers.{joined_caller_stays}
 use Rattle.ada_records.proofs.LeftBlocks.{left_more, left_frees, left_cases}
 use Rattle.ada_records.proofs.Queues.{has_ended-more}
 use Rattle.ada_records.proofs.Unnesting.{kept, gathered-filtered}
-use Rattle.ada_records.proofs.Within.{nest_open, next_unreleased}
 
 -- the member stays in its nest
 abbrev stays : Event → List Event → Member → Bool

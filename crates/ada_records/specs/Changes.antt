@@ -1,5 +1,6 @@
 -- What one more event changes in the queue of an entry (9.5) and in what a task is within. Laws.
-use Rattle.std.specs.Prelude.{◌≡◌, ℕ, suc, Bool, true, not, ◌==◌, ◌&&◌, Some, None, List, ◌∷◌, ◌++◌, length, filter}
+use Rattle.std.specs.Prelude.{◌≡◌, ℕ, suc, Bool, true, not, ◌==◌, ◌&&◌, Some, None, List, [], ◌∷◌, ◌++◌, length, filter}
+use Rattle.std.specs.List.{Contains}
 use Rattle.std.specs.Option.{option_to_list}
 use Rattle.std.specs.Bool.{then_some}
 use Rattle.ada_events.specs.declared.event.Event.{Event}
@@ -92,3 +93,12 @@ OthersKeepNests =
     (event : Event) (before : List Event) (task : ℕ)
     → IsLawful (event ∷ before) → opening_in event ≡ None → meeting_in event ≡ None → released_in event ≡ None
     → nest (event ∷ before) task ≡ nest before task
+
+-- no element stands twice
+abbrev pub AreDistinct : {A : Type 0} → List A → Type 0
+AreDistinct [] = Unit {0}
+AreDistinct (x ∷ rest) = (Contains rest x → ⊥) × AreDistinct rest
+
+-- a task is within each block and each rendezvous once
+abbrev pub NestsAreDistinct : Type 0
+NestsAreDistinct = (journal : List Event) (task : ℕ) → IsLawful journal → AreDistinct (nest journal task)

@@ -1,6 +1,6 @@
 //! Laws of what one more event changes.
 
-ghost use Rattle.ada_records.specs.Changes.{CallsComeLast, ReleasedCallsLeave, MetCallsLeave, CompletedCallersLeave, RendezvousAreEntered, RendezvousAreLeft, BlocksAreEntered, BlocksAreLeft, OthersKeepNests};
+ghost use Rattle.ada_records.specs.Changes.{CallsComeLast, ReleasedCallsLeave, MetCallsLeave, CompletedCallersLeave, RendezvousAreEntered, RendezvousAreLeft, BlocksAreEntered, BlocksAreLeft, OthersKeepNests, NestsAreDistinct};
 
 /// A call comes last in the queue of its entry (9.5).
 #[tactic(auto, using(crate::proofs::QueueKinds::queue_called))]
@@ -51,4 +51,10 @@ pub fn blocks_are_left()
 #[tactic(auto, using(crate::proofs::NestKinds::others_keep_nests))]
 pub fn others_keep_nests()
     ensures { OthersKeepNests }
+{}
+
+/// A task is within each block and each rendezvous once.
+#[tactic(auto, using(crate::proofs::Distinct::nests_are_distinct))]
+pub fn nests_are_distinct()
+    ensures { NestsAreDistinct }
 {}
