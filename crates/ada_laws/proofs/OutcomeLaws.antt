@@ -28,7 +28,7 @@ use Rattle.ada_laws.proofs.Rows.IsRow.{halts}
 use Rattle.ada_laws.proofs.Stepping.{forced-step}
 
 -- what isn't released is held
-became-held : (journal : List Event) (position : ℕ) → is_released journal position ≡ false → became journal position ≡ Held
+pub became-held : (journal : List Event) (position : ℕ) → is_released journal position ≡ false → became journal position ≡ Held
 unfolding became is_released
 became-held [] position unreleased = refl
 became-held (event ∷ before) position unreleased =
@@ -36,7 +36,7 @@ became-held (event ∷ before) position unreleased =
     rw both.0 (became-held before position both.1)
 
 -- an event that holds a task up raises nothing
-raises_none : (e : Event) (task : ℕ) → held_in e ≡ Some task → raised_in e ≡ None
+pub raises_none : (e : Event) (task : ℕ) → held_in e ≡ Some task → raised_in e ≡ None
 unfolding held_in raised_in
 raises_none (event.Ended by call true) task holds = absurd (none-some task holds)
 raises_none _ task holds = refl

@@ -12,3 +12,4 @@ pub mod Callers
 pub mod LeftBlocks
 pub mod NestKinds
 pub mod Distinct
+pub mod LatestOutcomes

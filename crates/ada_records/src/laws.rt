@@ -1,6 +1,7 @@
 //! Laws of what one more event changes.
 
 ghost use Rattle.ada_records.specs.Changes.{CallsComeLast, ReleasedCallsLeave, MetCallsLeave, CompletedCallersLeave, RendezvousAreEntered, RendezvousAreLeft, BlocksAreEntered, BlocksAreLeft, OthersKeepNests, NestsAreDistinct};
+ghost use Rattle.ada_records.specs.Latest.{WhatIsReleasedHeld, HoldsAreHeld, ReleasesDecide, RaisersHaveRaised, OthersKeepOutcomes};
 
 /// A call comes last in the queue of its entry (9.5).
 #[tactic(auto, using(crate::proofs::QueueKinds::queue_called))]
@@ -57,4 +58,20 @@ pub fn others_keep_nests()
 #[tactic(auto, using(crate::proofs::Distinct::nests_are_distinct))]
 pub fn nests_are_distinct()
     ensures { NestsAreDistinct }
+{}
+
+/// Whatever an event releases, a task is suspended at it.
+#[tactic(auto, using(crate::proofs::LatestOutcomes::what_is_released_held))]
+pub fn what_is_released_held()
+    ensures { WhatIsReleasedHeld }
+{}
+
+/// What became of a task's latest doing: who is held up is held, until the event that releases it says what became of
+/// it; who ends a rendezvous by an exception has it raised (11.5). Nothing new becomes of other tasks.
+#[tactic(auto, using(crate::proofs::LatestOutcomes::holds_are_held, crate::proofs::LatestOutcomes::raisers_have_raised))]
+pub fn outcomes_are_the_latest()
+    ensures held { HoldsAreHeld }
+    ensures released { ReleasesDecide }
+    ensures raised { RaisersHaveRaised }
+    ensures others { OthersKeepOutcomes }
 {}
