@@ -33,7 +33,7 @@ use Rattle.ada_laws.proofs.Rows.IsRow.{halts, quits}
 use Rattle.ada_laws.proofs.Depending.{is_started-more, depends_exists, started_named, created_positive}
 use Rattle.ada_laws.proofs.DependentLaws.{going, abandoned_parts}
 use Rattle.ada_records.proofs.Queues.{ends}
-use Rattle.ada_records.proofs.Recording.{not_both}
+use Rattle.ada_records.proofs.Saying.{not_both}
 
 -- who was ever held up was started
 pub held_started : (journal : List Event) (p task : ℕ) (e : Event) → IsLawful journal → event_at journal p ≡ Some e → held_in e ≡ Some task → is_started journal task ≡ true

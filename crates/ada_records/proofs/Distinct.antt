@@ -25,11 +25,13 @@ distinct_push {A = A} [] x distinct absent = (λ has. absurd (none has), tt)
   where
     none : Contains [] x → ⊥
     none (k, below, is) = omega (arith, below)
-distinct_push {A = A} (y ∷ ys) x distinct absent =
-    (λ has. elim (Contains-append_cases ys (x ∷ []) y has) [
-      | inl there ↦ distinct.0 there
-      | inr last ↦ absent (subst (λ (z : A). Contains (y ∷ ys) z) (sym (same_Some x y (Contains-one (Some x) y last))) (Contains-first y ys))
-    ], distinct_push ys x distinct.1 (λ has. absent (Contains-later y x ys has)))
+distinct_push {A = A} (y ∷ ys) x distinct absent = (
+  λ has. elim (Contains-append_cases ys (x ∷ []) y has) [
+    | inl there ↦ distinct.0 there
+    | inr last ↦ absent (subst (λ (z : A). Contains (y ∷ ys) z) (sym (same_Some x y (Contains-one (Some x) y last))) (Contains-first y ys))
+  ],
+  distinct_push ys x distinct.1 (λ has. absent (Contains-later y x ys has)),
+)
 
 -- what each position gives at most once is gathered once
 gathered_distinct : {A : Type 0} (give : ℕ → Event → Option A) (journal : List Event) → ((p q : ℕ) (e f : Event) (x : A) → event_at journal p ≡ Some e → event_at journal q ≡ Some f → give p e ≡ Some x → give q f ≡ Some x → p ≡ q) → AreDistinct (gathered give journal)

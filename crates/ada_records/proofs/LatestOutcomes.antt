@@ -1,12 +1,11 @@
 -- What becomes of a task's latest doing by one more event.
-use Rattle.std.proofs.Common.{◌≡◌, ℕ, suc, ◌-◌, Bool, true, false, cond, eqb, Option, Some, None, List, [], ◌∷◌, length, sym, refl, ap, ◌∙◌, subst, inl, inr}
-use Rattle.std.specs.Option.{unwrap_or, option_or, option_map_or}
-use Rattle.std.specs.List.{slice_get}
-use Rattle.std.proofs.lemmas.Bool.{not-false, false_from_ne_true, false≢true, true≢false, both_ways}
+use Rattle.std.proofs.Common.{◌≡◌, ℕ, suc, ◌-◌, Bool, true, false, cond, Option, Some, None, List, [], ◌∷◌, length, sym, refl, ap, ◌∙◌, subst, inl, inr}
+use Rattle.std.specs.Option.{unwrap_or}
+use Rattle.std.proofs.lemmas.Bool.{not-false, false_from_ne_true, false≢true, both_ways}
 use Rattle.std.proofs.lemmas.Option.{none-some, same_Some, slice_get_within, get_or_from_slice_get}
 use Rattle.ada_events.specs.declared.event.Event.{Event}
 use Rattle.ada_events.specs.declared.outcome.Outcome.{Outcome}
-use Rattle.ada_events.specs.declared.outcome.Outcome.TheVariants.{Held, Raised, Nothing}
+use Rattle.ada_events.specs.declared.outcome.Outcome.TheVariants.{Raised, Nothing}
 use Rattle.ada_events.specs.declared.request.Request.{Request}
 use Rattle.ada_events.specs.declared.request.Request.TheVariants as request
 use Rattle.ada_events.specs.declared.names.Member.{Member}
@@ -27,9 +26,9 @@ use Rattle.ada_laws.proofs.Stepping.{Progress, forced-step}
 use Rattle.ada_laws.proofs.Stepping.Progress.{completes, releases, terminates}
 use Rattle.ada_laws.proofs.Queueing.{is_open_at-call, open_call_suspends}
 use Rattle.ada_laws.proofs.OutcomeLaws.{became-held, raises_none, unraised, unheld, suspended_given}
-use Rattle.ada_records.specs.Latest.{latest_outcome, WhatIsReleasedHeld, HoldsAreHeld, ReleasesDecide, RaisersHaveRaised, OthersKeepOutcomes}
+use Rattle.ada_records.specs.Latest.{WhatIsReleasedHeld, HoldsAreHeld, ReleasesDecide, RaisersHaveRaised, OthersKeepOutcomes}
 use Rattle.ada_records.proofs.Calling.{same_terminated}
-use Rattle.ada_records.proofs.Recording.{release_only}
+use Rattle.ada_records.proofs.Saying.{release_only}
 use Rattle.ada_records.proofs.Within.{nest_open, next_unreleased}
 
 -- a forced step releases what a task is suspended at

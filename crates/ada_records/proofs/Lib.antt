@@ -3,7 +3,7 @@ pub mod Holding
 pub mod Nesting
 pub mod QueueKinds
 pub mod Queues
-pub mod Recording
+pub mod Saying
 pub mod Releasing
 pub mod Sweeping
 pub mod Unnesting
@@ -13,3 +13,10 @@ pub mod LeftBlocks
 pub mod NestKinds
 pub mod Distinct
 pub mod LatestOutcomes
+pub mod Doings
+pub mod Noting
+pub mod Stages
+pub mod Existing
+pub mod TaskEnds
+pub mod Starting
+pub mod Unmade
