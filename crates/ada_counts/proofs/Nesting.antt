@@ -23,7 +23,7 @@ use Rattle.ada_events.specs.Nests.{is_left_close, is_left, is_wait_of, member_at
 use Rattle.ada_events.specs.Asks.{asked_event, member_position}
 use Rattle.ada_events.specs.Refusals.{refusal, has_no_block, is_rendezvous}
 use Rattle.ada_laws.proofs.Accepting.{is_accepted, running_free}
-use Rattle.ada_laws.proofs.Stepping.{forced-step}
+use Rattle.ada_laws.proofs.Stepping.{forced-step, pending_parts}
 use Rattle.ada_laws.proofs.Saying.{held_in-closing}
 use Rattle.ada_laws.proofs.Gathering.{gathered-found}
 use Rattle.ada_laws.proofs.Framing.{IsBlockOf}
@@ -39,7 +39,7 @@ use Rattle.ada_events.specs.Lawful.{IsLawful, MayFollow}
 use Rattle.ada_laws.proofs.Searching.{event_at-older, event_at-newest, event_at-within, event_at-cases, any_event-found, any_event-from, is_number-some, is_number-from, then_some-some, option_or-some, option_map_or-true}
 use Rattle.ada_records.proofs.Unnesting.{gathered-filtered}
 use Rattle.ada_records.proofs.Nesting.{gathered-agree}
-use Rattle.ada_records.proofs.Within.{next_unreleased}
+use Rattle.ada_records.proofs.LeftBlocks.{left_more, unleft_before, Leaves, left_cases}
 
 -- the member is a block
 abbrev pub is_block_member : Member → Bool
@@ -124,62 +124,6 @@ unfolding frame
 frame_of_blocks journal task =
     sym (innermost_filtered (Body (record { 0 = task })) (nest journal task))
     ∙ ap (innermost_block (Body (record { 0 = task }))) (sym (blocks_of_nest journal task))
-
--- a block that is left stays left
-left_more : (event : Event) (before : List Event) (p : ℕ) → is_left before p ≡ true → is_left (event ∷ before) p ≡ true
-unfolding is_left is_left_close
-left_more event before p left =
-    let (q, e, at, passes) = any_event-found (λ q e. is_some_and (closing_in e) (λ (c : Closing). eqb c.block p) && is_left_close before q) before left in
-    let both = and_parts (is_some_and (closing_in e) (λ (c : Closing). eqb c.block p)) (is_left_close before q) passes in
-    any_event-from (λ q e. is_some_and (closing_in e) (λ (c : Closing). eqb c.block p) && is_left_close (event ∷ before) q) (event ∷ before) q e (event_at-older event before q e at)
-    (and_from (is_some_and (closing_in e) (λ (c : Closing). eqb c.block p)) (is_left_close (event ∷ before) q) both.0 (or_right (is_number q (left_in event)) (is_left_close before q) both.1))
-
-pub unleft_before : (event : Event) (before : List Event) (p : ℕ) → is_left (event ∷ before) p ≡ false → is_left before p ≡ false
-unleft_before event before p unleft =
-    false_from_ne_true (is_left before p) (λ left. true≢false (sym (left_more event before p left) ∙ unleft))
-
-left_frees : (e : Event) (c : ℕ) → left_in e ≡ Some c → released_in e ≡ Some c
-unfolding left_in released_in
-left_frees (event.Left close) c says = says
-left_frees _ c says = absurd (none-some c says)
-
--- a close that was followed by leaving is released
-close_released : (journal : List Event) (c : ℕ) → is_left_close journal c ≡ true → is_released journal c ≡ true
-unfolding is_left_close is_released
-close_released [] c left = absurd (false≢true left)
-close_released (e ∷ before) c left =
-    elim (or_cases (is_number c (left_in e)) (is_left_close before c) left) [
-      | inl now ↦ or_left (is_number c (released_in e)) (is_released before c) (is_number-from c (released_in e) (left_frees e c (is_number-some c (left_in e) now)))
-      | inr was ↦ or_right (is_number c (released_in e)) (is_released before c) (close_released before c was)
-    ]
-
--- the event leaves the block
-record Leaves (event : Event) (before : List Event) (p : ℕ) : Type 0 where
-  at : ℕ
-  closed : Event
-  closing : Closing
-  leaves : left_in event ≡ Some at
-  stands : event_at before at ≡ Some closed
-  says : closing_in closed ≡ Some closing
-  block : closing.block ≡ p
-
-left_cases : (event : Event) (before : List Event) (p : ℕ) → IsLawful (event ∷ before) → is_left (event ∷ before) p ≡ true → Leaves event before p ⊎ (is_left before p ≡ true)
-unfolding is_left is_left_close
-left_cases event before p lawful left =
-    let (q, e, at, passes) = any_event-found (λ q e. is_some_and (closing_in e) (λ (c : Closing). eqb c.block p) && is_left_close (event ∷ before) q) (event ∷ before) left in
-    let both = and_parts (is_some_and (closing_in e) (λ (c : Closing). eqb c.block p)) (is_left_close (event ∷ before) q) passes in
-    let (k, says, closes) = option_map_or-true (λ (c : Closing). eqb c.block p) (closing_in e) both.0 in
-    let block = eqb-true k.block p closes in
-    elim (event_at-cases event before q e at) [
-      | inl newest ↦
-          let freed : is_released (event ∷ before) (suc (length before)) ≡ true = close_released (event ∷ before) (suc (length before)) (subst (λ (n : ℕ). is_left_close (event ∷ before) n ≡ true) newest.0 both.1) in
-          absurd (true≢false (sym freed ∙ next_unreleased event before lawful))
-      | inr older ↦
-          elim (or_cases (is_number q (left_in event)) (is_left_close before q) both.1) [
-            | inl now ↦ inl (record { at = q; closed = e; closing = k; leaves = is_number-some q (left_in event) now; stands = older; says = says; block = block })
-            | inr was ↦ inr (any_event-from (λ q e. is_some_and (closing_in e) (λ (c : Closing). eqb c.block p) && is_left_close before q) before q e older (and_from (is_some_and (closing_in e) (λ (c : Closing). eqb c.block p)) (is_left_close before q) both.0 was))
-          ]
-    ]
 
 -- what is known of a block of a nest
 pub member_parts : (journal : List Event) (task p q : ℕ) (e : Event) → block_at journal task p e ≡ Some (Block q) → (o : Opening) × (opening_in e ≡ Some o) × (o.by ≡ task) × (is_left journal p ≡ false) × (p ≡ q)
@@ -380,15 +324,13 @@ pending_innermost (newest ∷ before) c e k lawful at says unreleased live =
           was
     ]
 
-row_leaving : (journal : List Event) (event : Event) (c : ℕ) (e : Event) (k : Closing) → IsRow journal event → left_in event ≡ Some c → event_at journal c ≡ Some e → closing_in e ≡ Some k → (is_released journal c ≡ false) × (has_ended journal k.by ≡ false)
-unfolding left_in is_to_leave is_pending
+row_leaving : (journal : List Event) (event : Event) (c : ℕ) (e : Event) (k : Closing) → IsRow journal event → left_in event ≡ Some c → event_at journal c ≡ Some e → closing_in e ≡ Some k → is_to_leave journal c k ≡ true
+unfolding left_in
 row_leaving journal event c e k (leaves p f closing at closes leave) says stands closed =
     let place : p ≡ c = same_Some p c says in
     let one : f ≡ e = same_Some f e (sym at ∙ ap (event_at journal) place ∙ stands) in
     let same : closing ≡ k = same_Some closing k (sym closes ∙ ap closing_in one ∙ closed) in
-    let pending = and_parts (not (is_released journal p) && not (has_ended journal closing.by)) (all_terminated journal (BlockMaster closing.block)) leave in
-    let both = and_parts (not (is_released journal p)) (not (has_ended journal closing.by)) pending.0 in
-    (subst (λ (n : ℕ). is_released journal n ≡ false) place (not-true (is_released journal p) both.0), subst (λ (x : Closing). has_ended journal x.by ≡ false) same (not-true (has_ended journal closing.by) both.1))
+    subst (λ (n : ℕ). is_to_leave journal n k ≡ true) place (subst (λ (x : Closing). is_to_leave journal p x ≡ true) same leave)
 row_leaving journal event c e k _ says stands closed = absurd (none-some c says)
 
 left_in-asked : (journal : List Event) (r : Request) → left_in (asked_event journal r) ≡ None
@@ -396,14 +338,17 @@ unfolding left_in asked_event
 left_in-asked journal (request.Open by) = refl
 left_in-asked journal _ = refl
 
+-- a block is left where its close is pending and all of its dependents are terminated
+pub leaves_ready : (event : Event) (before : List Event) (p : ℕ) → MayFollow before event → (gone : Leaves event before p) → is_to_leave before gone.at gone.closing ≡ true
+leaves_ready event before p (inl forces) gone = row_leaving before event gone.at gone.closed gone.closing (forced-row before event forces) gone.leaves gone.stands gone.says
+leaves_ready event before p (inr asked) gone = absurd (none-some gone.at (sym (ap left_in asked.becomes ∙ left_in-asked before asked.request) ∙ gone.leaves))
+
 leaving : (event : Event) (before : List Event) (p : ℕ) → IsLawful (event ∷ before) → Leaves event before p → (t : ℕ) × IsInnermost before t p
+unfolding is_to_leave
 leaving event before p lawful gone =
-    let free = by_way lawful.1 in
+    let pending = and_parts (is_pending before gone.at gone.closing.by) (all_terminated before (BlockMaster gone.closing.block)) (leaves_ready event before p lawful.1 gone) in
+    let free = pending_parts before gone.at gone.closing.by pending.0 in
     (gone.closing.by, subst (λ (b : ℕ). IsInnermost before gone.closing.by b) gone.block (pending_innermost before gone.at gone.closed gone.closing lawful.0 gone.stands gone.says free.0 free.1))
-  where
-    by_way : MayFollow before event → (is_released before gone.at ≡ false) × (has_ended before gone.closing.by ≡ false)
-    by_way (inl forces) = row_leaving before event gone.at gone.closed gone.closing (forced-row before event forces) gone.leaves gone.stands gone.says
-    by_way (inr asked) = absurd (none-some gone.at (sym (ap left_in asked.becomes ∙ left_in-asked before asked.request) ∙ gone.leaves))
 
 leaves_last : (event : Event) (before : List Event) (task : ℕ) → IsLawful (event ∷ before) → IsLast event before task before
 leaves_last event before task lawful p q e f at_p at_q was_p was_q left less =

@@ -9,7 +9,7 @@ use Rattle.ada_tables.specs.Standing.{StandFor}
 use Rattle.ada_counts.specs.Facing.{HoldFacts, HoldQueues, SameDependents}
 use Rattle.ada_counts.proofs.Phases.{live_alike, unready_alike}
 use Rattle.ada_counts.proofs.Empty.{empty_alike}
-use Rattle.ada_counts.specs.Holders.{AreHeld}
+use Rattle.ada_counts.specs.Holders.{HeldTablesStand}
 use Rattle.ada_counts.proofs.Walking.{same_dependents}
 
 -- the counts follow from the facts, the queues and dependence
@@ -22,7 +22,7 @@ stand_by_dependence tables journal lawful hold queues same = record {
   unready = λ master stands. unready_alike tables journal master hold (empty_alike tables journal lawful hold queues) (same master stands);
 }
 
--- all the counts follow where what live tasks were made under is held by live tasks
-pub stand_held : (tables : State) (journal : List Event) → IsLawful journal → HoldFacts tables.tasks journal → HoldQueues tables journal → AreHeld journal → StandFor tables journal
-stand_held tables journal lawful hold queues held =
-    stand_by_dependence tables journal lawful hold queues (λ master stands. same_dependents tables.tasks journal lawful hold held master)
+-- and dependence is the same in a lawful journal
+pub held_tables_stand : HeldTablesStand
+held_tables_stand tables journal lawful hold queues =
+    stand_by_dependence tables journal lawful hold queues (λ master stands. same_dependents tables.tasks journal lawful hold master)

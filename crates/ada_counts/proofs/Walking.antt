@@ -1,5 +1,5 @@
 -- Of a live task the tables find the same dependence as the journal, where the way outwards goes by holders.
-use Rattle.ada_counts.specs.Holders.{IsHeld, AreHeld}
+use Rattle.ada_counts.specs.Holders.{IsHeld}
 use Rattle.ada_laws.proofs.Parents.{tasks_depend_by_parents}
 use Rattle.std.proofs.Common.{◌≡◌, ℕ, zero, suc, ◌<◌, Bool, true, false, ◌||◌, Option, Some, None, List, refl, sym, ap, ◌∙◌, subst, arith, inl, inr}
 use Rattle.std.specs.Option.{option_map, option_map_or}
@@ -15,8 +15,9 @@ use Rattle.ada_events.specs.Lawful.{IsLawful}
 use Rattle.ada_tables.specs.Dependents.{Facts, holds, encloses, reaches}
 use Rattle.ada_counts.specs.Facing.{HoldFacts, SameDependents}
 use Rattle.ada_counts.proofs.Enclosing.{reaches_held}
+use Rattle.ada_counts.proofs.LiveHolders.{masters_are_held}
 
-module _ (tasks : List Facts) (journal : List Event) (lawful : IsLawful journal) (hold : HoldFacts tasks journal) (held : AreHeld journal) where
+module _ (tasks : List Facts) (journal : List Event) (lawful : IsLawful journal) (hold : HoldFacts tasks journal) where
   none_reached : (n : ℕ) (y : Master) → reaches tasks n None y ≡ false
   unfolding reaches
   none_reached zero y = refl
@@ -24,7 +25,7 @@ module _ (tasks : List Facts) (journal : List Event) (lawful : IsLawful journal)
 
   mutual_step : (n t : ℕ) (y : Master) (o : Option Creation) → creation_of journal t ≡ o → is_terminated journal t ≡ false → ((x : Master) → IsHeld journal t x → reaches tasks t (Some x) y ≡ reaches_by journal x y) → reaches tasks t (option_map (λ (c : Creation). c.master) o) y ≡ option_map_or (λ (z : Master). reaches_by journal z y) (option_map (λ (c : Creation). c.master) o) false
   mutual_step n t y None says live walk = none_reached t y
-  mutual_step n t y (Some c) says live walk = walk c.master (held t c says live)
+  mutual_step n t y (Some c) says live walk = walk c.master (masters_are_held journal t c lawful says live)
 
   -- where a task depends, if the ways do the same
   by_master : (t : ℕ) (y : Master) → is_terminated journal t ≡ false → ((x : Master) → IsHeld journal t x → reaches tasks t (Some x) y ≡ reaches_by journal x y) → reaches tasks t (option_map (λ (c : Creation). c.master) (creation_of journal t)) y ≡ depends_by journal t y

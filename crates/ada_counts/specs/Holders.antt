@@ -1,6 +1,6 @@
 -- Who holds a master, and how blocks nest; and that tables which hold what a journal says of each task and each
 -- queue stand for it. Laws.
-use Rattle.std.specs.Prelude.{◌≡◌, ℕ, ◌<◌, true, false, Some, List, [], ◌∷◌}
+use Rattle.std.specs.Prelude.{◌≡◌, ℕ, ◌<◌, true, false, Some, List, [], ◌∷◌, filter}
 use Rattle.ada_events.specs.declared.event.Event.{Event}
 use Rattle.ada_events.specs.declared.names.Master.{Master}
 use Rattle.ada_events.specs.declared.names.Master.TheVariants.{Body, Block as BlockMaster}
@@ -9,12 +9,14 @@ use Rattle.ada_events.specs.declared.names.Member.TheVariants.{Block, Rendezvous
 use Rattle.ada_events.specs.Search.{event_at}
 use Rattle.ada_events.specs.Says.{Opening, Creation, opening_in}
 use Rattle.ada_events.specs.Tasks.{creation_of}
-use Rattle.ada_events.specs.Nests.{nest}
+use Rattle.ada_events.specs.Masters.{depends_on}
+use Rattle.ada_events.specs.Nests.{is_left, nest}
 use Rattle.ada_events.specs.Phases.{is_terminated}
 use Rattle.ada_events.specs.Lawful.{IsLawful}
-use Rattle.ada_tables.specs.Dependents.{holds}
+use Rattle.ada_tables.specs.Dependents.{holds, cut}
 use Rattle.ada_tables.specs.Tables.{State}
 use Rattle.ada_tables.specs.Standing.{StandFor}
+use Rattle.ada_records.specs.Changes.{is_apart_from}
 use Rattle.ada_counts.specs.Facing.{HoldFacts, HoldQueues}
 
 -- the block was opened within the master
@@ -48,12 +50,27 @@ pub record IsHeld (journal : List Event) (task : ℕ) (x : Master) : Type 0 wher
   pub live : is_terminated journal holder ≡ false
   pub alone : (other : ℕ) → holds other (nest journal other) x ≡ true → other ≡ holder
 
--- what a live task was made under is held so
-abbrev pub AreHeld : List Event → Type 0
-AreHeld journal = (task : ℕ) (c : Creation) → creation_of journal task ≡ Some c → is_terminated journal task ≡ false → IsHeld journal task c.master
+-- in a lawful journal what a live task was made under is held so
+abbrev pub MastersAreHeld : Type 0
+MastersAreHeld =
+    (journal : List Event) (task : ℕ) (c : Creation) → IsLawful journal → creation_of journal task ≡ Some c
+    → is_terminated journal task ≡ false → IsHeld journal task c.master
 
--- all counts of dependents follow where what live tasks were made under is held by live tasks
+-- all that depend on a block that was left are terminated
+abbrev pub ALeftBlockHasNoLiveDependent : Type 0
+ALeftBlockHasNoLiveDependent =
+    (journal : List Event) (block dependent : ℕ) → IsLawful journal → is_left journal block ≡ true
+    → depends_on journal dependent (BlockMaster block) ≡ true → is_terminated journal dependent ≡ true
+
+-- tables that hold what a lawful journal says of each task and each queue stand for it: all counts of dependents
+-- follow
 abbrev pub HeldTablesStand : Type 0
 HeldTablesStand =
     (tables : State) (journal : List Event) → IsLawful journal
-    → HoldFacts tables.tasks journal → HoldQueues tables journal → AreHeld journal → StandFor tables journal
+    → HoldFacts tables.tasks journal → HoldQueues tables journal → StandFor tables journal
+
+-- to take the rendezvous with a call out of a nest is to keep all else
+abbrev pub CutsKeepTheRest : Type 0
+CutsKeepTheRest =
+    (journal : List Event) (task call : ℕ) → IsLawful journal
+    → filter (is_apart_from call) (nest journal task) ≡ cut call (nest journal task)

@@ -1,6 +1,6 @@
 //! Laws of nests and of tables that stand for a journal.
 
-ghost use Rattle.ada_counts.specs.Holders.{BlocksNestProperly, OneHolderEach, HeldTablesStand};
+ghost use Rattle.ada_counts.specs.Holders.{BlocksNestProperly, OneHolderEach, ALeftBlockHasNoLiveDependent, MastersAreHeld, HeldTablesStand, CutsKeepTheRest};
 
 /// Each block that a task is within was opened within the block before it, the first within the task's body
 /// (9.4).
@@ -15,9 +15,28 @@ pub fn one_holder_each()
     ensures { OneHolderEach }
 {}
 
-/// Tables that hold what a lawful journal says of each task and each queue stand for it, counts and all, where
-/// each live task was made under a master that a live task holds.
-#[tactic(auto, using(crate::proofs::Standing::stand_held))]
+/// No block that was left has a dependent that isn't terminated (9.4).
+#[tactic(auto, using(crate::proofs::LiveHolders::a_left_block_has_no_live_dependent))]
+pub fn a_left_block_has_no_live_dependent()
+    ensures { ALeftBlockHasNoLiveDependent }
+{}
+
+/// What a task that isn't terminated was made under is held by one task, which was made before it and isn't
+/// terminated either (9.4).
+#[tactic(auto, using(crate::proofs::LiveHolders::masters_are_held))]
+pub fn masters_are_held()
+    ensures { MastersAreHeld }
+{}
+
+/// Tables that hold what a lawful journal says of each task and each queue stand for it, the counts of dependents
+/// included.
+#[tactic(auto, using(crate::proofs::Standing::held_tables_stand))]
 pub fn held_tables_stand()
     ensures { HeldTablesStand }
+{}
+
+/// The rendezvous with a call stands in a nest once, so that the tables, which take out the first that they find,
+/// leave there what the journal says once the call is released (9.5).
+pub fn cuts_keep_the_rest()
+    ensures { CutsKeepTheRest }
 {}

@@ -71,12 +71,12 @@ unfolding gone_in asked_event
 gone_in-asked journal (request.Open by) = refl
 gone_in-asked journal _ = refl
 
-going : (event : Event) (before : List Event) (task : ℕ) → MayFollow before event → gone_in event ≡ Some task → is_to_go before task ≡ true
+pub going : (event : Event) (before : List Event) (task : ℕ) → MayFollow before event → gone_in event ≡ Some task → is_to_go before task ≡ true
 going event before task (inl forces) says = row_going before event task (forced-row before event forces) says
 going event before task (inr asked) says =
     absurd (none-some task (sym (gone_in-asked before asked.request) ∙ (ap gone_in (sym asked.becomes) ∙ says)))
 
-abandoned_parts : (journal : List Event) (task : ℕ) → is_abandoned journal task ≡ true → (c : Creation) × (creation_of journal task ≡ Some c) × (has_start journal task ≡ false)
+pub abandoned_parts : (journal : List Event) (task : ℕ) → is_abandoned journal task ≡ true → (c : Creation) × (creation_of journal task ≡ Some c) × (has_start journal task ≡ false)
 unfolding is_abandoned
 abandoned_parts journal task abandoned =
     let both = and_parts (option_map_or (λ (c : Creation). is_complete journal c.under || is_terminated journal c.by) (creation_of journal task) false) (not (has_start journal task)) abandoned in
@@ -93,7 +93,7 @@ abandoned_alone journal u t lawful abandoned depends =
       | inr named ↦ true≢false (sym named ∙ never)
     ]
 
-all_terminated_at : (journal : List Event) (m : Master) (u : ℕ) → all_terminated journal m ≡ true → depends_on journal u m ≡ true → is_terminated journal u ≡ true
+pub all_terminated_at : (journal : List Event) (m : Master) (u : ℕ) → all_terminated journal m ≡ true → depends_on journal u m ≡ true → is_terminated journal u ≡ true
 unfolding all_terminated
 all_terminated_at journal m u all depends =
     let here = all_below-holds (λ u. not (depends_on journal u m) || is_terminated journal u) (task_count journal) u all (depends_exists journal u m depends) in

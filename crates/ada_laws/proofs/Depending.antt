@@ -193,7 +193,7 @@ maker_of_dependent event before u t lawful made =
       ],
     )
 
-is_started-more : (event : Event) (before : List Event) (task : ℕ) → is_started before task ≡ true → is_started (event ∷ before) task ≡ true
+pub is_started-more : (event : Event) (before : List Event) (task : ℕ) → is_started before task ≡ true → is_started (event ∷ before) task ≡ true
 unfolding is_started
 is_started-more event before task was = or_right (lists_task task (started_in event) && not (has_ended before task)) (is_started before task) was
 

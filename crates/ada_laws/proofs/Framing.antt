@@ -53,7 +53,7 @@ not_block test p (Some m) gives =
     let found = then_some-some (test m) (Rendezvous m.call) (Block p) gives in
     cc (found.1)
 
-nest_block : (journal : List Event) (task p : ℕ) → Contains (nest journal task) (Block p) → IsBlockOf journal task p
+pub nest_block : (journal : List Event) (task p : ℕ) → Contains (nest journal task) (Block p) → IsBlockOf journal task p
 unfolding nest member_at
 nest_block journal task p contains =
     let (q, e, at, gives) = gathered-found (member_at journal task) journal (Block p) contains in

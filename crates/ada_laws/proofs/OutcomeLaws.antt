@@ -28,7 +28,7 @@ use Rattle.ada_laws.proofs.Rows.IsRow.{halts}
 use Rattle.ada_laws.proofs.Stepping.{forced-step}
 
 -- what isn't released is held
-became-held : (journal : List Event) (position : ℕ) → is_released journal position ≡ false → became journal position ≡ Held
+pub became-held : (journal : List Event) (position : ℕ) → is_released journal position ≡ false → became journal position ≡ Held
 unfolding became is_released
 became-held [] position unreleased = refl
 became-held (event ∷ before) position unreleased =
@@ -36,24 +36,24 @@ became-held (event ∷ before) position unreleased =
     rw both.0 (became-held before position both.1)
 
 -- an event that holds a task up raises nothing
-raises_none : (e : Event) (task : ℕ) → held_in e ≡ Some task → raised_in e ≡ None
+pub raises_none : (e : Event) (task : ℕ) → held_in e ≡ Some task → raised_in e ≡ None
 unfolding held_in raised_in
 raises_none (event.Ended by call true) task holds = absurd (none-some task holds)
 raises_none _ task holds = refl
 
-row-raises_none : (journal : List Event) (e : Event) → IsRow journal e → raised_in e ≡ None
+pub row-raises_none : (journal : List Event) (e : Event) → IsRow journal e → raised_in e ≡ None
 unfolding raised_in
 row-raises_none journal e (halts u below halt) = refl
 row-raises_none journal e _ = refl
 
-raised_in-asked : (journal : List Event) (r : Request) (task : ℕ) → raised_in (asked_event journal r) ≡ Some task → asker r ≡ Some task
+pub raised_in-asked : (journal : List Event) (r : Request) (task : ℕ) → raised_in (asked_event journal r) ≡ Some task → asker r ≡ Some task
 unfolding raised_in asked_event asker
 raised_in-asked journal (request.End by true) task raises = raises
 raised_in-asked journal (request.End by false) task raises = absurd (none-some task raises)
 raised_in-asked journal _ task raises = absurd (none-some task raises)
 
 -- neither does a suspended task end a rendezvous by an exception, nor is it held up anew
-unraised : (e : Event) (before : List Event) (task position : ℕ) → IsLawful (e ∷ before) → IsSuspendedAt before task position → is_number task (raised_in e) ≡ false
+pub unraised : (e : Event) (before : List Event) (task position : ℕ) → IsLawful (e ∷ before) → IsSuspendedAt before task position → is_number task (raised_in e) ≡ false
 unraised e before task position lawful h =
     false_from_ne_true (is_number task (raised_in e)) (λ yes.
     let raises = is_number-some task (raised_in e) yes in
@@ -64,7 +64,7 @@ unraised e before task position lawful h =
           true≢false (sym (is_suspended-from before task position h) ∙ running_free before task runs)
     ])
 
-unheld : (e : Event) (before : List Event) (task position : ℕ) → IsLawful (e ∷ before) → IsSuspendedAt before task position → is_number task (held_in e) ≡ false
+pub unheld : (e : Event) (before : List Event) (task position : ℕ) → IsLawful (e ∷ before) → IsSuspendedAt before task position → is_number task (held_in e) ≡ false
 unheld e before task position lawful h =
     false_from_ne_true (is_number task (held_in e)) (λ yes.
     let holds = is_number-some task (held_in e) yes in
@@ -76,7 +76,7 @@ unheld e before task position lawful h =
     ])
 
 -- the latest doing of a suspended task is what it is suspended at
-suspended_given : (all journal : List Event) (task position : ℕ) → IsLawful journal → IsSuspendedAt journal task position → last_given (outcome_at all task) journal ≡ Some (became all position)
+pub suspended_given : (all journal : List Event) (task position : ℕ) → IsLawful journal → IsSuspendedAt journal task position → last_given (outcome_at all task) journal ≡ Some (became all position)
 unfolding last_given outcome_at event_at
 suspended_given all [] task position lawful h = absurd (none-some h.event h.stands)
 suspended_given all (e ∷ before) task position lawful h =

@@ -131,7 +131,7 @@ none_if true = refl
 none_if false = refl
 
 -- the master of a task is known
-master_known : (journal : List Event) (t : TaskNo) (c : Creation) → IsLawful journal → creation_of journal t.0 ≡ Some c → IsKnown journal c.master
+pub master_known : (journal : List Event) (t : TaskNo) (c : Creation) → IsLawful journal → creation_of journal t.0 ≡ Some c → IsKnown journal c.master
 unfolding creation_of
 master_known [] t c lawful says = absurd (none-some c says)
 master_known (event ∷ before) t c lawful says =

@@ -17,7 +17,7 @@ use Rattle.ada_laws.proofs.Searching.{event_at-older, event_at-newest, event_at-
 use Rattle.ada_laws.proofs.Meeting.{met_taking, taken_queued}
 use Rattle.ada_laws.proofs.Queueing.{is_open_at-from}
 use Rattle.ada_records.proofs.Holding.{IsQuiet, quiet_ended}
-use Rattle.ada_records.proofs.Recording.{release_only, not_both, met_says, met_frees}
+use Rattle.ada_records.proofs.Saying.{release_only, not_both, met_says, met_frees}
 
 -- searches that test or give the same at each event find the same
 pub any_event-agree : (f g : ℕ → Event → Bool) (journal : List Event) → ((p : ℕ) (e : Event) → event_at journal p ≡ Some e → f p e ≡ g p e) → any_event f journal ≡ any_event g journal

@@ -23,7 +23,7 @@ use Rattle.ada_laws.proofs.Stepping.{queued_open}
 use Rattle.ada_records.proofs.Queues.{queue_more, queued-more, newest_call, ends, ends_caller, filter_all}
 use Rattle.ada_records.proofs.Within.{next_unreleased}
 use Rattle.ada_records.proofs.Holding.{IsQuiet, hold_only, quiet_ends, quiet_ended, holder_ran}
-use Rattle.ada_records.proofs.Recording.{release_only, not_both, held_apart, met_says, met_frees, next_unmet}
+use Rattle.ada_records.proofs.Saying.{release_only, not_both, held_apart, met_says, met_frees, next_unmet}
 
 quiet_callers : (event : Event) (before : List Event) (o : Option Call) → IsQuiet event → ends_caller event before o ≡ false
 quiet_callers event before None quiet = refl

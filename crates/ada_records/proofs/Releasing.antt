@@ -18,7 +18,7 @@ use Rattle.ada_forcing.specs.Touching.{is_lost, is_idle, IsNewlyBelow, MayQuit, 
 use Rattle.ada_forcing.specs.Touching.Touches.{newest, task_made, aborts, frees, loses, calls, moves, elaborates, completes, abandons, ends_below, body_quits, block_quits, ends_within}
 use Rattle.ada_forcing.specs.Touching.MayQuit.{complete, idle, made}
 use Rattle.ada_records.proofs.Holding.{quiet_ended}
-use Rattle.ada_records.proofs.Recording.{OnlyReleases, release_only}
+use Rattle.ada_records.proofs.Saying.{OnlyReleases, release_only}
 use Rattle.ada_records.proofs.Calling.{SaysCall, same_abnormal, same_complete, same_abandoned, not_done, nothing_said, no_end}
 
 -- the keys that a release touches

@@ -9,51 +9,39 @@ use Rattle.ada_events.specs.declared.names.Master.{Master}
 use Rattle.ada_events.specs.Says.{held_in, released_in, completed_in, gone_in, quit_in, started_in, aborted_in, elaborated_in, failed_in, meeting_in, creation_in}
 use Rattle.ada_events.specs.Tasks.{task_count}
 use Rattle.ada_events.specs.Masters.{depends_on}
-use Rattle.ada_events.specs.Phases.{is_elaborated, has_failed, is_abnormal, is_terminated}
-use Rattle.ada_events.specs.Calls.{is_met}
-use Rattle.ada_events.specs.Phases.{has_start}
+use Rattle.ada_events.specs.Outcomes.{raised_in}
+use Rattle.ada_events.specs.Lawful.{IsLawful}
 use Rattle.ada_laws.proofs.Growing.{task_count-same}
 use Rattle.ada_records.specs.declared.record.Record.{Record}
-use Rattle.ada_records.specs.Records.{no_record, record_at, IsRecordOf, AreRecords, is_hit, quit_record, abort_record, AreUpTo}
-use Rattle.ada_records.proofs.Holding.{held_same, held_ended}
+use Rattle.ada_records.specs.Records.{no_record, record_at, IsStageOf, IsRecordOf, AreRecords, is_hit, quit_record, abort_record, AreUpTo}
+use Rattle.ada_records.proofs.Doings.{doing_same, doing_ended}
+use Rattle.ada_records.proofs.Noting.{untouched}
+use Rattle.ada_records.proofs.Stages.{stage_more}
 
 -- one record after all that depend on a master terminated together
-pub quit_record_of : (before : List Event) (m : Master) (task : ℕ) (was : Record) (depends : Bool) → depends_on before task m ≡ depends → IsRecordOf before task was → IsRecordOf (event.Quit m ∷ before) task (quit_record depends was)
-unfolding has_start is_elaborated has_failed is_abnormal is_terminated is_met held_in released_in completed_in gone_in quit_in started_in aborted_in elaborated_in failed_in meeting_in
-quit_record_of before m task was true says old = record {
-  at = held_ended (event.Quit m) before task says;
-  joined = λ some. absurd (omega arith);
-  named = old.named;
-  elaborated = old.elaborated;
-  failed = old.failed;
-  abnormal = old.abnormal;
-  terminated = rw says refl;
+pub quit_record_of : (before : List Event) (m : Master) (task : ℕ) (was : Record) (depends : Bool) → IsLawful (event.Quit m ∷ before) → depends_on before task m ≡ depends → IsRecordOf before task was → IsRecordOf (event.Quit m ∷ before) task (quit_record depends was)
+unfolding held_in released_in completed_in gone_in quit_in started_in aborted_in elaborated_in failed_in meeting_in raised_in
+quit_record_of before m task was true lawful says old = record {
+  doing = doing_ended (event.Quit m) before task was.doing lawful old.doing says;
+  stage = subst (IsStageOf (event.Quit m ∷ before) task) (rw says refl) (stage_more (event.Quit m) before task was.stage old.stage);
 }
-quit_record_of before m task was false says old = record {
-  at = held_same (event.Quit m) before task was.at old.at refl refl says;
-  joined = old.joined;
-  named = old.named;
-  elaborated = old.elaborated;
-  failed = old.failed;
-  abnormal = old.abnormal;
-  terminated = rw says old.terminated;
-}
+quit_record_of before m task was false lawful says old =
+    untouched (event.Quit m) before task was lawful old (record { holds = refl; raises = refl; frees = refl; meets = refl; ends = says }) (rw says refl)
 
-and_within : (a b c : Bool) → (a && b || c) ≡ (a && true && b || c)
+and_within : (a b c : Bool) → (a && true && b || c) ≡ (a && b || c)
 and_within true b c = refl
 and_within false b c = refl
 
 -- one record after an abort
-pub abort_record_of : (before : List Event) (by : TaskNo) (tasks : List TaskNo) (task : ℕ) (was : Record) → task < task_count before → IsRecordOf before task was → IsRecordOf (event.Aborted by tasks ∷ before) task (abort_record (is_hit before tasks task) was)
-unfolding has_start is_elaborated has_failed is_abnormal is_terminated is_met held_in released_in completed_in gone_in quit_in started_in aborted_in elaborated_in failed_in meeting_in
-abort_record_of before by tasks task was exists old = record {
-  at = held_same (event.Aborted by tasks) before task was.at old.at refl refl refl;
-  joined = old.joined;
-  named = old.named;
-  elaborated = old.elaborated;
-  failed = old.failed;
-  abnormal = rw (lt-ltb task (task_count before) exists, old.terminated, old.abnormal) (and_within (is_hit before tasks task) (not (is_terminated before task)) (is_abnormal before task));
-  terminated = old.terminated;
+pub abort_record_of : (before : List Event) (by : TaskNo) (tasks : List TaskNo) (task : ℕ) (was : Record) → IsLawful (event.Aborted by tasks ∷ before) → task < task_count before → IsRecordOf before task was → IsRecordOf (event.Aborted by tasks ∷ before) task (abort_record (is_hit before tasks task) was)
+unfolding held_in released_in completed_in gone_in quit_in started_in aborted_in elaborated_in failed_in meeting_in raised_in
+abort_record_of before by tasks task was lawful exists old = record {
+  doing = doing_same (event.Aborted by tasks) before task was.doing lawful old.doing refl refl refl refl refl;
+  stage =
+      subst (IsStageOf (event.Aborted by tasks ∷ before) task)
+      (rw (lt-ltb task (task_count before) exists)
+      (ap (λ (b : Bool). record was.stage { abnormal = b }) (and_within (is_hit before tasks task) (not was.stage.terminated) was.stage.abnormal)))
+      (stage_more (event.Aborted by tasks) before task was.stage old.stage);
 }
 
 -- one more record is brought up to date
@@ -79,17 +67,17 @@ up_to_all event before old new many all enough stand makes = record {
       all.done task (omega arith) exists;
 }
 
-pub quit_step : (e : Event) (before : List Event) (m : Master) (old new : List Record) (i : ℕ) (now : Record) (depends : Bool) → e ≡ event.Quit m → AreRecords old before → AreUpTo e before old new i → i < length old → depends ≡ depends_on before i m → now ≡ quit_record depends (record_at new i) → AreUpTo e before old (set new i now) (i + 1)
-quit_step e before m old new i now depends says stand so_far below tells is =
+pub quit_step : (e : Event) (before : List Event) (m : Master) (old new : List Record) (i : ℕ) (now : Record) (depends : Bool) → IsLawful (e ∷ before) → e ≡ event.Quit m → AreRecords old before → AreUpTo e before old new i → i < length old → depends ≡ depends_on before i m → now ≡ quit_record depends (record_at new i) → AreUpTo e before old (set new i now) (i + 1)
+quit_step e before m old new i now depends lawful says stand so_far below tells is =
     let same : now ≡ quit_record depends (record_at old i) = is ∙ ap (λ r. quit_record depends r) (so_far.rest i (omega arith)) in
     up_to_more e before old new i now so_far below
-    (rw (same, says) (quit_record_of before m i (record_at old i) depends (sym tells) (stand.each i below)))
+    (rw (same, says) (quit_record_of before m i (record_at old i) depends (subst (λ (x : Event). IsLawful (x ∷ before)) says lawful) (sym tells) (stand.each i below)))
 
-pub abort_step : (e : Event) (before : List Event) (by : TaskNo) (tasks : List TaskNo) (old new : List Record) (i : ℕ) (now : Record) (hit : Bool) → e ≡ event.Aborted by tasks → AreRecords old before → AreUpTo e before old new i → i < length old → hit ≡ is_hit before tasks i → now ≡ abort_record hit (record_at new i) → AreUpTo e before old (set new i now) (i + 1)
-abort_step e before by tasks old new i now hit says stand so_far below tells is =
+pub abort_step : (e : Event) (before : List Event) (by : TaskNo) (tasks : List TaskNo) (old new : List Record) (i : ℕ) (now : Record) (hit : Bool) → IsLawful (e ∷ before) → e ≡ event.Aborted by tasks → AreRecords old before → AreUpTo e before old new i → i < length old → hit ≡ is_hit before tasks i → now ≡ abort_record hit (record_at new i) → AreUpTo e before old (set new i now) (i + 1)
+abort_step e before by tasks old new i now hit lawful says stand so_far below tells is =
     let same : now ≡ abort_record (is_hit before tasks i) (record_at old i) = is ∙ ap (λ h. abort_record h (record_at new i)) tells ∙ ap (λ r. abort_record (is_hit before tasks i) r) (so_far.rest i (omega arith)) in
     up_to_more e before old new i now so_far below
-    (rw (same, says) (abort_record_of before by tasks i (record_at old i) (omega (arith, stand.many)) (stand.each i below)))
+    (rw (same, says) (abort_record_of before by tasks i (record_at old i) (subst (λ (x : Event). IsLawful (x ∷ before)) says lawful) (omega (arith, stand.many)) (stand.each i below)))
 
 pub quit_makes_none : (e : Event) (m : Master) → e ≡ event.Quit m → creation_in e ≡ None
 unfolding creation_in

@@ -16,12 +16,12 @@ use Rattle.ada_events.specs.Calls.{is_open_at, is_open_call, is_pending}
 use Rattle.ada_events.specs.Nests.{is_left, is_wait_of, member_at, nest}
 use Rattle.ada_laws.proofs.Searching.{event_at-older, event_at-newest, event_at-other}
 use Rattle.ada_records.proofs.Holding.{IsQuiet, quiet_ended}
-use Rattle.ada_records.proofs.Recording.{release_only}
+use Rattle.ada_records.proofs.Saying.{release_only}
 use Rattle.ada_records.proofs.Calling.{SaysCall}
 use Rattle.ada_records.proofs.Releasing.{says_release}
 use Rattle.ada_records.proofs.Nesting.{left_same, wait_same, no_open, nothing_beyond}
 
-abbrev kept : {A : Type 0} → (A → Bool) → Option A → Option A
+abbrev pub kept : {A : Type 0} → (A → Bool) → Option A → Option A
 kept keep None = None
 kept keep (Some x) = cond (keep x) (Some x) None
 

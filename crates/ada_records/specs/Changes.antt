@@ -1,14 +1,17 @@
 -- What one more event changes in the queue of an entry (9.5) and in what a task is within. Laws.
-use Rattle.std.specs.Prelude.{◌≡◌, ℕ, suc, Bool, true, not, ◌==◌, ◌&&◌, Some, None, List, ◌∷◌, ◌++◌, length, filter}
+use Rattle.std.specs.Prelude.{◌≡◌, ℕ, suc, Bool, true, not, ◌==◌, ◌&&◌, Some, None, List, [], ◌∷◌, ◌++◌, length, filter}
+use Rattle.std.specs.List.{Contains}
 use Rattle.std.specs.Option.{option_to_list}
 use Rattle.std.specs.Bool.{then_some}
 use Rattle.ada_events.specs.declared.event.Event.{Event}
-use Rattle.ada_events.specs.declared.event.Event.TheVariants.{Met}
+use Rattle.ada_events.specs.declared.event.Event.TheVariants.{Closed, Met}
+use Rattle.ada_events.specs.declared.names.TaskNo.{TaskNo}
 use Rattle.ada_events.specs.declared.names.Entry.{Entry}
 use Rattle.ada_events.specs.declared.names.Member.{Member}
 use Rattle.ada_events.specs.declared.names.Member.TheVariants.{Block, Rendezvous}
+use Rattle.ada_events.specs.Search.{event_at}
 use Rattle.ada_events.specs.Entries.{same_entry}
-use Rattle.ada_events.specs.Says.{Call, call_in, meeting_in, released_in, completed_in, left_in}
+use Rattle.ada_events.specs.Says.{Call, Opening, call_in, opening_in, meeting_in, released_in, completed_in, left_in}
 use Rattle.ada_events.specs.Calls.{queue}
 use Rattle.ada_events.specs.Nests.{is_wait_of, nest}
 use Rattle.ada_events.specs.Lawful.{IsLawful}
@@ -65,3 +68,37 @@ RendezvousAreLeft =
     (event : Event) (before : List Event) (task position : ℕ)
     → released_in event ≡ Some position → left_in event ≡ None → meeting_in event ≡ None
     → nest (event ∷ before) task ≡ filter (is_apart_from position) (nest before task)
+
+-- the member isn't the block that was opened at a position
+abbrev pub is_beside_block : ℕ → Member → Bool
+is_beside_block block (Block p) = not (p == block)
+is_beside_block block (Rendezvous call) = true
+
+-- a task that opens a block is within it
+abbrev pub BlocksAreEntered : Type 0
+BlocksAreEntered =
+    (event : Event) (before : List Event) (task : ℕ) (opening : Opening) → IsLawful (event ∷ before) → opening_in event ≡ Some opening
+    → nest (event ∷ before) task ≡ nest before task ++ option_to_list (then_some (opening.by == task) (Block (suc (length before))))
+
+-- a block that is left is in no nest any more
+abbrev pub BlocksAreLeft : Type 0
+BlocksAreLeft =
+    (event : Event) (before : List Event) (task close block : ℕ) (by : TaskNo)
+    → IsLawful (event ∷ before) → left_in event ≡ Some close → event_at before close ≡ Some (Closed by block)
+    → nest (event ∷ before) task ≡ filter (is_beside_block block) (nest before task)
+
+-- an event that opens no block, begins no rendezvous and releases nothing leaves each task within what it was in
+abbrev pub OthersKeepNests : Type 0
+OthersKeepNests =
+    (event : Event) (before : List Event) (task : ℕ)
+    → IsLawful (event ∷ before) → opening_in event ≡ None → meeting_in event ≡ None → released_in event ≡ None
+    → nest (event ∷ before) task ≡ nest before task
+
+-- no element stands twice
+abbrev pub AreDistinct : {A : Type 0} → List A → Type 0
+AreDistinct [] = Unit {0}
+AreDistinct (x ∷ rest) = (Contains rest x → ⊥) × AreDistinct rest
+
+-- a task is within each block and each rendezvous once
+abbrev pub NestsAreDistinct : Type 0
+NestsAreDistinct = (journal : List Event) (task : ℕ) → IsLawful journal → AreDistinct (nest journal task)

@@ -1,21 +1,45 @@
 -- Records that stand for a journal: each field is what the definitions give.
-use Rattle.std.specs.Prelude.{◌≡◌, ℕ, ◌<◌, ◌≤◌, Bool, true, false, not, ◌==◌, ◌||◌, ◌&&◌, ◌∷◌, Some, None, List, [], length, slice_index_or}
-use Rattle.ada_events.specs.declared.event.Event.{Event}
-use Rattle.ada_events.specs.declared.event.Event.TheVariants.{Met}
-use Rattle.ada_events.specs.Says.{held_in, started_in, released_in, meeting_in}
+use Rattle.std.specs.Prelude.{◌≡◌, ◌⊎◌, ℕ, ◌<◌, ◌≤◌, Bool, true, false, not, ◌==◌, ◌||◌, ◌&&◌, ◌∷◌, Some, None, List, [], length, take, slice_index_or}
 use Rattle.std.specs.List.{list_any}
+use Rattle.ada_events.specs.declared.event.Event.{Event}
+use Rattle.ada_events.specs.declared.event.Event.TheVariants.{Completed, Ended, Halted, Met}
 use Rattle.ada_events.specs.declared.names.TaskNo.{TaskNo}
 use Rattle.ada_events.specs.declared.names.Master.TheVariants.{Body}
+use Rattle.ada_events.specs.declared.outcome.Outcome.{Outcome}
+use Rattle.ada_events.specs.declared.outcome.Outcome.TheVariants.{Dead, Held, Nothing}
+use Rattle.ada_events.specs.Search.{is_some_and}
+use Rattle.ada_events.specs.Says.{Wait, wait_in, held_in, started_in, released_in, meeting_in}
 use Rattle.ada_events.specs.Tasks.{task_count}
 use Rattle.ada_events.specs.Masters.{depends_on}
-use Rattle.ada_events.specs.Phases.{is_elaborated, has_failed, is_abnormal, is_terminated, is_suspended}
+use Rattle.ada_events.specs.Phases.{lists_task, has_start, is_started, is_elaborated, has_failed, is_completed, has_ended, is_abnormal, is_terminated, is_suspended}
 use Rattle.ada_events.specs.Calls.{is_met}
-use Rattle.ada_events.specs.Phases.{has_start}
+use Rattle.ada_events.specs.Termination.{is_open_terminate, is_at_open_terminate}
+use Rattle.ada_events.specs.Outcomes.{raised_in}
 use Rattle.ada_laws.specs.Suspension.{IsSuspendedAt}
+use Rattle.ada_records.specs.declared.record.Doing.{Doing}
+use Rattle.ada_records.specs.declared.record.Stage.{Stage}
 use Rattle.ada_records.specs.declared.record.Record.{Record}
+use Rattle.ada_records.specs.Latest.{latest_outcome}
 
+-- what is left of a task's latest doing once it isn't suspended any more
+abbrev pub freed : Outcome → Doing
+freed outcome = record { at = 0; joined = false; quittable = false; outcome = outcome }
+
+-- what is kept of the latest doing of a task that an event at a position holds up
+abbrev pub held : ℕ → Bool → Doing
+held at quittable = record { at = at; joined = false; quittable = quittable; outcome = Held }
+
+-- a task of which nothing has become
+abbrev pub no_stage : Stage
+no_stage = record { named = false; started = false; elaborated = false; failed = false; completed = false; abnormal = false; terminated = false }
+
+-- the record of a task that was just made
+abbrev pub new_record : Record
+new_record = record { doing = freed Nothing; stage = no_stage }
+
+-- no task's record
 abbrev pub no_record : Record
-no_record = record { at = 0; joined = false; named = false; elaborated = false; failed = false; abnormal = false; terminated = false }
+no_record = record { doing = freed Dead; stage = no_stage }
 
 abbrev pub record_at : List Record → ℕ → Record
 record_at records task = slice_index_or records task no_record
@@ -25,15 +49,27 @@ pub record IsHeldAt (journal : List Event) (task at : ℕ) : Type 0 where
   pub free : at ≡ 0 → is_suspended journal task ≡ false
   pub held : 0 < at → IsSuspendedAt journal task at
 
--- the record is right
-pub record IsRecordOf (journal : List Event) (task : ℕ) (kept : Record) : Type 0 where
+-- what is kept of the task's latest doing is right
+pub record IsDoingOf (journal : List Event) (task : ℕ) (kept : Doing) : Type 0 where
   pub at : IsHeldAt journal task kept.at
   pub joined : 0 < kept.at → kept.joined ≡ is_met journal kept.at
+  pub quittable : kept.quittable ≡ (is_at_open_terminate journal task && not (has_ended journal task))
+  pub outcome : kept.outcome ≡ latest_outcome journal task
+
+-- what is kept of how far the task has come is right
+pub record IsStageOf (journal : List Event) (task : ℕ) (kept : Stage) : Type 0 where
   pub named : kept.named ≡ has_start journal task
+  pub started : kept.started ≡ is_started journal task
   pub elaborated : kept.elaborated ≡ is_elaborated journal task
   pub failed : kept.failed ≡ has_failed journal task
+  pub completed : kept.completed ≡ is_completed journal task
   pub abnormal : kept.abnormal ≡ is_abnormal journal task
   pub terminated : kept.terminated ≡ is_terminated journal task
+
+-- the record is right
+pub record IsRecordOf (journal : List Event) (task : ℕ) (kept : Record) : Type 0 where
+  pub doing : IsDoingOf journal task kept.doing
+  pub stage : IsStageOf journal task kept.stage
 
 -- there is a record of each task, and it is right
 pub record AreRecords (records : List Record) (journal : List Event) : Type 0 where
@@ -48,16 +84,26 @@ Tells flags test = (task : ℕ) → task < length flags → slice_index_or flags
 abbrev pub is_hit : List Event → List TaskNo → ℕ → Bool
 is_hit journal tasks task = list_any (λ (t : TaskNo). t.0 == task || depends_on journal task (Body t)) tasks
 
+-- the wait has an open terminate alternative
+abbrev pub may_terminate : Event → Bool
+may_terminate event = is_some_and (wait_in event) (λ (w : Wait). is_open_terminate w.tail)
+
 -- the event holds the task up, and starts nobody
 pub record IsPlainHold (event : Event) (task : ℕ) : Type 0 where
   pub holds : held_in event ≡ Some task
   pub starts : started_in event ≡ []
 
--- the event releases what stands at a position, meets nobody and ends nobody
+-- the event releases what stands at a position, begins no rendezvous and raises nothing
 pub record IsPlainRelease (event : Event) (position : ℕ) : Type 0 where
   pub some : 0 < position
   pub releases : released_in event ≡ Some position
   pub meets : meeting_in event ≡ None
+  pub raises : raised_in event ≡ None
+
+-- a task ends the rendezvous with a call by an exception (11.5)
+pub record IsRaising (event : Event) (by : TaskNo) (call : ℕ) : Type 0 where
+  pub some : 0 < call
+  pub is : event ≡ Ended by call true
 
 -- the event begins a rendezvous with a call, by a wait
 pub record IsMeetingBetween (event : Event) (call wait : ℕ) : Type 0 where
@@ -65,17 +111,40 @@ pub record IsMeetingBetween (event : Event) (call wait : ℕ) : Type 0 where
   pub some_wait : 0 < wait
   pub is : event ≡ Met call wait
 
+-- the task completes: by itself, or it is halted (9.4, 9.10)
+abbrev pub IsCompletion : Event → TaskNo → Type 0
+IsCompletion event task = (event ≡ Completed task) ⊎ (event ≡ Halted task)
+
+-- a record after its task ended its activation (9.3)
+abbrev pub elaborated_record : Bool → Record → Record
+elaborated_record true r = record r { stage = record r.stage { elaborated = true } }
+elaborated_record false r = record { doing = freed r.doing.outcome; stage = record r.stage { elaborated = true; failed = true; completed = true } }
+
 -- a record after all that depend on a master terminated together
 abbrev pub quit_record : Bool → Record → Record
-quit_record true r = record r { at = 0; terminated = true }
+quit_record true r = record { doing = freed r.doing.outcome; stage = record r.stage { terminated = true } }
 quit_record false r = r
 
 -- a record after an abort
 abbrev pub abort_record : Bool → Record → Record
-abort_record hit r = record r { abnormal = hit && not r.terminated || r.abnormal }
+abort_record hit r = record r { stage = record r.stage { abnormal = hit && not r.stage.terminated || r.stage.abnormal } }
+
+-- a record after a start, by whether that names the task (9.3)
+abbrev pub start_record : Bool → Record → Record
+start_record named r = record r {
+  stage = record r.stage {
+    named = named || r.stage.named;
+    started = named && not (r.stage.completed || r.stage.terminated) || r.stage.started;
+  };
+}
 
 -- the first so many records stand for the journal with one more event, and the others are as they were
 pub record AreUpTo (event : Event) (before : List Event) (old new : List Record) (many : ℕ) : Type 0 where
   pub same : length new ≡ length old
   pub done : (task : ℕ) → task < many → task < length old → IsRecordOf (event ∷ before) task (record_at new task)
   pub rest : (task : ℕ) → many ≤ task → record_at new task ≡ record_at old task
+
+-- the records after the first so many tasks were named by a start
+pub record HaveStarted (first now : List Record) (tasks : List TaskNo) (many : ℕ) : Type 0 where
+  pub same : length now ≡ length first
+  pub each : (task : ℕ) → task < length first → record_at now task ≡ start_record (lists_task task (take many tasks)) (record_at first task)

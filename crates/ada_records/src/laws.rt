@@ -1,6 +1,7 @@
 //! Laws of what one more event changes.
 
-ghost use Rattle.ada_records.specs.Changes.{CallsComeLast, ReleasedCallsLeave, MetCallsLeave, CompletedCallersLeave, RendezvousAreEntered, RendezvousAreLeft};
+ghost use Rattle.ada_records.specs.Changes.{CallsComeLast, ReleasedCallsLeave, MetCallsLeave, CompletedCallersLeave, RendezvousAreEntered, RendezvousAreLeft, BlocksAreEntered, BlocksAreLeft, OthersKeepNests, NestsAreDistinct};
+ghost use Rattle.ada_records.specs.Latest.{WhatIsReleasedHeld, HoldsAreHeld, ReleasesDecide, RaisersHaveRaised, OthersKeepOutcomes};
 
 /// A call comes last in the queue of its entry (9.5).
 #[tactic(auto, using(crate::proofs::QueueKinds::queue_called))]
@@ -33,4 +34,44 @@ pub fn rendezvous_are_entered()
 #[tactic(auto, using(crate::proofs::Unnesting::nest_released))]
 pub fn rendezvous_are_left()
     ensures { RendezvousAreLeft }
+{}
+
+/// A task that opens a block is then within it, innermost (9.4).
+#[tactic(auto, using(crate::proofs::NestKinds::blocks_are_entered))]
+pub fn blocks_are_entered()
+    ensures { BlocksAreEntered }
+{}
+
+/// Where a task leaves the block that it closed, nobody is within that block any more (9.4).
+pub fn blocks_are_left()
+    ensures { BlocksAreLeft }
+{}
+
+/// An event that opens no block, begins no rendezvous and releases nothing, as the completion or the termination of
+/// a task, leaves each task within what it was in.
+#[tactic(auto, using(crate::proofs::NestKinds::others_keep_nests))]
+pub fn others_keep_nests()
+    ensures { OthersKeepNests }
+{}
+
+/// A task is within each block and each rendezvous once.
+#[tactic(auto, using(crate::proofs::Distinct::nests_are_distinct))]
+pub fn nests_are_distinct()
+    ensures { NestsAreDistinct }
+{}
+
+/// Whatever an event releases, a task is suspended at it.
+#[tactic(auto, using(crate::proofs::LatestOutcomes::what_is_released_held))]
+pub fn what_is_released_held()
+    ensures { WhatIsReleasedHeld }
+{}
+
+/// What became of a task's latest doing: who is held up is held, until the event that releases it says what became of
+/// it; who ends a rendezvous by an exception has it raised (11.5). Nothing new becomes of other tasks.
+#[tactic(auto, using(crate::proofs::LatestOutcomes::holds_are_held, crate::proofs::LatestOutcomes::raisers_have_raised))]
+pub fn outcomes_are_the_latest()
+    ensures held { HoldsAreHeld }
+    ensures released { ReleasesDecide }
+    ensures raised { RaisersHaveRaised }
+    ensures others { OthersKeepOutcomes }
 {}

@@ -1,6 +1,6 @@
 use Rattle.std.proofs.Common.{arith, refl}
 use Rattle.ada_records.proofs.Holding.{holder_ran}
-use Rattle.ada_records.proofs.Recording.{records_hold}
+use Rattle.ada_records.proofs.Noting.{records_hold}
 use Rattle.ada_records.proofs.records.note_hold.Goals as goal
 
 pub bounds-records-by : goal.bounds-records-by
@@ -10,4 +10,4 @@ bounds-records-by c =
 pub returns : goal.returns
 returns c =
     records_hold c.args.event.now c.args.journal.now.events c.args.records.now c.args.by.0 _ c.requires.lawful c.requires.stand c.requires.holds
-    (rw c.len-at.ensures refl)
+    (rw (c.held.ensures, c.len.ensures, c.may_terminate.ensures) refl)

@@ -1,0 +1,256 @@
+-- What one more event changes in the records where it changes those of a few tasks.
+use Rattle.std.proofs.Common.{eqb, ◌≡◌, ◌≢◌, ℕ, suc, ◌+◌, ◌<◌, true, false, Some, None, List, ◌∷◌, length, set, sym, refl, ap, subst, ◌∙◌, arith, inl, inr}
+use Rattle.std.specs.Option.{option_map}
+use Rattle.std.proofs.lemmas.Bool.{cases_eq, true≢false}
+use Rattle.std.proofs.lemmas.List.{length-set, get_or-set_same, get_or-set_other}
+use Rattle.ada_events.specs.declared.event.Event.{Event}
+use Rattle.ada_events.specs.declared.event.Event.TheVariants as event
+use Rattle.ada_events.specs.declared.names.TaskNo.{TaskNo}
+use Rattle.ada_events.specs.declared.outcome.Outcome.{Outcome}
+use Rattle.ada_events.specs.declared.outcome.Outcome.TheVariants.{Held, Raised, Accepted}
+use Rattle.ada_events.specs.Search.{is_number, is_some_and}
+use Rattle.ada_events.specs.Says.{Meeting, held_in, released_in, meeting_in, creation_in}
+use Rattle.ada_events.specs.Outcomes.{raised_in, released_to, choice_met}
+use Rattle.ada_events.specs.Lawful.{IsLawful}
+use Rattle.ada_laws.specs.Suspension.{IsSuspendedAt}
+use Rattle.ada_laws.proofs.Growing.{task_count-same}
+use Rattle.ada_laws.proofs.Searching.{is_number-from}
+use Rattle.ada_laws.proofs.OutcomeLaws.{raises_none, unraised}
+use Rattle.ada_records.specs.declared.record.Doing.{Doing}
+use Rattle.ada_records.specs.declared.record.Record.{Record}
+use Rattle.ada_records.specs.declared.record.Stage.{Stage}
+use Rattle.ada_records.specs.Records.{no_record, record_at, IsDoingOf, IsStageOf, IsRecordOf, AreRecords, IsPlainHold, IsPlainRelease, IsMeetingBetween, IsRaising, freed, may_terminate}
+use Rattle.ada_records.proofs.Holding.{hold_only, quiet_ends, holder_ran}
+use Rattle.ada_records.proofs.Queues.{ends}
+use Rattle.ada_records.proofs.Saying.{IsPlain, number_none, number_other, no_meeting, other_call, release_only, held_apart, met_frees, call_not_wait, is_met-now, unmet_same}
+use Rattle.ada_records.proofs.Doings.{doing_held, doing_released, doing_later, doing_same, doing_ended, same_outcome}
+use Rattle.ada_records.proofs.LatestOutcomes.{raisers_have_raised}
+use Rattle.ada_records.proofs.Existing.{raiser_exists}
+use Rattle.ada_records.proofs.Stages.{stage_after, stage_more, stage_plain}
+
+-- a record that stays, of a task that the event doesn't touch
+pub record IsUntouched (event : Event) (before : List Event) (task at : ℕ) : Type 0 where
+  pub holds : is_number task (held_in event) ≡ false
+  pub raises : is_number task (raised_in event) ≡ false
+  pub frees : is_number at (released_in event) ≡ false
+  pub meets : is_some_and (meeting_in event) (λ (m : Meeting). eqb m.call at) ≡ false
+  pub ends : ends event before task ≡ false
+
+pub untouched : (event : Event) (before : List Event) (task : ℕ) (kept : Record) → IsLawful (event ∷ before) → IsRecordOf before task kept → IsUntouched event before task kept.doing.at → stage_after event before task kept.stage ≡ kept.stage → IsRecordOf (event ∷ before) task kept
+untouched event before task kept lawful old apart same = record {
+  doing = doing_same event before task kept.doing lawful old.doing apart.holds apart.raises apart.frees apart.meets apart.ends;
+  stage = subst (IsStageOf (event ∷ before) task) same (stage_more event before task kept.stage old.stage);
+}
+
+-- a record with another latest doing, where the event changes nothing else
+pub doing_only : (event : Event) (before : List Event) (task : ℕ) (was now : Record) (doing : Doing) → IsPlain event → IsRecordOf before task was → IsDoingOf (event ∷ before) task doing → now ≡ record was { doing = doing } → IsRecordOf (event ∷ before) task now
+doing_only event before task was now doing plain old right is =
+    subst (IsRecordOf (event ∷ before) task) (sym is) (record {
+      doing = right;
+      stage = subst (IsStageOf (event ∷ before) task) (stage_plain event before task was.stage plain) (stage_more event before task was.stage old.stage);
+    })
+
+-- the records with one changed
+pub one_changed : (event : Event) (before : List Event) (records : List Record) (task : ℕ) (now : Record) → creation_in event ≡ None → AreRecords records before → task < length records → IsRecordOf (event ∷ before) task now → ((other : ℕ) → other < length records → other ≢ task → IsRecordOf (event ∷ before) other (record_at records other)) → AreRecords (set records task now) (event ∷ before)
+one_changed event before records task now makes old within changed others = record {
+  many = length-set records task now ∙ old.many ∙ sym (task_count-same event before makes);
+  each = λ other below.
+      let known : other < length records = omega (arith, length-set records task now) in
+      elim (cases_eq other task) [
+        | inl same ↦ subst (λ (n : ℕ). IsRecordOf (event ∷ before) n (record_at (set records task now) n)) (sym same) (rw (get_or-set_same records task now no_record within) changed)
+        | inr differs ↦ rw (get_or-set_other records task other now no_record differs) (others other known differs)
+      ];
+}
+
+-- the records with two changed
+pub two_changed : (event : Event) (before : List Event) (records : List Record) (one two : ℕ) (first second : Record) → creation_in event ≡ None → AreRecords records before → one < length records → two < length records → two ≢ one → IsRecordOf (event ∷ before) one first → IsRecordOf (event ∷ before) two second → ((other : ℕ) → other < length records → other ≢ one → other ≢ two → IsRecordOf (event ∷ before) other (record_at records other)) → AreRecords (set (set records one first) two second) (event ∷ before)
+two_changed event before records one two first second makes old has_one has_two differs right_first right_second others = record {
+  many = length-set (set records one first) two second ∙ length-set records one first ∙ old.many ∙ sym (task_count-same event before makes);
+  each = λ other below.
+      let within : two < length (set records one first) = omega (arith, has_two, length-set records one first) in
+      let known : other < length records = omega (arith, length-set (set records one first) two second, length-set records one first) in
+      elim (cases_eq other two) [
+        | inl same ↦ subst (λ (n : ℕ). IsRecordOf (event ∷ before) n (record_at (set (set records one first) two second) n)) (sym same) (rw (get_or-set_same (set records one first) two second no_record within) right_second)
+        | inr not_two ↦
+            elim (cases_eq other one) [
+              | inl same ↦
+                  subst (λ (n : ℕ). IsRecordOf (event ∷ before) n (record_at (set (set records one first) two second) n)) (sym same)
+                  (rw (get_or-set_other (set records one first) two one second no_record (λ same. differs (sym same)), get_or-set_same records one first no_record has_one) right_first)
+              | inr not_one ↦
+                  rw (get_or-set_other (set records one first) two other second no_record not_two, get_or-set_other records one other first no_record not_one)
+                  (others other known not_one not_two)
+            ]
+      ];
+}
+
+abbrev pub doing_at : List Record → ℕ → ℕ
+doing_at records task = (record_at records task).doing.at
+
+-- the records after an event that holds a task up
+pub records_hold : (event : Event) (before : List Event) (records : List Record) (task : ℕ) (now : Record) → IsLawful (event ∷ before) → AreRecords records before → IsPlainHold event task → now ≡ record (record_at records task) { doing = record { at = length before + 1; joined = false; quittable = may_terminate event; outcome = Held } } → AreRecords (set records task now) (event ∷ before)
+records_hold event before records task now lawful old hold is =
+    let only = hold_only event task hold.holds in
+    let plain : IsPlain event = record { quiet = only.quiet; starts = hold.starts } in
+    let ran = holder_ran event before task lawful hold.holds in
+    let within : task < length records = omega (arith, ran.0, old.many) in
+    let next : length before + 1 ≡ suc (length before) = omega arith in
+    one_changed event before records task now only.quiet.makes old within
+    (doing_only event before task (record_at records task) now (record { at = length before + 1; joined = false; quittable = may_terminate event; outcome = Held }) plain (old.each task within)
+    (subst (λ (n : ℕ). IsDoingOf (event ∷ before) task (record { at = n; joined = false; quittable = may_terminate event; outcome = Held })) (sym next) (doing_held event before task lawful hold.holds)) is)
+    (λ other known differs.
+    untouched event before other (record_at records other) lawful (old.each other known)
+    (record {
+      holds = number_other other task (held_in event) hold.holds differs;
+      raises = number_none other (raised_in event) (raises_none event task hold.holds);
+      frees = number_none (doing_at records other) (released_in event) only.releases;
+      meets = no_meeting event (doing_at records other) only.meets;
+      ends = quiet_ends event before other only.quiet;
+    })
+    (stage_plain event before other (record_at records other).stage plain))
+
+-- who is suspended elsewhere is kept so
+pub elsewhere : (journal : List Event) (records : List Record) (u v p : ℕ) → AreRecords records journal → u < length records → u ≢ v → 0 < p → IsSuspendedAt journal v p → doing_at records u ≢ p
+elsewhere journal records u v p stand below differs some held = λ same.
+    differs (held_apart journal u v p (subst (λ n. IsSuspendedAt journal u n) same ((stand.each u below).doing.at.held (omega arith))) held)
+
+-- a task that an event which releases another's position neither raises anything in nor meets is untouched
+unreleased : (event : Event) (before : List Event) (records : List Record) (task other p : ℕ) → IsLawful (event ∷ before) → AreRecords records before → other < length records → other ≢ task → 0 < p → IsSuspendedAt before task p → released_in event ≡ Some p → is_number other (raised_in event) ≡ false → is_some_and (meeting_in event) (λ (m : Meeting). eqb m.call (doing_at records other)) ≡ false → IsRecordOf (event ∷ before) other (record_at records other)
+unreleased event before records task other p lawful old known differs some held frees raises meets =
+    let only = release_only event p frees in
+    untouched event before other (record_at records other) lawful (old.each other known)
+    (record {
+      holds = number_none other (held_in event) only.holds;
+      raises = raises;
+      frees = number_other (doing_at records other) p (released_in event) frees (elsewhere before records other task p old known differs some held);
+      meets = meets;
+      ends = quiet_ends event before other only.plain.quiet;
+    })
+    (stage_plain event before other (record_at records other).stage only.plain)
+
+-- the records after an event that releases what a task is suspended at, otherwise than by a rendezvous or an exception
+pub records_release : (event : Event) (before : List Event) (records : List Record) (task : ℕ) (now : Record) → IsLawful (event ∷ before) → AreRecords records before → task < length records → IsPlainRelease event (doing_at records task) → now ≡ record (record_at records task) { doing = freed (released_to before event) } → AreRecords (set records task now) (event ∷ before)
+records_release event before records task now lawful old within frees is =
+    let p = doing_at records task in
+    let only = release_only event p frees.releases in
+    let held : IsSuspendedAt before task p = (old.each task within).doing.at.held frees.some in
+    one_changed event before records task now only.plain.quiet.makes old within
+    (doing_only event before task (record_at records task) now (freed (released_to before event)) only.plain (old.each task within) (doing_released event before task p lawful held frees.releases) is)
+    (λ other known differs.
+    unreleased event before records task other p lawful old known differs frees.some held frees.releases
+    (number_none other (raised_in event) frees.raises) (no_meeting event (doing_at records other) frees.meets))
+
+raising_says : (e : Event) (by : TaskNo) (call : ℕ) → e ≡ event.Ended by call true → (released_in e ≡ Some call) × (raised_in e ≡ Some by.0) × (meeting_in e ≡ None) × ((before : List Event) → released_to before e ≡ Raised)
+unfolding released_in raised_in meeting_in released_to
+raising_says e by call is = (ap released_in is, ap raised_in is, ap meeting_in is, λ before. ap (released_to before) is)
+
+met_raises_none : (call wait : ℕ) → raised_in (event.Met call wait) ≡ None
+unfolding raised_in
+met_raises_none call wait = refl
+
+met_becomes : (before : List Event) (call wait : ℕ) → released_to before (event.Met call wait) ≡ Accepted call (choice_met before wait)
+unfolding released_to
+met_becomes before call wait = refl
+
+-- the task exists that ends a rendezvous by an exception
+pub raiser_within : (event : Event) (before : List Event) (records : List Record) (by : TaskNo) (caller : ℕ) → IsLawful (event ∷ before) → AreRecords records before → IsRaising event by (doing_at records caller) → by.0 < length records
+raiser_within event before records by caller lawful old raising =
+    omega (arith, raiser_exists event before by.0 lawful.1 (raising_says event by (doing_at records caller) raising.is).1, old.many)
+
+pub within_set : (records : List Record) (i n : ℕ) (now : Record) → n < length records → n < length (set records i now)
+within_set records i n now below = omega (arith, below, length-set records i now)
+
+-- the records after a task ended a rendezvous by an exception
+pub records_raised : (event : Event) (before : List Event) (records : List Record) (by : TaskNo) (caller : ℕ) (calls raises : Record) → IsLawful (event ∷ before) → AreRecords records before → caller < length records → by.0 < length records → IsRaising event by (doing_at records caller) → calls ≡ record (record_at records caller) { doing = freed Raised } → raises ≡ record (record_at (set records caller calls) by.0) { doing = record (record_at (set records caller calls) by.0).doing { outcome = Raised } } → AreRecords (set (set records caller calls) by.0 raises) (event ∷ before)
+records_raised event before records by caller calls raises lawful old has_caller has_by raising calls_is raises_is =
+    let p = doing_at records caller in
+    let says = raising_says event by p raising.is in
+    let only = release_only event p says.0 in
+    let held : IsSuspendedAt before caller p = (old.each caller has_caller).doing.at.held raising.some in
+    let quiet_caller : is_number caller (raised_in event) ≡ false = unraised event before caller p lawful held in
+    let differs : by.0 ≢ caller = λ same. true≢false (sym (is_number-from caller (raised_in event) (says.1 ∙ ap Some same)) ∙ quiet_caller) in
+    let was : record_at (set records caller calls) by.0 ≡ record_at records by.0 = get_or-set_other records caller by.0 calls no_record differs in
+    let is : raises ≡ record (record_at records by.0) { doing = record (record_at records by.0).doing { outcome = Raised } } =
+    raises_is ∙ ap (λ (r : Record). record r { doing = record r.doing { outcome = Raised } }) was in
+    two_changed event before records caller by.0 calls raises only.plain.quiet.makes old has_caller has_by differs
+    (doing_only event before caller (record_at records caller) calls (freed Raised) only.plain (old.each caller has_caller)
+    (subst (λ (o : Outcome). IsDoingOf (event ∷ before) caller (freed o)) (says.3 before) (doing_released event before caller p lawful held says.0)) calls_is)
+    (doing_only event before by.0 (record_at records by.0) raises (record (record_at records by.0).doing { outcome = Raised }) only.plain (old.each by.0 has_by)
+    (doing_later event before by.0 (record_at records by.0).doing (record_at records by.0).doing.joined Raised lawful (old.each by.0 has_by).doing
+    (number_none by.0 (held_in event) only.holds)
+    (number_other (doing_at records by.0) p (released_in event) says.0 (elsewhere before records by.0 caller p old has_by differs raising.some held))
+    (quiet_ends event before by.0 only.plain.quiet)
+    (λ some. (old.each by.0 has_by).doing.joined some ∙ sym (unmet_same event before (doing_at records by.0) (no_meeting event (doing_at records by.0) says.2)))
+    (sym (raisers_have_raised event before by.0 says.1))) is)
+    (λ other known not_caller not_by.
+    unreleased event before records caller other p lawful old known not_caller raising.some held says.0
+    (number_other other by.0 (raised_in event) says.1 not_by) (no_meeting event (doing_at records other) says.2))
+
+-- the records after a rendezvous began
+pub records_met : (event : Event) (before : List Event) (records : List Record) (caller acceptor choice : ℕ) (waits calls : Record) → IsLawful (event ∷ before) → AreRecords records before → caller < length records → acceptor < length records → IsMeetingBetween event (doing_at records caller) (doing_at records acceptor) → choice ≡ choice_met before (doing_at records acceptor) → waits ≡ record (record_at records acceptor) { doing = freed (Accepted (doing_at records caller) choice) } → calls ≡ record (record_at records caller) { doing = record (record_at records caller).doing { joined = true } } → AreRecords (set (set records acceptor waits) caller calls) (event ∷ before)
+records_met event before records caller acceptor choice waits calls lawful old has_caller has_acceptor met chosen waits_is calls_is =
+    let call = doing_at records caller in
+    let wait = doing_at records acceptor in
+    let frees : released_in event ≡ Some wait = ap released_in met.is ∙ (met_frees call wait).0 in
+    let meets : option_map (λ (m : Meeting). m.call) (meeting_in event) ≡ Some call = ap (λ e. option_map (λ (m : Meeting). m.call) (meeting_in e)) met.is ∙ (met_frees call wait).1 in
+    let only = release_only event wait frees in
+    let raises : raised_in event ≡ None = ap raised_in met.is ∙ met_raises_none call wait in
+    let apart : call ≢ wait = call_not_wait event before call wait lawful met.is in
+    let differs : caller ≢ acceptor = λ same. apart (ap (λ n. doing_at records n) same) in
+    let at_call : IsSuspendedAt before caller call = (old.each caller has_caller).doing.at.held met.some_call in
+    let at_wait : IsSuspendedAt before acceptor wait = (old.each acceptor has_acceptor).doing.at.held met.some_wait in
+    let becomes : released_to before event ≡ Accepted call choice = ap (released_to before) met.is ∙ met_becomes before call wait ∙ ap (Accepted call) (sym chosen) in
+    let unfreed : is_number call (released_in event) ≡ false = number_other call wait (released_in event) frees apart in
+    two_changed event before records acceptor caller waits calls only.plain.quiet.makes old has_acceptor has_caller differs
+    (doing_only event before acceptor (record_at records acceptor) waits (freed (Accepted call choice)) only.plain (old.each acceptor has_acceptor)
+    (subst (λ (o : Outcome). IsDoingOf (event ∷ before) acceptor (freed o)) becomes (doing_released event before acceptor wait lawful at_wait frees)) waits_is)
+    (doing_only event before caller (record_at records caller) calls (record (record_at records caller).doing { joined = true }) only.plain (old.each caller has_caller)
+    (doing_later event before caller (record_at records caller).doing true (record_at records caller).doing.outcome lawful (old.each caller has_caller).doing
+    (number_none caller (held_in event) only.holds) unfreed (quiet_ends event before caller only.plain.quiet)
+    (λ some. sym (is_met-now event before call meets))
+    ((old.each caller has_caller).doing.outcome ∙ same_outcome event before caller call lawful (old.each caller has_caller).doing.at (number_none caller (held_in event) only.holds) (number_none caller (raised_in event) raises) unfreed)) calls_is)
+    (λ other known not_acceptor not_caller.
+    unreleased event before records acceptor other wait lawful old known not_acceptor met.some_wait at_wait frees
+    (number_none other (raised_in event) raises)
+    (other_call (meeting_in event) (doing_at records other) call meets (elsewhere before records other caller call old known not_caller met.some_call at_call)))
+
+-- the caller's record is looked at behind the change of the acceptor's
+pub records_met_by : (event : Event) (before : List Event) (records : List Record) (caller acceptor choice : ℕ) (waits calls : Record) → IsLawful (event ∷ before) → AreRecords records before → caller < length records → acceptor < length records → IsMeetingBetween event (doing_at records caller) (doing_at records acceptor) → choice ≡ choice_met before (doing_at records acceptor) → waits ≡ record (record_at records acceptor) { doing = freed (Accepted (doing_at records caller) choice) } → calls ≡ record (record_at (set records acceptor waits) caller) { doing = record (record_at (set records acceptor waits) caller).doing { joined = true } } → AreRecords (set (set records acceptor waits) caller calls) (event ∷ before)
+records_met_by event before records caller acceptor choice waits calls lawful old has_caller has_acceptor met chosen waits_is calls_is =
+    let apart : doing_at records caller ≢ doing_at records acceptor = call_not_wait event before (doing_at records caller) (doing_at records acceptor) lawful met.is in
+    let differs : caller ≢ acceptor = λ same. apart (ap (λ n. doing_at records n) same) in
+    records_met event before records caller acceptor choice waits calls lawful old has_caller has_acceptor met chosen waits_is
+    (calls_is ∙ ap (λ (r : Record). record r { doing = record r.doing { joined = true } }) (get_or-set_other records acceptor caller waits no_record differs))
+
+-- an event that ends one task at most, or none, and touches nobody else
+pub record TouchesOne (event : Event) (before : List Event) (task : ℕ) : Type 0 where
+  pub holds : held_in event ≡ None
+  pub raises : raised_in event ≡ None
+  pub frees : released_in event ≡ None
+  pub meets : meeting_in event ≡ None
+  pub makes : creation_in event ≡ None
+  pub ends : (other : ℕ) → other ≢ task → ends event before other ≡ false
+  pub stage : (other : ℕ) (kept : Stage) → other ≢ task → stage_after event before other kept ≡ kept
+
+-- the records after an event that touches one task
+pub records_one : (event : Event) (before : List Event) (records : List Record) (task : ℕ) (now : Record) → IsLawful (event ∷ before) → AreRecords records before → TouchesOne event before task → task < length records → IsRecordOf (event ∷ before) task now → AreRecords (set records task now) (event ∷ before)
+records_one event before records task now lawful old only within right =
+    one_changed event before records task now only.makes old within right
+    (λ other known differs.
+    untouched event before other (record_at records other) lawful (old.each other known)
+    (record {
+      holds = number_none other (held_in event) only.holds;
+      raises = number_none other (raised_in event) only.raises;
+      frees = number_none (doing_at records other) (released_in event) only.frees;
+      meets = no_meeting event (doing_at records other) only.meets;
+      ends = only.ends other differs;
+    })
+    (only.stage other (record_at records other).stage differs))
+
+-- the records after an event that ends one task
+pub records_end : (event : Event) (before : List Event) (records : List Record) (task : ℕ) (now : Record) → IsLawful (event ∷ before) → AreRecords records before → TouchesOne event before task → task < length records → ends event before task ≡ true → now ≡ record { doing = freed (record_at records task).doing.outcome; stage = stage_after event before task (record_at records task).stage } → AreRecords (set records task now) (event ∷ before)
+records_end event before records task now lawful old only within ended is =
+    records_one event before records task now lawful old only within
+    (subst (IsRecordOf (event ∷ before) task) (sym is) (record {
+      doing = doing_ended event before task (record_at records task).doing lawful (old.each task within).doing ended;
+      stage = stage_more event before task (record_at records task).stage (old.each task within).stage;
+    }))
