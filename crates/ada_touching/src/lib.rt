@@ -1,0 +1,5 @@
+//! Which keys each kind of event adds to an agenda: where a row of the forced steps can newly give a step. Each
+//! law is the contract of a function that does nothing.
+#![tactic(auto)]
+
+pub mod laws;
