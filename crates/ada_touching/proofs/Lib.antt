@@ -1,1 +1,4 @@
+pub mod Completing
+pub mod Acting
+pub mod Depending
 pub mod Readying

@@ -81,6 +81,8 @@ emptied event before task waits was now =
           (and_from (is_some_and (call_in e) (λ (c : Call). eqb c.callee task)) (is_queued_at (event ∷ before) p e) both.0 stays) in
           absurd (both_ways (any_event (calls_it (event ∷ before) task) (event ∷ before)) (not-true (any_event (calls_it (event ∷ before) task) (event ∷ before)) now) here)
     ] in
+    let more : is_queued_at (event ∷ before) p e ≡ (is_queued_at before p e && (not (is_number p (released_in event)) && not (ends event before c.by) && not (meets event p))) =
+    queued-more event before p e ∙ ap (λ (o : Option Call). is_queued_at before p e && (not (is_number p (released_in event)) && not (ends_caller event before o) && not (meets event p))) says in
     record {
       position = p;
       called = e;
@@ -90,7 +92,7 @@ emptied event before task waits was now =
       to = eqb-true c.callee task to;
       queued = both.1;
       why = three_ways (is_number p (released_in event)) (ends event before c.by) (meets event p)
-      (second_false (is_queued_at before p e) _ both.1 (sym (rw says at queued-more event before p e) ∙ left));
+      (second_false (is_queued_at before p e) _ both.1 (sym more ∙ left));
       waits = waits;
     }
 

@@ -1,9 +1,9 @@
 //! Laws of what an event adds to an agenda.
 
-ghost use Rattle.std.specs.Prelude.{◌≡◌};
+ghost use Rattle.std.specs.Prelude.{◌<◌};
 
 /// Later.
-#[tactic(auto, using(crate::proofs::Readying::readied))]
+#[tactic(auto, using(crate::proofs::Readying::readied, crate::proofs::Completing::body_newly, crate::proofs::Acting::starters_made, crate::proofs::Depending::abnormal_exists))]
 pub fn later()
-    ensures { 1 ≡ 1 }
+    ensures { 0 < 1 }
 {}
