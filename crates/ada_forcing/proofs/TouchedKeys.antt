@@ -104,13 +104,13 @@ halts_newly event before u halt =
     ]
 
 -- what was open or queued before
-open_before : (event : Event) (before : List Event) (p : ℕ) (e : Event) → is_open_at (event ∷ before) p e ≡ true → is_open_at before p e ≡ true
+pub open_before : (event : Event) (before : List Event) (p : ℕ) (e : Event) → is_open_at (event ∷ before) p e ≡ true → is_open_at before p e ≡ true
 unfolding is_open_at
 open_before event before p e opened =
     let (c, says, found) = option_map_or-true (λ (c : Call). is_pending (event ∷ before) p c.by) (call_in e) opened in
     rw says (pending_before event before p c.by found)
 
-queued_before : (event : Event) (before : List Event) (p : ℕ) (e : Event) → is_queued_at (event ∷ before) p e ≡ true → is_queued_at before p e ≡ true
+pub queued_before : (event : Event) (before : List Event) (p : ℕ) (e : Event) → is_queued_at (event ∷ before) p e ≡ true → is_queued_at before p e ≡ true
 unfolding is_queued_at is_met
 queued_before event before p e queued =
     let both = and_parts (is_open_at (event ∷ before) p e) (not (is_met (event ∷ before) p)) queued in

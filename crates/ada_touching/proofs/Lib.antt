@@ -1,4 +1,7 @@
-pub mod Completing
 pub mod Acting
+pub mod Completing
 pub mod Depending
+pub mod Moments
+pub mod Newcomers
 pub mod Readying
+pub mod Waiting

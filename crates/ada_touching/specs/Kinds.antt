@@ -35,16 +35,26 @@ abbrev pub quitting_key : Master → ℕ
 quitting_key (Body t) = t.0
 quitting_key (Block p) = p
 
--- the start at the position names the task, and its maker is suspended there
-pub record IsActivationOf (journal : List Event) (task position : ℕ) : Type 0 where
+-- a start stands at the position
+pub record IsStartAt (journal : List Event) (start : Start) (position : ℕ) : Type 0 where
+  pub event : Event
+  pub stands : event_at journal position ≡ Some event
+  pub says : start_in event ≡ Some start
+
+-- a close stands at the position
+pub record IsCloseAt (journal : List Event) (closing : Closing) (position : ℕ) : Type 0 where
+  pub event : Event
+  pub stands : event_at journal position ≡ Some event
+  pub says : closing_in event ≡ Some closing
+
+-- the task's maker is suspended at a start that names the task
+pub record IsActivationOf (journal : List Event) (task : TaskNo) (position : ℕ) : Type 0 where
   pub creation : Creation
-  pub made : creation_of journal task ≡ Some creation
+  pub made : creation_of journal task.0 ≡ Some creation
   pub suspended : IsSuspendedAt journal creation.by position
   pub start : Start
-  pub says : start_in suspended.event ≡ Some start
-  pub name : TaskNo
-  pub named : Contains start.tasks name
-  pub is : name.0 ≡ task
+  pub stands : IsStartAt journal start position
+  pub named : Contains start.tasks task
 
 -- the task was never started, and was made by that task
 pub record IsLeftBy (journal : List Event) (task maker : ℕ) : Type 0 where
@@ -69,9 +79,9 @@ pub record IsOpenCallTo (journal : List Event) (task position : ℕ) : Type 0 wh
 -- the task that closed a block is suspended at the close
 pub record IsLeaving (journal : List Event) (block position : ℕ) : Type 0 where
   pub closing : Closing
-  pub suspended : IsSuspendedAt journal closing.by position
-  pub says : closing_in suspended.event ≡ Some closing
+  pub stands : IsCloseAt journal closing position
   pub of : closing.block ≡ block
+  pub suspended : IsSuspendedAt journal closing.by position
 
 -- the moment that is waited for at an event: by a timed call, a delay, or a wait with delay alternatives
 abbrev pub tail_due : EventTail → Option ℤ
@@ -94,11 +104,13 @@ due_row _ = Passing
 pub record ComesDue (journal : List Event) (now : ℤ) (row : Row) (position : ℕ) : Type 0 where
   pub task : ℕ
   pub suspended : IsSuspendedAt journal task position
+  pub event : Event
+  pub stands : event_at journal position ≡ Some event
   pub due : ℤ
-  pub says : due_in suspended.event ≡ Some due
+  pub waits : due_in event ≡ Some due
   pub was : int_le due (moment journal) ≡ false
   pub comes : int_le due now ≡ true
-  pub in_row : due_row suspended.event ≡ row
+  pub in_row : due_row event ≡ row
 
 -- the event makes the task abnormal
 pub record IsHit (event : Event) (before : List Event) (task : ℕ) : Type 0 where
@@ -118,7 +130,7 @@ pub data OfStart (before : List Event) : Row → ℕ → Type 0 where
   is_over : OfStart before Activating (itself before)
 
 -- the end of an activation without an exception (9.3): the start that names the task
-pub data OfElaboration (before : List Event) (task : ℕ) : Row → ℕ → Type 0 where
+pub data OfElaboration (before : List Event) (task : TaskNo) : Row → ℕ → Type 0 where
   activates : (p : ℕ) → IsActivationOf before task p → OfElaboration before task Activating p
 
 -- a call (9.5): itself, and the wait at which its callee is suspended
@@ -153,19 +165,19 @@ pub data OfCancellation (event : Event) (before : List Event) (call : ℕ) : Row
 
 -- a completion (9.4): the task and its body, the open calls to it, the start that names it, and the tasks that
 -- it made and that were never started
-pub data OfCompletion (before : List Event) (task : ℕ) : Row → ℕ → Type 0 where
-  goes : OfCompletion before task Going task
-  quits : OfCompletion before task QuittingBody task
-  fails : (p : ℕ) → IsOpenCallTo before task p → OfCompletion before task Failing p
+pub data OfCompletion (before : List Event) (task : TaskNo) : Row → ℕ → Type 0 where
+  goes : OfCompletion before task Going task.0
+  quits : OfCompletion before task QuittingBody task.0
+  fails : (p : ℕ) → IsOpenCallTo before task.0 p → OfCompletion before task Failing p
   activates : (p : ℕ) → IsActivationOf before task p → OfCompletion before task Activating p
-  abandons : (u : ℕ) → IsLeftBy before u task → OfCompletion before task Going u
+  abandons : (u : ℕ) → IsLeftBy before u task.0 → OfCompletion before task Going u
 
 -- a halt (9.10): all of a completion, and the blocks in the task's nest; where its call leaves a queue and makes
 -- the callee ready to quit, the masters on which that depends
-pub data OfHalt (event : Event) (before : List Event) (task : ℕ) : Row → ℕ → Type 0 where
+pub data OfHalt (event : Event) (before : List Event) (task : TaskNo) : Row → ℕ → Type 0 where
   completes : (row : Row) (key : ℕ) → OfCompletion before task row key → OfHalt event before task row key
-  quits_block : (p : ℕ) → Contains (nest before task) (BlockMember p) → OfHalt event before task QuittingBlock p
-  empties : (p : ℕ) (called : Call) (m : Master) → IsSuspendedAt before task p → IsCallAt before called p → is_ready_to_quit (event ∷ before) called.callee ≡ true → depends_on before called.callee m ≡ true → OfHalt event before task (quitting_row m) (quitting_key m)
+  quits_block : (p : ℕ) → Contains (nest before task.0) (BlockMember p) → OfHalt event before task QuittingBlock p
+  empties : (p : ℕ) (called : Call) (m : Master) → IsSuspendedAt before task.0 p → IsCallAt before called p → is_ready_to_quit (event ∷ before) called.callee ≡ true → depends_on before called.callee m ≡ true → OfHalt event before task (quitting_row m) (quitting_key m)
 
 -- an abort (9.10): each task that it makes abnormal, and the open calls to it
 pub data OfAbort (event : Event) (before : List Event) : Row → ℕ → Type 0 where
@@ -178,41 +190,41 @@ pub data OfTick (before : List Event) (now : ℤ) : Row → ℕ → Type 0 where
 
 -- where a task ends (9.4): the open calls to it, the start that names it, and of each master on which it depends
 -- its quitting, its task's going, and its being left
-pub data OfEnding (before : List Event) (task : ℕ) : Row → ℕ → Type 0 where
-  fails : (p : ℕ) → IsOpenCallTo before task p → OfEnding before task Failing p
+pub data OfEnding (before : List Event) (task : TaskNo) : Row → ℕ → Type 0 where
+  fails : (p : ℕ) → IsOpenCallTo before task.0 p → OfEnding before task Failing p
   activates : (p : ℕ) → IsActivationOf before task p → OfEnding before task Activating p
-  goes : (t : TaskNo) → depends_on before task (Body t) ≡ true → OfEnding before task Going t.0
-  quits : (m : Master) → depends_on before task m ≡ true → OfEnding before task (quitting_row m) (quitting_key m)
-  leaves : (block p : ℕ) → depends_on before task (Block block) ≡ true → IsLeaving before block p → OfEnding before task Leaving p
+  goes : (t : TaskNo) → depends_on before task.0 (Body t) ≡ true → OfEnding before task Going t.0
+  quits : (m : Master) → depends_on before task.0 m ≡ true → OfEnding before task (quitting_row m) (quitting_key m)
+  leaves : (block p : ℕ) → depends_on before task.0 (Block block) ≡ true → IsLeaving before block p → OfEnding before task Leaving p
 
 -- where all that depend on a master terminate together (9.4): what each of them ends, and the tasks that it made
 -- and that were never started
 pub data OfQuit (before : List Event) (master : Master) : Row → ℕ → Type 0 where
-  ends : (u : ℕ) (row : Row) (key : ℕ) → depends_on before u master ≡ true → is_terminated before u ≡ false → OfEnding before u row key → OfQuit before master row key
-  abandons : (u v : ℕ) → depends_on before u master ≡ true → is_terminated before u ≡ false → IsLeftBy before v u → OfQuit before master Going v
+  ends : (t : TaskNo) (row : Row) (key : ℕ) → depends_on before t.0 master ≡ true → is_terminated before t.0 ≡ false → OfEnding before t row key → OfQuit before master row key
+  abandons : (t : TaskNo) (u : ℕ) → depends_on before t.0 master ≡ true → is_terminated before t.0 ≡ false → IsLeftBy before u t.0 → OfQuit before master Going u
 
 -- the keys that an event adds
 abbrev pub Adds : List Event → Event → Row → ℕ → Type 0
 Adds before (Opened by under) = Nowhere
 Adds before (Created by under master families) = OfCreation before
 Adds before (Started by tasks) = OfStart before
-Adds before (Elaborated by true) = OfElaboration before by.0
-Adds before (Elaborated by false) = OfCompletion before by.0
+Adds before (Elaborated by true) = OfElaboration before by
+Adds before (Elaborated by false) = OfCompletion before by
 Adds before (Called by callee entry patience due) = OfCall before callee.0
 Adds before (Waiting by pick choices tail) = OfWait before by.0 tail
 Adds before (Paused by due) = OfDelay before
 Adds before (Ended by call raised) = OfEnd before call
 Adds before (Closed by block) = OfClose before block
-Adds before (Completed by) = OfCompletion before by.0
+Adds before (Completed by) = OfCompletion before by
 Adds before (Aborted by tasks) = OfAbort (Aborted by tasks) before
 Adds before (Ticked now) = OfTick before now
-Adds before (Halted task) = OfHalt (Halted task) before task.0
+Adds before (Halted task) = OfHalt (Halted task) before task
 Adds before (Failed call) = OfEnd before call
 Adds before (Met call wait) = Nowhere
 Adds before (Cancelled call) = OfCancellation (Cancelled call) before call
 Adds before (Passed wait way) = Nowhere
 Adds before (Woken pause) = Nowhere
 Adds before (Activated start ok) = Nowhere
-Adds before (Gone task) = OfEnding before task.0
+Adds before (Gone task) = OfEnding before task
 Adds before (Quit master) = OfQuit before master
 Adds before (Left close) = Nowhere
