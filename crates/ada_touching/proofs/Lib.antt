@@ -4,4 +4,5 @@ pub mod Depending
 pub mod Moments
 pub mod Newcomers
 pub mod Readying
+pub mod Refining
 pub mod Waiting
