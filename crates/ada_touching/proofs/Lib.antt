@@ -3,6 +3,8 @@ pub mod Completing
 pub mod Depending
 pub mod Moments
 pub mod Newcomers
+pub mod Holds
+pub mod Quietly
 pub mod Readying
 pub mod Refining
 pub mod Waiting
