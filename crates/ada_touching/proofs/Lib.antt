@@ -7,4 +7,6 @@ pub mod Holds
 pub mod Quietly
 pub mod Readying
 pub mod Refining
+pub mod Releases
+pub mod Unhalted
 pub mod Waiting
