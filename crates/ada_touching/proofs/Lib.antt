@@ -1,4 +1,5 @@
 pub mod Acting
+pub mod Answering
 pub mod Completing
 pub mod Depending
 pub mod Moments

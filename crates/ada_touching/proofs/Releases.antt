@@ -114,7 +114,7 @@ release_key e before p row key lawful releases touched =
     released_quietly e before p row key releases (only_frees e p releases) (quietly e before row key lawful (release_only e p releases).plain.quiet touched)
 
 -- a call that a release takes out of a queue is the one that it releases, or with which it begins a rendezvous
-left_position : (e : Event) (before : List Event) (p v : ℕ) → released_in e ≡ Some p → meeting_in e ≡ None → (left : IsUnqueued e before v) → left.position ≡ p
+pub left_position : (e : Event) (before : List Event) (p v : ℕ) → released_in e ≡ Some p → meeting_in e ≡ None → (left : IsUnqueued e before v) → left.position ≡ p
 left_position e before p v releases meeting left =
     elim (left.why) [
       | inl released ↦ same_Some left.position p (sym (is_number-some left.position (released_in e) released) ∙ releases)
@@ -132,7 +132,7 @@ pub record OnlyCalls (event : Event) : Type 0 where
   pub starts : start_in event ≡ None
   pub closes : closing_in event ≡ None
 
-only_calls : (e : Event) (c : Call) → call_in e ≡ Some c → OnlyCalls e
+pub only_calls : (e : Event) (c : Call) → call_in e ≡ Some c → OnlyCalls e
 unfolding call_in wait_in delay_in start_in closing_in
 only_calls (event.Called by callee entry patience due) c says = record { waits = refl; delays = refl; starts = refl; closes = refl }
 only_calls _ c says = absurd (none-some c says)
@@ -144,7 +144,7 @@ frees_call (event.Failed call) = true
 frees_call (event.Cancelled call) = true
 frees_call _ = false
 
-same_event : (journal : List Event) (p : ℕ) (d e : Event) → event_at journal p ≡ Some d → event_at journal p ≡ Some e → d ≡ e
+pub same_event : (journal : List Event) (p : ℕ) (d e : Event) → event_at journal p ≡ Some d → event_at journal p ≡ Some e → d ≡ e
 same_event journal p d e at also = same_Some d e (sym at ∙ also)
 
 row_no_call : (journal : List Event) (e : Event) (x : ℕ) (call : Call) → IsRow journal e → released_in e ≡ Some x → frees_call e ≡ false → IsCallAt journal call x → ⊥
