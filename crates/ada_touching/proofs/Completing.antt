@@ -117,6 +117,7 @@ pub record IsNewlyLeft (event : Event) (before : List Event) (task : ℕ) : Type
   pub creation : Creation
   pub made : creation_of before task ≡ Some creation
   pub never : has_start before task ≡ false
+  pub unfinished : is_complete before creation.under ≡ false
   pub why : ((is_complete before creation.under ≡ false) × (is_complete (event ∷ before) creation.under ≡ true))
       ⊎ ((is_terminated before creation.by ≡ false) × (is_terminated (event ∷ before) creation.by ≡ true))
 
@@ -154,6 +155,7 @@ abandoned_newly event before task was now =
             creation = c;
             made = old;
             never = never;
+            unfinished = parts.0;
             why =
                 elim (or_cases (is_complete (event ∷ before) c.under) (is_terminated (event ∷ before) c.by) over) [
                   | inl complete ↦ inl (parts.0, complete)

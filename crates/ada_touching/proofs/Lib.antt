@@ -1,5 +1,6 @@
 pub mod Acting
 pub mod Answering
+pub mod Changing
 pub mod Completing
 pub mod Depending
 pub mod Moments
@@ -9,5 +10,6 @@ pub mod Quietly
 pub mod Readying
 pub mod Refining
 pub mod Releases
+pub mod Silent
 pub mod Unhalted
 pub mod Waiting

@@ -54,6 +54,7 @@ use Rattle.ada_touching.proofs.Readying.{IsOpenWait, IsUnqueued}
 use Rattle.ada_touching.proofs.Refining.{says_row, Key}
 use Rattle.ada_touching.proofs.Quietly.{QuietKey, quietly}
 use Rattle.ada_touching.proofs.Quietly.QuietKey.{at_own, frees_caller, calls_waiting, brings_moment, closes_around, closes_block, waits_open, empties_queue}
+use Rattle.ada_touching.proofs.Silent.{IsSilent, no_own}
 use Rattle.ada_touching.proofs.Unhalted.{is_halt, unhalted, halts_free, IsJoined, free_elsewhere}
 use Rattle.ada_touching.proofs.Waiting.{suspended_at, at_wait, ready_parts}
 
@@ -63,15 +64,7 @@ pub data ReleaseKey (event : Event) (before : List Event) (position : ℕ) : Row
   empties : (m : Master) (v : ℕ) → IsUnqueued event before v → is_ready_to_quit (event ∷ before) v ≡ true → depends_on before v m ≡ true → ReleaseKey event before position (quitting_row m) (quitting_key m)
 
 -- a release calls, waits for, closes and moves nothing
-pub record OnlyFrees (event : Event) : Type 0 where
-  pub calls : call_in event ≡ None
-  pub waits : wait_in event ≡ None
-  pub delays : delay_in event ≡ None
-  pub starts : start_in event ≡ None
-  pub closes : closing_in event ≡ None
-  pub moment : moment_in event ≡ None
-
-only_frees : (e : Event) (p : ℕ) → released_in e ≡ Some p → OnlyFrees e
+only_frees : (e : Event) (p : ℕ) → released_in e ≡ Some p → IsSilent e
 unfolding released_in call_in wait_in delay_in start_in closing_in moment_in
 only_frees (event.Ended by call raised) p says = record { calls = refl; waits = refl; delays = refl; starts = refl; closes = refl; moment = refl }
 only_frees (event.Failed call) p says = record { calls = refl; waits = refl; delays = refl; starts = refl; closes = refl; moment = refl }
@@ -83,20 +76,7 @@ only_frees (event.Activated start ok) p says = record { calls = refl; waits = re
 only_frees (event.Left close) p says = record { calls = refl; waits = refl; delays = refl; starts = refl; closes = refl; moment = refl }
 only_frees _ p says = absurd (none-some p says)
 
-no_own : (e : Event) (row : Row) → OnlyFrees e → says_row row e ≡ true → ⊥
-no_own e Halting only says = false≢true says
-no_own e Row.Failing only says = false≢true (rw only.calls at says)
-no_own e Row.Cancelling only says = false≢true (rw only.calls at says)
-no_own e Row.Taking only says = false≢true (rw only.waits at says)
-no_own e Row.Passing only says = false≢true (rw only.waits at says)
-no_own e Row.Waking only says = false≢true (rw only.delays at says)
-no_own e Row.Activating only says = false≢true (rw only.starts at says)
-no_own e Row.Leaving only says = false≢true (rw only.closes at says)
-no_own e Row.Going only says = false≢true says
-no_own e Row.QuittingBody only says = false≢true says
-no_own e Row.QuittingBlock only says = false≢true says
-
-released_quietly : (e : Event) (before : List Event) (p : ℕ) (row : Row) (key : ℕ) → released_in e ≡ Some p → OnlyFrees e → QuietKey e before row key → ReleaseKey e before p row key
+released_quietly : (e : Event) (before : List Event) (p : ℕ) (row : Row) (key : ℕ) → released_in e ≡ Some p → IsSilent e → QuietKey e before row key → ReleaseKey e before p row key
 released_quietly e before p row key releases only (at_own same says) = absurd (no_own e row only says)
 released_quietly e before p row key releases only (frees_caller u q call released at is abnormal) =
     let same : q ≡ p = same_Some q p (sym released ∙ releases) in
