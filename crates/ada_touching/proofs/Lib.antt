@@ -1,4 +1,5 @@
 pub mod Acting
+pub mod Adding
 pub mod Answering
 pub mod Changing
 pub mod Completing
