@@ -1,25 +1,23 @@
 -- Who opened, made, started or was suspended ran, so its own activation was started.
-use Rattle.std.proofs.Common.{◌≡◌, ℕ, zero, suc, ◌<◌, Bool, true, false, not, ◌&&◌, ◌||◌, Option, Some, None, List, [], ◌∷◌, length, sym, refl, ap, ◌∙◌, subst, arith, ◌⊎◌, inl, inr, eqb, if◌then◌else◌}
-use Rattle.std.specs.Option.{option_map_or, option_len}
+use Rattle.std.proofs.Common.{◌≡◌, ℕ, zero, suc, ◌<◌, Bool, true, false, not, Some, None, List, [], ◌∷◌, sym, ap, ◌∙◌, subst, arith, ◌⊎◌, inl, inr, eqb, if◌then◌else◌}
+use Rattle.std.specs.Option.{option_len}
 use Rattle.std.specs.List.{Contains, list_any}
-use Rattle.std.proofs.lemmas.Bool.{and_parts, or_cases, or_parts, or_right, not-false, eqb-true, ne_eqb}
+use Rattle.std.proofs.lemmas.Bool.{and_parts, or_parts, or_right, not-false, eqb-true, ne_eqb}
 use Rattle.std.proofs.lemmas.Option.{none-some, same_Some}
 use Rattle.ada_events.specs.declared.event.Event.{Event}
 use Rattle.ada_events.specs.declared.request.Request.{Request}
 use Rattle.ada_events.specs.declared.request.Request.TheVariants as request
 use Rattle.ada_events.specs.declared.names.TaskNo.{TaskNo}
-use Rattle.ada_events.specs.declared.names.Master.{Master}
 use Rattle.ada_events.specs.declared.names.Master.TheVariants.{Body, Block}
 use Rattle.ada_events.specs.Search.{is_some_and, event_at}
-use Rattle.ada_events.specs.Says.{Creation, Opening, Start, creation_in, opening_in, start_in, started_in, held_in}
-use Rattle.ada_events.specs.Asks.{asker, asked_event}
+use Rattle.ada_events.specs.Says.{Creation, Start, creation_in, opening_in, start_in, started_in, held_in}
+use Rattle.ada_events.specs.Asks.{asked_event}
 use Rattle.ada_events.specs.Tasks.{task_count, creation_of}
 use Rattle.ada_events.specs.Phases.{lists_task, has_start, is_running}
 use Rattle.ada_events.specs.Nests.{frame}
 use Rattle.ada_events.specs.Refusals.{refusal, may_activate, has_double_task, is_not_your_task}
 use Rattle.ada_events.specs.Forced.{task_no}
 use Rattle.ada_events.specs.Lawful.{IsLawful, MayFollow}
-use Rattle.ada_laws.specs.Suspension.{IsSuspendedAt}
 use Rattle.ada_laws.proofs.Searching.{option_map_or-true, option_or-some, if_some, event_at-cases, event_at-older}
 use Rattle.ada_laws.proofs.Saying.{held_in-asked, held_in-start}
 use Rattle.ada_laws.proofs.Accepting.{is_accepted, asker_runs, running_started}

@@ -1,14 +1,13 @@
 -- What each event adds to an agenda.
-use Rattle.std.proofs.Common.{◌≡◌, ℕ, ℤ, Bool, true, false, Option, Some, None, List, ◌∷◌, refl, ◌⊎◌, inl, inr}
+use Rattle.std.proofs.Common.{ℕ, true, false, List, ◌∷◌, refl, inl, inr}
 use Rattle.ada_events.specs.declared.event.Event.{Event}
 use Rattle.ada_events.specs.declared.event.Event.TheVariants.{Opened, Created, Started, Elaborated, Called, Waiting, Paused, Ended, Closed, Completed, Aborted, Ticked, Halted, Failed, Met, Cancelled, Passed, Woken, Activated, Gone, Quit, Left}
 use Rattle.ada_events.specs.Says.{released_in, meeting_in}
 use Rattle.ada_events.specs.Lawful.{IsLawful}
 use Rattle.ada_forcing.specs.declared.row.Row.{Row}
-use Rattle.ada_forcing.specs.Rows.{step_at, IsAgenda}
 use Rattle.ada_forcing.proofs.TouchedKeys.{newly}
 use Rattle.ada_touching.specs.Kinds.{Adds}
-use Rattle.ada_touching.specs.Additions.{AddsOnly, AgendasGrow, EventsAddTheirKeys, OpeningsAddNothing, CreationsAddTheirTask, StartsAddThemselves, ElaborationsAddTheirStart, CallsAddTheWait, WaitsAddMasters, DelaysAddThemselves, ClosesAddTheirBlock, EndsAddTheCaller, FailuresAddTheCaller, CancellationsAddMasters, MeetingsAddNothing, PassingsAddNothing, WakingsAddNothing, ActivationsAddNothing, LeavingsAddNothing, CompletionsAddTheirTask, FailedActivationsAddTheirTask, HaltsAddTheirTask, AbortsAddTheirTasks, TicksAddWhatIsDue, TerminationsAddMasters, QuitsAddMasters}
+use Rattle.ada_touching.specs.Additions.{AgendasGrow, EventsAddTheirKeys, OpeningsAddNothing, CreationsAddTheirTask, StartsAddThemselves, ElaborationsAddTheirStart, CallsAddTheWait, WaitsAddMasters, DelaysAddThemselves, ClosesAddTheirBlock, EndsAddTheCaller, FailuresAddTheCaller, CancellationsAddMasters, MeetingsAddNothing, PassingsAddNothing, WakingsAddNothing, ActivationsAddNothing, LeavingsAddNothing, CompletionsAddTheirTask, FailedActivationsAddTheirTask, HaltsAddTheirTask, AbortsAddTheirTasks, TicksAddWhatIsDue, TerminationsAddMasters, QuitsAddMasters}
 use Rattle.ada_touching.proofs.Answering.{meeting_adds, end_adds, fail_adds, cancel_adds}
 use Rattle.ada_touching.proofs.Changing.{creation_adds, elaboration_adds, abort_adds}
 use Rattle.ada_touching.proofs.Completions.{completion_adds, failure_adds, halt_adds}

@@ -1,9 +1,9 @@
 -- What becomes of a call: what meetings, ends of rendezvous, failures and cancellations add.
-use Rattle.std.proofs.Common.{◌≡◌, ℕ, suc, ◌<◌, Bool, true, false, not, ◌&&◌, ◌||◌, Option, Some, None, List, [], ◌∷◌, length, sym, refl, ap, ◌∙◌, subst, ◌⊎◌, inl, inr, eqb}
+use Rattle.std.proofs.Common.{◌≡◌, ℕ, Bool, true, false, not, ◌&&◌, Option, Some, None, List, ◌∷◌, length, sym, refl, ap, ◌∙◌, subst, inl, inr, eqb}
 use Rattle.std.specs.Prelude.{◌-◌}
 use Rattle.std.specs.Option.{option_map_or}
 use Rattle.std.specs.Bool.{then_some}
-use Rattle.std.specs.List.{Contains, list_any}
+use Rattle.std.specs.List.{Contains}
 use Rattle.std.proofs.lemmas.Bool.{and_parts, or_cases, not-true, not-false, false≢true, true≢false, both_ways, eqb-true, eq-eqb}
 use Rattle.std.proofs.lemmas.Option.{none-some, same_Some, slice_get_within, get_or_from_slice_get}
 use Rattle.ada_events.specs.declared.event.Event.{Event}
@@ -16,10 +16,9 @@ use Rattle.ada_events.specs.declared.names.Member.TheVariants.{Block, Rendezvous
 use Rattle.ada_events.specs.Search.{is_number, is_some_and, event_at}
 use Rattle.ada_events.specs.Says.{Call, Wait, Opening, Meeting, call_in, wait_in, opening_in, meeting_in, released_in, held_in}
 use Rattle.ada_events.specs.Asks.{member_position, asked_event}
-use Rattle.ada_events.specs.Tasks.{task_count, moment}
 use Rattle.ada_events.specs.Masters.{depends_on}
 use Rattle.ada_events.specs.Phases.{is_released, has_ended, is_abnormal}
-use Rattle.ada_events.specs.Calls.{is_met, is_pending, is_open_at, is_queued_at, is_open_call}
+use Rattle.ada_events.specs.Calls.{is_met, is_open_at, is_queued_at, is_open_call}
 use Rattle.ada_events.specs.Nests.{is_left, is_wait_of, member_at, nest, innermost}
 use Rattle.ada_events.specs.Refusals.{refusal, is_rendezvous, is_not_in_accept}
 use Rattle.ada_events.specs.Forced.{is_to_fail, is_to_cancel, forced}
@@ -27,7 +26,7 @@ use Rattle.ada_events.specs.Termination.{is_at_open_terminate, is_ready_to_quit}
 use Rattle.ada_events.specs.Lawful.{IsLawful, MayFollow}
 use Rattle.ada_laws.specs.Calls.{IsCallAt, IsWaitAt}
 use Rattle.ada_laws.specs.Suspension.{IsSuspendedAt}
-use Rattle.ada_laws.proofs.Searching.{option_or-some, then_some-some, option_map_or-true, is_number-some}
+use Rattle.ada_laws.proofs.Searching.{option_or-some, then_some-some, option_map_or-true}
 use Rattle.ada_laws.proofs.Gathering.{gathered-found}
 use Rattle.ada_laws.proofs.Growing.{is_released-now, has_ended-before}
 use Rattle.ada_laws.proofs.Saying.{held_in-wait}
@@ -39,19 +38,18 @@ use Rattle.ada_laws.proofs.Meeting.{met_taking, taken_queued}
 use Rattle.ada_laws.proofs.Queueing.{is_open_at-call, open_call_suspends}
 use Rattle.ada_laws.proofs.Suspending.{suspended_before, suspended_once, suspended_exists}
 use Rattle.ada_forcing.specs.declared.row.Row.{Row}
-use Rattle.ada_forcing.specs.declared.row.Row.TheVariants.{Halting}
 use Rattle.ada_forcing.specs.Touching.{is_lost}
 use Rattle.ada_records.proofs.Holding.{quiet_ends}
 use Rattle.ada_records.proofs.Recording.{release_only}
-use Rattle.ada_touching.specs.Kinds.{itself, quitting_row, quitting_key, OfEnd, OfCancellation}
+use Rattle.ada_touching.specs.Kinds.{OfEnd, OfCancellation}
 use Rattle.ada_touching.specs.Kinds.OfEnd.{halts as halts_caller}
 use Rattle.ada_touching.specs.Kinds.OfCancellation.{quits as quits_with}
 use Rattle.ada_touching.proofs.Completing.{any_at}
 use Rattle.ada_touching.proofs.Readying.{IsUnqueued}
 use Rattle.ada_touching.proofs.Refining.{Key}
-use Rattle.ada_touching.proofs.Releases.{ReleaseKey, release_key, left_position, OnlyCalls, only_calls, same_event}
+use Rattle.ada_touching.proofs.Releases.{ReleaseKey, release_key, left_position, only_calls, same_event}
 use Rattle.ada_touching.proofs.Releases.ReleaseKey.{frees, empties}
-use Rattle.ada_touching.proofs.Unhalted.{unhalted, halts_free, IsJoined, free_elsewhere}
+use Rattle.ada_touching.proofs.Unhalted.{unhalted, halts_free, free_elsewhere}
 use Rattle.ada_touching.proofs.Waiting.{suspended_at, at_wait, ready_parts}
 
 call_stands : (e : Event) (before : List Event) (v : ℕ) (left : IsUnqueued e before v) → IsCallAt before left.call left.position

@@ -1,7 +1,7 @@
 -- What creations, ends of activations and aborts add.
-use Rattle.std.proofs.Common.{◌≡◌, ℕ, ℤ, suc, Bool, true, false, not, ◌&&◌, ◌||◌, Option, Some, None, List, [], ◌∷◌, length, sym, refl, ap, ◌∙◌, subst, ◌⊎◌, inl, inr, eqb}
+use Rattle.std.proofs.Common.{◌≡◌, ℕ, true, false, ◌||◌, Some, None, List, ◌∷◌, sym, refl, ap, ◌∙◌, subst, ◌⊎◌, inl, inr, eqb}
 use Rattle.std.specs.List.{list_any}
-use Rattle.std.proofs.lemmas.Bool.{or_cases, or_parts, both_ways, false≢true, true≢false, eqb-true}
+use Rattle.std.proofs.lemmas.Bool.{or_cases, or_parts, both_ways, false≢true}
 use Rattle.std.proofs.lemmas.Option.{none-some, same_Some}
 use Rattle.ada_events.specs.declared.event.Event.{Event}
 use Rattle.ada_events.specs.declared.event.Event.TheVariants as event
@@ -9,10 +9,9 @@ use Rattle.ada_events.specs.declared.names.TaskNo.{TaskNo}
 use Rattle.ada_events.specs.declared.names.Family.{Family}
 use Rattle.ada_events.specs.declared.names.Master.{Master}
 use Rattle.ada_events.specs.declared.names.Master.TheVariants.{Body, Block}
-use Rattle.ada_events.specs.Search.{is_number, is_some_and}
-use Rattle.ada_events.specs.Says.{Call, Creation, call_in, wait_in, delay_in, start_in, closing_in, released_in, completed_in, gone_in, quit_in, aborted_in, elaborated_in, creation_in, moment_in, meeting_in}
-use Rattle.ada_events.specs.Tasks.{task_count, creation_of}
-use Rattle.ada_events.specs.Masters.{depends_on}
+use Rattle.ada_events.specs.Search.{is_number}
+use Rattle.ada_events.specs.Says.{Creation, call_in, wait_in, delay_in, start_in, closing_in, released_in, completed_in, gone_in, quit_in, aborted_in, elaborated_in, creation_in, moment_in, meeting_in}
+use Rattle.ada_events.specs.Tasks.{task_count}
 use Rattle.ada_events.specs.Phases.{is_elaborated, is_terminated, has_ended, is_abnormal}
 use Rattle.ada_events.specs.Forced.{is_done_activating}
 use Rattle.ada_events.specs.Termination.{is_complete}
@@ -21,14 +20,14 @@ use Rattle.ada_forcing.specs.declared.row.Row.{Row}
 use Rattle.ada_forcing.specs.declared.row.Row.TheVariants.{Halting, Failing, Activating, Going}
 use Rattle.ada_laws.proofs.Searching.{is_number-some}
 use Rattle.ada_forcing.specs.Touching.{is_lost}
-use Rattle.ada_records.proofs.Queues.{ends, has_ended-more, meets}
+use Rattle.ada_records.proofs.Queues.{ends, has_ended-more}
 use Rattle.ada_touching.specs.Kinds.{IsActivationOf, IsOpenCallTo, IsHit, OfCreation, OfElaboration, OfAbort}
 use Rattle.ada_touching.specs.Kinds.OfCreation.{goes}
 use Rattle.ada_touching.specs.Kinds.OfElaboration.{activates}
 use Rattle.ada_touching.specs.Kinds.OfAbort.{halts, fails}
 use Rattle.ada_touching.proofs.Completing.{IsNewlyLeft, body_newly, block_newly}
 use Rattle.ada_touching.proofs.Readying.{IsOpenWait, IsUnqueued}
-use Rattle.ada_touching.proofs.Refining.{IsNewlyEnded, Key}
+use Rattle.ada_touching.proofs.Refining.{Key}
 use Rattle.ada_touching.proofs.Refining.Key.{own, made, hit, freed, lost, called, due, done, completed, abandoned, going, quits_done, quits_ended, quits_idle, leaving}
 use Rattle.ada_touching.proofs.Silent.{IsSilent, no_own}
 

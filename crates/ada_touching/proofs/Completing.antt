@@ -1,21 +1,18 @@
 -- What is newly complete or abandoned after one more event.
-use Rattle.std.proofs.Common.{◌≡◌, ℕ, suc, Bool, true, false, not, ◌&&◌, ◌||◌, Option, Some, None, List, [], ◌∷◌, length, sym, refl, ap, ◌∙◌, ◌⊎◌, inl, inr, eqb, if◌then◌else◌}
-use Rattle.std.specs.Option.{option_map_or, option_or, option_and_then}
-use Rattle.std.specs.Bool.{then_some}
+use Rattle.std.proofs.Common.{◌≡◌, ℕ, Bool, true, false, not, ◌&&◌, ◌||◌, Some, None, List, [], ◌∷◌, sym, refl, ap, ◌∙◌, ◌⊎◌, inl, inr, eqb, if◌then◌else◌}
 use Rattle.std.specs.List.{Contains, list_any}
-use Rattle.std.proofs.lemmas.Bool.{and_parts, and_from, or_cases, or_parts, or_left, or_right, not-true, not_from_false, both_ways, cases_Bool, eqb-true, eq-eqb, true≢false}
-use Rattle.std.proofs.lemmas.Option.{none-some, same_Some}
+use Rattle.std.proofs.lemmas.Bool.{and_parts, or_cases, or_parts, or_left, or_right, not-true, both_ways, cases_Bool, eqb-true, eq-eqb}
+use Rattle.std.proofs.lemmas.Option.{none-some}
 use Rattle.ada_events.specs.declared.event.Event.{Event}
 use Rattle.ada_events.specs.declared.event.Event.TheVariants as event
 use Rattle.ada_events.specs.declared.names.TaskNo.{TaskNo}
 use Rattle.ada_events.specs.declared.names.Master.TheVariants.{Body, Block}
-use Rattle.ada_events.specs.declared.names.Member.TheVariants.{Block as BlockMember, Rendezvous}
+use Rattle.ada_events.specs.declared.names.Member.TheVariants.{Block as BlockMember}
 use Rattle.ada_events.specs.Search.{is_number, is_some_and, any_event, event_at}
-use Rattle.ada_events.specs.Says.{Creation, Opening, Closing, Meeting, creation_in, opening_in, closing_in, meeting_in, opening_at, completed_in, gone_in, quit_in, aborted_in, elaborated_in, failed_in, started_in}
+use Rattle.ada_events.specs.Says.{Creation, Opening, Closing, creation_in, opening_in, closing_in, opening_at, completed_in, gone_in, quit_in, aborted_in, elaborated_in, failed_in, started_in}
 use Rattle.ada_events.specs.Tasks.{task_count, creation_of}
 use Rattle.ada_events.specs.Phases.{lists_task, has_start, is_completed, is_terminated, has_ended}
-use Rattle.ada_events.specs.Calls.{is_open_call}
-use Rattle.ada_events.specs.Nests.{is_left_close, is_left, is_wait_of, member_at, nest}
+use Rattle.ada_events.specs.Nests.{is_left_close, is_left, member_at, nest}
 use Rattle.ada_events.specs.Termination.{is_complete_block, is_complete, is_abandoned}
 use Rattle.ada_events.specs.Lawful.{IsLawful}
 use Rattle.ada_laws.proofs.Searching.{option_map_or-true, option_and_then-some, option_or-some, if_some, is_number-some, event_at-cases, any_event-found}

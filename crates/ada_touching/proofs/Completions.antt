@@ -1,5 +1,5 @@
 -- What completions and halts add.
-use Rattle.std.proofs.Common.{◌≡◌, ℕ, ℤ, suc, ◌<◌, Bool, true, false, not, ◌&&◌, ◌||◌, Option, Some, None, List, [], ◌∷◌, length, sym, refl, ap, ◌∙◌, subst, arith, ◌⊎◌, inl, inr, eqb}
+use Rattle.std.proofs.Common.{◌≡◌, ℕ, true, false, Option, Some, None, List, [], ◌∷◌, length, sym, refl, ap, ◌∙◌, subst, arith, ◌⊎◌, inl, inr, eqb}
 use Rattle.std.specs.List.{Contains}
 use Rattle.std.proofs.lemmas.Bool.{or_cases, both_ways, false≢true, true≢false, not-false, eqb-true}
 use Rattle.std.proofs.lemmas.Option.{none-some, same_Some}
@@ -10,21 +10,19 @@ use Rattle.ada_events.specs.declared.request.Request.TheVariants as request
 use Rattle.ada_events.specs.declared.names.TaskNo.{TaskNo}
 use Rattle.ada_events.specs.declared.names.Master.{Master}
 use Rattle.ada_events.specs.declared.names.Master.TheVariants.{Body, Block}
-use Rattle.ada_events.specs.declared.names.Member.{Member}
 use Rattle.ada_events.specs.declared.names.Member.TheVariants.{Block as BlockMember}
-use Rattle.ada_events.specs.Search.{is_number, is_some_and, event_at}
+use Rattle.ada_events.specs.Search.{is_number, event_at}
 use Rattle.ada_events.specs.Says.{Call, Creation, call_in, wait_in, delay_in, start_in, closing_in, opening_in, released_in, completed_in, gone_in, quit_in, aborted_in, elaborated_in, creation_in, moment_in, meeting_in}
 use Rattle.ada_events.specs.Asks.{asker, asked_event}
 use Rattle.ada_events.specs.Tasks.{creation_of}
 use Rattle.ada_events.specs.Masters.{depends_on}
-use Rattle.ada_events.specs.Phases.{has_start, is_terminated, has_ended, is_abnormal, is_running}
+use Rattle.ada_events.specs.Phases.{is_terminated, is_abnormal, is_running}
 use Rattle.ada_events.specs.Calls.{is_queued_at}
 use Rattle.ada_events.specs.Nests.{nest}
 use Rattle.ada_events.specs.Refusals.{refusal, is_still_nested}
-use Rattle.ada_events.specs.Forced.{task_no, is_done_activating}
+use Rattle.ada_events.specs.Forced.{task_no}
 use Rattle.ada_events.specs.Termination.{is_complete, is_ready_to_quit}
 use Rattle.ada_events.specs.Lawful.{IsLawful, MayFollow}
-use Rattle.ada_laws.specs.Calls.{IsCallAt}
 use Rattle.ada_laws.specs.Suspension.{IsSuspendedAt}
 use Rattle.ada_laws.proofs.Searching.{is_number-some}
 use Rattle.ada_laws.proofs.Accepting.{is_accepted, asker_runs, running_free}
@@ -36,16 +34,15 @@ use Rattle.ada_laws.proofs.Stepping.{queued_open}
 use Rattle.ada_laws.proofs.Suspending.{is_suspended-from}
 use Rattle.ada_forcing.specs.declared.row.Row.{Row}
 use Rattle.ada_forcing.specs.declared.row.Row.TheVariants.{Failing, Activating, Going, QuittingBody}
-use Rattle.ada_forcing.specs.Touching.{is_lost}
 use Rattle.ada_records.proofs.Queues.{ends}
 use Rattle.ada_touching.specs.Kinds.{quitting_row, quitting_key, IsActivationOf, IsOpenCallTo, IsHit, IsLeftBy, OfCompletion, OfHalt}
 use Rattle.ada_touching.specs.Kinds.OfCompletion.{goes, quits, fails, activates, abandons}
 use Rattle.ada_touching.specs.Kinds.OfHalt.{completes, quits_block, empties}
 use Rattle.ada_touching.proofs.Acting.{made_within}
 use Rattle.ada_touching.proofs.Changing.{IsNewlyOver, newly_lost, newly_done, newly_over}
-use Rattle.ada_touching.proofs.Completing.{IsNewlyLeft, IsBlockEnded, body_newly, block_newly}
+use Rattle.ada_touching.proofs.Completing.{IsNewlyLeft, body_newly, block_newly}
 use Rattle.ada_touching.proofs.Readying.{IsOpenWait, IsUnqueued}
-use Rattle.ada_touching.proofs.Refining.{IsNewlyEnded, Key}
+use Rattle.ada_touching.proofs.Refining.{Key}
 use Rattle.ada_touching.proofs.Refining.Key.{own, made, hit, freed, lost, called, due, done, completed, abandoned, going, quits_done, quits_ended, quits_idle, leaving}
 use Rattle.ada_touching.proofs.Releases.{same_event}
 use Rattle.ada_touching.proofs.Silent.{IsSilent, no_own}

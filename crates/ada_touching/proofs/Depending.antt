@@ -1,17 +1,16 @@
 -- What a row asks of dependents, and which masters have any.
-use Rattle.std.proofs.Common.{◌≡◌, ℕ, suc, ◌<◌, ◌≤◌, Bool, true, false, not, ◌&&◌, ◌||◌, Option, Some, None, List, [], ◌∷◌, length, sym, refl, ap, ◌∙◌, subst, arith, ◌⊎◌, inl, inr, eqb}
+use Rattle.std.proofs.Common.{◌≡◌, ℕ, ◌<◌, ◌≤◌, Bool, true, false, not, ◌&&◌, ◌||◌, List, [], ◌∷◌, sym, refl, ◌∙◌, arith, inl, inr, eqb}
 use Rattle.std.specs.List.{list_any}
-use Rattle.std.proofs.lemmas.Bool.{and_parts, and_from, or_cases, or_parts, not-true, not-false, both_ways, true≢false, false≢true, cases_Bool, eqb-true, ltb-true}
-use Rattle.std.proofs.lemmas.Option.{none-some}
+use Rattle.std.proofs.lemmas.Bool.{and_parts, or_cases, or_parts, not-true, not-false, both_ways, true≢false, false≢true, ltb-true}
 use Rattle.ada_events.specs.declared.event.Event.{Event}
 use Rattle.ada_events.specs.declared.names.TaskNo.{TaskNo}
 use Rattle.ada_events.specs.declared.names.Master.{Master}
-use Rattle.ada_events.specs.declared.names.Master.TheVariants.{Body, Block}
-use Rattle.ada_events.specs.Search.{all_below, is_number, event_at}
-use Rattle.ada_events.specs.Says.{Creation, creation_in, gone_in, quit_in, aborted_in, held_in}
+use Rattle.ada_events.specs.declared.names.Master.TheVariants.{Body}
+use Rattle.ada_events.specs.Search.{all_below}
+use Rattle.ada_events.specs.Says.{aborted_in}
 use Rattle.ada_events.specs.Tasks.{task_count, has_task}
-use Rattle.ada_events.specs.Masters.{reaches, depends_on}
-use Rattle.ada_events.specs.Phases.{is_terminated, is_abnormal, has_ended}
+use Rattle.ada_events.specs.Masters.{depends_on}
+use Rattle.ada_events.specs.Phases.{is_terminated, is_abnormal}
 use Rattle.ada_events.specs.Nests.{frame}
 use Rattle.ada_events.specs.Termination.{all_terminated, is_complete, is_ready_to_quit}
 use Rattle.ada_events.specs.Forced.{is_to_quit}
@@ -20,7 +19,7 @@ use Rattle.ada_laws.specs.Masters.{IsKnown}
 use Rattle.ada_laws.proofs.Searching.{all_below-fails, all_below-holds}
 use Rattle.ada_laws.proofs.Growing.{task_count-more}
 use Rattle.ada_laws.proofs.Reaching.{creation_asked, frame_known, reaches_known}
-use Rattle.ada_laws.proofs.Depending.{IsMadeUnder, depends_on-cases, depends_reaches, depends_exists}
+use Rattle.ada_laws.proofs.Depending.{depends_on-cases, depends_reaches, depends_exists}
 
 -- a live dependent of a master
 pub record IsLiveDependent (journal : List Event) (m : Master) : Type 0 where

@@ -1,6 +1,6 @@
 -- What openings, starts, calls, waits, delays, closes and ticks add.
-use Rattle.std.proofs.Common.{◌≡◌, ℕ, ℤ, suc, Bool, true, false, Option, Some, None, List, [], ◌∷◌, length, sym, refl, ap, ◌∙◌, subst, ◌⊎◌, inl, inr}
-use Rattle.std.proofs.lemmas.Bool.{both_ways, false≢true}
+use Rattle.std.proofs.Common.{◌≡◌, ℕ, ℤ, true, Option, None, List, ◌∷◌, sym, refl, ap, ◌∙◌, subst, inl, inr}
+use Rattle.std.proofs.lemmas.Bool.{false≢true}
 use Rattle.std.proofs.lemmas.Option.{none-some, same_Some}
 use Rattle.ada_events.specs.declared.event.Event.{Event}
 use Rattle.ada_events.specs.declared.event.Event.TheVariants as event
@@ -17,9 +17,9 @@ use Rattle.ada_events.specs.Termination.{is_open_terminate}
 use Rattle.ada_events.specs.Lawful.{IsLawful}
 use Rattle.ada_laws.specs.Suspension.{IsSuspendedAt}
 use Rattle.ada_forcing.specs.declared.row.Row.{Row}
-use Rattle.ada_forcing.specs.declared.row.Row.TheVariants.{Halting, Failing, Taking, Cancelling, Passing, Waking, Activating, Going, QuittingBody, QuittingBlock, Leaving}
+use Rattle.ada_forcing.specs.declared.row.Row.TheVariants.{Halting, Failing, Taking, Cancelling, Passing, Waking, Activating, QuittingBlock, Leaving}
 use Rattle.ada_records.proofs.Holding.{IsQuiet, quiet_ends}
-use Rattle.ada_touching.specs.Kinds.{itself, quitting_row, quitting_key, IsLeftIn, ComesDue, OfStart, OfCall, OfWait, OfDelay, OfClose, OfTick, Nowhere, Adds}
+use Rattle.ada_touching.specs.Kinds.{itself, IsLeftIn, ComesDue, OfStart, OfCall, OfWait, OfDelay, OfClose, OfTick}
 use Rattle.ada_touching.specs.Kinds.OfStart.{is_over}
 use Rattle.ada_touching.specs.Kinds.OfCall.{fails, is_cancelled, is_taken}
 use Rattle.ada_touching.specs.Kinds.OfWait.{takes, passes, quits}
@@ -27,7 +27,7 @@ use Rattle.ada_touching.specs.Kinds.OfDelay.{wakes}
 use Rattle.ada_touching.specs.Kinds.OfClose.{leaves, quits as quits_itself, abandons}
 use Rattle.ada_touching.specs.Kinds.OfTick.{comes_due}
 use Rattle.ada_touching.proofs.Completing.{IsClosed}
-use Rattle.ada_touching.proofs.Readying.{IsOpenWait, IsUnqueued}
+use Rattle.ada_touching.proofs.Readying.{IsUnqueued}
 use Rattle.ada_touching.proofs.Refining.{says_row, Key}
 use Rattle.ada_touching.proofs.Quietly.{QuietKey, quietly}
 use Rattle.ada_touching.proofs.Quietly.QuietKey.{at_own, frees_caller, calls_waiting, brings_moment, closes_around, closes_block, waits_open, empties_queue}

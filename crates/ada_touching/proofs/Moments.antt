@@ -1,9 +1,9 @@
 -- What newly happens by the moment.
-use Rattle.std.proofs.Common.{◌≡◌, ℕ, ℤ, suc, Bool, true, false, not, ◌&&◌, ◌||◌, Option, Some, None, List, [], ◌∷◌, length, sym, refl, ap, ◌∙◌, ◌⊎◌, inl, inr}
+use Rattle.std.proofs.Common.{◌≡◌, ℕ, ℤ, Bool, true, false, ◌&&◌, ◌||◌, Option, Some, None, List, ◌∷◌, sym, refl, ap, ◌∙◌, ◌⊎◌, inl, inr}
 use Rattle.std.specs.Prelude.{int_le}
-use Rattle.std.specs.Option.{option_map, option_map_or, option_and_then, unwrap_or}
+use Rattle.std.specs.Option.{option_map, option_and_then}
 use Rattle.std.specs.Bool.{then_some}
-use Rattle.std.proofs.lemmas.Bool.{and_parts, and_from, or_cases, or_parts, cases_Bool, false≢true, true≢false}
+use Rattle.std.proofs.lemmas.Bool.{and_parts, or_cases, cases_Bool, false≢true}
 use Rattle.std.proofs.lemmas.Option.{none-some, same_Some, option_and_then_some}
 use Rattle.ada_events.specs.declared.event.Event.{Event}
 use Rattle.ada_events.specs.declared.event.Event.TheVariants as event
@@ -14,18 +14,16 @@ use Rattle.ada_events.specs.declared.event.Way.{Way}
 use Rattle.ada_events.specs.declared.event.Way.TheVariants.{Delay as ByDelay}
 use Rattle.ada_events.specs.declared.names.Choice.{Choice}
 use Rattle.ada_events.specs.Search.{is_some_and, event_at}
-use Rattle.ada_events.specs.Says.{Call, Wait, Delay, call_in, wait_in, delay_in, start_in, closing_in, opening_in, moment_in, held_in}
+use Rattle.ada_events.specs.Says.{Call, Wait, Delay, call_in, wait_in, delay_in, moment_in}
 use Rattle.ada_events.specs.Tasks.{moment}
-use Rattle.ada_events.specs.Phases.{has_ended, is_released}
 use Rattle.ada_events.specs.Calls.{is_pending, is_open_at, is_queued_at}
-use Rattle.ada_events.specs.Waits.{has_open_delay, is_due, least_due, taken_delay, without_choice, way_of}
+use Rattle.ada_events.specs.Waits.{has_open_delay, is_due, least_due, taken_delay, way_of}
 use Rattle.ada_events.specs.Forced.{is_conditional, is_to_cancel, passed_at, is_to_wake}
-use Rattle.ada_laws.proofs.Searching.{then_some-some, if_some, option_map-some, option_map_or-true, event_at-cases}
+use Rattle.ada_laws.proofs.Searching.{then_some-some, if_some, option_map-some, option_map_or-true}
 use Rattle.ada_laws.proofs.Saying.{held_in-call, held_in-wait, held_in-delay}
 use Rattle.ada_laws.proofs.Stepping.{queued_open}
 use Rattle.ada_forcing.proofs.TakingNewly.{pending_before}
 use Rattle.ada_forcing.proofs.TouchedKeys.{queued_before}
-use Rattle.ada_forcing.specs.Rows.{at_event, step_at}
 use Rattle.ada_forcing.specs.declared.row.Row.{Row}
 use Rattle.ada_forcing.specs.declared.row.Row.TheVariants.{Cancelling, Passing, Waking}
 use Rattle.ada_touching.specs.Kinds.{tail_due, due_in, due_row, ComesDue}

@@ -1,17 +1,14 @@
 -- What an event touches that ends, aborts and makes nobody.
-use Rattle.std.proofs.Common.{◌≡◌, ℕ, ℤ, suc, Bool, true, false, not, ◌&&◌, ◌||◌, Option, Some, None, List, [], ◌∷◌, length, sym, refl, ap, ◌∙◌, ◌⊎◌, inl, inr}
-use Rattle.std.proofs.lemmas.Bool.{both_ways, false≢true}
+use Rattle.std.proofs.Common.{◌≡◌, ℕ, ℤ, true, false, Some, List, ◌∷◌, sym, refl, ◌∙◌, ◌⊎◌, inl, inr}
+use Rattle.std.proofs.lemmas.Bool.{both_ways}
 use Rattle.std.proofs.lemmas.Option.{none-some}
 use Rattle.ada_events.specs.declared.event.Event.{Event}
-use Rattle.ada_events.specs.declared.event.Event.TheVariants as event
-use Rattle.ada_events.specs.declared.names.TaskNo.{TaskNo}
 use Rattle.ada_events.specs.declared.names.Master.{Master}
 use Rattle.ada_events.specs.declared.names.Master.TheVariants.{Body, Block}
-use Rattle.ada_events.specs.Says.{Call, Creation, Wait, call_in, wait_in, closing_in, released_in, completed_in, moment_in, creation_in, meeting_in}
+use Rattle.ada_events.specs.Says.{Call, Creation, call_in, released_in, moment_in}
 use Rattle.ada_events.specs.Tasks.{creation_of}
 use Rattle.ada_events.specs.Masters.{depends_on}
 use Rattle.ada_events.specs.Phases.{has_start, is_terminated, has_ended, is_abnormal}
-use Rattle.ada_events.specs.Search.{is_number}
 use Rattle.ada_events.specs.Forced.{is_done_activating}
 use Rattle.ada_events.specs.Termination.{is_complete, is_ready_to_quit}
 use Rattle.ada_events.specs.Lawful.{IsLawful}
@@ -20,8 +17,7 @@ use Rattle.ada_laws.specs.Suspension.{IsSuspendedAt}
 use Rattle.ada_forcing.specs.declared.row.Row.{Row}
 use Rattle.ada_forcing.specs.declared.row.Row.TheVariants.{Halting, Taking, Going, QuittingBlock}
 use Rattle.ada_forcing.specs.Touching.{is_lost}
-use Rattle.ada_records.proofs.Holding.{IsQuiet, quiet_ends, quiet_ended}
-use Rattle.ada_records.proofs.Queues.{ends, meets}
+use Rattle.ada_records.proofs.Holding.{IsQuiet, quiet_ended}
 use Rattle.ada_records.proofs.Calling.{same_terminated, same_abnormal, not_done}
 use Rattle.ada_touching.specs.Kinds.{itself, quitting_row, quitting_key, IsLeftIn, ComesDue}
 use Rattle.ada_touching.proofs.Completing.{IsNewlyLeft, IsClosed, body_newly, block_newly}

@@ -1,27 +1,23 @@
 -- What the termination of all that depend on a master adds.
-use Rattle.std.proofs.Common.{◌≡◌, ℕ, ℤ, suc, ◌<◌, Bool, true, false, not, ◌&&◌, ◌||◌, Option, Some, None, List, [], ◌∷◌, length, sym, refl, ap, ◌∙◌, subst, arith, ◌⊎◌, inl, inr, eqb}
-use Rattle.std.specs.List.{list_any}
-use Rattle.std.proofs.lemmas.Bool.{or_parts, or_right, both_ways, false≢true, true≢false, eqb-true}
+use Rattle.std.proofs.Common.{◌≡◌, ℕ, true, false, Some, List, [], ◌∷◌, sym, refl, ap, ◌∙◌, subst, inl, inr}
+use Rattle.std.proofs.lemmas.Bool.{or_parts, or_right, both_ways}
 use Rattle.std.proofs.lemmas.Option.{none-some, same_Some}
 use Rattle.ada_events.specs.declared.event.Event.{Event}
 use Rattle.ada_events.specs.declared.event.Event.TheVariants as event
 use Rattle.ada_events.specs.declared.names.TaskNo.{TaskNo}
 use Rattle.ada_events.specs.declared.names.Master.{Master}
 use Rattle.ada_events.specs.declared.names.Master.TheVariants.{Body, Block}
-use Rattle.ada_events.specs.Search.{is_number, is_some_and, event_at}
-use Rattle.ada_events.specs.Says.{Call, Creation, Opening, Closing, opening_at, call_in, wait_in, delay_in, start_in, closing_in, opening_in, released_in, completed_in, gone_in, quit_in, aborted_in, elaborated_in, creation_in, moment_in, meeting_in}
-use Rattle.ada_events.specs.Tasks.{creation_of}
+use Rattle.ada_events.specs.Search.{event_at}
+use Rattle.ada_events.specs.Says.{Call, call_in, wait_in, delay_in, start_in, closing_in, opening_in, released_in, completed_in, gone_in, quit_in, aborted_in, elaborated_in, creation_in, moment_in, meeting_in}
 use Rattle.ada_events.specs.Masters.{same_master, parent_in, reaches, depends_on}
-use Rattle.ada_events.specs.Phases.{has_start, is_completed, is_terminated, has_ended, is_abnormal}
-use Rattle.ada_events.specs.Forced.{task_no, is_to_go, is_to_quit}
+use Rattle.ada_events.specs.Phases.{is_completed, is_terminated, has_ended}
+use Rattle.ada_events.specs.Forced.{task_no, is_to_quit}
 use Rattle.ada_events.specs.Nests.{frame}
-use Rattle.ada_events.specs.Termination.{is_complete_block, is_complete, is_abandoned, is_ready_to_quit}
 use Rattle.ada_events.specs.Lawful.{IsLawful}
 use Rattle.ada_laws.specs.Calls.{IsCallAt}
 use Rattle.ada_laws.specs.Suspension.{IsSuspendedAt}
-use Rattle.ada_laws.proofs.Searching.{is_number-some, event_at-cases}
+use Rattle.ada_laws.proofs.Searching.{event_at-cases}
 use Rattle.ada_laws.proofs.Growing.{is_terminated-quit}
-use Rattle.ada_laws.proofs.Accepting.{running_live}
 use Rattle.ada_laws.proofs.Framing.{IsBlockOf, frame_is}
 use Rattle.ada_laws.proofs.Reaching.{reaches-same, reaches_up, reaches_trans, parent_in-opened, opening_asked}
 use Rattle.ada_laws.proofs.Depending.{depends_on-cases, depends_reaches, depends_exists, depends_trans, reaches_from_body}
@@ -29,22 +25,17 @@ use Rattle.ada_laws.proofs.DependentLaws.{IsEnd, is_terminated-cases}
 use Rattle.ada_laws.proofs.DependentLaws.IsEnd.{alone, together, earlier}
 use Rattle.ada_laws.proofs.Suspending.{suspended_once}
 use Rattle.ada_forcing.specs.declared.row.Row.{Row}
-use Rattle.ada_forcing.specs.declared.row.Row.TheVariants.{Failing, Activating, Going, QuittingBody, QuittingBlock, Leaving}
-use Rattle.ada_records.proofs.Queues.{ends, has_ended-more}
-use Rattle.ada_touching.specs.Kinds.{quitting_row, quitting_key, IsActivationOf, IsOpenCallTo, IsLeaving, IsHit, IsLeftBy, OfEnding, OfQuit}
-use Rattle.ada_touching.specs.Kinds.OfEnding.{fails, activates, goes, quits, leaves}
+use Rattle.ada_records.proofs.Queues.{ends}
+use Rattle.ada_touching.specs.Kinds.{IsLeftBy, OfQuit}
 use Rattle.ada_touching.specs.Kinds.OfQuit.{ends as ends_each, abandons}
-use Rattle.ada_touching.proofs.Acting.{IsNamed, opener_named, held_named, made_within}
-use Rattle.ada_touching.proofs.Changing.{IsNewlyOver, newly_lost, newly_done, newly_over}
-use Rattle.ada_touching.proofs.Completing.{IsNewlyLeft, IsBlockEnded, body_newly, block_newly}
-use Rattle.ada_touching.proofs.Completions.{same_task, one_owner, no_body, queued_suspends}
-use Rattle.ada_touching.proofs.Depending.{IsLiveDependent, quits_live, quits_ready}
-use Rattle.ada_touching.proofs.Readying.{IsOpenWait, IsUnqueued}
-use Rattle.ada_touching.proofs.Refining.{IsNewlyEnded, Key}
-use Rattle.ada_touching.proofs.Refining.Key.{own, made, hit, freed, lost, called, due, done, completed, abandoned, going, quits_done, quits_ended, quits_idle, leaving}
+use Rattle.ada_touching.proofs.Acting.{made_within}
+use Rattle.ada_touching.proofs.Changing.{IsNewlyOver, newly_over}
+use Rattle.ada_touching.proofs.Completing.{IsNewlyLeft, IsBlockEnded}
+use Rattle.ada_touching.proofs.Completions.{one_owner, no_body}
+use Rattle.ada_touching.proofs.Depending.{quits_live, quits_ready}
+use Rattle.ada_touching.proofs.Refining.{Key}
 use Rattle.ada_touching.proofs.Releases.{only_calls, same_event}
-use Rattle.ada_touching.proofs.Silent.{IsSilent, no_own}
-use Rattle.ada_touching.proofs.Unstarted.{gone_goes, quit_quits, goes_how, abandoned_unnamed, goes_unnamed}
+use Rattle.ada_touching.proofs.Unstarted.{quit_quits}
 use Rattle.ada_touching.proofs.Waiting.{at_wait, ready_parts}
 use Rattle.ada_touching.proofs.Endings.{OnlyEnds, IsEndOf, EndKey, end_key}
 use Rattle.ada_touching.proofs.Endings.EndKey.{each, leaves_alone, ends_owner, leaves_around, ends_caller}

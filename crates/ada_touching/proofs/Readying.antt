@@ -1,7 +1,6 @@
 -- When a task is newly ready to quit: it waits, or a call leaves its queues.
-use Rattle.std.proofs.Common.{◌≡◌, ℕ, suc, Bool, true, false, not, ◌&&◌, ◌||◌, Option, Some, None, List, ◌∷◌, length, sym, refl, ap, ◌∙◌, ◌⊎◌, inl, inr, eqb}
-use Rattle.std.specs.Option.{option_map_or}
-use Rattle.std.proofs.lemmas.Bool.{and_parts, and_from, and_cases, or_cases, not-true, not-false, not_from_false, true≢false, false≢true, both_ways, cases_Bool, eqb-true}
+use Rattle.std.proofs.Common.{◌≡◌, ℕ, suc, Bool, true, false, not, ◌&&◌, Option, Some, List, ◌∷◌, length, sym, refl, ap, ◌∙◌, ◌⊎◌, inl, inr, eqb}
+use Rattle.std.proofs.lemmas.Bool.{and_parts, and_from, or_cases, not-true, not-false, not_from_false, true≢false, false≢true, both_ways, cases_Bool, eqb-true}
 use Rattle.ada_events.specs.declared.event.Event.{Event}
 use Rattle.ada_events.specs.Search.{is_number, is_some_and, any_event, event_at}
 use Rattle.ada_events.specs.Says.{Call, Wait, call_in, wait_in, released_in}
@@ -92,7 +91,7 @@ emptied event before task waits was now =
       to = eqb-true c.callee task to;
       queued = both.1;
       why = three_ways (is_number p (released_in event)) (ends event before c.by) (meets event p)
-      (second_false (is_queued_at before p e) _ both.1 (sym more ∙ left));
+          (second_false (is_queued_at before p e) _ both.1 (sym more ∙ left));
       waits = waits;
     }
 

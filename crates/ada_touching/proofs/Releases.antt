@@ -1,62 +1,33 @@
 -- What ends of rendezvous, failures, cancellations and the other releases add.
-use Rattle.std.proofs.Common.{◌≡◌, ℕ, ℤ, suc, Bool, true, false, not, ◌&&◌, ◌||◌, Option, Some, None, List, [], ◌∷◌, length, sym, refl, ap, ◌∙◌, subst, ◌⊎◌, inl, inr, eqb}
-use Rattle.std.specs.Prelude.{◌-◌}
-use Rattle.std.specs.Option.{option_map_or}
-use Rattle.std.specs.Bool.{then_some}
-use Rattle.std.specs.List.{Contains}
-use Rattle.std.proofs.lemmas.Bool.{and_parts, or_cases, not-true, not-false, false≢true, true≢false, both_ways, eqb-true, eq-eqb}
-use Rattle.std.proofs.lemmas.Option.{none-some, same_Some, slice_get_within, get_or_from_slice_get}
+use Rattle.std.proofs.Common.{◌≡◌, ℕ, Bool, true, false, Some, None, List, ◌∷◌, sym, refl, ap, ◌∙◌, subst, inl, inr}
+use Rattle.std.proofs.lemmas.Bool.{false≢true, true≢false}
+use Rattle.std.proofs.lemmas.Option.{none-some, same_Some}
 use Rattle.ada_events.specs.declared.event.Event.{Event}
 use Rattle.ada_events.specs.declared.event.Event.TheVariants as event
-use Rattle.ada_events.specs.declared.event.Way.{Way}
 use Rattle.ada_events.specs.declared.request.Request.{Request}
 use Rattle.ada_events.specs.declared.request.Request.TheVariants as request
-use Rattle.ada_events.specs.declared.names.TaskNo.{TaskNo}
 use Rattle.ada_events.specs.declared.names.Master.{Master}
-use Rattle.ada_events.specs.declared.names.Member.{Member}
-use Rattle.ada_events.specs.declared.names.Member.TheVariants.{Block, Rendezvous}
-use Rattle.ada_events.specs.Search.{is_number, is_some_and, event_at}
-use Rattle.ada_events.specs.Says.{Call, Wait, Delay, Start, Closing, Opening, Meeting, call_in, wait_in, delay_in, start_in, closing_in, opening_in, released_in, completed_in, gone_in, quit_in, aborted_in, elaborated_in, failed_in, creation_in, moment_in, meeting_in, held_in}
-use Rattle.ada_events.specs.Asks.{member_position, asked_event}
-use Rattle.ada_events.specs.Tasks.{task_count, moment}
+use Rattle.ada_events.specs.Search.{event_at}
+use Rattle.ada_events.specs.Says.{Call, call_in, wait_in, delay_in, start_in, closing_in, released_in, moment_in, meeting_in}
+use Rattle.ada_events.specs.Asks.{asked_event}
 use Rattle.ada_events.specs.Masters.{depends_on}
-use Rattle.ada_events.specs.Phases.{is_released, has_ended, is_abnormal}
-use Rattle.ada_events.specs.Calls.{is_met, is_pending, is_open_at, is_queued_at, is_open_call}
-use Rattle.ada_events.specs.Nests.{is_left, is_wait_of, member_at, nest, innermost}
-use Rattle.ada_events.specs.Refusals.{refusal, is_rendezvous, is_not_in_accept}
-use Rattle.ada_events.specs.Waits.{is_due}
-use Rattle.ada_events.specs.Forced.{is_conditional, is_to_fail, is_to_cancel, forced}
+use Rattle.ada_events.specs.Phases.{is_abnormal}
 use Rattle.ada_events.specs.Termination.{is_ready_to_quit}
 use Rattle.ada_events.specs.Lawful.{IsLawful, MayFollow}
-use Rattle.ada_laws.specs.Calls.{IsCallAt, IsWaitAt}
-use Rattle.ada_laws.specs.Suspension.{IsSuspendedAt}
-use Rattle.ada_laws.proofs.Searching.{option_or-some, then_some-some, option_map_or-true, is_number-some}
-use Rattle.ada_laws.proofs.Gathering.{gathered-found}
-use Rattle.ada_laws.proofs.Growing.{is_released-now, has_ended-before}
-use Rattle.ada_laws.proofs.Accepting.{is_accepted}
-use Rattle.ada_laws.proofs.Stepping.{pending_parts, queued_open, forced-step}
+use Rattle.ada_laws.specs.Calls.{IsCallAt}
+use Rattle.ada_laws.proofs.Searching.{is_number-some}
 use Rattle.ada_laws.proofs.Rows.{IsRow, forced-row}
 use Rattle.ada_laws.proofs.Rows.IsRow.{halts, fails, meets, cancels, passes, wakes, activates, goes, quits, leaves}
-use Rattle.ada_laws.proofs.Meeting.{IsTaking, met_taking, taken_queued}
-use Rattle.ada_laws.proofs.Queueing.{is_open_at-call, open_call_suspends}
-use Rattle.ada_laws.proofs.Suspending.{suspended_before, suspended_once, suspended_exists}
 use Rattle.ada_forcing.specs.declared.row.Row.{Row}
 use Rattle.ada_forcing.specs.declared.row.Row.TheVariants.{Halting}
-use Rattle.ada_forcing.specs.Touching.{is_lost}
-use Rattle.ada_records.proofs.Holding.{IsQuiet, quiet_ends}
-use Rattle.ada_records.proofs.Queues.{meets as meets_at}
+use Rattle.ada_records.proofs.Holding.{quiet_ends}
 use Rattle.ada_records.proofs.Recording.{release_only}
-use Rattle.ada_touching.specs.Kinds.{itself, quitting_row, quitting_key, OfEnd, OfCancellation}
-use Rattle.ada_touching.specs.Kinds.OfEnd.{halts as halts_caller}
-use Rattle.ada_touching.specs.Kinds.OfCancellation.{quits as quits_with}
-use Rattle.ada_touching.proofs.Completing.{any_at, IsClosed}
-use Rattle.ada_touching.proofs.Readying.{IsOpenWait, IsUnqueued}
-use Rattle.ada_touching.proofs.Refining.{says_row, Key}
+use Rattle.ada_touching.specs.Kinds.{quitting_row, quitting_key}
+use Rattle.ada_touching.proofs.Readying.{IsUnqueued}
+use Rattle.ada_touching.proofs.Refining.{Key}
 use Rattle.ada_touching.proofs.Quietly.{QuietKey, quietly}
 use Rattle.ada_touching.proofs.Quietly.QuietKey.{at_own, frees_caller, calls_waiting, brings_moment, closes_around, closes_block, waits_open, empties_queue}
 use Rattle.ada_touching.proofs.Silent.{IsSilent, no_own}
-use Rattle.ada_touching.proofs.Unhalted.{is_halt, unhalted, halts_free, IsJoined, free_elsewhere}
-use Rattle.ada_touching.proofs.Waiting.{suspended_at, at_wait, ready_parts}
 
 -- what a release touches: the caller of a call, and the masters of a task whose queue is emptied
 pub data ReleaseKey (event : Event) (before : List Event) (position : ℕ) : Row → ℕ → Type 0 where

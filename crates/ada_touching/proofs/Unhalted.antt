@@ -1,13 +1,13 @@
 -- Where a step other than a halt is forced, no task is to be halted.
-use Rattle.std.proofs.Common.{◌≡◌, ℕ, zero, suc, ◌<◌, Bool, true, false, not, ◌&&◌, Option, Some, None, List, [], ◌∷◌, sym, refl, ap, ◌∙◌, arith, inl, inr, eqb}
+use Rattle.std.proofs.Common.{◌≡◌, ℕ, zero, suc, ◌<◌, Bool, true, false, ◌&&◌, Option, Some, None, List, sym, refl, ap, ◌∙◌, arith, inl, inr, eqb}
 use Rattle.std.specs.Option.{option_or}
 use Rattle.std.specs.Bool.{then_some}
-use Rattle.std.proofs.lemmas.Bool.{and_parts, not-true, cases_Bool, cases_eq, eqb-true, false≢true, true≢false}
+use Rattle.std.proofs.lemmas.Bool.{and_parts, cases_Bool, cases_eq, eqb-true, true≢false}
 use Rattle.std.proofs.lemmas.Option.{none-some, same_Some}
 use Rattle.ada_events.specs.declared.event.Event.{Event}
 use Rattle.ada_events.specs.declared.event.Event.TheVariants.{Halted}
-use Rattle.ada_events.specs.Search.{is_some_and, any_event, event_at, first_below}
-use Rattle.ada_events.specs.Says.{Call, Wait, call_in, wait_in}
+use Rattle.ada_events.specs.Search.{is_some_and, first_below}
+use Rattle.ada_events.specs.Says.{Call, call_in}
 use Rattle.ada_events.specs.Tasks.{task_count}
 use Rattle.ada_events.specs.Phases.{has_ended, is_abnormal}
 use Rattle.ada_events.specs.Calls.{is_met, is_open_at, is_joined_at, is_caller_in_rendezvous}
@@ -17,7 +17,7 @@ use Rattle.ada_laws.specs.Calls.{IsCallAt}
 use Rattle.ada_laws.specs.Suspension.{IsSuspendedAt}
 use Rattle.ada_laws.proofs.Searching.{option_or-none, then_some-some, option_map_or-true, any_event-found, first_below-found}
 use Rattle.ada_laws.proofs.Queueing.{is_open_at-call, open_call_suspends}
-use Rattle.ada_laws.proofs.Suspending.{suspended_once, suspended_exists}
+use Rattle.ada_laws.proofs.Suspending.{suspended_once}
 
 abbrev pub is_halt : Event → Bool
 is_halt (Halted task) = true

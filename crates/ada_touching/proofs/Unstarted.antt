@@ -1,15 +1,12 @@
 -- Tasks that terminate by themselves: completed before, or abandoned and never started.
-use Rattle.std.proofs.Common.{◌≡◌, ℕ, suc, ◌<◌, Bool, true, false, not, ◌&&◌, ◌||◌, Option, Some, None, List, [], ◌∷◌, sym, refl, ap, ◌∙◌, subst, arith, ◌⊎◌, inl, inr}
-use Rattle.std.specs.Option.{option_map_or}
-use Rattle.std.proofs.lemmas.Bool.{and_parts, or_cases, or_parts, not-true, both_ways, true≢false}
+use Rattle.std.proofs.Common.{◌≡◌, ℕ, ◌<◌, true, false, not, ◌&&◌, ◌||◌, Some, None, List, sym, refl, ap, ◌∙◌, subst, arith, ◌⊎◌, inl, inr}
+use Rattle.std.proofs.lemmas.Bool.{and_parts, or_cases, not-true, both_ways, true≢false}
 use Rattle.std.proofs.lemmas.Option.{none-some, same_Some}
 use Rattle.ada_events.specs.declared.event.Event.{Event}
-use Rattle.ada_events.specs.declared.event.Event.TheVariants as event
 use Rattle.ada_events.specs.declared.request.Request.{Request}
 use Rattle.ada_events.specs.declared.request.Request.TheVariants as request
-use Rattle.ada_events.specs.declared.names.TaskNo.{TaskNo}
 use Rattle.ada_events.specs.declared.names.Master.{Master}
-use Rattle.ada_events.specs.declared.names.Master.TheVariants.{Body, Block}
+use Rattle.ada_events.specs.declared.names.Master.TheVariants.{Body}
 use Rattle.ada_events.specs.Search.{is_some_and}
 use Rattle.ada_events.specs.Says.{Creation, gone_in, quit_in}
 use Rattle.ada_events.specs.Asks.{asked_event}
@@ -17,7 +14,7 @@ use Rattle.ada_events.specs.Tasks.{creation_of}
 use Rattle.ada_events.specs.Phases.{has_start, is_completed, is_terminated, has_ended}
 use Rattle.ada_events.specs.Forced.{is_to_go, is_to_quit}
 use Rattle.ada_events.specs.Termination.{all_terminated, is_complete, is_abandoned}
-use Rattle.ada_events.specs.Lawful.{IsLawful, MayFollow}
+use Rattle.ada_events.specs.Lawful.{MayFollow}
 use Rattle.ada_laws.proofs.Searching.{option_map_or-true}
 use Rattle.ada_laws.proofs.Growing.{has_ended-completed}
 use Rattle.ada_laws.proofs.Rows.{IsRow, forced-row}

@@ -1,16 +1,15 @@
 -- What a task is suspended at, by what is pending, open or ready.
-use Rattle.std.proofs.Common.{◌≡◌, ℕ, ◌<◌, Bool, true, false, not, ◌&&◌, Option, Some, None, List, ◌∷◌, sym, refl, ap, ◌∙◌, eqb}
+use Rattle.std.proofs.Common.{◌≡◌, ℕ, true, false, not, ◌&&◌, Some, List, ◌∷◌, ap, ◌∙◌, eqb}
 use Rattle.std.proofs.lemmas.Bool.{and_parts, not-true, eqb-true}
 use Rattle.ada_events.specs.declared.event.Event.{Event}
-use Rattle.ada_events.specs.Search.{is_some_and, any_event, event_at}
-use Rattle.ada_events.specs.Says.{Call, Wait, call_in, wait_in, held_in}
+use Rattle.ada_events.specs.Search.{is_some_and, event_at}
+use Rattle.ada_events.specs.Says.{Wait, wait_in, held_in}
 use Rattle.ada_events.specs.Phases.{has_ended, is_released}
 use Rattle.ada_events.specs.Calls.{is_pending}
 use Rattle.ada_events.specs.Termination.{is_open_terminate, has_empty_queues, is_at_open_terminate, is_ready_to_quit}
 use Rattle.ada_laws.specs.Suspension.{IsSuspendedAt}
-use Rattle.ada_laws.specs.Calls.{IsCallAt}
 use Rattle.ada_laws.proofs.Searching.{option_map_or-true, any_event-found}
-use Rattle.ada_laws.proofs.Saying.{held_in-wait, held_in-call}
+use Rattle.ada_laws.proofs.Saying.{held_in-wait}
 use Rattle.ada_laws.proofs.Stepping.{pending_parts}
 use Rattle.ada_forcing.proofs.TakingNewly.{pending_before}
 
