@@ -35,12 +35,13 @@ use Rattle.ada_forcing.specs.Touching.Touches.{newest, task_made, aborts, frees,
 use Rattle.ada_forcing.specs.Touching.MayQuit.{complete, idle, made as newly_made}
 use Rattle.ada_forcing.proofs.Keys.{of_found}
 use Rattle.ada_forcing.proofs.TouchedKeys.{open_before}
-use Rattle.ada_touching.specs.Kinds.{itself, quitting_row, quitting_key, IsActivationOf, IsOpenCallTo, IsLeaving, ComesDue, IsHit}
+use Rattle.ada_touching.specs.Kinds.{itself, quitting_row, quitting_key, IsActivationOf, IsOpenCallTo, IsLeaving, ComesDue, IsHit, IsCloseAt}
 use Rattle.ada_touching.proofs.Acting.{starters_made}
 use Rattle.ada_touching.proofs.Completing.{IsNewlyLeft, abandoned_newly}
 use Rattle.ada_touching.proofs.Depending.{quits_live, depended_known}
 use Rattle.ada_touching.proofs.Moments.{IsGivenOrDue, call_due, wait_due, delay_due}
 use Rattle.ada_touching.proofs.Newcomers.{new_abnormal, new_dependent}
+use Rattle.ada_touching.proofs.Places.{open_place, closer_within}
 use Rattle.ada_touching.proofs.Readying.{IsOpenWait, IsUnqueued, readied}
 use Rattle.ada_touching.proofs.Waiting.{suspended_since}
 
@@ -184,13 +185,14 @@ halts_abnormal event step before u gives =
     (three_parts (is_abnormal (event ∷ before) u) (has_ended (event ∷ before) u) (is_caller_in_rendezvous (event ∷ before) u) (then_some-some (is_to_halt (event ∷ before) u) (Halted (task_no u)) step gives).0).0
 
 -- a call that fails was open
-fails_open : (event step : Event) (before : List Event) (call : Call) (p : ℕ) (at : IsCallAt before call p) → at_event (event ∷ before) Failing p at.event ≡ Some step → IsOpenCallTo before call.callee p
+fails_open : (event step : Event) (before : List Event) (call : Call) (p : ℕ) (at : IsCallAt before call p) → IsLawful before → at_event (event ∷ before) Failing p at.event ≡ Some step → IsOpenCallTo before call.callee p
 unfolding is_to_fail
-fails_open event step before call p at gives =
+fails_open event step before call p at lawful gives =
     let found = (then_some-some (is_to_fail (event ∷ before) p at.event) (Failed p) step gives).0 in
     let both = and_parts (is_some_and (call_in at.event) (λ (c : Call). is_lost (event ∷ before) c.callee)) (is_open_at (event ∷ before) p at.event) found in
     let opened = is_open_at-call before p at.event at.stands (open_before event before p at.event both.1) in
-    record { call = opened.0; opened = opened.2; to = ap (λ (c : Call). c.callee) (same_Some opened.0 call (sym opened.1 ∙ at.says)) }
+    let same : opened.0.callee ≡ call.callee = ap (λ (c : Call). c.callee) (same_Some opened.0 call (sym opened.1 ∙ at.says)) in
+    record { call = opened.0; opened = opened.2; to = same; place = rw (← same) (open_place before opened.0 p lawful opened.2) }
 
 -- a wait that takes a call is one at which its task was suspended
 takes_suspended : (event step : Event) (before : List Event) (wait : Wait) (p task : ℕ) (at : IsWaitAt before wait p) → wait.by ≡ task → at_event (event ∷ before) Taking p at.event ≡ Some step → IsSuspendedAt before task p
@@ -219,18 +221,20 @@ activates_maker event step before p e start t lawful at says named gives =
     })
 
 -- a close at which a block is left is one at which its task was suspended
-leaves_suspended : (event step : Event) (before : List Event) (p : ℕ) (e : Event) (closing : Closing) → event_at before p ≡ Some e → closing_in e ≡ Some closing → at_event (event ∷ before) Leaving p e ≡ Some step → IsLeaving before closing.block p
+leaves_suspended : (event step : Event) (before : List Event) (p : ℕ) (e : Event) (closing : Closing) → IsLawful before → event_at before p ≡ Some e → closing_in e ≡ Some closing → at_event (event ∷ before) Leaving p e ≡ Some step → IsLeaving before closing.block p
 unfolding is_to_leave
-leaves_suspended event step before p e closing at says gives =
+leaves_suspended event step before p e closing lawful at says gives =
     option_and_then_some (λ (c : Closing). then_some (is_to_leave (event ∷ before) p c) (Left p)) (closing_in e) step gives (λ c is given.
     let pending = (and_parts (is_pending (event ∷ before) p c.by) (all_terminated (event ∷ before) (Block c.block)) (then_some-some (is_to_leave (event ∷ before) p c) (Left p) step given).0).0 in
-    let same : c ≡ closing = same_Some c closing (sym is ∙ says) in
-    let by : c.by ≡ closing.by = ap (λ (c : Closing). c.by) same in
+    let by : c.by ≡ closing.by = ap (λ (c : Closing). c.by) (same_Some c closing (sym is ∙ says)) in
+    let closes : IsCloseAt before closing p = record { event = e; stands = at; says = says } in
+    let suspended = suspended_since event before p closing.by e at (held_in-closing e closing says) (rw by at pending) in
     record {
       closing = closing;
-      stands = record { event = e; stands = at; says = says };
+      stands = closes;
       of = refl;
-      suspended = suspended_since event before p closing.by e at (held_in-closing e closing says) (rw by at pending);
+      suspended = suspended;
+      within = closer_within before closing p lawful closes suspended;
     })
 
 -- why a master quits
@@ -316,7 +320,7 @@ refined event before row key step lawful gives (aborts u was now) = inr (hit u (
 refined event before row key step lawful gives (frees u p call released at by) =
     inr (freed u p call released at by (halts_abnormal event step before u (task_step (event ∷ before) Halting u step refl gives)))
 refined event before row key step lawful gives (loses p call at was now) =
-    inr (lost call.callee p (fails_open event step before call p at (older_step event step before Failing p at.event refl at.stands gives)) was now)
+    inr (lost call.callee p (fails_open event step before call p at lawful.0 (older_step event step before Failing p at.event refl at.stands gives)) was now)
 refined event before row key step lawful gives (calls p wait at of) =
     inr (called of.call p of.says (takes_suspended event step before wait p of.call.callee at (sym of.of) (older_step event step before Taking p at.event refl at.stands gives)))
 refined event before row key step lawful gives (moves same p by some) = ticked event step before row p (moment_in event) lawful by refl some gives
@@ -335,4 +339,4 @@ refined event before row key step lawful gives (block_quits p why) =
     inr (quits_why event before (Block p) lawful (quits_block event step before p (position_step (event ∷ before) QuittingBlock p step refl gives)) why)
 refined event before row key step lawful gives (ends_within p e closing at says below) =
     inr (leaving below.task closing.block p (record { was = below.was; now = below.now }) below.depends
-    (leaves_suspended event step before p e closing at says (older_step event step before Leaving p e refl at gives)))
+    (leaves_suspended event step before p e closing lawful.0 at says (older_step event step before Leaving p e refl at gives)))

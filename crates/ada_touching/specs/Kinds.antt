@@ -1,5 +1,5 @@
 -- Which keys an event adds to an agenda, by kind of event.
-use Rattle.std.specs.Prelude.{◌≡◌, ℕ, ℤ, suc, true, false, Option, Some, None, List, ◌∷◌, length, int_le}
+use Rattle.std.specs.Prelude.{◌≡◌, ◌⊎◌, ℕ, ℤ, suc, true, false, Option, Some, None, List, ◌∷◌, length, int_le}
 use Rattle.std.specs.List.{Contains}
 use Rattle.ada_events.specs.declared.event.Event.{Event}
 use Rattle.ada_events.specs.declared.event.Event.TheVariants.{Opened, Created, Started, Elaborated, Called, Waiting, Paused, Ended, Closed, Completed, Aborted, Ticked, Halted, Failed, Met, Cancelled, Passed, Woken, Activated, Gone, Quit, Left}
@@ -8,12 +8,13 @@ use Rattle.ada_events.specs.declared.event.EventTail.TheVariants.{Delays}
 use Rattle.ada_events.specs.declared.names.TaskNo.{TaskNo}
 use Rattle.ada_events.specs.declared.names.Master.{Master}
 use Rattle.ada_events.specs.declared.names.Master.TheVariants.{Body, Block}
-use Rattle.ada_events.specs.declared.names.Member.TheVariants.{Block as BlockMember}
+use Rattle.ada_events.specs.declared.names.Member.TheVariants.{Block as BlockMember, Rendezvous}
 use Rattle.ada_events.specs.Search.{event_at}
 use Rattle.ada_events.specs.Says.{Creation, Start, Call, Closing, start_in, closing_in}
 use Rattle.ada_events.specs.Tasks.{task_count, moment, creation_of}
 use Rattle.ada_events.specs.Masters.{depends_on}
 use Rattle.ada_events.specs.Phases.{has_start, is_terminated, is_abnormal}
+use Rattle.ada_events.specs.Calls.{queue}
 use Rattle.ada_events.specs.Nests.{nest}
 use Rattle.ada_events.specs.Waits.{least_due}
 use Rattle.ada_events.specs.Termination.{is_open_terminate, is_ready_to_quit}
@@ -70,18 +71,20 @@ pub record IsLeftIn (journal : List Event) (task block : ℕ) : Type 0 where
   pub within : creation.under ≡ Block block
   pub never : has_start journal task ≡ false
 
--- an open call to the task
+-- an open call to the task: it stands in a queue of the task, or its rendezvous in the task's nest
 pub record IsOpenCallTo (journal : List Event) (task position : ℕ) : Type 0 where
   pub call : Call
   pub opened : IsOpenCallAt journal call position
   pub to : call.callee ≡ task
+  pub place : Contains (queue journal task call.entry) position ⊎ Contains (nest journal task) (Rendezvous position)
 
--- the task that closed a block is suspended at the close
+-- the task that is within a block is suspended at its close
 pub record IsLeaving (journal : List Event) (block position : ℕ) : Type 0 where
   pub closing : Closing
   pub stands : IsCloseAt journal closing position
   pub of : closing.block ≡ block
   pub suspended : IsSuspendedAt journal closing.by position
+  pub within : Contains (nest journal closing.by) (BlockMember block)
 
 -- the moment that is waited for at an event: by a timed call, a delay, or a wait with delay alternatives
 abbrev pub tail_due : EventTail → Option ℤ
