@@ -1,5 +1,6 @@
 -- What each event adds to an agenda.
-use Rattle.std.proofs.Common.{ℕ, true, false, List, ◌∷◌, refl, inl, inr}
+use Rattle.std.proofs.Common.{◌≡◌, ℕ, true, false, List, ◌∷◌, refl, inl, inr}
+use Rattle.std.proofs.lemmas.Bool.{false≢true}
 use Rattle.ada_events.specs.declared.event.Event.{Event}
 use Rattle.ada_events.specs.declared.event.Event.TheVariants.{Opened, Created, Started, Elaborated, Called, Waiting, Paused, Ended, Closed, Completed, Aborted, Ticked, Halted, Failed, Met, Cancelled, Passed, Woken, Activated, Gone, Quit, Left}
 use Rattle.ada_events.specs.Says.{released_in, meeting_in}
@@ -7,7 +8,7 @@ use Rattle.ada_events.specs.Lawful.{IsLawful}
 use Rattle.ada_forcing.specs.declared.row.Row.{Row}
 use Rattle.ada_forcing.proofs.TouchedKeys.{newly}
 use Rattle.ada_touching.specs.Kinds.{Adds}
-use Rattle.ada_touching.specs.Additions.{AgendasGrow, EventsAddTheirKeys, OpeningsAddNothing, CreationsAddTheirTask, StartsAddThemselves, ElaborationsAddTheirStart, CallsAddTheWait, WaitsAddMasters, DelaysAddThemselves, ClosesAddTheirBlock, EndsAddTheCaller, FailuresAddTheCaller, CancellationsAddMasters, MeetingsAddNothing, PassingsAddNothing, WakingsAddNothing, ActivationsAddNothing, LeavingsAddNothing, CompletionsAddTheirTask, FailedActivationsAddTheirTask, HaltsAddTheirTask, AbortsAddTheirTasks, TicksAddWhatIsDue, TerminationsAddMasters, QuitsAddMasters}
+use Rattle.ada_touching.specs.Additions.{adds_nothing, AgendasStay, AgendasGrow, EventsAddTheirKeys, OpeningsAddNothing, CreationsAddTheirTask, StartsAddThemselves, ElaborationsAddTheirStart, CallsAddTheWait, WaitsAddMasters, DelaysAddThemselves, ClosesAddTheirBlock, EndsAddTheCaller, FailuresAddTheCaller, CancellationsAddMasters, MeetingsAddNothing, PassingsAddNothing, WakingsAddNothing, ActivationsAddNothing, LeavingsAddNothing, CompletionsAddTheirTask, FailedActivationsAddTheirTask, HaltsAddTheirTask, AbortsAddTheirTasks, TicksAddWhatIsDue, TerminationsAddMasters, QuitsAddMasters}
 use Rattle.ada_touching.proofs.Answering.{meeting_adds, end_adds, fail_adds, cancel_adds}
 use Rattle.ada_touching.proofs.Changing.{creation_adds, elaboration_adds, abort_adds}
 use Rattle.ada_touching.proofs.Completions.{completion_adds, failure_adds, halt_adds}
@@ -63,6 +64,19 @@ agendas_grow event before has more lawful agenda keeps adds = record {
         | inr added ↦ adds row key step added gives
       ];
 }
+
+nothing_added : (event : Event) (before : List Event) (row : Row) (key : ℕ) → adds_nothing event ≡ true → Adds before event row key → ⊥
+nothing_added (Opened by under) before row key none added = added
+nothing_added (Met call wait) before row key none added = added
+nothing_added (Passed wait way) before row key none added = added
+nothing_added (Woken pause) before row key none added = added
+nothing_added (Activated start ok) before row key none added = added
+nothing_added (Left close) before row key none added = added
+nothing_added _ before row key none added = false≢true none
+
+pub agendas_stay : AgendasStay
+agendas_stay event before has lawful agenda none =
+    agendas_grow event before has has lawful agenda (λ row key kept. kept) (λ row key step added gives. absurd (nothing_added event before row key none added))
 
 pub openings_add_nothing : OpeningsAddNothing
 openings_add_nothing before by under = events_add_their_keys (Opened by under) before

@@ -9,6 +9,7 @@ pub mod Moments
 pub mod Newcomers
 pub mod Endings
 pub mod Holds
+pub mod Noting
 pub mod Places
 pub mod Quietly
 pub mod Quitting

@@ -34,6 +34,22 @@ AgendasGrow =
     → ((row : Row) (key : ℕ) (step : Event) → Adds before event row key → step_at (event ∷ before) row key ≡ Some step → more row key ≡ true)
     → IsAgenda (event ∷ before) more
 
+-- an event that adds nothing
+abbrev pub adds_nothing : Event → Bool
+adds_nothing (Opened by under) = true
+adds_nothing (Met call wait) = true
+adds_nothing (Passed wait way) = true
+adds_nothing (Woken pause) = true
+adds_nothing (Activated start ok) = true
+adds_nothing (Left close) = true
+adds_nothing _ = false
+
+-- an agenda is one of the journal with an event that adds nothing
+abbrev pub AgendasStay : Type 0
+AgendasStay =
+    (event : Event) (before : List Event) (has : Row → ℕ → Bool)
+    → IsLawful (event ∷ before) → IsAgenda before has → adds_nothing event ≡ true → IsAgenda (event ∷ before) has
+
 abbrev pub EventsAddTheirKeys : Type 0
 EventsAddTheirKeys = (event : Event) (before : List Event) → LawfullyAddsOnly event before (Adds before event)
 

@@ -1,6 +1,6 @@
 //! Laws of where each kind of event can newly force a step.
 
-ghost use Rattle.ada_touching.specs.Additions.{EventsAddTheirKeys, AgendasGrow, OpeningsAddNothing, CreationsAddTheirTask, StartsAddThemselves, ElaborationsAddTheirStart, CallsAddTheWait, WaitsAddMasters, DelaysAddThemselves, ClosesAddTheirBlock, EndsAddTheCaller, FailuresAddTheCaller, CancellationsAddMasters, MeetingsAddNothing, PassingsAddNothing, WakingsAddNothing, ActivationsAddNothing, LeavingsAddNothing, CompletionsAddTheirTask, FailedActivationsAddTheirTask, HaltsAddTheirTask, AbortsAddTheirTasks, TicksAddWhatIsDue, TerminationsAddMasters, QuitsAddMasters};
+ghost use Rattle.ada_touching.specs.Additions.{EventsAddTheirKeys, AgendasGrow, AgendasStay, OpeningsAddNothing, CreationsAddTheirTask, StartsAddThemselves, ElaborationsAddTheirStart, CallsAddTheWait, WaitsAddMasters, DelaysAddThemselves, ClosesAddTheirBlock, EndsAddTheCaller, FailuresAddTheCaller, CancellationsAddMasters, MeetingsAddNothing, PassingsAddNothing, WakingsAddNothing, ActivationsAddNothing, LeavingsAddNothing, CompletionsAddTheirTask, FailedActivationsAddTheirTask, HaltsAddTheirTask, AbortsAddTheirTasks, TicksAddWhatIsDue, TerminationsAddMasters, QuitsAddMasters};
 
 /// After one more event of a lawful journal a row gives a step only where it gave one before, or at one of the few
 /// keys that an event of its kind adds.
@@ -14,6 +14,13 @@ pub fn events_add_their_keys()
 #[tactic(auto, using(crate::proofs::Adding::agendas_grow))]
 pub fn agendas_grow()
     ensures { AgendasGrow }
+{}
+
+/// An agenda of a lawful journal is one of the journal with an opening, the beginning of a rendezvous, the passing of a
+/// wait, the end of a delay or of an activation, or the leaving of a block.
+#[tactic(auto, using(crate::proofs::Adding::agendas_stay))]
+pub fn agendas_stay()
+    ensures { AgendasStay }
 {}
 
 /// The opening of a block can newly force nothing (9.4).
