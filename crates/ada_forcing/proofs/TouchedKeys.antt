@@ -26,7 +26,7 @@ use Rattle.ada_laws.proofs.Searching.{three_parts, then_some-some, if_some, opti
 use Rattle.ada_laws.proofs.Gathering.{Contains-first, Contains-later}
 use Rattle.ada_laws.proofs.Growing.{is_terminated-more, has_ended-before, task_count-more}
 use Rattle.ada_laws.proofs.Depending.{depends_on-cases, depends_on-later, depends_exists}
-use Rattle.ada_forcing.specs.Rows.{goes_by_task, at_event, of_task, known_step, step_at, IsAgenda}
+use Rattle.ada_forcing.specs.Rows.{goes_by_task, goes_by_moment, at_event, of_task, known_step, step_at, IsAgenda}
 use Rattle.ada_forcing.specs.declared.row.Row.{Row}
 use Rattle.ada_forcing.specs.declared.row.Row.TheVariants.{Halting, Failing, Taking, Cancelling, Passing, Waking, Activating, Going, QuittingBody, QuittingBlock, Leaving}
 use Rattle.ada_forcing.specs.Touching.{is_lost, is_idle, IsNewlyBelow, MayQuit, Touches}
@@ -104,13 +104,13 @@ halts_newly event before u halt =
     ]
 
 -- what was open or queued before
-open_before : (event : Event) (before : List Event) (p : ℕ) (e : Event) → is_open_at (event ∷ before) p e ≡ true → is_open_at before p e ≡ true
+pub open_before : (event : Event) (before : List Event) (p : ℕ) (e : Event) → is_open_at (event ∷ before) p e ≡ true → is_open_at before p e ≡ true
 unfolding is_open_at
 open_before event before p e opened =
     let (c, says, found) = option_map_or-true (λ (c : Call). is_pending (event ∷ before) p c.by) (call_in e) opened in
     rw says (pending_before event before p c.by found)
 
-queued_before : (event : Event) (before : List Event) (p : ℕ) (e : Event) → is_queued_at (event ∷ before) p e ≡ true → is_queued_at before p e ≡ true
+pub queued_before : (event : Event) (before : List Event) (p : ℕ) (e : Event) → is_queued_at (event ∷ before) p e ≡ true → is_queued_at before p e ≡ true
 unfolding is_queued_at is_met
 queued_before event before p e queued =
     let both = and_parts (is_open_at (event ∷ before) p e) (not (is_met (event ∷ before) p)) queued in
@@ -146,12 +146,12 @@ moment_same : (event : Event) (before : List Event) → moment_in event ≡ None
 unfolding moment
 moment_same event before none = rw none refl
 
-by_moment : (event : Event) (before : List Event) (row : Row) (p : ℕ) (was : Option Event) → (moment_in event ≡ None → (older : Event) × (was ≡ Some older)) → Newly event before row p was
-by_moment event before row p was still = by_case (moment_in event) refl
+by_moment : (event : Event) (before : List Event) (row : Row) (p : ℕ) (was : Option Event) → goes_by_moment row ≡ true → (moment_in event ≡ None → (older : Event) × (was ≡ Some older)) → Newly event before row p was
+by_moment event before row p was by still = by_case (moment_in event) refl
   where
     by_case : (o : Option ℤ) → moment_in event ≡ o → Newly event before row p was
     by_case None same = inl (still same)
-    by_case (Some m) same = inr (moves row p (λ none. none-some m (sym none ∙ same)))
+    by_case (Some m) same = inr (moves row p by (λ none. none-some m (sym none ∙ same)))
 
 -- 4. to 6. newly only where the moment moves
 cancels_newly : (event : Event) (before : List Event) (p : ℕ) (e step : Event) → then_some (is_to_cancel (event ∷ before) p e) (Cancelled p) ≡ Some step → Newly event before Cancelling p (then_some (is_to_cancel before p e) (Cancelled p))
@@ -159,7 +159,7 @@ unfolding is_to_cancel
 cancels_newly event before p e step gives =
     let found = (then_some-some (is_to_cancel (event ∷ before) p e) (Cancelled p) step gives).0 in
     let both = and_parts (option_map_or (λ (c : Call). is_conditional c.patience || is_due (moment (event ∷ before)) c.due) (call_in e) false) (is_queued_at (event ∷ before) p e) found in
-    by_moment event before Cancelling p (then_some (is_to_cancel before p e) (Cancelled p)) (λ none.
+    by_moment event before Cancelling p (then_some (is_to_cancel before p e) (Cancelled p)) refl (λ none.
     (Cancelled p, rw (rw (moment_same event before none) at both.0, queued_before event before p e both.1) refl))
 
 passes_newly : (event : Event) (before : List Event) (p : ℕ) (e step : Event) → option_and_then (passed_at (event ∷ before) p) (wait_in e) ≡ Some step → Newly event before Passing p (option_and_then (passed_at before p) (wait_in e))
@@ -167,7 +167,7 @@ unfolding passed_at
 passes_newly event before p e step gives =
     option_and_then_some (passed_at (event ∷ before) p) (wait_in e) step gives (λ wait says given.
     let found = if_some (is_pending (event ∷ before) p wait.by) (option_map (Passed p) (way_of (moment (event ∷ before)) wait.choices wait.pick wait.tail)) step given in
-    by_moment event before Passing p (option_and_then (passed_at before p) (wait_in e)) (λ none.
+    by_moment event before Passing p (option_and_then (passed_at before p) (wait_in e)) refl (λ none.
     (step, rw (says, pending_before event before p wait.by found.0) (rw (moment_same event before none) at found.1))))
 
 wakes_newly : (event : Event) (before : List Event) (p : ℕ) (e step : Event) → option_and_then (λ (d : Delay). then_some (is_to_wake (event ∷ before) p d) (Woken p)) (delay_in e) ≡ Some step → Newly event before Waking p (option_and_then (λ (d : Delay). then_some (is_to_wake before p d) (Woken p)) (delay_in e))
@@ -176,7 +176,7 @@ wakes_newly event before p e step gives =
     option_and_then_some (λ (d : Delay). then_some (is_to_wake (event ∷ before) p d) (Woken p)) (delay_in e) step gives (λ d says given.
     let found = (then_some-some (is_to_wake (event ∷ before) p d) (Woken p) step given).0 in
     let both = and_parts (int_le d.due (moment (event ∷ before))) (is_pending (event ∷ before) p d.by) found in
-    by_moment event before Waking p (option_and_then (λ (d : Delay). then_some (is_to_wake before p d) (Woken p)) (delay_in e)) (λ none.
+    by_moment event before Waking p (option_and_then (λ (d : Delay). then_some (is_to_wake before p d) (Woken p)) (delay_in e)) refl (λ none.
     (Woken p, rw (says, rw (moment_same event before none) at both.0, pending_before event before p d.by both.1) refl)))
 
 -- 7. an activation newly ends where one of its tasks is newly done

@@ -52,6 +52,13 @@ goes_by_task Going = true
 goes_by_task QuittingBody = true
 goes_by_task _ = false
 
+-- the rows that go by the moment
+abbrev pub goes_by_moment : Row → Bool
+goes_by_moment Cancelling = true
+goes_by_moment Passing = true
+goes_by_moment Waking = true
+goes_by_moment _ = false
+
 -- a task's step is one of a task that exists
 abbrev pub known_step : List Event → Row → ℕ → Option Event
 known_step journal row u = option_and_then (λ (_ : Event). of_task journal row u) (then_some (nat_lt u (task_count journal)) (Halted (task_no u)))

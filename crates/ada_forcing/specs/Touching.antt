@@ -15,7 +15,7 @@ use Rattle.ada_events.specs.Termination.{is_complete, is_abandoned, is_ready_to_
 use Rattle.ada_laws.specs.Calls.{IsCallAt, IsWaitAt}
 use Rattle.ada_laws.proofs.Depending.{IsMadeUnder}
 use Rattle.ada_forcing.specs.Newly.{IsCallOf}
-use Rattle.ada_forcing.specs.Rows.{goes_by_task}
+use Rattle.ada_forcing.specs.Rows.{goes_by_task, goes_by_moment}
 use Rattle.ada_forcing.specs.declared.row.Row.{Row}
 use Rattle.ada_forcing.specs.declared.row.Row.TheVariants.{Halting, Failing, Taking, Activating, Going, QuittingBody, QuittingBlock, Leaving}
 
@@ -48,7 +48,7 @@ pub data Touches (event : Event) (before : List Event) : Row → ℕ → Type 0 
   frees : (u p : ℕ) (call : Call) → released_in event ≡ Some p → IsCallAt before call p → call.by ≡ u → Touches event before Halting u
   loses : (p : ℕ) (call : Call) → IsCallAt before call p → is_lost before call.callee ≡ false → is_lost (event ∷ before) call.callee ≡ true → Touches event before Failing p
   calls : (p : ℕ) (wait : Wait) → IsWaitAt before wait p → IsCallOf event wait.by → Touches event before Taking p
-  moves : (row : Row) (p : ℕ) → (moment_in event ≡ None → ⊥) → Touches event before row p
+  moves : (row : Row) (p : ℕ) → goes_by_moment row ≡ true → (moment_in event ≡ None → ⊥) → Touches event before row p
   elaborates : (p : ℕ) (e : Event) (start : Start) (t : TaskNo) → event_at before p ≡ Some e → start_in e ≡ Some start → Contains start.tasks t → is_done_activating before t ≡ false → is_done_activating (event ∷ before) t ≡ true → Touches event before Activating p
   completes : (u : ℕ) → completed_in event ≡ Some u → Touches event before Going u
   abandons : (u : ℕ) → is_abandoned before u ≡ false → is_abandoned (event ∷ before) u ≡ true → Touches event before Going u

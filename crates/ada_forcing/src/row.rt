@@ -1,5 +1,8 @@
 //! The rows of the forced steps.
 
+ghost use Rattle.std.specs.Prelude.{◌≡◌, ◌≤◌, IfSome, IfNone};
+ghost use Rattle.ada_forcing.specs.Rows as rows;
+
 /// What a journal forces, in the order in which it is forced: of the rows that give a step the first one
 /// counts, and in it the step at the least task number or position.
 #[derive(Clone, Copy, Debug, PartialEq, Eq)]
@@ -26,4 +29,46 @@ pub enum Row {
     QuittingBlock,
     /// A task leaves the block that it closed (9.4). By position of the close.
     Leaving,
+}
+
+impl Row {
+    /// The place of the row among the rows, 0 to 10.
+    pub fn rank(self) -> usize
+        ensures { result ≡ rows.rank self }
+    {
+        match self {
+            Row::Halting => 0,
+            Row::Failing => 1,
+            Row::Taking => 2,
+            Row::Cancelling => 3,
+            Row::Passing => 4,
+            Row::Waking => 5,
+            Row::Activating => 6,
+            Row::Going => 7,
+            Row::QuittingBody => 8,
+            Row::QuittingBlock => 9,
+            Row::Leaving => 10,
+        }
+    }
+
+    /// The row at a place among the rows, 0 to 10.
+    pub fn at_rank(rank: usize) -> Option<Row>
+        ensures some { IfSome result (λ row. rows.rank row ≡ rank) }
+        ensures none { IfNone result (11 ≤ rank) }
+    {
+        match rank {
+            0 => Some(Row::Halting),
+            1 => Some(Row::Failing),
+            2 => Some(Row::Taking),
+            3 => Some(Row::Cancelling),
+            4 => Some(Row::Passing),
+            5 => Some(Row::Waking),
+            6 => Some(Row::Activating),
+            7 => Some(Row::Going),
+            8 => Some(Row::QuittingBody),
+            9 => Some(Row::QuittingBlock),
+            10 => Some(Row::Leaving),
+            _ => None,
+        }
+    }
 }
