@@ -1,0 +1,6 @@
+pub mod Answers
+pub mod Stations
+pub mod Counting
+pub mod History
+pub mod Asking
+pub mod Halls
