@@ -15,12 +15,14 @@ ghost use Rattle.ada_hall.specs.Stations.{Publishes, IsTied};
 use crate::answer::{Answer, Kept};
 use crate::answers::Answers;
 use crate::asking::{Asked, asking_of};
+use crate::floor::Floor;
 use crate::saying::{answer_request, open_line};
 use crate::session::Session;
+use crate::speakers::{speaker, speakers};
 use crate::station::{Station, Told};
 use crate::tally::Tally;
 use ada_board::BoardWriter;
-use ada_events::{Journal, Refusal, Request};
+use ada_events::{Journal, Outcome, Refusal, Request};
 use ada_kernel::Kernel;
 use ada_script::{Names, Script, Value};
 use std::alloc::Global;
@@ -38,6 +40,7 @@ pub struct Hall<'s, J: Session> {
     names: Names,
     answers: Answers,
     tally: Tally<J>,
+    floor: Floor,
 }
 
 impl<'s, J: Session> Model for Hall<'s, J> {
@@ -90,6 +93,7 @@ impl<'s, J: Session> Hall<'s, J> {
                 names,
                 answers,
                 tally: Tally::new(book),
+                floor: Floor::new(speakers(script.lines())),
             }),
             Err(cause) => Err((cause, writer)),
         }
@@ -250,6 +254,44 @@ impl<'s, J: Session> Hall<'s, J> {
         self.tally.total()
     }
 
+    /// Shows that the whole share has for its amount the number of requests that were accepted.
+    pub fn audit(&mut self, whole: &mut Share<J>)
+        requires { whole.old.parts ≡ J.parts }
+        ensures amount { whole.old.amount ≡ asked_count self.old.showing.journal }
+        ensures same { self.new ≡ self.old }
+        ensures share { (whole.new.amount ≡ whole.old.amount) × (whole.new.parts ≡ whole.old.parts) }
+    {
+        self.tally.audit(whole);
+    }
+
+    /// Who may go on.
+    pub fn floor(&self) -> Floor {
+        self.floor
+    }
+
+    /// Says who may go on.
+    pub fn set_floor(&mut self, floor: Floor)
+        ensures { self.new ≡ self.old }
+    {
+        self.floor = floor;
+    }
+
+    /// Whether the task of the line at a place runs, or has completed: then the line needn't wait. A tick never
+    /// waits, and a place without a line doesn't.
+    pub fn may_go(&self, place: u32) -> bool {
+        let script = self.script;
+        let Some(line) = script.lines().get(place as usize) else {
+            return true;
+        };
+        let Some(name) = speaker(&line.statement) else {
+            return true;
+        };
+        let task = self.names.task(name);
+        let kernel = self.station.kernel();
+        let ended = matches!(kernel.outcome(task), Some(Outcome::Done | Outcome::Dead));
+        ended || kernel.running(task) == Some(true)
+    }
+
     /// Ends the hall, and closes its writer. It may wait for readers that are looking to leave.
     pub fn close<R: Wait>(self, rt: &R) {
         let Hall {
@@ -258,6 +300,7 @@ impl<'s, J: Session> Hall<'s, J> {
             names: _names,
             answers: _answers,
             tally: _tally,
+            floor: _,
         } = self;
         station.close(rt);
     }

@@ -5,14 +5,17 @@
 pub mod answer;
 pub mod answers;
 pub mod asking;
+pub mod floor;
 pub mod hall;
 mod saying;
 pub mod session;
+pub mod speakers;
 pub mod station;
 pub mod tally;
 
 pub use answer::{Answer, Kept};
 pub use asking::{Asked, Asking};
+pub use floor::Floor;
 pub use hall::Hall;
 pub use session::Session;
 pub use station::Told;

@@ -1,8 +1,8 @@
 //! The answers to the lines of a script.
 ghost use Rattle.std.specs.Prelude.{◌≡◌, ◌<◌};
 
-use crate::opened::{Opened, opened};
-use ada_board::{BoardReader, History};
+use crate::opened::{Setting, opened};
+use ada_board::{BoardReader, History, Readers};
 use ada_events::{Refusal, TaskNo};
 use ada_hall::{Answer, Asking, Hall, Session};
 use ada_script::{Script, Value, read};
@@ -31,6 +31,7 @@ fn say_all<J: Session, R: Wait>(
     share: &mut Share<J>,
 ) -> Result<(), Refusal>
     requires { 0 < share.old.parts }
+    ensures { share.new.parts ≡ share.old.parts }
 {
     for place in 0..10 {
         hall.say(rt, share, place)?;
@@ -64,7 +65,10 @@ fn stay<J: Session, R: Wait>(rt: &R, hall: &mut Hall<'_, J>, share: &mut Share<J
 }
 
 /// Asks for two attributes: one is read and noted, and one is noted as refused.
-fn are_shown<J: Session>(hall: &mut Hall<'_, J>, reader: &mut BoardReader<J>) -> Result<bool, Fail> {
+fn are_shown<J: Session>(
+    hall: &mut Hall<'_, J>,
+    reader: &mut BoardReader<J>,
+) -> Result<bool, Fail> {
     let callable = hall.ask(7)?;
     reader.learn(callable.mark);
     let Some(value) = reader.callable(TaskNo(1)) else {
@@ -84,6 +88,22 @@ fn are_shown<J: Session>(hall: &mut Hall<'_, J>, reader: &mut BoardReader<J>) ->
     )
 }
 
+/// Plays all requests, shows the attributes, and then tries places that are answered or none.
+fn answer_all<J: Session, R: Wait>(
+    rt: &R,
+    hall: &mut Hall<'_, J>,
+    share: &mut Share<J>,
+    places: &mut Readers<J>,
+) -> Result<bool, Fail>
+    requires { 0 < share.old.parts }
+{
+    let mut reader = places.take()?;
+    say_all(rt, hall, share)?;
+    let right = are_said(hall);
+    let shown = are_shown(hall, &mut reader)?;
+    Ok(right && shown && stay(rt, hall, share))
+}
+
 fn lines_played<J: Session, R: Wait + AllocGlobal>(
     rt: &R,
     history: History,
@@ -95,20 +115,14 @@ fn lines_played<J: Session, R: Wait + AllocGlobal>(
     requires ledger { (blank.name ≡ J.name) × (blank.parts ≡ J.parts) }
     requires parts { 0 < blank.parts }
 {
-    let Opened {
+    let Setting {
         mut hall,
         mut places,
         mut share,
     } = opened::<J, R>(rt, history, blank, script, 1)?;
-    let said = say_all(rt, &mut hall, &mut share);
-    let right = said.is_ok() && are_said(&hall);
-    let shown = match places.take() {
-        Ok(mut reader) => are_shown(&mut hall, &mut reader),
-        Err(fault) => Err(fault.into()),
-    };
-    let stays = stay(rt, &mut hall, &mut share);
+    let came = answer_all(rt, &mut hall, &mut share, &mut places);
     hall.close(rt);
-    Ok(right && shown? && stays)
+    came
 }
 
 #[test]

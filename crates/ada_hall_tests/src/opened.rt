@@ -9,7 +9,7 @@ use std::sync::ledger::{Blank, Share};
 use std::test::Fail;
 
 /// What a test of a hall begins with: the hall, the places of its readers, and the whole share of its total.
-pub struct Opened<'s, J: Session> {
+pub struct Setting<'s, J: Session> {
     pub hall: Hall<'s, J>,
     pub places: Readers<J>,
     pub share: Share<J>,
@@ -22,7 +22,7 @@ pub fn opened<'s, J: Session, R: Wait + AllocGlobal>(
     blank: Blank,
     script: &'s Script,
     readers: usize,
-) -> Result<Opened<'s, J>, Fail>
+) -> Result<Setting<'s, J>, Fail>
     requires named { history ≡ J.book }
     requires script { script.now ≡ J.script }
     requires ledger { (blank.name ≡ J.name) × (blank.parts ≡ J.parts) }
@@ -32,7 +32,7 @@ pub fn opened<'s, J: Session, R: Wait + AllocGlobal>(
     let (writer, places) = open_board::<J, R>(rt, rt.alloc(), history, readers)?;
     let (book, share) = blank.open::<J>();
     match Hall::new(rt.alloc(), script, writer, book) {
-        Ok(hall) => Ok(Opened {
+        Ok(hall) => Ok(Setting {
             hall,
             places,
             share,

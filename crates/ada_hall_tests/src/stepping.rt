@@ -2,10 +2,10 @@
 ghost use Rattle.std.specs.Prelude.{◌≡◌, ◌<◌};
 
 use crate::asking::{MAIN, SINGLE, create, entry, tasks, up};
-use crate::opened::{Opened, opened};
+use crate::opened::{Setting, opened};
 use ada_board::{BoardFault, BoardReader, History, Readers};
 use ada_events::{Patience, Refusal, Request, TaskNo};
-use ada_hall::{Hall, Session};
+use ada_hall::{Hall, Session, Told};
 use ada_script::{Script, read};
 use std::marker::Brand;
 use std::sync::Wait;
@@ -66,12 +66,12 @@ fn told_step<J: Session, R: Wait>(
     requires { 0 < share.old.parts }
     ensures { share.new.parts ≡ share.old.parts }
 {
-    let told = hall.step(rt, share, request)?;
-    let Some(mark) = told.mark else {
+    let Told { at, mark } = hall.step(rt, share, request)?;
+    let Some(mark) = mark else {
         return Err("a mark".into());
     };
     reader.learn(mark);
-    Ok(told.at)
+    Ok(at)
 }
 
 /// Whether a reader sees the server terminated, and no fifth task and no third slot.
@@ -117,7 +117,7 @@ fn row_played<J: Session, R: Wait + AllocGlobal>(
     requires ledger { (blank.name ≡ J.name) × (blank.parts ≡ J.parts) }
     requires parts { 0 < blank.parts }
 {
-    let Opened {
+    let Setting {
         mut hall,
         mut places,
         mut share,
