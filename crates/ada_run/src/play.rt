@@ -15,9 +15,9 @@ use ada_script::{Line, Names, Value, asked, write_event, write_refusal, write_sh
 use std::alloc::Global;
 use std::io::Write;
 
-// Appends the lines of all events behind the first `from`, in their order, or nothing.
+/// Appends the lines of all events behind the first `from`, in their order, or nothing.
 #[tactic(auto, using(crate::proofs::Groups::group_grows, crate::proofs::Groups::group_begins))]
-fn print_group(
+pub fn print_group(
     journal: &Journal,
     names: &Names,
     from: u32,
@@ -38,14 +38,16 @@ fn print_group(
     Ok(())
 }
 
-fn print_refusal(line: u32, cause: Refusal, text: &mut Vec<u8>) -> Result<(), RunFault>
+/// Appends the line that a refused line of a script prints, or nothing.
+pub fn print_refusal(line: u32, cause: Refusal, text: &mut Vec<u8>) -> Result<(), RunFault>
     ensures ok { OnOk result (text.new.items ≡ text.old.items ++ refusal_text line cause) }
     ensures err { IfErr result (λ fault. (fault ≡ RunFault.Memory) × (text.new.items ≡ text.old.items)) }
 {
     write_refusal(line, cause, text).map_err(|_| RunFault::Memory)
 }
 
-fn print_value(line: u32, value: Value, text: &mut Vec<u8>) -> Result<(), RunFault>
+/// Appends the line that a line of a script prints which shows an attribute, or nothing.
+pub fn print_value(line: u32, value: Value, text: &mut Vec<u8>) -> Result<(), RunFault>
     ensures ok { OnOk result (text.new.items ≡ text.old.items ++ shown_text line value) }
     ensures err { IfErr result (λ fault. (fault ≡ RunFault.Memory) × (text.new.items ≡ text.old.items)) }
 {

@@ -1,0 +1,6 @@
+pub mod Places
+pub mod Tied
+pub mod Slots
+pub mod Counts
+pub mod Telling
+pub mod Keeping

@@ -1,0 +1,154 @@
+-- The history of a hall: what goes on, and one more answer.
+use Rattle.std.proofs.Common.{◌≡◌, ℕ, true, Option, Some, None, List, [], ◌∷◌, ◌++◌, length, refl, sym, ap, subst, ◌∙◌, append_assoc, append-nil, inl, inr, MatchOption}
+use Rattle.std.proofs.lemmas.Bool.{false≢true}
+use Rattle.std.specs.Prelude.{slice_get}
+use Rattle.ada_events.specs.declared.event.Event.{Event}
+use Rattle.ada_events.specs.declared.names.TaskNo.{TaskNo}
+use Rattle.ada_events.specs.declared.request.Request.{Request}
+use Rattle.ada_events.specs.declared.refusal.Refusal.{Refusal}
+use Rattle.ada_events.specs.declared.refusal.Refusal.TheVariants.{OutOfMemory}
+use Rattle.ada_events.specs.Asks.{asked_event}
+use Rattle.ada_events.specs.Forced.{task_no}
+use Rattle.ada_events.specs.Lawful.{IsLawful, IsSettled}
+use Rattle.ada_events.specs.Steps.{IsAccepted, IsRefused}
+use Rattle.ada_events.specs.Tasks.{task_count}
+use Rattle.ada_laws.proofs.Forcing.{forces_keeps}
+use Rattle.ada_script.specs.declared.script.Line.{Line}
+use Rattle.ada_statements.specs.Scope.{Scope}
+use Rattle.ada_statements.specs.Binding.{bind, is_show, request_of}
+use Rattle.ada_statements.specs.declared.statement.Statement.{Statement}
+use Rattle.ada_statements.specs.declared.statement.Statement.TheVariants.{Tick, Open, Create, Activate, Up, Fail, Call, CallWithin, Try, Accept, Select, End, Raise, Close, Delay, Complete, Abort, ShowCallable, ShowTerminated, ShowCount}
+use Rattle.ada_printing.specs.Texts.{refusal_text, shown_text}
+use Rattle.ada_run.specs.Play.{State, group_text}
+use Rattle.ada_run.specs.Replay.{beginning}
+use Rattle.ada_hall.specs.declared.answer.Answer.{Answer}
+use Rattle.ada_hall.specs.declared.answer.Answer.TheVariants.{Group, Refused, Shown}
+use Rattle.ada_hall.specs.declared.answer.Kept.{Kept}
+use Rattle.ada_hall.specs.History.{IsAnswerTo, AnswersRequest, AnswersShow, GoesOn, IsGiven, AreGiven}
+use Rattle.ada_hall.specs.Halls.{IsHistory, IsOfShow}
+
+-- ---- going on
+
+pub stays : (state : State) → GoesOn state state
+stays state = record { names = refl; journal = ([], refl) }
+
+pub goes_further : (a b c : State) → GoesOn a b → GoesOn b c → GoesOn a c
+goes_further a b c first second = record {
+  names = second.names ∙ first.names;
+  journal = (
+    second.journal.0 ++ first.journal.0,
+    second.journal.1 ∙ ap (λ j. second.journal.0 ++ j) first.journal.1 ∙ sym (append_assoc second.journal.0 first.journal.0 a.journal),
+  );
+}
+
+pub accepted_goes_on : (old new : List Event) (names : Scope) (request : Request) (at : ℕ) → IsAccepted old request at new
+    → GoesOn (record { journal = old; names = names }) (record { journal = new; names = names })
+accepted_goes_on old new names request at accepted =
+    let steps = forces_keeps (asked_event old request ∷ old) new accepted.after.forces in
+    record { names = refl; journal = (steps.0 ++ asked_event old request ∷ [], steps.1 ∙ sym (append_assoc steps.0 (asked_event old request ∷ []) old)) }
+
+-- ---- one more answer
+
+given_push : (script : List Line) (answers : List Kept) (kept : Kept) (old last before after : State) (text said : List ℕ) → AreGiven script answers old text last
+    → GoesOn last before → IsGiven script kept before said after → AreGiven script (answers ++ kept ∷ []) old (text ++ said) after
+given_push script [] kept old last before after text said (empty, same) on given =
+    (before, after, said, [], subst (λ s. GoesOn s before) same on, given, (refl, refl), ap (λ t. t ++ said) empty ∙ sym (append-nil said))
+given_push script (first ∷ others) kept old last before after text said (b, a, s, rest, first_on, first_given, others_given, whole) on given =
+    (b, a, s, rest ++ said, first_on, first_given, given_push script others kept a last before after rest said others_given on given, ap (λ t. t ++ said) whole ∙ append_assoc s rest said)
+
+pub history_begins : (script : List Line) → IsHistory script [] (beginning script)
+history_begins script = record { text = []; last = beginning script; given = (refl, refl); goes_on = stays (beginning script) }
+
+pub history_goes_on : (script : List Line) (answers : List Kept) (now next : State) → IsHistory script answers now → GoesOn now next → IsHistory script answers next
+history_goes_on script answers now next history on =
+    record { text = history.text; last = history.last; given = history.given; goes_on = goes_further history.last now next history.goes_on on }
+
+pub history_push : (script : List Line) (answers : List Kept) (kept : Kept) (now next : State) (said : List ℕ) → IsHistory script answers now
+    → IsGiven script kept now said next → IsHistory script (answers ++ kept ∷ []) next
+history_push script answers kept now next said history given = record {
+  text = history.text ++ said;
+  last = next;
+  given = given_push script answers kept (beginning script) history.last now next history.text said history.given history.goes_on given;
+  goes_on = stays next;
+}
+
+-- ---- what a line is answered
+
+asks_it : (line : Line) (request : Request) (old : State) (answer : Answer) (text : List ℕ) (new : State) → request_of old.names line.statement ≡ Some request
+    → AnswersRequest line old answer text new request → IsAnswerTo line old answer text new
+asks_it line request old answer text new asks answers =
+    subst (λ (o : Option Request). MatchOption o (AnswersShow line old answer text new) (AnswersRequest line old answer text new)) (sym asks) answers
+
+pub answers_group : (line : Line) (request : Request) (old new : State) (first last : ℕ) (made : TaskNo) → request_of old.names line.statement ≡ Some request
+    → IsAccepted old.journal request first new.journal → made.0 ≡ task_count old.journal → new.names ≡ bind old.names line.statement first made
+    → last ≡ length new.journal → (text : List ℕ) × IsAnswerTo line old (Group first last) text new
+answers_group line request old new first last made asks accepted number bound last_is = (
+  group_text new.names (length old.journal) new.journal,
+  asks_it line request old (Group first last) (group_text new.names (length old.journal) new.journal) new asks (record {
+    says = record {
+      unrefused = accepted.unrefused;
+      after = accepted.after;
+      bound = bound ∙ ap (λ (n : ℕ). bind old.names line.statement first (task_no n)) number
+          ∙ ap (λ (n : ℕ). bind old.names line.statement n (task_no (task_count old.journal))) accepted.position;
+      printed = refl;
+    };
+    first_is = accepted.position;
+    last_is = last_is;
+  }),
+)
+
+pub answers_refusal : (line : Line) (request : Request) (old new : State) (cause : Refusal) → request_of old.names line.statement ≡ Some request
+    → IsRefused old.journal request cause new.journal → ¬ (cause ≡ OutOfMemory) → new.names ≡ old.names → (text : List ℕ) × IsAnswerTo line old (Refused cause) text new
+answers_refusal line request old new cause asks refused other names = (
+  refusal_text line.line cause,
+  asks_it line request old (Refused cause) (refusal_text line.line cause) new asks (record {
+    refused = elim refused.named [ inl named ↦ named | inr short ↦ absurd (other short.1) ];
+    unchanged = ap (λ j. record { journal = j; names = new.names }) refused.unchanged ∙ ap (λ n. record { journal = old.journal; names = n }) names;
+    printed = refl;
+  }),
+)
+
+-- a statement that shows an attribute asks the kernel for nothing
+asks_nothing : (names : Scope) (statement : Statement) → is_show statement ≡ true → request_of names statement ≡ None
+asks_nothing names (Tick now) shows = absurd (false≢true shows)
+asks_nothing names (Open by block) shows = absurd (false≢true shows)
+asks_nothing names (Create by task under families) shows = absurd (false≢true shows)
+asks_nothing names (Activate by tasks) shows = absurd (false≢true shows)
+asks_nothing names (Up by) shows = absurd (false≢true shows)
+asks_nothing names (Fail by) shows = absurd (false≢true shows)
+asks_nothing names (Call by callee entry) shows = absurd (false≢true shows)
+asks_nothing names (CallWithin by callee entry duration) shows = absurd (false≢true shows)
+asks_nothing names (Try by callee entry) shows = absurd (false≢true shows)
+asks_nothing names (Accept by entry) shows = absurd (false≢true shows)
+asks_nothing names (Select by pick choices tail) shows = absurd (false≢true shows)
+asks_nothing names (End by) shows = absurd (false≢true shows)
+asks_nothing names (Raise by) shows = absurd (false≢true shows)
+asks_nothing names (Close by) shows = absurd (false≢true shows)
+asks_nothing names (Delay by duration) shows = absurd (false≢true shows)
+asks_nothing names (Complete by) shows = absurd (false≢true shows)
+asks_nothing names (Abort by tasks) shows = absurd (false≢true shows)
+asks_nothing names (ShowCallable by task) shows = refl
+asks_nothing names (ShowTerminated by task) shows = refl
+asks_nothing names (ShowCount by entry) shows = refl
+
+shows_it : (line : Line) (old : State) (answer : Answer) → IsOfShow answer → (text : List ℕ) × AnswersShow line old answer text old
+shows_it line old (Group first last) of_show = absurd of_show
+shows_it line old (Refused cause) of_show = (refusal_text line.line cause, (refl, refl))
+shows_it line old (Shown value) of_show = (shown_text line.line value, (refl, refl))
+
+pub gives_answer : (script : List Line) (line : Line) (kept : Kept) (old new : State) (said : List ℕ) → slice_get script kept.place ≡ Some line → IsLawful old.journal
+    → IsSettled old.journal → kept.events ≡ length old.journal → IsAnswerTo line old kept.answer said new → IsGiven script kept old said new
+gives_answer script line kept old new said stands lawful settled long answers =
+    record { line = line; stands = stands; lawful = lawful; settled = settled; events = long; answers = answers }
+
+-- the answer to a line that shows an attribute is given where it is kept
+pub gives_value : (script : List Line) (line : Line) (place events : ℕ) (answer : Answer) (now : State) → slice_get script place ≡ Some line → is_show line.statement ≡ true
+    → IsOfShow answer → IsLawful now.journal → IsSettled now.journal → events ≡ length now.journal
+    → (said : List ℕ) × IsGiven script (record { place = place; events = events; answer = answer }) now said now
+gives_value script line place events answer now stands shows of_show lawful settled long =
+    let shown = shows_it line now answer of_show in (
+      shown.0,
+      gives_answer script line (record { place = place; events = events; answer = answer }) now now shown.0 stands lawful settled long
+          (subst (λ (o : Option Request). MatchOption o (AnswersShow line now answer shown.0 now) (AnswersRequest line now answer shown.0 now))
+          (sym (asks_nothing now.names line.statement shows)) shown.1),
+    )

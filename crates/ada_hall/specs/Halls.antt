@@ -1,0 +1,93 @@
+-- What a hall holds.
+use Rattle.std.specs.Prelude.{◌≡◌, ℕ, false, Option, Some, None, if◌then◌else◌, List, [], ◌∷◌, ◌++◌, length, slice_get, is_some, MatchOption}
+use Rattle.std.specs.Option.{option_and_then}
+use Rattle.ada_events.specs.declared.event.Event.{Event}
+use Rattle.ada_script.specs.declared.script.Line.{Line}
+use Rattle.ada_script.specs.Script.{scope_of}
+use Rattle.ada_statements.specs.Scope.{Scope}
+use Rattle.ada_statements.specs.Binding.{is_show}
+use Rattle.ada_run.specs.Play.{State}
+use Rattle.ada_run.specs.Replay.{beginning}
+use Rattle.ada_hall.specs.declared.answer.Answer.{Answer}
+use Rattle.ada_hall.specs.declared.answer.Answer.TheVariants.{Group, Refused, Shown}
+use Rattle.ada_hall.specs.declared.answer.Kept.{Kept}
+use Rattle.ada_hall.specs.Answers.{answer_at}
+use Rattle.ada_hall.specs.Stations.{Showing, GoesOnShowing}
+use Rattle.ada_hall.specs.Counting.{asked_count}
+use Rattle.ada_hall.specs.History.{GoesOn, IsAnswerTo, AreGiven}
+
+-- the kernel with what is published of it, what names are bound to, and the answers that were given
+pub record Held : Type 0 where
+  pub showing : Showing
+  pub names : Scope
+  pub answers : List Kept
+
+abbrev pub held : Showing → Scope → List Kept → Held
+held showing names answers = record { showing = showing; names = names; answers = answers }
+
+-- a new hall
+abbrev pub opening : List Line → Held
+opening script = held (record { journal = []; published = []; behind = false }) (scope_of script) []
+
+-- the journal, and what names are bound to
+abbrev pub state_of : Held → State
+state_of hall = record { journal = hall.showing.journal; names = hall.names }
+
+-- the answers were given one after another, from the script's beginning on, and the journal may have gone on since
+pub record IsHistory (script : List Line) (answers : List Kept) (now : State) : Type 0 where
+  pub text : List ℕ
+  pub last : State
+  pub given : AreGiven script answers (beginning script) text last
+  pub goes_on : GoesOn last now
+
+-- the line at a place that has no answer yet
+abbrev pub open_line : List Line → List Kept → ℕ → Option Line
+open_line script answers place = if is_some (answer_at answers place) then None else slice_get script place
+
+-- the line of a request that has no answer yet, and that of an attribute
+abbrev pub open_request : List Line → List Kept → ℕ → Option Line
+open_request script answers place = option_and_then (λ (line : Line). if is_show line.statement then None else Some line) (open_line script answers place)
+
+abbrev pub open_show : List Line → List Kept → ℕ → Option Line
+open_show script answers place = option_and_then (λ (line : Line). if is_show line.statement then Some line else None) (open_line script answers place)
+
+-- the answer to a place, over a journal of so many events
+abbrev pub kept_at : ℕ → List Event → Answer → Kept
+kept_at place journal answer = record { place = place; events = length journal; answer = answer }
+
+-- how many requests an answer says were accepted
+abbrev pub gained : Answer → ℕ
+gained (Group first last) = 1
+gained (Refused cause) = 0
+gained (Shown value) = 0
+
+-- what the request of a line was answered is kept, and a group is published
+pub record IsSaid (line : Line) (place : ℕ) (old new : Held) : Type 0 where
+  pub answer : Answer
+  pub text : List ℕ
+  pub answers : IsAnswerTo line (state_of old) answer text (state_of new)
+  pub kept : new.answers ≡ old.answers ++ kept_at place old.showing.journal answer ∷ []
+  pub published : GoesOnShowing old.showing new.showing
+
+-- the request at a place is answered; nothing changes where there is none, or it has an answer
+abbrev pub Says : List Line → ℕ → Held → Held → Type 0
+Says script place old new = MatchOption (open_request script old.answers place) (new ≡ old) (λ line. IsSaid line place old new)
+
+-- the answer is kept where a line shows an attribute and has no answer, and else nothing changes
+abbrev pub noted : List Line → ℕ → Answer → Held → Held
+noted script place answer hall =
+    if is_some (open_show script hall.answers place)
+    then held hall.showing hall.names (hall.answers ++ kept_at place hall.showing.journal answer ∷ [])
+    else hall
+
+-- an answer that isn't a group
+abbrev pub IsOfShow : Answer → Type 0
+IsOfShow (Group first last) = ⊥
+IsOfShow (Refused cause) = Unit {0}
+IsOfShow (Shown value) = Unit {0}
+
+-- what every hall keeps
+pub record IsHall (script : List Line) (places total : ℕ) (held : Held) : Type 0 where
+  pub places_are : places ≡ length script
+  pub history : IsHistory script held.answers (state_of held)
+  pub counted : total ≡ asked_count held.showing.journal

@@ -1,0 +1,56 @@
+-- Who speaks the lines of a script: speaker 0 is the main program, and speaker k the task of the k-th creation.
+use Rattle.std.specs.Prelude.{ℕ, Bool, false, ◌&&◌, ◌==◌, ◌-◌, not, if◌then◌else◌, Option, Some, None, List, codes, slice_get, unwrap_or}
+use Rattle.std.specs.Str.{bytes_eq}
+use Rattle.std.specs.Option.{option_map_or}
+use Rattle.std.specs.List.{count_by, filter_map}
+use Rattle.ada_script.specs.declared.script.Line.{Line}
+use Rattle.ada_statements.specs.Binding.{is_show}
+use Rattle.ada_statements.specs.declared.statement.Statement.{Statement}
+use Rattle.ada_statements.specs.declared.statement.Statement.TheVariants.{Tick, Open, Create, Activate, Up, Fail, Call, CallWithin, Try, Accept, Select, End, Raise, Close, Delay, Complete, Abort, ShowCallable, ShowTerminated, ShowCount}
+
+-- the name of the task that speaks a statement; a tick names none
+abbrev pub speaker_in : Statement → Option (List ℕ)
+speaker_in (Tick now) = None
+speaker_in (Open by block) = Some by
+speaker_in (Create by task under families) = Some by
+speaker_in (Activate by tasks) = Some by
+speaker_in (Up by) = Some by
+speaker_in (Fail by) = Some by
+speaker_in (Call by callee entry) = Some by
+speaker_in (CallWithin by callee entry duration) = Some by
+speaker_in (Try by callee entry) = Some by
+speaker_in (Accept by entry) = Some by
+speaker_in (Select by pick choices tail) = Some by
+speaker_in (End by) = Some by
+speaker_in (Raise by) = Some by
+speaker_in (Close by) = Some by
+speaker_in (Delay by duration) = Some by
+speaker_in (Complete by) = Some by
+speaker_in (Abort by tasks) = Some by
+speaker_in (ShowCallable by task) = Some by
+speaker_in (ShowTerminated by task) = Some by
+speaker_in (ShowCount by entry) = Some by
+
+abbrev pub main_name : List ℕ
+main_name = codes "main"
+
+-- the name of the task that a statement creates
+abbrev pub created_in : Statement → Option (List ℕ)
+created_in (Create by task under families) = Some task
+created_in _ = None
+
+-- the names of all tasks that lines create, in their order
+abbrev pub created : List Line → List (List ℕ)
+created lines = filter_map (λ (line : Line). created_in line.statement) lines
+
+-- the name of a speaker, if there is one of that number
+abbrev pub speaker_name : List Line → ℕ → Option (List ℕ)
+speaker_name lines speaker = if speaker == 0 then Some main_name else slice_get (created lines) (speaker - 1)
+
+-- the statement is that of the speaker; ticks are the main program's
+abbrev pub speaks : List Line → ℕ → Statement → Bool
+speaks lines speaker statement = option_map_or (λ (name : List ℕ). bytes_eq name (unwrap_or (speaker_in statement) main_name)) (speaker_name lines speaker) false
+
+-- how many lines of a speaker are requests
+abbrev pub request_count : List Line → ℕ → ℕ
+request_count lines speaker = count_by (λ (line : Line). speaks lines speaker line.statement && not (is_show line.statement)) lines

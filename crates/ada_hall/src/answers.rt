@@ -1,0 +1,71 @@
+//! The answers that are kept.
+ghost use Rattle.std.specs.Prelude.{◌≡◌, ◌<◌, None, [], ◌∷◌, ◌++◌, IfOk};
+ghost use Rattle.ada_hall.specs.Answers.{answer_at, AreApart};
+
+use crate::answer::{Answer, Kept};
+use std::alloc::{AllocError, Global};
+use std::marker::Model;
+
+/// The answers to the lines of a script, in the order in which they were given, at most one for each place.
+/// Contracts see how many places there are, and the list of answers.
+#[derive(Drop)]
+pub struct Answers {
+    places: usize,
+    kept: Vec<Kept>,
+}
+
+impl Model for Answers {
+    ghost use Rattle.std.specs.Prelude.{◌≤◌, ◌<◌, vec_capacity};
+    ghost use Rattle.std.specs.List.{All};
+    ghost use Rattle.ada_hall.specs.Answers.{AnswersKept, AreApart};
+
+    ghost Value = { AnswersKept };
+
+    ghost view = { λ a. record { places = a.places; kept = a.kept.items } };
+
+    ghost invariant = { λ a. AreApart a.kept.items
+        × All (λ kept. kept.place < a.places) a.kept.items
+        × (a.places ≤ vec_capacity a.kept) };
+}
+
+impl Answers {
+    /// No answers, with room for one at each of so many places.
+    pub fn new(alloc: Global, places: usize) -> Result<Answers, AllocError>
+        ensures { IfOk result (λ answers. answers ≡ record { places = places; kept = [] }) }
+    {
+        Ok(Answers {
+            places,
+            kept: Vec::with_capacity(alloc, places)?,
+        })
+    }
+
+    /// The answers in the order in which they were given.
+    pub fn as_slice(&self) -> &[Kept]
+        ensures answers { result.now ≡ self.now.kept }
+        ensures apart { AreApart self.now.kept }
+    {
+        &self.kept
+    }
+
+    /// The answer at a place, if there is one.
+    pub fn get(&self, place: u32) -> Option<Answer>
+        ensures { result ≡ answer_at self.now.kept place }
+    {
+        self.kept
+            .iter()
+            .find(|kept| kept.place == place)
+            .map(|kept| kept.answer)
+    }
+
+    /// Keeps the answer to a place that has none. It takes no memory.
+    pub fn keep(&mut self, kept: Kept)
+        requires place { kept.place < self.old.places }
+        requires unanswered { answer_at self.old.kept kept.place ≡ None }
+        ensures { self.new ≡ record {
+          places = self.old.places;
+          kept = self.old.kept ++ kept ∷ [];
+        } }
+    {
+        self.kept.push_reserved(kept);
+    }
+}

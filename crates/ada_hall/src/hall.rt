@@ -1,0 +1,307 @@
+//! The value under the lock.
+ghost use Rattle.std.specs.Prelude.{◌≡◌, ◌+◌, ◌<◌, false, Err, [], IfOk, IfErr, OnOk, OnErr, MatchOption, length, slice_get};
+ghost use Rattle.ada_events.specs.Lawful.{IsLawful, IsSettled};
+ghost use Rattle.ada_events.specs.Steps.{IsAccepted, IsRefused};
+ghost use Rattle.ada_events.specs.Boards.{AreTrueOf};
+ghost use Rattle.ada_script.specs.Script.{scope_of};
+ghost use Rattle.ada_board.specs.Sights.{Posted};
+ghost use Rattle.ada_hall.specs.Answers.{answer_at, AreApart};
+ghost use Rattle.ada_hall.specs.Asking.{Asks};
+ghost use Rattle.ada_hall.specs.Counting.{asked_count};
+ghost use Rattle.ada_run.specs.Play.{shown as shown_of};
+ghost use Rattle.ada_hall.specs.Halls.{state_of, IsHistory, Says, noted, opening, IsOfShow};
+ghost use Rattle.ada_hall.specs.Stations.{Publishes, IsTied};
+
+use crate::answer::{Answer, Kept};
+use crate::answers::Answers;
+use crate::asking::{Asked, asking_of};
+use crate::floor::Floor;
+use crate::saying::{answer_request, open_line};
+use crate::session::Session;
+use crate::speakers::{speaker, speakers};
+use crate::station::{Station, Told};
+use crate::tally::Tally;
+use ada_board::BoardWriter;
+use ada_events::{Journal, Outcome, Refusal, Request};
+use ada_kernel::Kernel;
+use ada_script::{Names, Script, Value};
+use std::alloc::Global;
+use std::marker::Model;
+use std::sync::Wait;
+use std::sync::ledger::{Book, Share};
+
+/// A kernel, the writer of its board, and the answers to the lines of a script: the value that threads share
+/// under one lock. Contracts see the kernel's journal with what is published of it, what names are bound to,
+/// and the answers in the order in which they were given. It is not `Drop`: end it by
+/// [`close`](Hall::close).
+pub struct Hall<'s, J: Session> {
+    script: &'s Script,
+    station: Station<J>,
+    names: Names,
+    answers: Answers,
+    tally: Tally<J>,
+    floor: Floor,
+}
+
+impl<'s, J: Session> Model for Hall<'s, J> {
+    ghost use Rattle.std.specs.Prelude.{◌≡◌};
+    ghost use Rattle.ada_hall.specs.Halls.{Held, held, IsHall};
+
+    ghost Value = { Held };
+
+    ghost view = { λ h. held h.station h.names h.answers.kept };
+
+    ghost invariant = { λ h. (h.script.now ≡ J.script)
+        × IsHall J.script h.answers.places h.tally (held h.station h.names h.answers.kept) };
+}
+
+// The names of a script, a new kernel, and room for an answer to each line.
+fn beginnings(alloc: Global, script: &Script) -> Result<(Names, Kernel, Answers), Refusal>
+    ensures names { IfOk result (λ parts. parts.0 ≡ scope_of script.now) }
+    ensures kernel { IfOk result (λ parts. parts.1 ≡ []) }
+    ensures answers { IfOk result (λ parts.
+        parts.2 ≡ record { places = length script.now; kept = [] }) }
+    ensures err { IfErr result (λ cause. cause ≡ Refusal.OutOfMemory) }
+{
+    let names = script.names().map_err(|_| Refusal::OutOfMemory)?;
+    let kernel = Kernel::new(alloc)?;
+    let room = Answers::new(alloc, script.lines().len());
+    let answers = room.map_err(|_| Refusal::OutOfMemory)?;
+    Ok((names, kernel, answers))
+}
+
+impl<'s, J: Session> Hall<'s, J> {
+    /// A hall with an empty journal and no answers, of a writer to which nothing was ever offered. Refused
+    /// for want of memory, it gives the writer back.
+    pub fn new(
+        alloc: Global,
+        script: &'s Script,
+        writer: BoardWriter<J>,
+        book: Book<J>,
+    ) -> Result<Hall<'s, J>, (Refusal, BoardWriter<J>)>
+        requires script { script.now ≡ J.script }
+        requires writer { writer ≡ record { published = []; offered = [] } }
+        requires book { book.total ≡ 0 }
+        ensures ok { IfOk result (λ hall. hall ≡ opening J.script) }
+        ensures err { IfErr result (λ refused.
+            (refused.0 ≡ Refusal.OutOfMemory) × (refused.1 ≡ writer)) }
+    {
+        match beginnings(alloc, script) {
+            Ok((names, kernel, answers)) => Ok(Hall {
+                script,
+                station: Station::new(kernel, writer),
+                names,
+                answers,
+                tally: Tally::new(book),
+                floor: Floor::new(speakers(script.lines())),
+            }),
+            Err(cause) => Err((cause, writer)),
+        }
+    }
+
+    /// The kernel's step, which answers no line of the script, and then the publication of its board. Accepted,
+    /// it adds one to the total and to the share of the one who asks. Refused, nothing is changed.
+    pub fn step<R: Wait>(
+        &mut self,
+        rt: &R,
+        share: &mut Share<J>,
+        request: Request,
+    ) -> Result<Told<J>, Refusal>
+        requires { 0 < share.old.parts }
+        ensures ok { IfOk result (λ told.
+            IsAccepted self.old.showing.journal request told.at self.new.showing.journal) }
+        ensures published { IfOk result (λ told.
+            Publishes self.old.showing self.new.showing told.mark) }
+        ensures answers { (self.new.answers ≡ self.old.answers) × (self.new.names ≡ self.old.names) }
+        ensures err { IfErr result (λ cause.
+            IsRefused self.old.showing.journal request cause self.new.showing.journal) }
+        ensures unchanged { OnErr result (self.new ≡ self.old) }
+        ensures share { share.new.amount + asked_count self.old.showing.journal
+            ≡ share.old.amount + asked_count self.new.showing.journal }
+        ensures parts { share.new.parts ≡ share.old.parts }
+    {
+        let told = self.station.step(rt, request)?;
+        self.tally.add(share);
+        Ok(told)
+    }
+
+    /// Plays the request at a place of the script, counted from 0, and keeps its answer. Where there is none,
+    /// or it has an answer, nothing is changed. Fails with `OutOfMemory` alone, and changes nothing then.
+    pub fn say<R: Wait>(&mut self, rt: &R, share: &mut Share<J>, place: u32) -> Result<(), Refusal>
+        requires { 0 < share.old.parts }
+        ensures ok { OnOk result (Says J.script place self.old self.new) }
+        ensures err { IfErr result (λ cause. cause ≡ Refusal.OutOfMemory) }
+        ensures unchanged { OnErr result (self.new ≡ self.old) }
+        ensures share { share.new.amount + asked_count self.old.showing.journal
+            ≡ share.old.amount + asked_count self.new.showing.journal }
+        ensures parts { share.new.parts ≡ share.old.parts }
+    {
+        let script = self.script;
+        let Some(line) = open_line(script, &self.answers, place) else {
+            return Ok(());
+        };
+        if line.statement.is_show() {
+            return Ok(());
+        }
+        let events = self.station.kernel().journal().len();
+        let answer = answer_request(rt, &mut self.station, &mut self.names, line)?;
+        self.tally.count(share, answer);
+        self.answers.keep(Kept {
+            place,
+            events,
+            answer,
+        });
+        Ok(())
+    }
+
+    /// What the line at a place asks of a reader, with a mark of what was published last. Refused for the
+    /// causes for which the line isn't answered a value (9.9), and as `UnknownTask` where the place holds no
+    /// line that shows an attribute. It takes no memory.
+    pub fn ask(&self, place: u32) -> Result<Asked<J>, Refusal>
+        ensures ok { IfOk result (λ asked. MatchOption (slice_get J.script place) ⊥ (λ line.
+            Asks self.now.names self.now.showing.journal line.statement asked.what)) }
+        ensures mark { IfOk result (λ asked. asked.mark ≡ self.now.showing.published) }
+        ensures err { IfErr result (λ cause. MatchOption (slice_get J.script place)
+            (cause ≡ Refusal.UnknownTask)
+            (λ line. shown_of self.now.names self.now.showing.journal line.statement ≡ Err cause)) }
+    {
+        let script = self.script;
+        let Some(line) = script.lines().get(place as usize) else {
+            return Err(Refusal::UnknownTask);
+        };
+        let what = asking_of(self.station.kernel(), &self.names, &line.statement)?;
+        Ok(Asked {
+            what,
+            mark: self.station.mark(),
+        })
+    }
+
+    /// Keeps the value that was read for a place. Where its line shows no attribute, or has an answer, nothing
+    /// is changed. It takes no memory.
+    pub fn note(&mut self, place: u32, value: Value)
+        ensures { self.new ≡ noted J.script place (Answer.Shown value) self.old }
+    {
+        self.keep_shown(place, Answer::Shown(value));
+    }
+
+    /// Keeps the cause for which a place isn't answered a value. Where its line shows no attribute, or has an
+    /// answer, nothing is changed. It takes no memory.
+    pub fn note_refusal(&mut self, place: u32, cause: Refusal)
+        ensures { self.new ≡ noted J.script place (Answer.Refused cause) self.old }
+    {
+        self.keep_shown(place, Answer::Refused(cause));
+    }
+
+    // Keeps the answer to a line that shows an attribute.
+    fn keep_shown(&mut self, place: u32, answer: Answer)
+        requires { IsOfShow answer }
+        ensures { self.new ≡ noted J.script place answer self.old }
+    {
+        let script = self.script;
+        let Some(line) = open_line(script, &self.answers, place) else {
+            return;
+        };
+        if line.statement.is_show() {
+            let events = self.station.kernel().journal().len();
+            self.answers.keep(Kept {
+                place,
+                events,
+                answer,
+            });
+        }
+    }
+
+    /// The answer that is kept at a place, if there is one.
+    pub fn answer(&self, place: u32) -> Option<Answer>
+        ensures { result ≡ answer_at self.now.answers place }
+    {
+        self.answers.get(place)
+    }
+
+    /// Whether what is published is behind: its board isn't the journal's. What is published is true of the
+    /// journal.
+    pub fn behind(&self) -> bool
+        ensures behind { result ≡ self.now.showing.behind }
+        ensures tied { IsTied self.now.showing.journal self.now.showing.published self.now.showing.behind }
+    {
+        self.station.is_behind()
+    }
+
+    /// The journal, which is lawful and settled.
+    pub fn journal(&self) -> &Journal
+        ensures events { result.now.events ≡ self.now.showing.journal }
+        ensures lawful { IsLawful self.now.showing.journal }
+        ensures settled { IsSettled self.now.showing.journal }
+    {
+        self.station.kernel().journal()
+    }
+
+    /// The answers in the order in which they were given: each of its own line, over the journal and the
+    /// bindings that the answers before it left, and no two of one place.
+    pub fn answers(&self) -> &[Kept]
+        ensures answers { result.now ≡ self.now.answers }
+        ensures history { IsHistory J.script self.now.answers (state_of self.now) }
+        ensures apart { AreApart self.now.answers }
+    {
+        let _script = self.script;
+        self.answers.as_slice()
+    }
+
+    /// How many requests were accepted: the number of asked events in the journal.
+    pub fn total(&self) -> u32
+        ensures { result ≡ asked_count self.now.showing.journal }
+    {
+        self.tally.total()
+    }
+
+    /// Shows that the whole share has for its amount the number of requests that were accepted.
+    pub fn audit(&mut self, whole: &mut Share<J>)
+        requires { whole.old.parts ≡ J.parts }
+        ensures amount { whole.old.amount ≡ asked_count self.old.showing.journal }
+        ensures same { self.new ≡ self.old }
+        ensures share { (whole.new.amount ≡ whole.old.amount) × (whole.new.parts ≡ whole.old.parts) }
+    {
+        self.tally.audit(whole);
+    }
+
+    /// Who may go on.
+    pub fn floor(&self) -> Floor {
+        self.floor
+    }
+
+    /// Says who may go on.
+    pub fn set_floor(&mut self, floor: Floor)
+        ensures { self.new ≡ self.old }
+    {
+        self.floor = floor;
+    }
+
+    /// Whether the task of the line at a place runs, or has completed: then the line needn't wait. A tick never
+    /// waits, and a place without a line doesn't.
+    pub fn may_go(&self, place: u32) -> bool {
+        let script = self.script;
+        let Some(line) = script.lines().get(place as usize) else {
+            return true;
+        };
+        let Some(name) = speaker(&line.statement) else {
+            return true;
+        };
+        let task = self.names.task(name);
+        let kernel = self.station.kernel();
+        let ended = matches!(kernel.outcome(task), Some(Outcome::Done | Outcome::Dead));
+        ended || kernel.running(task) == Some(true)
+    }
+
+    /// Ends the hall, and closes its writer. It may wait for readers that are looking to leave.
+    pub fn close<R: Wait>(self, rt: &R) {
+        let Hall {
+            script: _,
+            station,
+            names: _names,
+            answers: _answers,
+            tally: _tally,
+            floor: _,
+        } = self;
+        station.close(rt);
+    }
+}

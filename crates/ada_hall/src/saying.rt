@@ -1,0 +1,71 @@
+//! The answers to the lines of a script.
+ghost use Rattle.std.specs.Prelude.{◌≡◌, ◌+◌, ℕ, false, Some, List, IfOk, IfErr, OnErr};
+ghost use Rattle.std.specs.Option.{option_copied};
+ghost use Rattle.ada_events.specs.Lawful.{IsLawful};
+ghost use Rattle.ada_events.specs.Tasks.{task_count};
+ghost use Rattle.ada_statements.specs.Binding.{is_show};
+ghost use Rattle.ada_run.specs.Ends.{state};
+ghost use Rattle.ada_hall.specs.History.{IsAnswerTo};
+ghost use Rattle.ada_hall.specs.Stations.{GoesOnShowing};
+ghost use Rattle.ada_hall.specs.Counting.{asked_count};
+ghost use Rattle.ada_hall.specs.Halls.{open_line, gained};
+
+use crate::answer::Answer;
+use crate::answers::Answers;
+use crate::station::Station;
+use ada_board::Naming;
+use ada_events::{Refusal, TaskNo};
+use ada_kernel::Kernel;
+use ada_script::{Line, Names, Script, asked};
+use std::sync::Wait;
+
+// The line at a place, if it has no answer yet.
+pub(crate) fn open_line<'s>(script: &'s Script, answers: &Answers, place: u32) -> Option<&'s Line>
+    ensures { option_copied result ≡ open_line script.now answers.now.kept place }
+{
+    if answers.get(place).is_some() {
+        return None;
+    }
+    script.lines().get(place as usize)
+}
+
+// The number of the task that the kernel makes next.
+fn next_task(kernel: &Kernel) -> TaskNo
+    ensures { result.0 ≡ task_count kernel.now }
+{
+    TaskNo(kernel.tasks())
+}
+
+// Makes the request of a line, and binds its name. Refused for want of memory, nothing is changed.
+pub(crate) fn answer_request<J: Naming, R: Wait>(
+    rt: &R,
+    station: &mut Station<J>,
+    names: &mut Names,
+    line: &Line,
+) -> Result<Answer, Refusal>
+    requires request { is_show line.now.statement ≡ false }
+    ensures ok { IfOk result (λ answer. (text : List ℕ)
+        × IsAnswerTo line.now (state station.old.journal names.old) answer text
+        (state station.new.journal names.new)) }
+    ensures showing { IfOk result (λ _. GoesOnShowing station.old station.new) }
+    ensures counted { IfOk result (λ answer.
+        asked_count station.new.journal ≡ asked_count station.old.journal + gained answer) }
+    ensures err { IfErr result (λ cause. cause ≡ Refusal.OutOfMemory) }
+    ensures lawful { IsLawful station.new.journal }
+    ensures unchanged { OnErr result ((station.new ≡ station.old) × (names.new ≡ names.old)) }
+{
+    let request = asked(&line.statement, names);
+    let made = next_task(station.kernel());
+    match station.step(rt, request) {
+        Ok(told) => {
+            names.bind(&line.statement, told.at, made);
+            let last = station.kernel().journal().len();
+            Ok(Answer::Group {
+                first: told.at,
+                last,
+            })
+        }
+        Err(Refusal::OutOfMemory) => Err(Refusal::OutOfMemory),
+        Err(cause) => Ok(Answer::Refused(cause)),
+    }
+}

@@ -1,0 +1,11 @@
+//! Tests of the hall: its steps with readers beside it, and the answers to the lines of a script.
+#![tactic(auto)]
+
+#[cfg(test)]
+mod answering;
+#[cfg(test)]
+mod asking;
+#[cfg(test)]
+mod opened;
+#[cfg(test)]
+mod stepping;
