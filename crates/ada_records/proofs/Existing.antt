@@ -8,7 +8,7 @@ use Rattle.ada_events.specs.declared.event.Event.{Event}
 use Rattle.ada_events.specs.declared.names.TaskNo.{TaskNo}
 use Rattle.ada_events.specs.declared.request.Request.{Request}
 use Rattle.ada_events.specs.declared.request.Request.TheVariants as request
-use Rattle.ada_events.specs.Search.{is_number, is_some_and}
+use Rattle.ada_events.specs.Search.{is_number, is_some_and, event_at}
 use Rattle.ada_events.specs.Says.{completed_in, elaborated_in, gone_in, quit_in, started_in}
 use Rattle.ada_events.specs.Tasks.{task_count, has_task}
 use Rattle.ada_events.specs.Masters.{depends_on}
@@ -17,7 +17,7 @@ use Rattle.ada_events.specs.Outcomes.{raised_in}
 use Rattle.ada_events.specs.Asks.{asker, named_tasks, asked_event}
 use Rattle.ada_events.specs.Refusals.{refusal, names_unknown_task}
 use Rattle.ada_events.specs.Lawful.{MayFollow}
-use Rattle.ada_laws.proofs.Searching.{is_number-some, option_map_or-true}
+use Rattle.ada_laws.proofs.Searching.{is_number-some, option_map_or-true, event_at-other}
 use Rattle.ada_laws.proofs.Accepting.{is_accepted, asker_exists}
 use Rattle.ada_laws.proofs.Rows.{IsRow, forced-row}
 use Rattle.ada_laws.proofs.Rows.IsRow.{halts, goes}
@@ -122,3 +122,9 @@ known_listed journal (t ∷ rest) u known lists =
 
 pub started_exists : (event : Event) (before : List Event) (u : ℕ) → MayFollow before event → lists_task u (started_in event) ≡ true → u < task_count before
 started_exists event before u follows lists = known_listed before (started_in event) u (starts_known event before follows) lists
+
+-- positions count from 1
+pub positive : (journal : List Event) (e : Event) → event_at journal 0 ≡ Some e → ⊥
+unfolding event_at
+positive [] e at = none-some e at
+positive (event ∷ before) e at = positive before e (sym (event_at-other event before 0 (λ same. omega (arith, same))) ∙ at)

@@ -20,3 +20,4 @@ pub mod Existing
 pub mod TaskEnds
 pub mod Starting
 pub mod Unmade
+pub mod EventKinds

@@ -1,31 +1,34 @@
 -- What one more event changes in the records where it changes those of a few tasks.
-use Rattle.std.proofs.Common.{eqb, ◌≡◌, ◌≢◌, ℕ, suc, ◌+◌, ◌<◌, true, false, Some, None, List, ◌∷◌, length, set, sym, refl, ap, subst, ◌∙◌, arith, inl, inr}
+use Rattle.std.proofs.Common.{eqb, ◌≡◌, ◌≢◌, ℕ, suc, ◌+◌, ◌<◌, true, false, Some, None, List, ◌∷◌, length, set, sym, refl, ap, subst, ◌∙◌, arith, inl, inr, zero}
 use Rattle.std.specs.Option.{option_map}
 use Rattle.std.proofs.lemmas.Bool.{cases_eq, true≢false}
 use Rattle.std.proofs.lemmas.List.{length-set, get_or-set_same, get_or-set_other}
 use Rattle.ada_events.specs.declared.event.Event.{Event}
-use Rattle.ada_events.specs.declared.event.Event.TheVariants as event
+use Rattle.ada_events.specs.declared.event.Event.TheVariants.{Ended, Met}
 use Rattle.ada_events.specs.declared.names.TaskNo.{TaskNo}
 use Rattle.ada_events.specs.declared.outcome.Outcome.{Outcome}
 use Rattle.ada_events.specs.declared.outcome.Outcome.TheVariants.{Held, Raised, Accepted}
-use Rattle.ada_events.specs.Search.{is_number, is_some_and}
+use Rattle.ada_events.specs.Search.{is_number, is_some_and, event_at}
 use Rattle.ada_events.specs.Says.{Meeting, held_in, released_in, meeting_in, creation_in}
 use Rattle.ada_events.specs.Outcomes.{raised_in, released_to, choice_met}
 use Rattle.ada_events.specs.Lawful.{IsLawful}
 use Rattle.ada_laws.specs.Suspension.{IsSuspendedAt}
 use Rattle.ada_laws.proofs.Growing.{task_count-same}
+use Rattle.ada_laws.proofs.Meeting.{met_taking, taken_queued}
+use Rattle.ada_laws.proofs.Queueing.{open_call_suspends}
+use Rattle.ada_laws.proofs.Suspending.{suspended_exists}
 use Rattle.ada_laws.proofs.Searching.{is_number-from}
 use Rattle.ada_laws.proofs.OutcomeLaws.{raises_none, unraised}
 use Rattle.ada_records.specs.declared.record.Doing.{Doing}
 use Rattle.ada_records.specs.declared.record.Record.{Record}
 use Rattle.ada_records.specs.declared.record.Stage.{Stage}
-use Rattle.ada_records.specs.Records.{no_record, record_at, IsDoingOf, IsStageOf, IsRecordOf, AreRecords, IsPlainHold, IsPlainRelease, IsMeetingBetween, IsRaising, freed, may_terminate}
+use Rattle.ada_records.specs.Records.{no_record, record_at, IsDoingOf, IsStageOf, IsRecordOf, AreRecords, HoldsSomebody, IsPlainHold, IsPlainRelease, freed, may_terminate}
 use Rattle.ada_records.proofs.Holding.{hold_only, quiet_ends, holder_ran}
 use Rattle.ada_records.proofs.Queues.{ends}
-use Rattle.ada_records.proofs.Saying.{IsPlain, number_none, number_other, no_meeting, other_call, release_only, held_apart, met_frees, call_not_wait, is_met-now, unmet_same}
-use Rattle.ada_records.proofs.Doings.{doing_held, doing_released, doing_later, doing_same, doing_ended, same_outcome}
-use Rattle.ada_records.proofs.LatestOutcomes.{raisers_have_raised}
-use Rattle.ada_records.proofs.Existing.{raiser_exists}
+use Rattle.ada_records.proofs.Saying.{IsPlain, number_none, number_other, no_meeting, other_call, release_only, held_apart, met_frees, call_not_wait, is_met-now, unmet_same, met_says}
+use Rattle.ada_records.proofs.Doings.{held_there, doing_held, doing_released, doing_later, doing_same, doing_ended, same_outcome}
+use Rattle.ada_records.proofs.LatestOutcomes.{what_is_released_held, raisers_have_raised}
+use Rattle.ada_records.proofs.Existing.{positive, raiser_exists}
 use Rattle.ada_records.proofs.Stages.{stage_after, stage_more, stage_plain}
 
 -- a record that stays, of a task that the event doesn't touch
@@ -127,99 +130,129 @@ unreleased event before records task other p lawful old known differs some held 
     })
     (stage_plain event before other (record_at records other).stage only.plain)
 
+-- what a position holds up, by the records
+pub record IsKeptAt (journal : List Event) (records : List Record) (task position : ℕ) : Type 0 where
+  pub held : IsSuspendedAt journal task position
+  pub within : task < length records
+  pub some : 0 < position
+  pub at : doing_at records task ≡ position
+
+some_position : (journal : List Event) (p : ℕ) (e : Event) → event_at journal p ≡ Some e → 0 < p
+some_position journal zero e at = absurd (positive journal e at)
+some_position journal (suc n) e at = omega arith
+
+pub kept_at : (journal : List Event) (records : List Record) (task position : ℕ) → IsLawful journal → AreRecords records journal → IsSuspendedAt journal task position → IsKeptAt journal records task position
+kept_at journal records task position lawful stand held =
+    let within : task < length records = omega (arith, suspended_exists journal task position lawful held, stand.many) in
+    record {
+      held = held;
+      within = within;
+      some = some_position journal position held.event held.stands;
+      at = held_there journal task (doing_at records task) position lawful (stand.each task within).doing.at held;
+    }
+
+-- somebody is suspended at what an event releases
+pub release_holds : (event : Event) (before : List Event) (position : ℕ) → IsLawful (event ∷ before) → released_in event ≡ Some position → HoldsSomebody before position
+release_holds event before position lawful frees =
+    let (task, held) = what_is_released_held event before position lawful frees in
+    record { task = task; held = held }
+
 -- the records after an event that releases what a task is suspended at, otherwise than by a rendezvous or an exception
-pub records_release : (event : Event) (before : List Event) (records : List Record) (task : ℕ) (now : Record) → IsLawful (event ∷ before) → AreRecords records before → task < length records → IsPlainRelease event (doing_at records task) → now ≡ record (record_at records task) { doing = freed (released_to before event) } → AreRecords (set records task now) (event ∷ before)
-records_release event before records task now lawful old within frees is =
-    let p = doing_at records task in
-    let only = release_only event p frees.releases in
-    let held : IsSuspendedAt before task p = (old.each task within).doing.at.held frees.some in
-    one_changed event before records task now only.plain.quiet.makes old within
-    (doing_only event before task (record_at records task) now (freed (released_to before event)) only.plain (old.each task within) (doing_released event before task p lawful held frees.releases) is)
+pub records_release : (event : Event) (before : List Event) (records : List Record) (task position : ℕ) (now : Record) → IsLawful (event ∷ before) → AreRecords records before → IsPlainRelease event position → IsSuspendedAt before task position → now ≡ record (record_at records task) { doing = freed (released_to before event) } → AreRecords (set records task now) (event ∷ before)
+records_release event before records task position now lawful old frees held is =
+    let kept = kept_at before records task position lawful.0 old held in
+    let only = release_only event position frees.releases in
+    one_changed event before records task now only.plain.quiet.makes old kept.within
+    (doing_only event before task (record_at records task) now (freed (released_to before event)) only.plain (old.each task kept.within) (doing_released event before task position lawful held frees.releases) is)
     (λ other known differs.
-    unreleased event before records task other p lawful old known differs frees.some held frees.releases
+    unreleased event before records task other position lawful old known differs kept.some held frees.releases
     (number_none other (raised_in event) frees.raises) (no_meeting event (doing_at records other) frees.meets))
 
-raising_says : (e : Event) (by : TaskNo) (call : ℕ) → e ≡ event.Ended by call true → (released_in e ≡ Some call) × (raised_in e ≡ Some by.0) × (meeting_in e ≡ None) × ((before : List Event) → released_to before e ≡ Raised)
+raising_says : (e : Event) (by : TaskNo) (call : ℕ) → e ≡ Ended by call true → (released_in e ≡ Some call) × (raised_in e ≡ Some by.0) × (meeting_in e ≡ None) × ((before : List Event) → released_to before e ≡ Raised)
 unfolding released_in raised_in meeting_in released_to
 raising_says e by call is = (ap released_in is, ap raised_in is, ap meeting_in is, λ before. ap (released_to before) is)
 
-met_raises_none : (call wait : ℕ) → raised_in (event.Met call wait) ≡ None
+pub raising_frees : (e : Event) (by : TaskNo) (call : ℕ) → e ≡ Ended by call true → released_in e ≡ Some call
+raising_frees e by call is = (raising_says e by call is).0
+
+met_raises_none : (call wait : ℕ) → raised_in (Met call wait) ≡ None
 unfolding raised_in
 met_raises_none call wait = refl
 
-met_becomes : (before : List Event) (call wait : ℕ) → released_to before (event.Met call wait) ≡ Accepted call (choice_met before wait)
+met_becomes : (before : List Event) (call wait : ℕ) → released_to before (Met call wait) ≡ Accepted call (choice_met before wait)
 unfolding released_to
 met_becomes before call wait = refl
 
 -- the task exists that ends a rendezvous by an exception
-pub raiser_within : (event : Event) (before : List Event) (records : List Record) (by : TaskNo) (caller : ℕ) → IsLawful (event ∷ before) → AreRecords records before → IsRaising event by (doing_at records caller) → by.0 < length records
-raiser_within event before records by caller lawful old raising =
-    omega (arith, raiser_exists event before by.0 lawful.1 (raising_says event by (doing_at records caller) raising.is).1, old.many)
+pub raiser_within : (event : Event) (before : List Event) (records : List Record) (by : TaskNo) (call : ℕ) → IsLawful (event ∷ before) → AreRecords records before → event ≡ Ended by call true → by.0 < length records
+raiser_within event before records by call lawful old raising =
+    omega (arith, raiser_exists event before by.0 lawful.1 (raising_says event by call raising).1, old.many)
 
 pub within_set : (records : List Record) (i n : ℕ) (now : Record) → n < length records → n < length (set records i now)
 within_set records i n now below = omega (arith, below, length-set records i now)
 
 -- the records after a task ended a rendezvous by an exception
-pub records_raised : (event : Event) (before : List Event) (records : List Record) (by : TaskNo) (caller : ℕ) (calls raises : Record) → IsLawful (event ∷ before) → AreRecords records before → caller < length records → by.0 < length records → IsRaising event by (doing_at records caller) → calls ≡ record (record_at records caller) { doing = freed Raised } → raises ≡ record (record_at (set records caller calls) by.0) { doing = record (record_at (set records caller calls) by.0).doing { outcome = Raised } } → AreRecords (set (set records caller calls) by.0 raises) (event ∷ before)
-records_raised event before records by caller calls raises lawful old has_caller has_by raising calls_is raises_is =
-    let p = doing_at records caller in
-    let says = raising_says event by p raising.is in
+pub records_raised : (event : Event) (before : List Event) (records : List Record) (by : TaskNo) (caller call : ℕ) (calls raises : Record) → IsLawful (event ∷ before) → AreRecords records before → event ≡ Ended by call true → IsSuspendedAt before caller call → calls ≡ record (record_at records caller) { doing = freed Raised } → raises ≡ record (record_at (set records caller calls) by.0) { doing = record (record_at (set records caller calls) by.0).doing { outcome = Raised } } → AreRecords (set (set records caller calls) by.0 raises) (event ∷ before)
+records_raised event before records by caller p calls raises lawful old raising held calls_is raises_is =
+    let kept = kept_at before records caller p lawful.0 old held in
+    let has_by = raiser_within event before records by p lawful old raising in
+    let says = raising_says event by p raising in
     let only = release_only event p says.0 in
-    let held : IsSuspendedAt before caller p = (old.each caller has_caller).doing.at.held raising.some in
     let quiet_caller : is_number caller (raised_in event) ≡ false = unraised event before caller p lawful held in
     let differs : by.0 ≢ caller = λ same. true≢false (sym (is_number-from caller (raised_in event) (says.1 ∙ ap Some same)) ∙ quiet_caller) in
     let was : record_at (set records caller calls) by.0 ≡ record_at records by.0 = get_or-set_other records caller by.0 calls no_record differs in
     let is : raises ≡ record (record_at records by.0) { doing = record (record_at records by.0).doing { outcome = Raised } } =
     raises_is ∙ ap (λ (r : Record). record r { doing = record r.doing { outcome = Raised } }) was in
-    two_changed event before records caller by.0 calls raises only.plain.quiet.makes old has_caller has_by differs
-    (doing_only event before caller (record_at records caller) calls (freed Raised) only.plain (old.each caller has_caller)
+    two_changed event before records caller by.0 calls raises only.plain.quiet.makes old kept.within has_by differs
+    (doing_only event before caller (record_at records caller) calls (freed Raised) only.plain (old.each caller kept.within)
     (subst (λ (o : Outcome). IsDoingOf (event ∷ before) caller (freed o)) (says.3 before) (doing_released event before caller p lawful held says.0)) calls_is)
     (doing_only event before by.0 (record_at records by.0) raises (record (record_at records by.0).doing { outcome = Raised }) only.plain (old.each by.0 has_by)
     (doing_later event before by.0 (record_at records by.0).doing (record_at records by.0).doing.joined Raised lawful (old.each by.0 has_by).doing
     (number_none by.0 (held_in event) only.holds)
-    (number_other (doing_at records by.0) p (released_in event) says.0 (elsewhere before records by.0 caller p old has_by differs raising.some held))
+    (number_other (doing_at records by.0) p (released_in event) says.0 (elsewhere before records by.0 caller p old has_by differs kept.some held))
     (quiet_ends event before by.0 only.plain.quiet)
     (λ some. (old.each by.0 has_by).doing.joined some ∙ sym (unmet_same event before (doing_at records by.0) (no_meeting event (doing_at records by.0) says.2)))
     (sym (raisers_have_raised event before by.0 says.1))) is)
     (λ other known not_caller not_by.
-    unreleased event before records caller other p lawful old known not_caller raising.some held says.0
+    unreleased event before records caller other p lawful old known not_caller kept.some held says.0
     (number_other other by.0 (raised_in event) says.1 not_by) (no_meeting event (doing_at records other) says.2))
 
--- the records after a rendezvous began
-pub records_met : (event : Event) (before : List Event) (records : List Record) (caller acceptor choice : ℕ) (waits calls : Record) → IsLawful (event ∷ before) → AreRecords records before → caller < length records → acceptor < length records → IsMeetingBetween event (doing_at records caller) (doing_at records acceptor) → choice ≡ choice_met before (doing_at records acceptor) → waits ≡ record (record_at records acceptor) { doing = freed (Accepted (doing_at records caller) choice) } → calls ≡ record (record_at records caller) { doing = record (record_at records caller).doing { joined = true } } → AreRecords (set (set records acceptor waits) caller calls) (event ∷ before)
-records_met event before records caller acceptor choice waits calls lawful old has_caller has_acceptor met chosen waits_is calls_is =
-    let call = doing_at records caller in
-    let wait = doing_at records acceptor in
-    let frees : released_in event ≡ Some wait = ap released_in met.is ∙ (met_frees call wait).0 in
-    let meets : option_map (λ (m : Meeting). m.call) (meeting_in event) ≡ Some call = ap (λ e. option_map (λ (m : Meeting). m.call) (meeting_in e)) met.is ∙ (met_frees call wait).1 in
-    let only = release_only event wait frees in
-    let raises : raised_in event ≡ None = ap raised_in met.is ∙ met_raises_none call wait in
-    let apart : call ≢ wait = call_not_wait event before call wait lawful met.is in
-    let differs : caller ≢ acceptor = λ same. apart (ap (λ n. doing_at records n) same) in
-    let at_call : IsSuspendedAt before caller call = (old.each caller has_caller).doing.at.held met.some_call in
-    let at_wait : IsSuspendedAt before acceptor wait = (old.each acceptor has_acceptor).doing.at.held met.some_wait in
-    let becomes : released_to before event ≡ Accepted call choice = ap (released_to before) met.is ∙ met_becomes before call wait ∙ ap (Accepted call) (sym chosen) in
-    let unfreed : is_number call (released_in event) ≡ false = number_other call wait (released_in event) frees apart in
-    two_changed event before records acceptor caller waits calls only.plain.quiet.makes old has_acceptor has_caller differs
-    (doing_only event before acceptor (record_at records acceptor) waits (freed (Accepted call choice)) only.plain (old.each acceptor has_acceptor)
-    (subst (λ (o : Outcome). IsDoingOf (event ∷ before) acceptor (freed o)) becomes (doing_released event before acceptor wait lawful at_wait frees)) waits_is)
-    (doing_only event before caller (record_at records caller) calls (record (record_at records caller).doing { joined = true }) only.plain (old.each caller has_caller)
-    (doing_later event before caller (record_at records caller).doing true (record_at records caller).doing.outcome lawful (old.each caller has_caller).doing
-    (number_none caller (held_in event) only.holds) unfreed (quiet_ends event before caller only.plain.quiet)
-    (λ some. sym (is_met-now event before call meets))
-    ((old.each caller has_caller).doing.outcome ∙ same_outcome event before caller call lawful (old.each caller has_caller).doing.at (number_none caller (held_in event) only.holds) (number_none caller (raised_in event) raises) unfreed)) calls_is)
-    (λ other known not_acceptor not_caller.
-    unreleased event before records acceptor other wait lawful old known not_acceptor met.some_wait at_wait frees
-    (number_none other (raised_in event) raises)
-    (other_call (meeting_in event) (doing_at records other) call meets (elsewhere before records other caller call old known not_caller met.some_call at_call)))
+-- the call and the wait between which a rendezvous begins hold somebody up
+pub met_holds : (event : Event) (before : List Event) (call wait : ℕ) → IsLawful (event ∷ before) → event ≡ Met call wait → HoldsSomebody before call × HoldsSomebody before wait
+met_holds event before call wait lawful met =
+    let taking = met_taking before event (record { call = call; wait = wait }) lawful.1 (ap meeting_in met ∙ met_says call wait) in
+    let (choice, queued) = taken_queued before call wait taking in (
+      record { task = queued.call.by; held = open_call_suspends before queued.call call queued.opened },
+      release_holds event before wait lawful (ap released_in met ∙ (met_frees call wait).0),
+    )
 
--- the caller's record is looked at behind the change of the acceptor's
-pub records_met_by : (event : Event) (before : List Event) (records : List Record) (caller acceptor choice : ℕ) (waits calls : Record) → IsLawful (event ∷ before) → AreRecords records before → caller < length records → acceptor < length records → IsMeetingBetween event (doing_at records caller) (doing_at records acceptor) → choice ≡ choice_met before (doing_at records acceptor) → waits ≡ record (record_at records acceptor) { doing = freed (Accepted (doing_at records caller) choice) } → calls ≡ record (record_at (set records acceptor waits) caller) { doing = record (record_at (set records acceptor waits) caller).doing { joined = true } } → AreRecords (set (set records acceptor waits) caller calls) (event ∷ before)
-records_met_by event before records caller acceptor choice waits calls lawful old has_caller has_acceptor met chosen waits_is calls_is =
-    let apart : doing_at records caller ≢ doing_at records acceptor = call_not_wait event before (doing_at records caller) (doing_at records acceptor) lawful met.is in
-    let differs : caller ≢ acceptor = λ same. apart (ap (λ n. doing_at records n) same) in
-    records_met event before records caller acceptor choice waits calls lawful old has_caller has_acceptor met chosen waits_is
-    (calls_is ∙ ap (λ (r : Record). record r { doing = record r.doing { joined = true } }) (get_or-set_other records acceptor caller waits no_record differs))
+-- the records after a rendezvous began
+pub records_met : (event : Event) (before : List Event) (records : List Record) (caller acceptor call wait choice : ℕ) (waits calls : Record) → IsLawful (event ∷ before) → AreRecords records before → event ≡ Met call wait → IsSuspendedAt before caller call → IsSuspendedAt before acceptor wait → choice ≡ choice_met before wait → waits ≡ record (record_at records acceptor) { doing = freed (Accepted call choice) } → calls ≡ record (record_at (set records acceptor waits) caller) { doing = record (record_at (set records acceptor waits) caller).doing { joined = true } } → AreRecords (set (set records acceptor waits) caller calls) (event ∷ before)
+records_met event before records caller acceptor call wait choice waits calls lawful old met at_call at_wait chosen waits_is calls_is =
+    let calling = kept_at before records caller call lawful.0 old at_call in
+    let waiting = kept_at before records acceptor wait lawful.0 old at_wait in
+    let frees : released_in event ≡ Some wait = ap released_in met ∙ (met_frees call wait).0 in
+    let meets : option_map (λ (m : Meeting). m.call) (meeting_in event) ≡ Some call = ap (λ e. option_map (λ (m : Meeting). m.call) (meeting_in e)) met ∙ (met_frees call wait).1 in
+    let only = release_only event wait frees in
+    let raises : raised_in event ≡ None = ap raised_in met ∙ met_raises_none call wait in
+    let apart : call ≢ wait = call_not_wait event before call wait lawful met in
+    let differs : caller ≢ acceptor = λ same. apart (sym calling.at ∙ ap (λ n. doing_at records n) same ∙ waiting.at) in
+    let becomes : released_to before event ≡ Accepted call choice = ap (released_to before) met ∙ met_becomes before call wait ∙ ap (Accepted call) (sym chosen) in
+    let unfreed : is_number (doing_at records caller) (released_in event) ≡ false = number_other (doing_at records caller) wait (released_in event) frees (λ same. apart (sym calling.at ∙ same)) in
+    let is : calls ≡ record (record_at records caller) { doing = record (record_at records caller).doing { joined = true } } =
+    calls_is ∙ ap (λ (r : Record). record r { doing = record r.doing { joined = true } }) (get_or-set_other records acceptor caller waits no_record differs) in
+    two_changed event before records acceptor caller waits calls only.plain.quiet.makes old waiting.within calling.within differs
+    (doing_only event before acceptor (record_at records acceptor) waits (freed (Accepted call choice)) only.plain (old.each acceptor waiting.within)
+    (subst (λ (o : Outcome). IsDoingOf (event ∷ before) acceptor (freed o)) becomes (doing_released event before acceptor wait lawful at_wait frees)) waits_is)
+    (doing_only event before caller (record_at records caller) calls (record (record_at records caller).doing { joined = true }) only.plain (old.each caller calling.within)
+    (doing_later event before caller (record_at records caller).doing true (record_at records caller).doing.outcome lawful (old.each caller calling.within).doing
+    (number_none caller (held_in event) only.holds) unfreed (quiet_ends event before caller only.plain.quiet)
+    (λ some. sym (is_met-now event before (doing_at records caller) (meets ∙ ap Some (sym calling.at))))
+    ((old.each caller calling.within).doing.outcome ∙ same_outcome event before caller (doing_at records caller) lawful (old.each caller calling.within).doing.at (number_none caller (held_in event) only.holds) (number_none caller (raised_in event) raises) unfreed)) is)
+    (λ other known not_acceptor not_caller.
+    unreleased event before records acceptor other wait lawful old known not_acceptor waiting.some at_wait frees
+    (number_none other (raised_in event) raises)
+    (other_call (meeting_in event) (doing_at records other) call meets (elsewhere before records other caller call old known not_caller calling.some at_call)))
 
 -- an event that ends one task at most, or none, and touches nobody else
 pub record TouchesOne (event : Event) (before : List Event) (task : ℕ) : Type 0 where

@@ -14,25 +14,19 @@ use Rattle.ada_events.specs.Masters.{depends_on}
 use Rattle.ada_events.specs.Phases.{lists_task, has_start, is_started, is_elaborated, has_failed, is_completed, is_abnormal, is_terminated, is_suspended}
 use Rattle.ada_events.specs.Outcomes.{raised_in, last_given}
 use Rattle.ada_events.specs.Lawful.{IsLawful, MayFollow}
-use Rattle.ada_laws.proofs.Searching.{is_number-some, option_map_or-true, event_at-other}
+use Rattle.ada_laws.proofs.Searching.{is_number-some, option_map_or-true}
 use Rattle.ada_laws.proofs.Growing.{task_count-more}
 use Rattle.ada_laws.proofs.Meeting.{met_taking, taken_queued}
 use Rattle.ada_records.specs.declared.record.Record.{Record}
 use Rattle.ada_records.specs.declared.record.Stage.{Stage}
 use Rattle.ada_records.specs.Records.{no_stage, new_record, no_record, record_at, IsRecordOf, AreRecords}
-use Rattle.ada_records.proofs.Existing.{elaborated_exists, raiser_exists, ends_exists, started_exists}
+use Rattle.ada_records.proofs.Existing.{positive, elaborated_exists, raiser_exists, ends_exists, started_exists}
 use Rattle.ada_records.proofs.Holding.{holder_ran}
 use Rattle.ada_records.proofs.LatestOutcomes.{what_is_released_held}
 use Rattle.ada_records.proofs.Noting.{IsUntouched, untouched}
 use Rattle.ada_records.proofs.Queues.{ends}
 use Rattle.ada_records.proofs.Saying.{number_none, no_meeting}
 use Rattle.ada_records.proofs.Stages.{stage_after}
-
--- positions count from 1
-positive : (journal : List Event) (e : Event) → event_at journal 0 ≡ Some e → ⊥
-unfolding event_at
-positive [] e at = none-some e at
-positive (event ∷ before) e at = positive before e (sym (event_at-other event before 0 (λ same. omega (arith, same))) ∙ at)
 
 never : (u : ℕ) (o : Option ℕ) → (o ≡ Some u → ⊥) → is_number u o ≡ false
 never u o none = false_from_ne_true (is_number u o) (λ is. none (is_number-some u o is))

@@ -2,7 +2,7 @@
 use Rattle.std.specs.Prelude.{◌≡◌, ◌⊎◌, ℕ, ◌<◌, ◌≤◌, Bool, true, false, not, ◌==◌, ◌||◌, ◌&&◌, ◌∷◌, Some, None, List, [], length, take, slice_index_or}
 use Rattle.std.specs.List.{list_any}
 use Rattle.ada_events.specs.declared.event.Event.{Event}
-use Rattle.ada_events.specs.declared.event.Event.TheVariants.{Completed, Ended, Halted, Met}
+use Rattle.ada_events.specs.declared.event.Event.TheVariants.{Aborted, Completed, Halted, Met, Quit}
 use Rattle.ada_events.specs.declared.names.TaskNo.{TaskNo}
 use Rattle.ada_events.specs.declared.names.Master.TheVariants.{Body}
 use Rattle.ada_events.specs.declared.outcome.Outcome.{Outcome}
@@ -14,7 +14,7 @@ use Rattle.ada_events.specs.Masters.{depends_on}
 use Rattle.ada_events.specs.Phases.{lists_task, has_start, is_started, is_elaborated, has_failed, is_completed, has_ended, is_abnormal, is_terminated, is_suspended}
 use Rattle.ada_events.specs.Calls.{is_met}
 use Rattle.ada_events.specs.Termination.{is_open_terminate, is_at_open_terminate}
-use Rattle.ada_events.specs.Outcomes.{raised_in}
+use Rattle.ada_events.specs.Outcomes.{raised_in, choice_met}
 use Rattle.ada_laws.specs.Suspension.{IsSuspendedAt}
 use Rattle.ada_records.specs.declared.record.Doing.{Doing}
 use Rattle.ada_records.specs.declared.record.Stage.{Stage}
@@ -93,23 +93,16 @@ pub record IsPlainHold (event : Event) (task : ℕ) : Type 0 where
   pub holds : held_in event ≡ Some task
   pub starts : started_in event ≡ []
 
+-- a task is suspended at the position
+pub record HoldsSomebody (journal : List Event) (position : ℕ) : Type 0 where
+  pub task : ℕ
+  pub held : IsSuspendedAt journal task position
+
 -- the event releases what stands at a position, begins no rendezvous and raises nothing
 pub record IsPlainRelease (event : Event) (position : ℕ) : Type 0 where
-  pub some : 0 < position
   pub releases : released_in event ≡ Some position
   pub meets : meeting_in event ≡ None
   pub raises : raised_in event ≡ None
-
--- a task ends the rendezvous with a call by an exception (11.5)
-pub record IsRaising (event : Event) (by : TaskNo) (call : ℕ) : Type 0 where
-  pub some : 0 < call
-  pub is : event ≡ Ended by call true
-
--- the event begins a rendezvous with a call, by a wait
-pub record IsMeetingBetween (event : Event) (call wait : ℕ) : Type 0 where
-  pub some_call : 0 < call
-  pub some_wait : 0 < wait
-  pub is : event ≡ Met call wait
 
 -- the task completes: by itself, or it is halted (9.4, 9.10)
 abbrev pub IsCompletion : Event → TaskNo → Type 0
@@ -148,3 +141,23 @@ pub record AreUpTo (event : Event) (before : List Event) (old new : List Record)
 pub record HaveStarted (first now : List Record) (tasks : List TaskNo) (many : ℕ) : Type 0 where
   pub same : length now ≡ length first
   pub each : (task : ℕ) → task < length first → record_at now task ≡ start_record (lists_task task (take many tasks)) (record_at first task)
+
+-- the tasks that an event touches all at once: those that depend on a master and terminate together (9.4), or those
+-- that an abort hits (9.10)
+abbrev pub is_touched : List Event → Event → ℕ → Bool
+is_touched journal (Quit master) task = depends_on journal task master
+is_touched journal (Aborted by tasks) task = is_hit journal tasks task
+is_touched journal _ task = false
+
+-- the event may touch many tasks at once
+abbrev pub touches_many : Event → Bool
+touches_many (Quit master) = true
+touches_many (Aborted by tasks) = true
+touches_many _ = false
+
+-- what is known of an event beside what it says: of a rendezvous the choice by which the wait takes the call, and
+-- whom an event touches that may touch many
+pub record AreFacts (journal : List Event) (event : Event) (many choice : ℕ) (touched : List Bool) : Type 0 where
+  pub chosen : (call wait : ℕ) → event ≡ Met call wait → choice ≡ choice_met journal wait
+  pub listed : touches_many event ≡ true → length touched ≡ many
+  pub tells : touches_many event ≡ true → Tells touched (is_touched journal event)
