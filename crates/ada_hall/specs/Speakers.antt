@@ -47,10 +47,14 @@ created lines = filter_map (λ (line : Line). created_in line.statement) lines
 abbrev pub speaker_name : List Line → ℕ → Option (List ℕ)
 speaker_name lines speaker = if speaker == 0 then Some main_name else slice_get (created lines) (speaker - 1)
 
--- the statement is that of the speaker; ticks are the main program's
-abbrev pub speaks : List Line → ℕ → Statement → Bool
-speaks lines speaker statement = option_map_or (λ (name : List ℕ). bytes_eq name (unwrap_or (speaker_in statement) main_name)) (speaker_name lines speaker) false
+-- the statement is that of the task of this name; ticks are the main program's
+abbrev pub is_spoken_by : List ℕ → Statement → Bool
+is_spoken_by name statement = bytes_eq (unwrap_or (speaker_in statement) main_name) name
+
+-- the line is a request of the task of this name
+abbrev pub is_request_of : List ℕ → Line → Bool
+is_request_of name line = is_spoken_by name line.statement && not (is_show line.statement)
 
 -- how many lines of a speaker are requests
 abbrev pub request_count : List Line → ℕ → ℕ
-request_count lines speaker = count_by (λ (line : Line). speaks lines speaker line.statement && not (is_show line.statement)) lines
+request_count lines speaker = option_map_or (λ (name : List ℕ). count_by (is_request_of name) lines) (speaker_name lines speaker) 0

@@ -1,5 +1,5 @@
 //! The value under the lock.
-ghost use Rattle.std.specs.Prelude.{◌≡◌, ◌+◌, ◌<◌, false, Err, [], IfOk, IfErr, OnOk, OnErr, MatchOption, length, slice_get};
+ghost use Rattle.std.specs.Prelude.{◌≡◌, ◌+◌, ◌<◌, ◌≤◌, false, Err, [], IfOk, IfErr, OnOk, OnErr, MatchOption, length, slice_get};
 ghost use Rattle.ada_events.specs.Lawful.{IsLawful, IsSettled};
 ghost use Rattle.ada_events.specs.Steps.{IsAccepted, IsRefused};
 ghost use Rattle.ada_events.specs.Boards.{AreTrueOf};
@@ -134,6 +134,7 @@ impl<'s, J: Session> Hall<'s, J> {
         ensures unchanged { OnErr result (self.new ≡ self.old) }
         ensures share { share.new.amount + asked_count self.old.showing.journal
             ≡ share.old.amount + asked_count self.new.showing.journal }
+        ensures one { (share.old.amount ≤ share.new.amount) × (share.new.amount ≤ share.old.amount + 1) }
         ensures parts { share.new.parts ≡ share.old.parts }
     {
         let script = self.script;

@@ -1,6 +1,6 @@
 //! Who speaks the lines of a script.
-ghost use Rattle.std.specs.Prelude.{◌≡◌, option_map};
-ghost use Rattle.ada_hall.specs.Speakers.{speaker_in};
+ghost use Rattle.std.specs.Prelude.{◌≡◌, option_map, slice_get};
+ghost use Rattle.ada_hall.specs.Speakers.{speaker_in, created_in, created, speaker_name, is_spoken_by};
 
 use ada_script::{Line, Name, Statement};
 
@@ -41,4 +41,51 @@ pub fn speakers(lines: &[Line]) -> u32 {
         }
     }
     count
+}
+
+/// The name of the task that a statement creates, if it creates one.
+fn created(statement: &Statement) -> Option<&Name>
+    ensures { option_map (λ name. name.now) result ≡ created_in statement.now }
+{
+    match statement {
+        Statement::Create { task, .. } => Some(task),
+        _ => None,
+    }
+}
+
+// The name of the task that the lines create behind so many others.
+fn created_name(lines: &[Line], number: u32) -> Option<Name>
+    ensures { result ≡ slice_get (created lines.now) number }
+{
+    let mut left = number;
+    for line in lines {
+        if let Some(name) = created(&line.statement) {
+            if left == 0 {
+                return Some(name.copy());
+            }
+            left -= 1;
+        }
+    }
+    None
+}
+
+/// The name of a speaker: of the main program for 0, and of the task of the k-th creation for k. None where
+/// there is no such speaker.
+pub fn speaker_name(lines: &[Line], speaker: u32) -> Option<Name>
+    ensures { result ≡ speaker_name lines.now speaker }
+{
+    if speaker == 0 {
+        return Some(Name::from_bytes(b"main"));
+    }
+    created_name(lines, speaker - 1)
+}
+
+/// Whether a statement is that of the task of this name; ticks are the main program's.
+pub fn is_spoken_by(name: &Name, statement: &Statement) -> bool
+    ensures { result ≡ is_spoken_by name.now statement.now }
+{
+    match speaker(statement) {
+        Some(by) => by == name,
+        None => *name == Name::from_bytes(b"main"),
+    }
 }

@@ -33,6 +33,28 @@ impl<'s, J: Session> Shared<'s, J> {
         self.wake.notify_all();
     }
 
+    /// The line at a place was played: those who wait look again.
+    pub(crate) fn pass<R: Wait>(&self, rt: &R, place: u32) {
+        let mut guard = self.hall.lock(rt);
+        let hall: &mut Hall<'s, J> = &mut guard;
+        let mut floor = hall.floor();
+        floor.pass(place);
+        hall.set_floor(floor);
+        drop(guard);
+        self.wake.notify_all();
+    }
+
+    /// A thread is done: those who wait look again.
+    pub(crate) fn leave<R: Wait>(&self, rt: &R) {
+        let mut guard = self.hall.lock(rt);
+        let hall: &mut Hall<'s, J> = &mut guard;
+        let mut floor = hall.floor();
+        floor.leave();
+        hall.set_floor(floor);
+        drop(guard);
+        self.wake.notify_all();
+    }
+
     /// The hall, once no thread shares it any more.
     pub fn into_hall(self) -> Hall<'s, J> {
         let Shared { hall, wake: _wake } = self;
