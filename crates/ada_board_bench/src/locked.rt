@@ -53,11 +53,7 @@ impl<R: Wait + Clock + AllocGlobal> Job<R> for Storing<'_> {
 }
 
 // How often three readers asked until they saw the last board, each in a thread of its own.
-fn watch_three<R: Threads + Wait + Sync>(
-    rt: &R,
-    lock: &Mutex<Board>,
-    boards: &[Board],
-) -> u64 {
+fn watch_three<R: Threads + Wait + Sync>(rt: &R, lock: &Mutex<Board>, boards: &[Board]) -> u64 {
     let mut first = Locked { board: lock };
     let mut second = Locked { board: lock };
     let mut third = Locked { board: lock };

@@ -48,7 +48,9 @@ fn try_all<R: Threads + Wait + Sync + Clock + AllocGlobal + Print>(rt: &R) -> an
     Ok(())
 }
 
-fn measure_all<R: Threads + Wait + Sync + Clock + AllocGlobal + Print>(rt: &R) -> anyhow::Result<()> {
+fn measure_all<R: Threads + Wait + Sync + Clock + AllocGlobal + Print>(
+    rt: &R,
+) -> anyhow::Result<()> {
     let times = TIMES;
     println!(rt; "{times} reads by one reader; the floor is a board under a lock")?;
     print_head(rt)?;

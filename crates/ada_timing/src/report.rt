@@ -5,12 +5,7 @@ use std::{fs, io};
 
 /// Prints what something took, and its floor: first, best and median turn, and the ratio of the best
 /// turns.
-pub fn print_row<R: Print>(
-    rt: &R,
-    name: &str,
-    taken: Turns,
-    floor: Turns,
-) -> io::Result<()> {
+pub fn print_row<R: Print>(rt: &R, name: &str, taken: Turns, floor: Turns) -> io::Result<()> {
     print!(rt; "  {name:<8}")?;
     for time in [
         taken.first,

@@ -7,7 +7,7 @@ use Rattle.ada_board_bench.proofs.album.Album.add.Goals as goal
 pub invariant_of-self-in_err-push : goal.invariant_of-self-in_err-push
 invariant_of-self-in_err-push c = (
   rw (c.in_err-push.ensures.items) (
-    published_still c.self.inside.kernel c.step.new.self c.args.request c.in_ok-step.field-0 c.self.inside.boards.items c.self.invariant.0 c.in_ok-step.ensures.ok c.step.ensures.lawful),
+      published_still c.self.inside.kernel c.step.new.self c.args.request c.in_ok-step.field-0 c.self.inside.boards.items c.self.invariant.0 c.in_ok-step.ensures.ok c.step.ensures.lawful),
   c.step.ensures.settled,
 )
 
