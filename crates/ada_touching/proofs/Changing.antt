@@ -25,7 +25,7 @@ use Rattle.ada_touching.specs.Kinds.{IsActivationOf, IsOpenCallTo, IsHit, OfCrea
 use Rattle.ada_touching.specs.Kinds.OfCreation.{goes}
 use Rattle.ada_touching.specs.Kinds.OfElaboration.{activates}
 use Rattle.ada_touching.specs.Kinds.OfAbort.{halts, fails}
-use Rattle.ada_touching.proofs.Completing.{IsNewlyLeft, body_newly, block_newly}
+use Rattle.ada_touching.proofs.Completing.{IsNewlyAbandoned, body_newly, block_newly}
 use Rattle.ada_touching.proofs.Readying.{IsOpenWait, IsUnqueued}
 use Rattle.ada_touching.proofs.Refining.{Key}
 use Rattle.ada_touching.proofs.Refining.Key.{own, made, hit, freed, lost, called, due, done, completed, abandoned, going, quits_done, quits_ended, quits_idle, leaving}
@@ -118,7 +118,7 @@ none_complete event before (Block p) lawful only was now =
       | inr over ↦ none_over event before over.task only.nobody (record { was = over.was; now = over.now })
     ]
 
-none_left : (event : Event) (before : List Event) (u : ℕ) → IsLawful (event ∷ before) → OnlyChanges event → IsNewlyLeft event before u → ⊥
+none_left : (event : Event) (before : List Event) (u : ℕ) → IsLawful (event ∷ before) → OnlyChanges event → IsNewlyAbandoned event before u → ⊥
 none_left event before u lawful only new =
     elim (new.why) [
       | inl complete ↦ none_complete event before new.creation.under lawful only complete.0 complete.1

@@ -112,7 +112,7 @@ block_newly event before p lawful was now =
     ]
 
 -- what a task that is never started was made within is newly complete, or its maker newly terminated
-pub record IsNewlyLeft (event : Event) (before : List Event) (task : ℕ) : Type 0 where
+pub record IsNewlyAbandoned (event : Event) (before : List Event) (task : ℕ) : Type 0 where
   pub creation : Creation
   pub made : creation_of before task ≡ Some creation
   pub never : has_start before task ≡ false
@@ -139,7 +139,7 @@ unfolding is_abandoned
 not_over journal task c made never was = and_true (is_over journal c) (rw (made, never) at was)
 
 pub abandoned_newly : (event : Event) (before : List Event) (task : ℕ) → is_abandoned before task ≡ false → is_abandoned (event ∷ before) task ≡ true
-    → IsJustMade event before task ⊎ IsNewlyLeft event before task
+    → IsJustMade event before task ⊎ IsNewlyAbandoned event before task
 unfolding is_abandoned creation_of has_start
 abandoned_newly event before task was now =
     let both = and_parts (is_some_and (creation_of (event ∷ before) task) (is_over (event ∷ before))) (not (has_start (event ∷ before) task)) now in

@@ -35,12 +35,12 @@ use Rattle.ada_laws.proofs.Suspending.{is_suspended-from}
 use Rattle.ada_forcing.specs.declared.row.Row.{Row}
 use Rattle.ada_forcing.specs.declared.row.Row.TheVariants.{Failing, Activating, Going, QuittingBody}
 use Rattle.ada_records.proofs.Queues.{ends}
-use Rattle.ada_touching.specs.Kinds.{quitting_row, quitting_key, IsActivationOf, IsOpenCallTo, IsHit, IsLeftBy, OfCompletion, OfHalt}
+use Rattle.ada_touching.specs.Kinds.{quitting_row, quitting_key, IsActivationOf, IsOpenCallTo, IsHit, IsUnstartedBy, OfCompletion, OfHalt}
 use Rattle.ada_touching.specs.Kinds.OfCompletion.{goes, quits, fails, activates, abandons}
 use Rattle.ada_touching.specs.Kinds.OfHalt.{completes, quits_block, empties}
 use Rattle.ada_touching.proofs.Acting.{made_within}
 use Rattle.ada_touching.proofs.Changing.{IsNewlyOver, newly_lost, newly_done, newly_over}
-use Rattle.ada_touching.proofs.Completing.{IsNewlyLeft, body_newly, block_newly}
+use Rattle.ada_touching.proofs.Completing.{IsNewlyAbandoned, body_newly, block_newly}
 use Rattle.ada_touching.proofs.Readying.{IsOpenWait, IsUnqueued}
 use Rattle.ada_touching.proofs.Refining.{Key}
 use Rattle.ada_touching.proofs.Refining.Key.{own, made, hit, freed, lost, called, due, done, completed, abandoned, going, quits_done, quits_ended, quits_idle, leaving}
@@ -116,8 +116,8 @@ maker_is e before task c (Block p) u lawful only is under was now =
           ]
     ]
 
-left_key : (e : Event) (before : List Event) (task : TaskNo) (u : ℕ) → IsLawful (e ∷ before) → OnlyCompletes e task → IsNewlyLeft e before u
-    → IsLeftBy before u task.0
+left_key : (e : Event) (before : List Event) (task : TaskNo) (u : ℕ) → IsLawful (e ∷ before) → OnlyCompletes e task → IsNewlyAbandoned e before u
+    → IsUnstartedBy before u task.0
 left_key e before task u lawful only new =
     elim (new.why) [
       | inl complete ↦ record {

@@ -24,11 +24,11 @@ use Rattle.ada_laws.proofs.DependentLaws.IsEnd.{alone, together, earlier}
 use Rattle.ada_forcing.specs.declared.row.Row.{Row}
 use Rattle.ada_forcing.specs.declared.row.Row.TheVariants.{Failing, Activating, Going, QuittingBlock, Leaving}
 use Rattle.ada_records.proofs.Queues.{ends, has_ended-more}
-use Rattle.ada_touching.specs.Kinds.{quitting_row, quitting_key, IsActivationOf, IsOpenCallTo, IsHit, IsLeftBy, OfEnding}
-use Rattle.ada_touching.specs.Kinds.OfEnding.{fails, activates, goes, quits, leaves}
+use Rattle.ada_touching.specs.Kinds.{quitting_row, quitting_key, IsActivationOf, IsOpenCallTo, IsHit, IsUnstartedBy, OfTermination}
+use Rattle.ada_touching.specs.Kinds.OfTermination.{fails, activates, goes, quits, leaves}
 use Rattle.ada_touching.proofs.Acting.{IsNamed, opener_named, held_named, made_within}
 use Rattle.ada_touching.proofs.Changing.{IsNewlyOver, newly_lost, newly_done, newly_over}
-use Rattle.ada_touching.proofs.Completing.{IsNewlyLeft, IsBlockEnded, body_newly, block_newly}
+use Rattle.ada_touching.proofs.Completing.{IsNewlyAbandoned, IsBlockEnded, body_newly, block_newly}
 use Rattle.ada_touching.proofs.Completions.{same_task, queued_suspends}
 use Rattle.ada_touching.proofs.Readying.{IsOpenWait, IsUnqueued}
 use Rattle.ada_touching.proofs.Refining.{IsNewlyEnded, Key}
@@ -58,10 +58,10 @@ pub record IsEndOf (e : Event) (before : List Event) (Ends : ℕ → Type 0) : T
 
 -- what a termination touches
 pub data EndKey (before : List Event) (e : Event) (Ends : ℕ → Type 0) : Row → ℕ → Type 0 where
-  each : (t : TaskNo) (row : Row) (key : ℕ) → Ends t.0 → OfEnding before t row key → EndKey before e Ends row key
-  leaves_alone : (t : TaskNo) (u : ℕ) → IsNewlyEnded e before t.0 → IsNewlyLeft e before u → IsLeftBy before u t.0 → EndKey before e Ends Going u
+  each : (t : TaskNo) (row : Row) (key : ℕ) → Ends t.0 → OfTermination before t row key → EndKey before e Ends row key
+  leaves_alone : (t : TaskNo) (u : ℕ) → IsNewlyEnded e before t.0 → IsNewlyAbandoned e before u → IsUnstartedBy before u t.0 → EndKey before e Ends Going u
   ends_owner : (p : ℕ) (over : IsBlockEnded e before p) → is_to_quit (e ∷ before) (Block p) ≡ true → EndKey before e Ends QuittingBlock p
-  leaves_around : (p u : ℕ) (new : IsNewlyLeft e before u) → IsBlockEnded e before p → new.creation.under ≡ Block p → EndKey before e Ends Going u
+  leaves_around : (p u : ℕ) (new : IsNewlyAbandoned e before u) → IsBlockEnded e before p → new.creation.under ≡ Block p → EndKey before e Ends Going u
   ends_caller : (m : Master) (p u : ℕ) (call : Call) → IsNewlyOver e before u → IsSuspendedAt before u p → IsCallAt before call p
       → EndKey before e Ends (quitting_row m) (quitting_key m)
 
@@ -76,7 +76,8 @@ quits_why e before (Block p) Ends lawful of quit was now =
     ]
 
 left_around : (e : Event) (before : List Event) (u : ℕ) (m : Master) (Ends : ℕ → Type 0) → IsLawful (e ∷ before) → IsEndOf e before Ends
-    → (new : IsNewlyLeft e before u) → new.creation.under ≡ m → is_complete before m ≡ false → is_complete (e ∷ before) m ≡ true → EndKey before e Ends Going u
+    → (new : IsNewlyAbandoned e before u) → new.creation.under ≡ m → is_complete before m ≡ false → is_complete (e ∷ before) m ≡ true
+    → EndKey before e Ends Going u
 left_around e before u (Body t) Ends lawful of new under was now = absurd (none-some t.0 (sym of.only.completes ∙ body_newly e before t was now))
 left_around e before u (Block p) Ends lawful of new under was now =
     elim (block_newly e before p lawful was now) [
@@ -84,7 +85,7 @@ left_around e before u (Block p) Ends lawful of new under was now =
       | inr over ↦ leaves_around p u new over under
     ]
 
-left_why : (e : Event) (before : List Event) (u : ℕ) (Ends : ℕ → Type 0) → IsLawful (e ∷ before) → IsEndOf e before Ends → IsNewlyLeft e before u
+left_why : (e : Event) (before : List Event) (u : ℕ) (Ends : ℕ → Type 0) → IsLawful (e ∷ before) → IsEndOf e before Ends → IsNewlyAbandoned e before u
     → EndKey before e Ends Going u
 left_why e before u Ends lawful of new =
     elim (new.why) [
@@ -197,7 +198,7 @@ maker_complete journal u c lawful made_by completed_by =
     ]
 
 -- a task that goes leaves nobody: what it was within when it made others was complete, or it made none
-gone_leaves_none : (task : TaskNo) (before : List Event) (u t : ℕ) (new : IsNewlyLeft (goes_alone task) before u) → IsLawful (goes_alone task ∷ before)
+gone_leaves_none : (task : TaskNo) (before : List Event) (u t : ℕ) (new : IsNewlyAbandoned (goes_alone task) before u) → IsLawful (goes_alone task ∷ before)
     → t ≡ task.0 → new.creation.by ≡ t → ⊥
 unfolding gone_in
 gone_leaves_none task before u t new lawful same by =
@@ -211,9 +212,9 @@ gone_leaves_none task before u t new lawful same by =
     ]
 
 gone_key : (task : TaskNo) (before : List Event) (row : Row) (key : ℕ) → IsLawful (goes_alone task ∷ before)
-    → EndKey before (goes_alone task) (λ u. u ≡ task.0) row key → OfEnding before task row key
+    → EndKey before (goes_alone task) (λ u. u ≡ task.0) row key → OfTermination before task row key
 unfolding gone_in
-gone_key task before row key lawful (each t same also is of) = subst (λ (x : TaskNo). OfEnding before x row key) (same_task t task is) of
+gone_key task before row key lawful (each t same also is of) = subst (λ (x : TaskNo). OfTermination before x row key) (same_task t task is) of
 gone_key task before row key lawful (leaves_alone t u end new left) =
     let is : t.0 ≡ task.0 = goes_ended task before t.0 end.was (is_terminated-cases (goes_alone task) before t.0 end.now) in
     absurd (gone_leaves_none task before u t.0 new lawful is (ap (λ (c : Creation). c.by) (same_Some new.creation left.creation (sym new.made ∙ left.made)) ∙ left.by))
@@ -228,6 +229,6 @@ gone_key task before row key lawful (ends_caller m p u call over suspended at) =
     absurd (goes_unnamed before u (ap (is_to_go before) is ∙ gone_goes (goes_alone task) before task.0 lawful.1 refl) over.was (held_named before u p suspended.event lawful.0 suspended.stands suspended.holds))
 
 pub going_adds : (task : TaskNo) (before : List Event) (row : Row) (key : ℕ) → IsLawful (goes_alone task ∷ before) → Key (goes_alone task) before row key
-    → OfEnding before task row key
+    → OfTermination before task row key
 going_adds task before row key lawful touched =
     gone_key task before row key lawful (end_key (goes_alone task) before row key (λ u. u ≡ task.0) lawful (goes_of task before) touched)

@@ -19,7 +19,7 @@ use Rattle.ada_laws.specs.Suspension.{IsSuspendedAt}
 use Rattle.ada_forcing.specs.declared.row.Row.{Row}
 use Rattle.ada_forcing.specs.declared.row.Row.TheVariants.{Halting, Failing, Taking, Cancelling, Passing, Waking, Activating, QuittingBlock, Leaving}
 use Rattle.ada_records.proofs.Holding.{IsQuiet, quiet_ends}
-use Rattle.ada_touching.specs.Kinds.{itself, IsLeftIn, ComesDue, OfStart, OfCall, OfWait, OfDelay, OfClose, OfTick}
+use Rattle.ada_touching.specs.Kinds.{itself, IsUnstartedIn, ComesDue, OfStart, OfCall, OfWait, OfDelay, OfClose, OfTick}
 use Rattle.ada_touching.specs.Kinds.OfStart.{is_over}
 use Rattle.ada_touching.specs.Kinds.OfCall.{fails, is_cancelled, is_taken}
 use Rattle.ada_touching.specs.Kinds.OfWait.{takes, passes, quits}
@@ -226,7 +226,7 @@ shut_quietly by block before row key (frees_caller u p call released at is abnor
 shut_quietly by block before row key (calls_waiting call p says waits) = absurd (none-some call says)
 shut_quietly by block before row key (brings_moment now same p says comes) = absurd (none-some now says)
 shut_quietly by block before row key (closes_around u p closed left) =
-    abandons u (subst (λ (n : ℕ). IsLeftIn before u n) (shuts_it by block p closed) left)
+    abandons u (subst (λ (n : ℕ). IsUnstartedIn before u n) (shuts_it by block p closed) left)
 shut_quietly by block before row key (closes_block p closed) =
     subst (λ (n : ℕ). OfClose before block QuittingBlock n) (sym (shuts_it by block p closed)) quits_itself
 shut_quietly by block before row key (waits_open m v waits depends) = absurd (none-some waits.wait waits.says)

@@ -45,7 +45,8 @@ put_all old new masters many all enough = record {
 }
 
 -- the key of the master at a place
-pub one_fits : (masters : List Master) (i : ℕ) (d : Master) → i < length masters → All (λ m. quitting_key m < 69632) masters → quitting_key (get_or masters i d) < 69632
+pub one_fits : (masters : List Master) (i : ℕ) (d : Master) → i < length masters → All (λ m. quitting_key m < 69632) masters
+    → quitting_key (get_or masters i d) < 69632
 one_fits masters i d below fit = All-get_or (λ m. quitting_key m < 69632) masters i d below fit
 
 -- each that the list has is put
@@ -55,7 +56,8 @@ put_each old new masters m all (k, below, is) =
     ∙ All-get_or (is_put new) masters k m below (rw (take_all (length masters) masters (omega arith)) at all.here)
 
 -- a wait
-of_wait : (event : Event) (before : List Event) (wait : Wait) (row : Row) (key : ℕ) → wait_in event ≡ Some wait → Adds before event row key → OfWait before wait.by wait.tail row key
+of_wait : (event : Event) (before : List Event) (wait : Wait) (row : Row) (key : ℕ) → wait_in event ≡ Some wait → Adds before event row key
+    → OfWait before wait.by wait.tail row key
 unfolding wait_in
 of_wait (Waiting by pick choices tail) before wait row key says added = rw (← same_Some _ wait says) added
 of_wait _ before wait row key says added = absurd (none-some wait says)
@@ -65,12 +67,14 @@ pub record HasWaitKeys (new : List (List ℕ)) (own : ℕ) : Type 0 where
   pub passing : has_key new Passing own ≡ true
 
 has_wait_key : (before : List Event) (new : List (List ℕ)) (wait : Wait) (own : ℕ) (row : Row) (key : ℕ) → own ≡ itself before → HasWaitKeys new own
-    → ((m : Master) → is_open_terminate wait.tail ≡ true → depends_on before wait.by m ≡ true → is_put new m) → OfWait before wait.by wait.tail row key → has_key new row key ≡ true
+    → ((m : Master) → is_open_terminate wait.tail ≡ true → depends_on before wait.by m ≡ true → is_put new m) → OfWait before wait.by wait.tail row key
+    → has_key new row key ≡ true
 has_wait_key before new wait own row key same has all takes = ap (has_key new Taking) (sym same) ∙ has.taking
 has_wait_key before new wait own row key same has all passes = ap (has_key new Passing) (sym same) ∙ has.passing
 has_wait_key before new wait own row key same has all (quits m opened depends) = all m opened depends
 
-wait_by : (event : Event) (before : List Event) (old mid new : List (List ℕ)) (own : ℕ) (masters : List Master) (o : Option Wait) → wait_in event ≡ o → is_some o ≡ true
+wait_by : (event : Event) (before : List Event) (old mid new : List (List ℕ)) (own : ℕ) (masters : List Master) (o : Option Wait) → wait_in event ≡ o
+    → is_some o ≡ true
     → IsLawful (event ∷ before) → IsAgendaOf old before → own ≡ length before + 1 → Grows old mid → HasWaitKeys mid own
     → ((m : Master) → IsOpenUnder event before m → Contains masters m) → ArePutUpTo mid new masters (length masters) → IsAgendaOf new (event ∷ before)
 wait_by event before old mid new own masters None says waits lawful agenda same grows has outward all = absurd (false≢true waits)
@@ -87,16 +91,20 @@ pub wait_noted : (event : Event) (before : List Event) (old mid new : List (List
 wait_noted event before old mid new own masters waits = wait_by event before old mid new own masters (wait_in event) refl waits
 
 -- a cancellation
-of_cancel : (event : Event) (before : List Event) (call : ℕ) (row : Row) (key : ℕ) → event ≡ Cancelled call → Adds before event row key → OfCancellation event before call row key
+of_cancel : (event : Event) (before : List Event) (call : ℕ) (row : Row) (key : ℕ) → event ≡ Cancelled call → Adds before event row key
+    → OfCancellation event before call row key
 of_cancel event before call row key is added = rw is (rw is at added)
 
 has_cancel_key : (event : Event) (before : List Event) (old new : List (List ℕ)) (call : ℕ) (masters : List Master) (row : Row) (key : ℕ)
-    → ((m : Master) → IsReadyUnder event before call m → Contains masters m) → ArePutUpTo old new masters (length masters) → OfCancellation event before call row key → has_key new row key ≡ true
+    → ((m : Master) → IsReadyUnder event before call m → Contains masters m) → ArePutUpTo old new masters (length masters)
+    → OfCancellation event before call row key → has_key new row key ≡ true
 has_cancel_key event before old new call masters row key outward all (quits_with called m stands ready depends) =
     put_each old new masters m all (outward m (record { called = called; stands = stands; ready = ready; depends = depends }))
 
-pub cancel_noted : (event : Event) (before : List Event) (old new : List (List ℕ)) (call : ℕ) (masters : List Master) → IsLawful (event ∷ before) → IsAgendaOf old before
-    → event ≡ Cancelled call → ((m : Master) → IsReadyUnder event before call m → Contains masters m) → ArePutUpTo old new masters (length masters) → IsAgendaOf new (event ∷ before)
+pub cancel_noted : (event : Event) (before : List Event) (old new : List (List ℕ)) (call : ℕ) (masters : List Master) → IsLawful (event ∷ before)
+    → IsAgendaOf old before
+    → event ≡ Cancelled call → ((m : Master) → IsReadyUnder event before call m → Contains masters m) → ArePutUpTo old new masters (length masters)
+    → IsAgendaOf new (event ∷ before)
 cancel_noted event before old new call masters lawful agenda is outward all =
     grown event before old new lawful agenda all.grows (λ row key added.
     has_cancel_key event before old new call masters row key outward all (of_cancel event before call row key is added))

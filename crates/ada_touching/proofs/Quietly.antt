@@ -19,8 +19,8 @@ use Rattle.ada_forcing.specs.declared.row.Row.TheVariants.{Halting, Taking, Goin
 use Rattle.ada_forcing.specs.Touching.{is_lost}
 use Rattle.ada_records.proofs.Holding.{IsQuiet, quiet_ended}
 use Rattle.ada_records.proofs.Calling.{same_terminated, same_abnormal, not_done}
-use Rattle.ada_touching.specs.Kinds.{itself, quitting_row, quitting_key, IsLeftIn, ComesDue}
-use Rattle.ada_touching.proofs.Completing.{IsNewlyLeft, IsClosed, body_newly, block_newly}
+use Rattle.ada_touching.specs.Kinds.{itself, quitting_row, quitting_key, IsUnstartedIn, ComesDue}
+use Rattle.ada_touching.proofs.Completing.{IsNewlyAbandoned, IsClosed, body_newly, block_newly}
 use Rattle.ada_touching.proofs.Readying.{IsOpenWait, IsUnqueued}
 use Rattle.ada_touching.proofs.Refining.{says_row, IsNewlyEnded, Key}
 use Rattle.ada_touching.proofs.Refining.Key.{own, made, hit, freed, lost, called, due, done, completed, abandoned, going, quits_done, quits_ended, quits_idle, leaving}
@@ -32,7 +32,7 @@ pub data QuietKey (event : Event) (before : List Event) : Row → ℕ → Type 0
       → QuietKey event before Halting u
   calls_waiting : (call : Call) (p : ℕ) → call_in event ≡ Some call → IsSuspendedAt before call.callee p → QuietKey event before Taking p
   brings_moment : (now : ℤ) (row : Row) (p : ℕ) → moment_in event ≡ Some now → ComesDue before now row p → QuietKey event before row p
-  closes_around : (u p : ℕ) → IsClosed event p → IsLeftIn before u p → QuietKey event before Going u
+  closes_around : (u p : ℕ) → IsClosed event p → IsUnstartedIn before u p → QuietKey event before Going u
   closes_block : (p : ℕ) → IsClosed event p → QuietKey event before QuittingBlock p
   waits_open : (m : Master) (v : ℕ) → IsOpenWait event v → depends_on before v m ≡ true → QuietKey event before (quitting_row m) (quitting_key m)
   empties_queue : (m : Master) (v : ℕ) → IsUnqueued event before v → is_ready_to_quit (event ∷ before) v ≡ true → depends_on before v m ≡ true
@@ -54,7 +54,7 @@ left_within event before u c (Body t) lawful quiet is never under was now = absu
 left_within event before u c (Block p) lawful quiet is never under was now =
     closes_around u p (block_closed event before p lawful quiet was now) (record { creation = c; made = is; within = under; never = never })
 
-left_why : (event : Event) (before : List Event) (u : ℕ) → IsLawful (event ∷ before) → IsQuiet event → IsNewlyLeft event before u
+left_why : (event : Event) (before : List Event) (u : ℕ) → IsLawful (event ∷ before) → IsQuiet event → IsNewlyAbandoned event before u
     → QuietKey event before Going u
 left_why event before u lawful quiet new =
     elim (new.why) [

@@ -26,11 +26,11 @@ use Rattle.ada_laws.proofs.DependentLaws.IsEnd.{alone, together, earlier}
 use Rattle.ada_laws.proofs.Suspending.{suspended_once}
 use Rattle.ada_forcing.specs.declared.row.Row.{Row}
 use Rattle.ada_records.proofs.Queues.{ends}
-use Rattle.ada_touching.specs.Kinds.{IsLeftBy, OfQuit}
+use Rattle.ada_touching.specs.Kinds.{IsUnstartedBy, OfQuit}
 use Rattle.ada_touching.specs.Kinds.OfQuit.{ends as ends_each, abandons}
 use Rattle.ada_touching.proofs.Acting.{made_within}
 use Rattle.ada_touching.proofs.Changing.{IsNewlyOver, newly_over}
-use Rattle.ada_touching.proofs.Completing.{IsNewlyLeft, IsBlockEnded}
+use Rattle.ada_touching.proofs.Completing.{IsNewlyAbandoned, IsBlockEnded}
 use Rattle.ada_touching.proofs.Completions.{one_owner, no_body}
 use Rattle.ada_touching.proofs.Depending.{quits_live, quits_ready}
 use Rattle.ada_touching.proofs.Refining.{Key}
@@ -143,8 +143,8 @@ no_live m before task p lawful depends block quit =
 quitter_of : (m : Master) (before : List Event) (u : ℕ) → IsNewlyOver (quits_all m) before u → IsQuitter before m u
 quitter_of m before u over = (quits_of m before).over u over
 
-made_by_owner : (m : Master) (before : List Event) (p u : ℕ) (new : IsNewlyLeft (quits_all m) before u) (over : IsBlockEnded (quits_all m) before p)
-    → IsLawful before → new.creation.under ≡ Block p → IsLeftBy before u over.task
+made_by_owner : (m : Master) (before : List Event) (p u : ℕ) (new : IsNewlyAbandoned (quits_all m) before u) (over : IsBlockEnded (quits_all m) before p)
+    → IsLawful before → new.creation.under ≡ Block p → IsUnstartedBy before u over.task
 made_by_owner m before p u new over lawful under =
     let by : new.creation.by ≡ over.task =
     elim ((made_within before u new.creation lawful new.made).within) [

@@ -37,7 +37,7 @@ use Rattle.ada_forcing.proofs.Keys.{of_found}
 use Rattle.ada_forcing.proofs.TouchedKeys.{open_before}
 use Rattle.ada_touching.specs.Kinds.{itself, quitting_row, quitting_key, IsActivationOf, IsOpenCallTo, IsLeaving, ComesDue, IsHit, IsCloseAt}
 use Rattle.ada_touching.proofs.Acting.{starters_made}
-use Rattle.ada_touching.proofs.Completing.{IsNewlyLeft, abandoned_newly}
+use Rattle.ada_touching.proofs.Completing.{IsNewlyAbandoned, abandoned_newly}
 use Rattle.ada_touching.proofs.Depending.{quits_live, depended_known}
 use Rattle.ada_touching.proofs.Moments.{IsGivenOrDue, call_due, wait_due, delay_due}
 use Rattle.ada_touching.proofs.Newcomers.{new_abnormal, new_dependent}
@@ -74,7 +74,7 @@ pub data Key (event : Event) (before : List Event) : Row → ℕ → Type 0 wher
   done : (t : TaskNo) (p : ℕ) → IsActivationOf before t p → is_done_activating before t ≡ false → is_done_activating (event ∷ before) t ≡ true
       → Key event before Activating p
   completed : (u : ℕ) → completed_in event ≡ Some u → Key event before Going u
-  abandoned : (u : ℕ) → IsNewlyLeft event before u → Key event before Going u
+  abandoned : (u : ℕ) → IsNewlyAbandoned event before u → Key event before Going u
   going : (d u : ℕ) → IsNewlyEnded event before d → depends_on before d (Body (task_no u)) ≡ true → Key event before Going u
   quits_done : (m : Master) → is_to_quit (event ∷ before) m ≡ true → is_complete before m ≡ false → is_complete (event ∷ before) m ≡ true
       → Key event before (quitting_row m) (quitting_key m)

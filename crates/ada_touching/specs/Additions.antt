@@ -13,7 +13,7 @@ use Rattle.ada_events.specs.declared.names.Patience.{Patience}
 use Rattle.ada_events.specs.Lawful.{IsLawful}
 use Rattle.ada_forcing.specs.declared.row.Row.{Row}
 use Rattle.ada_forcing.specs.Rows.{step_at, IsAgenda}
-use Rattle.ada_touching.specs.Kinds.{Nowhere, OfCreation, OfStart, OfElaboration, OfCall, OfWait, OfDelay, OfClose, OfEnd, OfCancellation, OfCompletion, OfHalt, OfAbort, OfTick, OfEnding, OfQuit, Adds}
+use Rattle.ada_touching.specs.Kinds.{Nowhere, OfCreation, OfStart, OfElaboration, OfCall, OfWait, OfDelay, OfClose, OfEnd, OfCancellation, OfCompletion, OfHalt, OfAbort, OfTick, OfTermination, OfQuit, Adds}
 
 -- after the event a row gives a step only where it gave one before, or at one of these keys
 abbrev pub AddsOnly : Event → List Event → (Row → ℕ → Type 0) → Type 0
@@ -160,7 +160,7 @@ TicksAddWhatIsDue =
 abbrev pub TerminationsAddMasters : Type 0
 TerminationsAddMasters =
     (before : List Event) (task : TaskNo)
-    → LawfullyAddsOnly (Gone task) before (OfEnding before task)
+    → LawfullyAddsOnly (Gone task) before (OfTermination before task)
 
 abbrev pub QuitsAddMasters : Type 0
 QuitsAddMasters =

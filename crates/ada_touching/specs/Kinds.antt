@@ -57,15 +57,15 @@ pub record IsActivationOf (journal : List Event) (task : TaskNo) (position : ℕ
   pub stands : IsStartAt journal start position
   pub named : Contains start.tasks task
 
--- the task was never started, and was made by that task
-pub record IsLeftBy (journal : List Event) (task maker : ℕ) : Type 0 where
+-- the task was made by that one, and was never started
+pub record IsUnstartedBy (journal : List Event) (task maker : ℕ) : Type 0 where
   pub creation : Creation
   pub made : creation_of journal task ≡ Some creation
   pub by : creation.by ≡ maker
   pub never : has_start journal task ≡ false
 
--- the task was never started, and was made within that block
-pub record IsLeftIn (journal : List Event) (task block : ℕ) : Type 0 where
+-- the task was made within that block, and was never started
+pub record IsUnstartedIn (journal : List Event) (task block : ℕ) : Type 0 where
   pub creation : Creation
   pub made : creation_of journal task ≡ Some creation
   pub within : creation.under ≡ Block block
@@ -87,12 +87,13 @@ pub record IsLeaving (journal : List Event) (block position : ℕ) : Type 0 wher
   pub suspended : IsSuspendedAt journal closing.by position
   pub within : Contains (nest journal closing.by) (BlockMember block)
 
--- the moment that is waited for at an event: by a timed call, a delay, or a wait with delay
--- alternatives
+-- the least moment of a wait's delay alternatives (9.7.1)
 abbrev pub tail_due : EventTail → Option ℤ
 tail_due (Delays dues) = least_due dues
 tail_due _ = None
 
+-- the moment that is waited for at an event: by a timed call, a delay, or a wait with delay
+-- alternatives
 abbrev pub due_in : Event → Option ℤ
 due_in (Called by callee entry patience due) = due
 due_in (Paused by due) = Some due
@@ -160,7 +161,7 @@ pub data OfDelay (before : List Event) : Row → ℕ → Type 0 where
 pub data OfClose (before : List Event) (block : ℕ) : Row → ℕ → Type 0 where
   leaves : OfClose before block Leaving (itself before)
   quits : OfClose before block QuittingBlock block
-  abandons : (u : ℕ) → IsLeftIn before u block → OfClose before block Going u
+  abandons : (u : ℕ) → IsUnstartedIn before u block → OfClose before block Going u
 
 -- the end of a rendezvous (9.5), and the failure of a call: the caller, where it is abnormal
 pub data OfEnd (before : List Event) (call : ℕ) : Row → ℕ → Type 0 where
@@ -182,7 +183,7 @@ pub data OfCompletion (before : List Event) (task : TaskNo) : Row → ℕ → Ty
   quits : OfCompletion before task QuittingBody task.0
   fails : (p : ℕ) → IsOpenCallTo before task.0 p → OfCompletion before task Failing p
   activates : (p : ℕ) → IsActivationOf before task p → OfCompletion before task Activating p
-  abandons : (u : ℕ) → IsLeftBy before u task.0 → OfCompletion before task Going u
+  abandons : (u : ℕ) → IsUnstartedBy before u task.0 → OfCompletion before task Going u
 
 -- a halt (9.10): all of a completion, and the blocks in the task's nest; where its call leaves a
 -- queue and makes the callee ready to quit, the masters on which that depends
@@ -206,24 +207,24 @@ pub data OfAbort (event : Event) (before : List Event) : Row → ℕ → Type 0 
 pub data OfTick (before : List Event) (now : ℤ) : Row → ℕ → Type 0 where
   comes_due : (row : Row) (p : ℕ) → ComesDue before now row p → OfTick before now row p
 
--- where a task ends (9.4): the open calls to it, the start that names it, and of each master on
+-- where a task terminates (9.4): the open calls to it, the start that names it, and of each master on
 -- which it depends its quitting, its task's going, and its being left
-pub data OfEnding (before : List Event) (task : TaskNo) : Row → ℕ → Type 0 where
-  fails : (p : ℕ) → IsOpenCallTo before task.0 p → OfEnding before task Failing p
-  activates : (p : ℕ) → IsActivationOf before task p → OfEnding before task Activating p
-  goes : (t : TaskNo) → depends_on before task.0 (Body t) ≡ true → OfEnding before task Going t.0
+pub data OfTermination (before : List Event) (task : TaskNo) : Row → ℕ → Type 0 where
+  fails : (p : ℕ) → IsOpenCallTo before task.0 p → OfTermination before task Failing p
+  activates : (p : ℕ) → IsActivationOf before task p → OfTermination before task Activating p
+  goes : (t : TaskNo) → depends_on before task.0 (Body t) ≡ true → OfTermination before task Going t.0
   quits : (m : Master) → depends_on before task.0 m ≡ true
-      → OfEnding before task (quitting_row m) (quitting_key m)
+      → OfTermination before task (quitting_row m) (quitting_key m)
   leaves : (block p : ℕ) → depends_on before task.0 (Block block) ≡ true → IsLeaving before block p
-      → OfEnding before task Leaving p
+      → OfTermination before task Leaving p
 
--- where all that depend on a master terminate together (9.4): what each of them ends, and the tasks
--- that it made and that were never started
+-- where all that depend on a master terminate together (9.4): all of the termination of each, and
+-- the tasks that it made and that were never started
 pub data OfQuit (before : List Event) (master : Master) : Row → ℕ → Type 0 where
   ends : (t : TaskNo) (row : Row) (key : ℕ) → depends_on before t.0 master ≡ true
-      → is_terminated before t.0 ≡ false → OfEnding before t row key → OfQuit before master row key
+      → is_terminated before t.0 ≡ false → OfTermination before t row key → OfQuit before master row key
   abandons : (t : TaskNo) (u : ℕ) → depends_on before t.0 master ≡ true
-      → is_terminated before t.0 ≡ false → IsLeftBy before u t.0 → OfQuit before master Going u
+      → is_terminated before t.0 ≡ false → IsUnstartedBy before u t.0 → OfQuit before master Going u
 
 -- the keys that an event adds
 abbrev pub Adds : List Event → Event → Row → ℕ → Type 0
@@ -247,6 +248,6 @@ Adds before (Cancelled call) = OfCancellation (Cancelled call) before call
 Adds before (Passed wait way) = Nowhere
 Adds before (Woken pause) = Nowhere
 Adds before (Activated start ok) = Nowhere
-Adds before (Gone task) = OfEnding before task
+Adds before (Gone task) = OfTermination before task
 Adds before (Quit master) = OfQuit before master
 Adds before (Left close) = Nowhere
