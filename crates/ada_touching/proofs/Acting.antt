@@ -76,11 +76,14 @@ block_later : (event : Event) (before : List Event) (task p : ℕ) → IsBlockOf
 block_later event before task p block =
     record { event = block.event; opening = block.opening; stands = event_at-older event before p block.event block.stands; says = block.says; by = block.by }
 
-within_later : (event : Event) (before : List Event) (c : Creation) → (c.under ≡ Body (task_no c.by)) ⊎ ((p : ℕ) × IsBlockOf before c.by p × (c.under ≡ Block p)) → (c.under ≡ Body (task_no c.by)) ⊎ ((p : ℕ) × IsBlockOf (event ∷ before) c.by p × (c.under ≡ Block p))
+within_later : (event : Event) (before : List Event) (c : Creation)
+    → (c.under ≡ Body (task_no c.by)) ⊎ ((p : ℕ) × IsBlockOf before c.by p × (c.under ≡ Block p))
+    → (c.under ≡ Body (task_no c.by)) ⊎ ((p : ℕ) × IsBlockOf (event ∷ before) c.by p × (c.under ≡ Block p))
 within_later event before c (inl body) = inl body
 within_later event before c (inr (p, block, under)) = inr (p, block_later event before c.by p block, under)
 
-framed : (before : List Event) (c : Creation) → c.under ≡ frame before c.by → (c.under ≡ Body (task_no c.by)) ⊎ ((p : ℕ) × IsBlockOf before c.by p × (c.under ≡ Block p))
+framed : (before : List Event) (c : Creation) → c.under ≡ frame before c.by
+    → (c.under ≡ Body (task_no c.by)) ⊎ ((p : ℕ) × IsBlockOf before c.by p × (c.under ≡ Block p))
 framed before c within =
     elim (frame_is before c.by) [
       | inl body ↦ inl (within ∙ body)
@@ -111,7 +114,8 @@ pub record IsMadeBy (journal : List Event) (task maker : ℕ) : Type 0 where
   pub made : creation_of journal task ≡ Some creation
   pub by : creation.by ≡ maker
 
-asked_start : (journal : List Event) (r : Request) (s : Start) (t : TaskNo) → refusal journal r ≡ None → start_in (asked_event journal r) ≡ Some s → Contains s.tasks t → IsMadeBy journal t.0 s.by
+asked_start : (journal : List Event) (r : Request) (s : Start) (t : TaskNo) → refusal journal r ≡ None → start_in (asked_event journal r) ≡ Some s
+    → Contains s.tasks t → IsMadeBy journal t.0 s.by
 unfolding asked_event start_in is_not_your_task may_activate
 asked_start journal (request.Activate by tasks) s t accepted says named =
     let same = same_Some _ s says in
@@ -122,7 +126,8 @@ asked_start journal (request.Activate by tasks) s t accepted says named =
     subst (λ (x : Start). IsMadeBy journal t.0 x.by) same (record { creation = c; made = made; by = eqb-true c.by by.0 is })
 asked_start journal _ s t accepted says named = absurd (none-some s says)
 
-start_asked : (event : Event) (before : List Event) (s : Start) (t : TaskNo) → MayFollow before event → start_in event ≡ Some s → Contains s.tasks t → IsMadeBy before t.0 s.by
+start_asked : (event : Event) (before : List Event) (s : Start) (t : TaskNo) → MayFollow before event → start_in event ≡ Some s → Contains s.tasks t
+    → IsMadeBy before t.0 s.by
 start_asked event before s t (inl forces) says named =
     absurd (none-some s.by (sym (forced-step before event forces).holds_none ∙ held_in-start event s says))
 start_asked event before s t (inr asked) says named =
@@ -157,7 +162,8 @@ made_later event before task maker by = record {
   by = by.by;
 }
 
-pub starters_made : (journal : List Event) (p : ℕ) (e : Event) (s : Start) (t : TaskNo) → IsLawful journal → event_at journal p ≡ Some e → start_in e ≡ Some s → Contains s.tasks t → IsMadeBy journal t.0 s.by
+pub starters_made : (journal : List Event) (p : ℕ) (e : Event) (s : Start) (t : TaskNo) → IsLawful journal → event_at journal p ≡ Some e → start_in e ≡ Some s
+    → Contains s.tasks t → IsMadeBy journal t.0 s.by
 unfolding event_at
 starters_made [] p e s t lawful at says named = absurd (none-some e at)
 starters_made (event ∷ before) p e s t lawful at says named =

@@ -71,7 +71,8 @@ begins call wait = event.Met call wait
 abbrev TheMeeting : ℕ → ℕ → Meeting
 TheMeeting call wait = record { call = call; wait = wait }
 
-waits_no_more : (before : List Event) (call wait v : ℕ) → IsLawful (begins call wait ∷ before) → IsSuspendedAt before v wait → is_ready_to_quit (begins call wait ∷ before) v ≡ true → ⊥
+waits_no_more : (before : List Event) (call wait v : ℕ) → IsLawful (begins call wait ∷ before) → IsSuspendedAt before v wait
+    → is_ready_to_quit (begins call wait ∷ before) v ≡ true → ⊥
 unfolding released_in held_in
 waits_no_more before call wait v lawful suspended ready =
     let parts = ready_parts (begins call wait ∷ before) v ready in
@@ -80,11 +81,13 @@ waits_no_more before call wait v lawful suspended ready =
     let same : waits.position ≡ wait = suspended_once before v waits.position wait lawful.0 was suspended in
     true≢false (sym (is_released-now (begins call wait) before wait refl) ∙ (ap (is_released (begins call wait ∷ before)) (sym same) ∙ waits.suspended.unreleased))
 
-meeting_is : (call wait p : ℕ) → (is_number p (released_in (begins call wait)) ≡ true → p ≡ wait) × (is_some_and (meeting_in (begins call wait)) (λ (m : Meeting). eqb m.call p) ≡ true → p ≡ call)
+meeting_is : (call wait p : ℕ)
+    → (is_number p (released_in (begins call wait)) ≡ true → p ≡ wait) × (is_some_and (meeting_in (begins call wait)) (λ (m : Meeting). eqb m.call p) ≡ true → p ≡ call)
 unfolding released_in meeting_in
 meeting_is call wait p = (λ released. eqb-true p wait released, λ met. sym (eqb-true call p met))
 
-met_key : (before : List Event) (call wait : ℕ) (row : Row) (key : ℕ) → IsLawful (begins call wait ∷ before) → ReleaseKey (begins call wait) before wait row key → ⊥
+met_key : (before : List Event) (call wait : ℕ) (row : Row) (key : ℕ) → IsLawful (begins call wait ∷ before) → ReleaseKey (begins call wait) before wait row key
+    → ⊥
 unfolding released_in meeting_in
 met_key before call wait row key lawful (frees c at abnormal) =
     let taking = met_taking before (begins call wait) (TheMeeting call wait) lawful.1 refl in
@@ -108,19 +111,23 @@ met_key before call wait row key lawful (empties m v left ready depends) =
           ]
     ]
 
-pub meeting_adds : (before : List Event) (call wait : ℕ) (row : Row) (key : ℕ) → IsLawful (begins call wait ∷ before) → Key (begins call wait) before row key → ⊥
+pub meeting_adds : (before : List Event) (call wait : ℕ) (row : Row) (key : ℕ) → IsLawful (begins call wait ∷ before) → Key (begins call wait) before row key
+    → ⊥
 unfolding released_in
 meeting_adds before call wait row key lawful touched =
     met_key before call wait row key lawful (release_key (begins call wait) before wait row key lawful refl touched)
 
 -- the call of a rendezvous that ends was met
-not_opened : (test : Opening → Bool) (q call : ℕ) (o : Option Opening) → option_map_or (λ (o : Opening). then_some (test o) (Block q)) o None ≡ Some (Rendezvous call) → ⊥
+not_opened : (test : Opening → Bool) (q call : ℕ) (o : Option Opening)
+    → option_map_or (λ (o : Opening). then_some (test o) (Block q)) o None ≡ Some (Rendezvous call) → ⊥
 not_opened test q call None gives = none-some (Rendezvous call) gives
 not_opened test q call (Some o) gives =
     let found = then_some-some (test o) (Block q) (Rendezvous call) gives in
     cc (found.1)
 
-met_by : (test : Meeting → Bool) (e : Event) (call : ℕ) (o : Option Meeting) → meeting_in e ≡ o → option_map_or (λ (m : Meeting). then_some (test m) (Rendezvous m.call)) o None ≡ Some (Rendezvous call) → is_some_and (meeting_in e) (λ (m : Meeting). eqb m.call call) ≡ true
+met_by : (test : Meeting → Bool) (e : Event) (call : ℕ) (o : Option Meeting) → meeting_in e ≡ o
+    → option_map_or (λ (m : Meeting). then_some (test m) (Rendezvous m.call)) o None ≡ Some (Rendezvous call)
+    → is_some_and (meeting_in e) (λ (m : Meeting). eqb m.call call) ≡ true
 met_by test e call None says gives = absurd (none-some (Rendezvous call) gives)
 met_by test e call (Some m) says gives =
     let found = then_some-some (test m) (Rendezvous m.call) (Rendezvous call) gives in
@@ -141,7 +148,8 @@ nest_met journal task call contains =
           (met_by (λ m. is_wait_of journal task m.wait && is_open_call journal m.call) e call (meeting_in e) refl met)
     ]
 
-innermost_met : (journal : List Event) (task : ℕ) (member : Option Member) → innermost (nest journal task) ≡ member → is_some_and member is_rendezvous ≡ true → is_met journal (member_position member) ≡ true
+innermost_met : (journal : List Event) (task : ℕ) (member : Option Member) → innermost (nest journal task) ≡ member → is_some_and member is_rendezvous ≡ true
+    → is_met journal (member_position member) ≡ true
 innermost_met journal task None last within = absurd (false≢true within)
 innermost_met journal task (Some (Block p)) last within = absurd (false≢true within)
 innermost_met journal task (Some (Rendezvous call)) last within =
@@ -153,7 +161,8 @@ abbrev ended_call : Event → Option ℕ
 ended_call (event.Ended by call raised) = Some call
 ended_call _ = None
 
-asked_ended : (journal : List Event) (r : Request) (call : ℕ) → refusal journal r ≡ None → ended_call (asked_event journal r) ≡ Some call → is_met journal call ≡ true
+asked_ended : (journal : List Event) (r : Request) (call : ℕ) → refusal journal r ≡ None → ended_call (asked_event journal r) ≡ Some call
+    → is_met journal call ≡ true
 unfolding asked_event is_not_in_accept
 asked_ended journal (request.End by raised) call accepted says =
     let within = not-false (is_some_and (innermost (nest journal by.0)) is_rendezvous) (is_accepted journal (request.End by raised) accepted).in_accept in
@@ -175,14 +184,16 @@ queued_unmet journal p e queued = not-true (is_met journal p) (and_parts (is_ope
 abbrev ends_it : TaskNo → ℕ → Bool → Event
 ends_it by call raised = event.Ended by call raised
 
-end_key : (by : TaskNo) (call : ℕ) (raised : Bool) (before : List Event) (row : Row) (key : ℕ) → IsLawful (ends_it by call raised ∷ before) → ReleaseKey (ends_it by call raised) before call row key → OfEnd before call row key
+end_key : (by : TaskNo) (call : ℕ) (raised : Bool) (before : List Event) (row : Row) (key : ℕ) → IsLawful (ends_it by call raised ∷ before)
+    → ReleaseKey (ends_it by call raised) before call row key → OfEnd before call row key
 unfolding released_in meeting_in
 end_key by call raised before row key lawful (frees c at abnormal) = halts_caller c at abnormal
 end_key by call raised before row key lawful (empties m v left ready depends) =
     let same : left.position ≡ call = left_position (ends_it by call raised) before call v refl refl left in
     absurd (true≢false (sym (ended_met before (ends_it by call raised) call lawful.1 refl) ∙ (ap (is_met before) (sym same) ∙ queued_unmet before left.position left.called left.queued)))
 
-pub end_adds : (by : TaskNo) (call : ℕ) (raised : Bool) (before : List Event) (row : Row) (key : ℕ) → IsLawful (ends_it by call raised ∷ before) → Key (ends_it by call raised) before row key → OfEnd before call row key
+pub end_adds : (by : TaskNo) (call : ℕ) (raised : Bool) (before : List Event) (row : Row) (key : ℕ) → IsLawful (ends_it by call raised ∷ before)
+    → Key (ends_it by call raised) before row key → OfEnd before call row key
 unfolding released_in
 end_adds by call raised before row key lawful touched =
     end_key by call raised before row key lawful (release_key (ends_it by call raised) before call row key lawful refl touched)
@@ -218,7 +229,8 @@ row_failed journal e x (fails p d at fail) is =
     record { call = c; stands = record { event = d; stands = ap (event_at journal) (sym same) ∙ at; says = says }; is = missed }
 row_failed journal e x _ is = absurd (cc is)
 
-lost_unready : (journal : List Event) (call v : ℕ) → IsLawful journal → forced journal ≡ Some (event.Failed call) → is_lost journal v ≡ true → is_at_open_terminate journal v ≡ true → has_ended journal v ≡ false → ⊥
+lost_unready : (journal : List Event) (call v : ℕ) → IsLawful journal → forced journal ≡ Some (event.Failed call) → is_lost journal v ≡ true
+    → is_at_open_terminate journal v ≡ true → has_ended journal v ≡ false → ⊥
 lost_unready journal call v lawful forces missed waits live =
     let at = at_wait journal v waits live in
     let free = free_elsewhere journal v at.position lawful at.suspended (λ joined.
@@ -228,7 +240,8 @@ lost_unready journal call v lawful forces missed waits live =
       | inr abnormal ↦ halts_free journal v (suspended_exists journal v at.position lawful at.suspended) abnormal live free (unhalted journal (event.Failed call) forces refl)
     ]
 
-fail_key : (call : ℕ) (before : List Event) (row : Row) (key : ℕ) → IsLawful (event.Failed call ∷ before) → ReleaseKey (event.Failed call) before call row key → OfEnd before call row key
+fail_key : (call : ℕ) (before : List Event) (row : Row) (key : ℕ) → IsLawful (event.Failed call ∷ before) → ReleaseKey (event.Failed call) before call row key
+    → OfEnd before call row key
 unfolding released_in meeting_in
 fail_key call before row key lawful (frees c at abnormal) = halts_caller c at abnormal
 fail_key call before row key lawful (empties m v left ready depends) =
@@ -240,19 +253,22 @@ fail_key call before row key lawful (empties m v left ready depends) =
     let live = has_ended-before (event.Failed call) before v (ready_parts (event.Failed call ∷ before) v ready).live in
     absurd (lost_unready before call v lawful.0 forces (ap (is_lost before) (sym callee) ∙ failed.is) left.waits live)
 
-pub fail_adds : (call : ℕ) (before : List Event) (row : Row) (key : ℕ) → IsLawful (event.Failed call ∷ before) → Key (event.Failed call) before row key → OfEnd before call row key
+pub fail_adds : (call : ℕ) (before : List Event) (row : Row) (key : ℕ) → IsLawful (event.Failed call ∷ before) → Key (event.Failed call) before row key
+    → OfEnd before call row key
 unfolding released_in
 fail_adds call before row key lawful touched = fail_key call before row key lawful (release_key (event.Failed call) before call row key lawful refl touched)
 
 -- a cancelled call was queued, so its caller, where it were abnormal, would be halted first
-row_cancelled : (journal : List Event) (e : Event) (x : ℕ) → IsRow journal e → e ≡ event.Cancelled x → (d : Event) × (event_at journal x ≡ Some d) × (is_queued_at journal x d ≡ true)
+row_cancelled : (journal : List Event) (e : Event) (x : ℕ) → IsRow journal e → e ≡ event.Cancelled x
+    → (d : Event) × (event_at journal x ≡ Some d) × (is_queued_at journal x d ≡ true)
 unfolding is_to_cancel released_in
 row_cancelled journal e x (cancels p d at cancel) is =
     let same : p ≡ x = same_Some p x (ap released_in is) in
     (d, ap (event_at journal) (sym same) ∙ at, ap (λ (n : ℕ). is_queued_at journal n d) (sym same) ∙ (and_parts _ (is_queued_at journal p d) cancel).1)
 row_cancelled journal e x _ is = absurd (cc is)
 
-caller_normal : (journal : List Event) (call : ℕ) (c : Call) (d : Event) → IsLawful journal → forced journal ≡ Some (event.Cancelled call) → IsCallAt journal c call → event_at journal call ≡ Some d → is_queued_at journal call d ≡ true → is_abnormal journal c.by ≡ true → ⊥
+caller_normal : (journal : List Event) (call : ℕ) (c : Call) (d : Event) → IsLawful journal → forced journal ≡ Some (event.Cancelled call)
+    → IsCallAt journal c call → event_at journal call ≡ Some d → is_queued_at journal call d ≡ true → is_abnormal journal c.by ≡ true → ⊥
 caller_normal journal call c d lawful forces stands at queued abnormal =
     let opened = (is_open_at-call journal call d at (queued_open journal call d queued)).2 in
     let caller = same_call journal call c _ stands opened.stands in
@@ -261,7 +277,8 @@ caller_normal journal call c d lawful forces stands at queued abnormal =
     let free = free_elsewhere journal c.by call lawful suspended (λ joined. both_ways (is_met journal call) (queued_unmet journal call d queued) joined.met) in
     halts_free journal c.by (suspended_exists journal c.by call lawful suspended) abnormal suspended.live free (unhalted journal (event.Cancelled call) forces refl)
 
-cancel_key : (call : ℕ) (before : List Event) (row : Row) (key : ℕ) → IsLawful (event.Cancelled call ∷ before) → ReleaseKey (event.Cancelled call) before call row key → OfCancellation (event.Cancelled call) before call row key
+cancel_key : (call : ℕ) (before : List Event) (row : Row) (key : ℕ) → IsLawful (event.Cancelled call ∷ before)
+    → ReleaseKey (event.Cancelled call) before call row key → OfCancellation (event.Cancelled call) before call row key
 unfolding released_in meeting_in
 cancel_key call before row key lawful (frees c at abnormal) =
     let forces = answer_forced before (event.Cancelled call) lawful.1 refl in
@@ -273,6 +290,7 @@ cancel_key call before row key lawful (empties m v left ready depends) =
     (ap (is_ready_to_quit (event.Cancelled call ∷ before)) left.to ∙ ready)
     (ap (λ (n : ℕ). depends_on before n m) left.to ∙ depends)
 
-pub cancel_adds : (call : ℕ) (before : List Event) (row : Row) (key : ℕ) → IsLawful (event.Cancelled call ∷ before) → Key (event.Cancelled call) before row key → OfCancellation (event.Cancelled call) before call row key
+pub cancel_adds : (call : ℕ) (before : List Event) (row : Row) (key : ℕ) → IsLawful (event.Cancelled call ∷ before) → Key (event.Cancelled call) before row key
+    → OfCancellation (event.Cancelled call) before call row key
 unfolding released_in
 cancel_adds call before row key lawful touched = cancel_key call before row key lawful (release_key (event.Cancelled call) before call row key lawful refl touched)

@@ -25,7 +25,7 @@ use Rattle.ada_touching.specs.Kinds.{IsActivationOf, IsOpenCallTo, IsHit, OfCrea
 use Rattle.ada_touching.specs.Kinds.OfCreation.{goes}
 use Rattle.ada_touching.specs.Kinds.OfElaboration.{activates}
 use Rattle.ada_touching.specs.Kinds.OfAbort.{halts, fails}
-use Rattle.ada_touching.proofs.Completing.{IsNewlyLeft, body_newly, block_newly}
+use Rattle.ada_touching.proofs.Completing.{IsNewlyAbandoned, body_newly, block_newly}
 use Rattle.ada_touching.proofs.Readying.{IsOpenWait, IsUnqueued}
 use Rattle.ada_touching.proofs.Refining.{Key}
 use Rattle.ada_touching.proofs.Refining.Key.{own, made, hit, freed, lost, called, due, done, completed, abandoned, going, quits_done, quits_ended, quits_idle, leaving}
@@ -37,7 +37,8 @@ pub record IsNewlyOver (event : Event) (before : List Event) (task : ℕ) : Type
   pub now : has_ended (event ∷ before) task ≡ true
 
 -- a task is newly lost where it is newly abnormal, or ended
-pub newly_lost : (event : Event) (before : List Event) (u : ℕ) → is_lost before u ≡ false → is_lost (event ∷ before) u ≡ true → IsHit event before u ⊎ IsNewlyOver event before u
+pub newly_lost : (event : Event) (before : List Event) (u : ℕ) → is_lost before u ≡ false → is_lost (event ∷ before) u ≡ true
+    → IsHit event before u ⊎ IsNewlyOver event before u
 newly_lost event before u was now =
     let not_yet = or_parts (has_ended before u) (is_abnormal before u) was in
     elim (or_cases (has_ended (event ∷ before) u) (is_abnormal (event ∷ before) u) now) [
@@ -46,7 +47,8 @@ newly_lost event before u was now =
     ]
 
 -- a task's activation is newly over where the task ends it, or ends
-elaborated_newly : (event : Event) (before : List Event) (u : ℕ) → is_elaborated before u ≡ false → is_elaborated (event ∷ before) u ≡ true → elaborated_in event ≡ Some u
+elaborated_newly : (event : Event) (before : List Event) (u : ℕ) → is_elaborated before u ≡ false → is_elaborated (event ∷ before) u ≡ true
+    → elaborated_in event ≡ Some u
 unfolding is_elaborated
 elaborated_newly event before u was now =
     let earlier = list_any (λ (e : Event). is_number u (elaborated_in e)) before in
@@ -60,7 +62,8 @@ elaborated_newly event before u was now =
           ]
     ]
 
-pub newly_done : (event : Event) (before : List Event) (t : TaskNo) → is_done_activating before t ≡ false → is_done_activating (event ∷ before) t ≡ true → (elaborated_in event ≡ Some t.0) ⊎ IsNewlyOver event before t.0
+pub newly_done : (event : Event) (before : List Event) (t : TaskNo) → is_done_activating before t ≡ false → is_done_activating (event ∷ before) t ≡ true
+    → (elaborated_in event ≡ Some t.0) ⊎ IsNewlyOver event before t.0
 unfolding is_done_activating
 newly_done event before t was now =
     let not_yet = or_parts (is_elaborated before t.0) (has_ended before t.0) was in
@@ -106,7 +109,8 @@ pub record OnlyChanges (event : Event) : Type 0 where
   pub meeting : meeting_in event ≡ None
 
 -- no master is newly complete
-none_complete : (event : Event) (before : List Event) (m : Master) → IsLawful (event ∷ before) → OnlyChanges event → is_complete before m ≡ false → is_complete (event ∷ before) m ≡ true → ⊥
+none_complete : (event : Event) (before : List Event) (m : Master) → IsLawful (event ∷ before) → OnlyChanges event → is_complete before m ≡ false
+    → is_complete (event ∷ before) m ≡ true → ⊥
 none_complete event before (Body t) lawful only was now = none-some t.0 (sym only.nobody.completes ∙ body_newly event before t was now)
 none_complete event before (Block p) lawful only was now =
     elim (block_newly event before p lawful was now) [
@@ -114,7 +118,7 @@ none_complete event before (Block p) lawful only was now =
       | inr over ↦ none_over event before over.task only.nobody (record { was = over.was; now = over.now })
     ]
 
-none_left : (event : Event) (before : List Event) (u : ℕ) → IsLawful (event ∷ before) → OnlyChanges event → IsNewlyLeft event before u → ⊥
+none_left : (event : Event) (before : List Event) (u : ℕ) → IsLawful (event ∷ before) → OnlyChanges event → IsNewlyAbandoned event before u → ⊥
 none_left event before u lawful only new =
     elim (new.why) [
       | inl complete ↦ none_complete event before new.creation.under lawful only complete.0 complete.1
@@ -133,15 +137,18 @@ none_ready event before v only (inr left) =
           ]
     ]
 
-done_by : (event : Event) (before : List Event) (t : TaskNo) (p : ℕ) → OnlyChanges event → IsActivationOf before t p → (elaborated_in event ≡ Some t.0) ⊎ IsNewlyOver event before t.0 → ChangeKey event before Activating p
+done_by : (event : Event) (before : List Event) (t : TaskNo) (p : ℕ) → OnlyChanges event → IsActivationOf before t p
+    → (elaborated_in event ≡ Some t.0) ⊎ IsNewlyOver event before t.0 → ChangeKey event before Activating p
 done_by event before t p only of (inl says) = elaborates t p of says
 done_by event before t p only of (inr over) = absurd (none_over event before t.0 only.nobody over)
 
-lost_by : (event : Event) (before : List Event) (u p : ℕ) → OnlyChanges event → IsOpenCallTo before u p → IsHit event before u ⊎ IsNewlyOver event before u → ChangeKey event before Failing p
+lost_by : (event : Event) (before : List Event) (u p : ℕ) → OnlyChanges event → IsOpenCallTo before u p → IsHit event before u ⊎ IsNewlyOver event before u
+    → ChangeKey event before Failing p
 lost_by event before u p only call (inl new) = loses u p new call
 lost_by event before u p only call (inr over) = absurd (none_over event before u only.nobody over)
 
-change_key : (event : Event) (before : List Event) (row : Row) (key : ℕ) → IsLawful (event ∷ before) → OnlyChanges event → Key event before row key → ChangeKey event before row key
+change_key : (event : Event) (before : List Event) (row : Row) (key : ℕ) → IsLawful (event ∷ before) → OnlyChanges event → Key event before row key
+    → ChangeKey event before row key
 change_key event before row key lawful only (own same says) = absurd (no_own event row only.silent says)
 change_key event before row key lawful only (made c says) = makes c says
 change_key event before row key lawful only (hit u new) = hits u new
@@ -171,14 +178,16 @@ creates_only by under master families = record {
   meeting = refl;
 }
 
-created_key : (by : TaskNo) (under master : Master) (families : List Family) (before : List Event) (row : Row) (key : ℕ) → ChangeKey (creates by under master families) before row key → OfCreation before row key
+created_key : (by : TaskNo) (under master : Master) (families : List Family) (before : List Event) (row : Row) (key : ℕ)
+    → ChangeKey (creates by under master families) before row key → OfCreation before row key
 unfolding is_abnormal aborted_in elaborated_in
 created_key by under master families before row key (makes c says) = goes
 created_key by under master families before row key (hits u new) = absurd (both_ways (is_abnormal before u) new.was new.now)
 created_key by under master families before row key (loses u p new call) = absurd (both_ways (is_abnormal before u) new.was new.now)
 created_key by under master families before row key (elaborates t p of says) = absurd (none-some t.0 says)
 
-pub creation_adds : (by : TaskNo) (under master : Master) (families : List Family) (before : List Event) (row : Row) (key : ℕ) → IsLawful (creates by under master families ∷ before) → Key (creates by under master families) before row key → OfCreation before row key
+pub creation_adds : (by : TaskNo) (under master : Master) (families : List Family) (before : List Event) (row : Row) (key : ℕ)
+    → IsLawful (creates by under master families ∷ before) → Key (creates by under master families) before row key → OfCreation before row key
 creation_adds by under master families before row key lawful touched =
     created_key by under master families before row key (change_key (creates by under master families) before row key lawful (creates_only by under master families) touched)
 
@@ -204,7 +213,8 @@ up_key by before row key (elaborates t p of says) =
     let same : t ≡ by = ap (λ (n : ℕ). let t : TaskNo = record { 0 = n } in t) (sym (same_Some by.0 t.0 says)) in
     activates p (subst (λ (t : TaskNo). IsActivationOf before t p) same of)
 
-pub elaboration_adds : (by : TaskNo) (before : List Event) (row : Row) (key : ℕ) → IsLawful (comes_up by ∷ before) → Key (comes_up by) before row key → OfElaboration before by row key
+pub elaboration_adds : (by : TaskNo) (before : List Event) (row : Row) (key : ℕ) → IsLawful (comes_up by ∷ before) → Key (comes_up by) before row key
+    → OfElaboration before by row key
 elaboration_adds by before row key lawful touched = up_key by before row key (change_key (comes_up by) before row key lawful (comes_up_only by) touched)
 
 -- an abort
@@ -220,12 +230,14 @@ hits_only by tasks = record {
   meeting = refl;
 }
 
-hit_key : (by : TaskNo) (tasks : List TaskNo) (before : List Event) (row : Row) (key : ℕ) → ChangeKey (hits_tasks by tasks) before row key → OfAbort (hits_tasks by tasks) before row key
+hit_key : (by : TaskNo) (tasks : List TaskNo) (before : List Event) (row : Row) (key : ℕ) → ChangeKey (hits_tasks by tasks) before row key
+    → OfAbort (hits_tasks by tasks) before row key
 unfolding elaborated_in creation_in
 hit_key by tasks before row key (makes c says) = absurd (none-some c says)
 hit_key by tasks before row key (hits u new) = halts u new
 hit_key by tasks before row key (loses u p new call) = fails u p new call
 hit_key by tasks before row key (elaborates t p of says) = absurd (none-some t.0 says)
 
-pub abort_adds : (by : TaskNo) (tasks : List TaskNo) (before : List Event) (row : Row) (key : ℕ) → IsLawful (hits_tasks by tasks ∷ before) → Key (hits_tasks by tasks) before row key → OfAbort (hits_tasks by tasks) before row key
+pub abort_adds : (by : TaskNo) (tasks : List TaskNo) (before : List Event) (row : Row) (key : ℕ) → IsLawful (hits_tasks by tasks ∷ before)
+    → Key (hits_tasks by tasks) before row key → OfAbort (hits_tasks by tasks) before row key
 abort_adds by tasks before row key lawful touched = hit_key by tasks before row key (change_key (hits_tasks by tasks) before row key lawful (hits_only by tasks) touched)

@@ -23,7 +23,8 @@ use Rattle.ada_laws.proofs.Reaching.{opening_asked}
 use Rattle.ada_records.proofs.Holding.{IsQuiet, quiet_ended}
 
 -- a body is newly complete where the event completes its task
-pub body_newly : (event : Event) (before : List Event) (t : TaskNo) → is_complete before (Body t) ≡ false → is_complete (event ∷ before) (Body t) ≡ true → completed_in event ≡ Some t.0
+pub body_newly : (event : Event) (before : List Event) (t : TaskNo) → is_complete before (Body t) ≡ false → is_complete (event ∷ before) (Body t) ≡ true
+    → completed_in event ≡ Some t.0
 unfolding is_complete is_completed
 body_newly event before t was now =
     elim (or_cases (is_number t.0 (completed_in event)) (list_any (λ (e : Event). is_number t.0 (completed_in e)) before) now) [
@@ -82,7 +83,8 @@ opening_quiet (event.Opened by under) o says = record { completes = refl; goes =
 opening_quiet _ o says = absurd (none-some o says)
 
 -- a block is newly complete where the event closes it, or ends its task
-pub block_newly : (event : Event) (before : List Event) (p : ℕ) → IsLawful (event ∷ before) → is_complete before (Block p) ≡ false → is_complete (event ∷ before) (Block p) ≡ true → IsClosed event p ⊎ IsBlockEnded event before p
+pub block_newly : (event : Event) (before : List Event) (p : ℕ) → IsLawful (event ∷ before) → is_complete before (Block p) ≡ false
+    → is_complete (event ∷ before) (Block p) ≡ true → IsClosed event p ⊎ IsBlockEnded event before p
 unfolding is_complete is_complete_block
 block_newly event before p lawful was now =
     let parts = or_parts (list_any (closes p) before) (is_some_and (opening_at before p) (λ (o : Opening). has_ended before o.by)) was in
@@ -110,7 +112,7 @@ block_newly event before p lawful was now =
     ]
 
 -- what a task that is never started was made within is newly complete, or its maker newly terminated
-pub record IsNewlyLeft (event : Event) (before : List Event) (task : ℕ) : Type 0 where
+pub record IsNewlyAbandoned (event : Event) (before : List Event) (task : ℕ) : Type 0 where
   pub creation : Creation
   pub made : creation_of before task ≡ Some creation
   pub never : has_start before task ≡ false
@@ -131,11 +133,13 @@ and_true : (b : Bool) → (b && true) ≡ false → b ≡ false
 and_true true fails = fails
 and_true false fails = refl
 
-not_over : (journal : List Event) (task : ℕ) (c : Creation) → creation_of journal task ≡ Some c → has_start journal task ≡ false → is_abandoned journal task ≡ false → is_over journal c ≡ false
+not_over : (journal : List Event) (task : ℕ) (c : Creation) → creation_of journal task ≡ Some c → has_start journal task ≡ false
+    → is_abandoned journal task ≡ false → is_over journal c ≡ false
 unfolding is_abandoned
 not_over journal task c made never was = and_true (is_over journal c) (rw (made, never) at was)
 
-pub abandoned_newly : (event : Event) (before : List Event) (task : ℕ) → is_abandoned before task ≡ false → is_abandoned (event ∷ before) task ≡ true → IsJustMade event before task ⊎ IsNewlyLeft event before task
+pub abandoned_newly : (event : Event) (before : List Event) (task : ℕ) → is_abandoned before task ≡ false → is_abandoned (event ∷ before) task ≡ true
+    → IsJustMade event before task ⊎ IsNewlyAbandoned event before task
 unfolding is_abandoned creation_of has_start
 abandoned_newly event before task was now =
     let both = and_parts (is_some_and (creation_of (event ∷ before) task) (is_over (event ∷ before))) (not (has_start (event ∷ before) task)) now in

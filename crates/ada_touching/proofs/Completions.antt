@@ -35,12 +35,12 @@ use Rattle.ada_laws.proofs.Suspending.{is_suspended-from}
 use Rattle.ada_forcing.specs.declared.row.Row.{Row}
 use Rattle.ada_forcing.specs.declared.row.Row.TheVariants.{Failing, Activating, Going, QuittingBody}
 use Rattle.ada_records.proofs.Queues.{ends}
-use Rattle.ada_touching.specs.Kinds.{quitting_row, quitting_key, IsActivationOf, IsOpenCallTo, IsHit, IsLeftBy, OfCompletion, OfHalt}
+use Rattle.ada_touching.specs.Kinds.{quitting_row, quitting_key, IsActivationOf, IsOpenCallTo, IsHit, IsUnstartedBy, OfCompletion, OfHalt}
 use Rattle.ada_touching.specs.Kinds.OfCompletion.{goes, quits, fails, activates, abandons}
 use Rattle.ada_touching.specs.Kinds.OfHalt.{completes, quits_block, empties}
 use Rattle.ada_touching.proofs.Acting.{made_within}
 use Rattle.ada_touching.proofs.Changing.{IsNewlyOver, newly_lost, newly_done, newly_over}
-use Rattle.ada_touching.proofs.Completing.{IsNewlyLeft, body_newly, block_newly}
+use Rattle.ada_touching.proofs.Completing.{IsNewlyAbandoned, body_newly, block_newly}
 use Rattle.ada_touching.proofs.Readying.{IsOpenWait, IsUnqueued}
 use Rattle.ada_touching.proofs.Refining.{Key}
 use Rattle.ada_touching.proofs.Refining.Key.{own, made, hit, freed, lost, called, due, done, completed, abandoned, going, quits_done, quits_ended, quits_idle, leaving}
@@ -73,7 +73,8 @@ ends_one e before task u only ended =
 over_one : (e : Event) (before : List Event) (task : TaskNo) (u : ℕ) → OnlyCompletes e task → IsNewlyOver e before u → u ≡ task.0
 over_one e before task u only over = ends_one e before task u only (newly_over e before u over)
 
-still_live : (e : Event) (before : List Event) (task : TaskNo) (u : ℕ) → OnlyCompletes e task → is_terminated before u ≡ false → is_terminated (e ∷ before) u ≡ true → ⊥
+still_live : (e : Event) (before : List Event) (task : TaskNo) (u : ℕ) → OnlyCompletes e task → is_terminated before u ≡ false
+    → is_terminated (e ∷ before) u ≡ true → ⊥
 unfolding is_terminated
 still_live e before task u only was now = both_ways (is_terminated before u) was (rw (only.leaves, only.together) at now)
 
@@ -92,7 +93,8 @@ pub no_body : (t : TaskNo) (p : ℕ) → Body t ≡ Block p → ⊥
 no_body t p same = cc same
 
 -- what was made within a master that this completes was made by the task
-maker_is : (e : Event) (before : List Event) (task : TaskNo) (c : Creation) (m : Master) (u : ℕ) → IsLawful (e ∷ before) → OnlyCompletes e task → creation_of before u ≡ Some c → c.under ≡ m → is_complete before m ≡ false → is_complete (e ∷ before) m ≡ true → c.by ≡ task.0
+maker_is : (e : Event) (before : List Event) (task : TaskNo) (c : Creation) (m : Master) (u : ℕ) → IsLawful (e ∷ before) → OnlyCompletes e task
+    → creation_of before u ≡ Some c → c.under ≡ m → is_complete before m ≡ false → is_complete (e ∷ before) m ≡ true → c.by ≡ task.0
 maker_is e before task c (Body t) u lawful only is under was now =
     let same : t.0 ≡ task.0 = same_Some t.0 task.0 (sym (body_newly e before t was now) ∙ only.completion) in
     elim ((made_within before u c lawful.0 is).within) [
@@ -114,7 +116,8 @@ maker_is e before task c (Block p) u lawful only is under was now =
           ]
     ]
 
-left_key : (e : Event) (before : List Event) (task : TaskNo) (u : ℕ) → IsLawful (e ∷ before) → OnlyCompletes e task → IsNewlyLeft e before u → IsLeftBy before u task.0
+left_key : (e : Event) (before : List Event) (task : TaskNo) (u : ℕ) → IsLawful (e ∷ before) → OnlyCompletes e task → IsNewlyAbandoned e before u
+    → IsUnstartedBy before u task.0
 left_key e before task u lawful only new =
     elim (new.why) [
       | inl complete ↦ record {
@@ -126,7 +129,8 @@ left_key e before task u lawful only new =
       | inr ended ↦ absurd (still_live e before task new.creation.by only ended.0 ended.1)
     ]
 
-complete_key : (e : Event) (before : List Event) (task : TaskNo) (m : Master) → IsLawful (e ∷ before) → OnlyCompletes e task → is_complete before m ≡ false → is_complete (e ∷ before) m ≡ true → OfHalt e before task (quitting_row m) (quitting_key m)
+complete_key : (e : Event) (before : List Event) (task : TaskNo) (m : Master) → IsLawful (e ∷ before) → OnlyCompletes e task → is_complete before m ≡ false
+    → is_complete (e ∷ before) m ≡ true → OfHalt e before task (quitting_row m) (quitting_key m)
 complete_key e before task (Body t) lawful only was now =
     let same : t.0 ≡ task.0 = same_Some t.0 task.0 (sym (body_newly e before t was now) ∙ only.completion) in
     completes QuittingBody t.0 (subst (λ (n : ℕ). OfCompletion before task QuittingBody n) (sym same) quits)
@@ -139,12 +143,14 @@ complete_key e before task (Block p) lawful only was now =
     ]
 
 -- a call that is queued suspends its caller
-pub queued_suspends : (journal : List Event) (p : ℕ) (e : Event) (c : Call) → event_at journal p ≡ Some e → call_in e ≡ Some c → is_queued_at journal p e ≡ true → IsSuspendedAt journal c.by p
+pub queued_suspends : (journal : List Event) (p : ℕ) (e : Event) (c : Call) → event_at journal p ≡ Some e → call_in e ≡ Some c → is_queued_at journal p e ≡ true
+    → IsSuspendedAt journal c.by p
 queued_suspends journal p e c at says queued =
     let opened = is_open_at-call journal p e at (queued_open journal p e queued) in
     subst (λ (n : ℕ). IsSuspendedAt journal n p) (ap (λ (c : Call). c.by) (same_Some opened.0 c (sym opened.1 ∙ says))) (open_call_suspends journal opened.0 p opened.2)
 
-ready_key : (e : Event) (before : List Event) (task : TaskNo) (m : Master) (v : ℕ) → OnlyCompletes e task → IsOpenWait e v ⊎ IsUnqueued e before v → is_ready_to_quit (e ∷ before) v ≡ true → depends_on before v m ≡ true → OfHalt e before task (quitting_row m) (quitting_key m)
+ready_key : (e : Event) (before : List Event) (task : TaskNo) (m : Master) (v : ℕ) → OnlyCompletes e task → IsOpenWait e v ⊎ IsUnqueued e before v
+    → is_ready_to_quit (e ∷ before) v ≡ true → depends_on before v m ≡ true → OfHalt e before task (quitting_row m) (quitting_key m)
 ready_key e before task m v only (inl waits) ready depends = absurd (none-some waits.wait (sym only.silent.waits ∙ waits.says))
 ready_key e before task m v only (inr left) ready depends =
     elim (left.why) [
@@ -161,15 +167,18 @@ ready_key e before task m v only (inr left) ready depends =
           ]
     ]
 
-lost_key : (e : Event) (before : List Event) (task : TaskNo) (u p : ℕ) → OnlyCompletes e task → IsOpenCallTo before u p → IsHit e before u ⊎ IsNewlyOver e before u → OfHalt e before task Failing p
+lost_key : (e : Event) (before : List Event) (task : TaskNo) (u p : ℕ) → OnlyCompletes e task → IsOpenCallTo before u p
+    → IsHit e before u ⊎ IsNewlyOver e before u → OfHalt e before task Failing p
 lost_key e before task u p only call (inl new) = absurd (no_hit e before task u only new)
 lost_key e before task u p only call (inr over) = completes Failing p (fails p (subst (λ (n : ℕ). IsOpenCallTo before n p) (over_one e before task u only over) call))
 
-done_key : (e : Event) (before : List Event) (task t : TaskNo) (p : ℕ) → OnlyCompletes e task → IsActivationOf before t p → (elaborated_in e ≡ Some t.0) ⊎ IsNewlyOver e before t.0 → OfHalt e before task Activating p
+done_key : (e : Event) (before : List Event) (task t : TaskNo) (p : ℕ) → OnlyCompletes e task → IsActivationOf before t p
+    → (elaborated_in e ≡ Some t.0) ⊎ IsNewlyOver e before t.0 → OfHalt e before task Activating p
 done_key e before task t p only of (inl says) = completes Activating p (activates p (subst (λ (t : TaskNo). IsActivationOf before t p) (same_task t task (only.elaborates t.0 says)) of))
 done_key e before task t p only of (inr over) = completes Activating p (activates p (subst (λ (t : TaskNo). IsActivationOf before t p) (same_task t task (over_one e before task t.0 only over)) of))
 
-pub completion_key : (e : Event) (before : List Event) (task : TaskNo) (row : Row) (key : ℕ) → IsLawful (e ∷ before) → OnlyCompletes e task → Key e before row key → OfHalt e before task row key
+pub completion_key : (e : Event) (before : List Event) (task : TaskNo) (row : Row) (key : ℕ) → IsLawful (e ∷ before) → OnlyCompletes e task
+    → Key e before row key → OfHalt e before task row key
 completion_key e before task row key lawful only (own same says) = absurd (no_own e row only.silent says)
 completion_key e before task row key lawful only (made c says) = absurd (none-some c (sym only.makes ∙ says))
 completion_key e before task row key lawful only (hit u new) = absurd (no_hit e before task u only new)
@@ -201,7 +210,8 @@ pub record RunsAlone (journal : List Event) (task : ℕ) : Type 0 where
   pub runs : is_running journal task ≡ true
   pub bare : length (nest journal task) ≡ 0
 
-asked_itself : (journal : List Event) (r : Request) (task : ℕ) → refusal journal r ≡ None → completes_itself (asked_event journal r) ≡ Some task → RunsAlone journal task
+asked_itself : (journal : List Event) (r : Request) (task : ℕ) → refusal journal r ≡ None → completes_itself (asked_event journal r) ≡ Some task
+    → RunsAlone journal task
 unfolding asked_event is_still_nested asker
 asked_itself journal (request.Complete by) task accepted says =
     let same = same_Some by.0 task says in
@@ -217,7 +227,8 @@ runs_alone : (e : Event) (before : List Event) (task : ℕ) → MayFollow before
 runs_alone e before task (inl forces) says = absurd (none-some task (sym (row_itself before e (forced-row before e forces)) ∙ says))
 runs_alone e before task (inr asked) says = asked_itself before asked.request task asked.accepted (ap completes_itself (sym asked.becomes) ∙ says)
 
-alone_key : (e : Event) (before : List Event) (task : TaskNo) (row : Row) (key : ℕ) → RunsAlone before task.0 → OfHalt e before task row key → OfCompletion before task row key
+alone_key : (e : Event) (before : List Event) (task : TaskNo) (row : Row) (key : ℕ) → RunsAlone before task.0 → OfHalt e before task row key
+    → OfCompletion before task row key
 alone_key e before task row key alone (completes same also of) = of
 alone_key e before task row key alone (quits_block p (k, below, is)) =
     let bare : length (nest before task.0) ≡ 0 = alone.bare in
@@ -243,7 +254,8 @@ completes_only by = record {
   elaborates = λ u says. absurd (none-some u says);
 }
 
-pub completion_adds : (by : TaskNo) (before : List Event) (row : Row) (key : ℕ) → IsLawful (completes_by by ∷ before) → Key (completes_by by) before row key → OfCompletion before by row key
+pub completion_adds : (by : TaskNo) (before : List Event) (row : Row) (key : ℕ) → IsLawful (completes_by by ∷ before) → Key (completes_by by) before row key
+    → OfCompletion before by row key
 completion_adds by before row key lawful touched =
     alone_key (completes_by by) before by row key (runs_alone (completes_by by) before by.0 lawful.1 refl)
     (completion_key (completes_by by) before by row key lawful (completes_only by) touched)
@@ -266,7 +278,8 @@ fails_only by = record {
   elaborates = λ u says. sym (same_Some by.0 u says);
 }
 
-pub failure_adds : (by : TaskNo) (before : List Event) (row : Row) (key : ℕ) → IsLawful (fails_by by ∷ before) → Key (fails_by by) before row key → OfCompletion before by row key
+pub failure_adds : (by : TaskNo) (before : List Event) (row : Row) (key : ℕ) → IsLawful (fails_by by ∷ before) → Key (fails_by by) before row key
+    → OfCompletion before by row key
 failure_adds by before row key lawful touched =
     alone_key (fails_by by) before by row key (runs_alone (fails_by by) before by.0 lawful.1 refl)
     (completion_key (fails_by by) before by row key lawful (fails_only by) touched)
@@ -289,5 +302,6 @@ halts_only task = record {
   elaborates = λ u says. absurd (none-some u says);
 }
 
-pub halt_adds : (task : TaskNo) (before : List Event) (row : Row) (key : ℕ) → IsLawful (halts_task task ∷ before) → Key (halts_task task) before row key → OfHalt (halts_task task) before task row key
+pub halt_adds : (task : TaskNo) (before : List Event) (row : Row) (key : ℕ) → IsLawful (halts_task task ∷ before) → Key (halts_task task) before row key
+    → OfHalt (halts_task task) before task row key
 halt_adds task before row key lawful touched = completion_key (halts_task task) before task row key lawful (halts_only task) touched

@@ -51,7 +51,8 @@ quits_live journal m quits =
     let ready = all_below (λ u. not (depends_on journal u m) || is_terminated journal u || is_ready_to_quit journal u) (task_count journal) in
     some_live journal m (middle (is_complete journal m) (all_terminated journal m) ready quits)
 
-pub quits_ready : (journal : List Event) (m : Master) (u : ℕ) → is_to_quit journal m ≡ true → depends_on journal u m ≡ true → is_terminated journal u ≡ false → is_ready_to_quit journal u ≡ true
+pub quits_ready : (journal : List Event) (m : Master) (u : ℕ) → is_to_quit journal m ≡ true → depends_on journal u m ≡ true → is_terminated journal u ≡ false
+    → is_ready_to_quit journal u ≡ true
 unfolding is_to_quit
 quits_ready journal m u quits depends live =
     let ready = all_below (λ u. not (depends_on journal u m) || is_terminated journal u || is_ready_to_quit journal u) (task_count journal) in
@@ -71,7 +72,8 @@ unfolding is_to_quit
 quits_complete journal m quits = (and_parts (is_complete journal m) (not (all_terminated journal m)) (and_parts (is_complete journal m && not (all_terminated journal m)) _ quits).0).0
 
 -- what a task depends on was known before the event
-pub depended_known : (event : Event) (before : List Event) (u : ℕ) (m : Master) → IsLawful (event ∷ before) → depends_on (event ∷ before) u m ≡ true → IsKnown before m
+pub depended_known : (event : Event) (before : List Event) (u : ℕ) (m : Master) → IsLawful (event ∷ before) → depends_on (event ∷ before) u m ≡ true
+    → IsKnown before m
 depended_known event before u m lawful depends =
     elim (depends_on-cases event before u m depends) [
       | inl made ↦

@@ -24,11 +24,11 @@ use Rattle.ada_laws.proofs.DependentLaws.IsEnd.{alone, together, earlier}
 use Rattle.ada_forcing.specs.declared.row.Row.{Row}
 use Rattle.ada_forcing.specs.declared.row.Row.TheVariants.{Failing, Activating, Going, QuittingBlock, Leaving}
 use Rattle.ada_records.proofs.Queues.{ends, has_ended-more}
-use Rattle.ada_touching.specs.Kinds.{quitting_row, quitting_key, IsActivationOf, IsOpenCallTo, IsHit, IsLeftBy, OfEnding}
-use Rattle.ada_touching.specs.Kinds.OfEnding.{fails, activates, goes, quits, leaves}
+use Rattle.ada_touching.specs.Kinds.{quitting_row, quitting_key, IsActivationOf, IsOpenCallTo, IsHit, IsUnstartedBy, OfTermination}
+use Rattle.ada_touching.specs.Kinds.OfTermination.{fails, activates, goes, quits, leaves}
 use Rattle.ada_touching.proofs.Acting.{IsNamed, opener_named, held_named, made_within}
 use Rattle.ada_touching.proofs.Changing.{IsNewlyOver, newly_lost, newly_done, newly_over}
-use Rattle.ada_touching.proofs.Completing.{IsNewlyLeft, IsBlockEnded, body_newly, block_newly}
+use Rattle.ada_touching.proofs.Completing.{IsNewlyAbandoned, IsBlockEnded, body_newly, block_newly}
 use Rattle.ada_touching.proofs.Completions.{same_task, queued_suspends}
 use Rattle.ada_touching.proofs.Readying.{IsOpenWait, IsUnqueued}
 use Rattle.ada_touching.proofs.Refining.{IsNewlyEnded, Key}
@@ -58,13 +58,16 @@ pub record IsEndOf (e : Event) (before : List Event) (Ends : ℕ → Type 0) : T
 
 -- what a termination touches
 pub data EndKey (before : List Event) (e : Event) (Ends : ℕ → Type 0) : Row → ℕ → Type 0 where
-  each : (t : TaskNo) (row : Row) (key : ℕ) → Ends t.0 → OfEnding before t row key → EndKey before e Ends row key
-  leaves_alone : (t : TaskNo) (u : ℕ) → IsNewlyEnded e before t.0 → IsNewlyLeft e before u → IsLeftBy before u t.0 → EndKey before e Ends Going u
+  each : (t : TaskNo) (row : Row) (key : ℕ) → Ends t.0 → OfTermination before t row key → EndKey before e Ends row key
+  leaves_alone : (t : TaskNo) (u : ℕ) → IsNewlyEnded e before t.0 → IsNewlyAbandoned e before u → IsUnstartedBy before u t.0 → EndKey before e Ends Going u
   ends_owner : (p : ℕ) (over : IsBlockEnded e before p) → is_to_quit (e ∷ before) (Block p) ≡ true → EndKey before e Ends QuittingBlock p
-  leaves_around : (p u : ℕ) (new : IsNewlyLeft e before u) → IsBlockEnded e before p → new.creation.under ≡ Block p → EndKey before e Ends Going u
-  ends_caller : (m : Master) (p u : ℕ) (call : Call) → IsNewlyOver e before u → IsSuspendedAt before u p → IsCallAt before call p → EndKey before e Ends (quitting_row m) (quitting_key m)
+  leaves_around : (p u : ℕ) (new : IsNewlyAbandoned e before u) → IsBlockEnded e before p → new.creation.under ≡ Block p → EndKey before e Ends Going u
+  ends_caller : (m : Master) (p u : ℕ) (call : Call) → IsNewlyOver e before u → IsSuspendedAt before u p → IsCallAt before call p
+      → EndKey before e Ends (quitting_row m) (quitting_key m)
 
-quits_why : (e : Event) (before : List Event) (m : Master) (Ends : ℕ → Type 0) → IsLawful (e ∷ before) → IsEndOf e before Ends → is_to_quit (e ∷ before) m ≡ true → is_complete before m ≡ false → is_complete (e ∷ before) m ≡ true → EndKey before e Ends (quitting_row m) (quitting_key m)
+quits_why : (e : Event) (before : List Event) (m : Master) (Ends : ℕ → Type 0) → IsLawful (e ∷ before) → IsEndOf e before Ends
+    → is_to_quit (e ∷ before) m ≡ true → is_complete before m ≡ false → is_complete (e ∷ before) m ≡ true
+    → EndKey before e Ends (quitting_row m) (quitting_key m)
 quits_why e before (Body t) Ends lawful of quit was now = absurd (none-some t.0 (sym of.only.completes ∙ body_newly e before t was now))
 quits_why e before (Block p) Ends lawful of quit was now =
     elim (block_newly e before p lawful was now) [
@@ -72,7 +75,9 @@ quits_why e before (Block p) Ends lawful of quit was now =
       | inr over ↦ ends_owner p over quit
     ]
 
-left_around : (e : Event) (before : List Event) (u : ℕ) (m : Master) (Ends : ℕ → Type 0) → IsLawful (e ∷ before) → IsEndOf e before Ends → (new : IsNewlyLeft e before u) → new.creation.under ≡ m → is_complete before m ≡ false → is_complete (e ∷ before) m ≡ true → EndKey before e Ends Going u
+left_around : (e : Event) (before : List Event) (u : ℕ) (m : Master) (Ends : ℕ → Type 0) → IsLawful (e ∷ before) → IsEndOf e before Ends
+    → (new : IsNewlyAbandoned e before u) → new.creation.under ≡ m → is_complete before m ≡ false → is_complete (e ∷ before) m ≡ true
+    → EndKey before e Ends Going u
 left_around e before u (Body t) Ends lawful of new under was now = absurd (none-some t.0 (sym of.only.completes ∙ body_newly e before t was now))
 left_around e before u (Block p) Ends lawful of new under was now =
     elim (block_newly e before p lawful was now) [
@@ -80,7 +85,8 @@ left_around e before u (Block p) Ends lawful of new under was now =
       | inr over ↦ leaves_around p u new over under
     ]
 
-left_why : (e : Event) (before : List Event) (u : ℕ) (Ends : ℕ → Type 0) → IsLawful (e ∷ before) → IsEndOf e before Ends → IsNewlyLeft e before u → EndKey before e Ends Going u
+left_why : (e : Event) (before : List Event) (u : ℕ) (Ends : ℕ → Type 0) → IsLawful (e ∷ before) → IsEndOf e before Ends → IsNewlyAbandoned e before u
+    → EndKey before e Ends Going u
 left_why e before u Ends lawful of new =
     elim (new.why) [
       | inl complete ↦ left_around e before u new.creation.under Ends lawful of new refl complete.0 complete.1
@@ -92,7 +98,8 @@ left_why e before u Ends lawful of new =
 over_by : (e : Event) (before : List Event) (u : ℕ) → ends e before u ≡ true → has_ended before u ≡ false → IsNewlyOver e before u
 over_by e before u ended live = record { was = live; now = has_ended-more e before u ∙ or_left (ends e before u) (has_ended before u) ended }
 
-idle_why : (e : Event) (before : List Event) (m : Master) (v : ℕ) (Ends : ℕ → Type 0) → IsEndOf e before Ends → IsOpenWait e v ⊎ IsUnqueued e before v → EndKey before e Ends (quitting_row m) (quitting_key m)
+idle_why : (e : Event) (before : List Event) (m : Master) (v : ℕ) (Ends : ℕ → Type 0) → IsEndOf e before Ends → IsOpenWait e v ⊎ IsUnqueued e before v
+    → EndKey before e Ends (quitting_row m) (quitting_key m)
 idle_why e before m v Ends of (inl waits) = absurd (none-some waits.wait (sym of.only.silent.waits ∙ waits.says))
 idle_why e before m v Ends of (inr left) =
     let suspended = queued_suspends before left.position left.called left.call left.stands left.says left.queued in
@@ -107,15 +114,18 @@ idle_why e before m v Ends of (inr left) =
           ]
     ]
 
-lost_why : (e : Event) (before : List Event) (u p : ℕ) (Ends : ℕ → Type 0) → IsEndOf e before Ends → IsOpenCallTo before u p → IsHit e before u ⊎ IsNewlyOver e before u → EndKey before e Ends Failing p
+lost_why : (e : Event) (before : List Event) (u p : ℕ) (Ends : ℕ → Type 0) → IsEndOf e before Ends → IsOpenCallTo before u p
+    → IsHit e before u ⊎ IsNewlyOver e before u → EndKey before e Ends Failing p
 lost_why e before u p Ends of call (inl new) = absurd (unhit e before u of.only new)
 lost_why e before u p Ends of call (inr over) = each (task_no u) Failing p (of.over u over) (fails p call)
 
-done_why : (e : Event) (before : List Event) (t : TaskNo) (p : ℕ) (Ends : ℕ → Type 0) → IsEndOf e before Ends → IsActivationOf before t p → (elaborated_in e ≡ Some t.0) ⊎ IsNewlyOver e before t.0 → EndKey before e Ends Activating p
+done_why : (e : Event) (before : List Event) (t : TaskNo) (p : ℕ) (Ends : ℕ → Type 0) → IsEndOf e before Ends → IsActivationOf before t p
+    → (elaborated_in e ≡ Some t.0) ⊎ IsNewlyOver e before t.0 → EndKey before e Ends Activating p
 done_why e before t p Ends of active (inl says) = absurd (none-some t.0 (sym of.only.elaborates ∙ says))
 done_why e before t p Ends of active (inr over) = each t Activating p (of.over t.0 over) (activates p active)
 
-pub end_key : (e : Event) (before : List Event) (row : Row) (key : ℕ) (Ends : ℕ → Type 0) → IsLawful (e ∷ before) → IsEndOf e before Ends → Key e before row key → EndKey before e Ends row key
+pub end_key : (e : Event) (before : List Event) (row : Row) (key : ℕ) (Ends : ℕ → Type 0) → IsLawful (e ∷ before) → IsEndOf e before Ends → Key e before row key
+    → EndKey before e Ends row key
 end_key e before row key Ends lawful of (own same says) = absurd (no_own e row of.only.silent says)
 end_key e before row key Ends lawful of (made c says) = absurd (none-some c (sym of.only.makes ∙ says))
 end_key e before row key Ends lawful of (hit u new) = absurd (unhit e before u of.only new)
@@ -178,7 +188,8 @@ owner_complete journal p t block ended =
     (rw (block.stands, block.says, block.by) ended)
 
 -- what a task was made within is complete where its maker is completed
-maker_complete : (journal : List Event) (u : ℕ) (c : Creation) → IsLawful journal → creation_of journal u ≡ Some c → is_completed journal c.by ≡ true → is_complete journal c.under ≡ true
+maker_complete : (journal : List Event) (u : ℕ) (c : Creation) → IsLawful journal → creation_of journal u ≡ Some c → is_completed journal c.by ≡ true
+    → is_complete journal c.under ≡ true
 unfolding is_complete
 maker_complete journal u c lawful made_by completed_by =
     elim ((made_within journal u c lawful made_by).within) [
@@ -187,7 +198,8 @@ maker_complete journal u c lawful made_by completed_by =
     ]
 
 -- a task that goes leaves nobody: what it was within when it made others was complete, or it made none
-gone_leaves_none : (task : TaskNo) (before : List Event) (u t : ℕ) (new : IsNewlyLeft (goes_alone task) before u) → IsLawful (goes_alone task ∷ before) → t ≡ task.0 → new.creation.by ≡ t → ⊥
+gone_leaves_none : (task : TaskNo) (before : List Event) (u t : ℕ) (new : IsNewlyAbandoned (goes_alone task) before u) → IsLawful (goes_alone task ∷ before)
+    → t ≡ task.0 → new.creation.by ≡ t → ⊥
 unfolding gone_in
 gone_leaves_none task before u t new lawful same by =
     let maker : new.creation.by ≡ task.0 = by ∙ same in
@@ -199,9 +211,10 @@ gone_leaves_none task before u t new lawful same by =
       | inr never ↦ abandoned_unnamed before task.0 never (subst (IsNamed before) maker (made_within before u new.creation lawful.0 new.made).named)
     ]
 
-gone_key : (task : TaskNo) (before : List Event) (row : Row) (key : ℕ) → IsLawful (goes_alone task ∷ before) → EndKey before (goes_alone task) (λ u. u ≡ task.0) row key → OfEnding before task row key
+gone_key : (task : TaskNo) (before : List Event) (row : Row) (key : ℕ) → IsLawful (goes_alone task ∷ before)
+    → EndKey before (goes_alone task) (λ u. u ≡ task.0) row key → OfTermination before task row key
 unfolding gone_in
-gone_key task before row key lawful (each t same also is of) = subst (λ (x : TaskNo). OfEnding before x row key) (same_task t task is) of
+gone_key task before row key lawful (each t same also is of) = subst (λ (x : TaskNo). OfTermination before x row key) (same_task t task is) of
 gone_key task before row key lawful (leaves_alone t u end new left) =
     let is : t.0 ≡ task.0 = goes_ended task before t.0 end.was (is_terminated-cases (goes_alone task) before t.0 end.now) in
     absurd (gone_leaves_none task before u t.0 new lawful is (ap (λ (c : Creation). c.by) (same_Some new.creation left.creation (sym new.made ∙ left.made)) ∙ left.by))
@@ -215,6 +228,7 @@ gone_key task before row key lawful (ends_caller m p u call over suspended at) =
     let is : u ≡ task.0 = goes_over task before u (newly_over (goes_alone task) before u over) in
     absurd (goes_unnamed before u (ap (is_to_go before) is ∙ gone_goes (goes_alone task) before task.0 lawful.1 refl) over.was (held_named before u p suspended.event lawful.0 suspended.stands suspended.holds))
 
-pub going_adds : (task : TaskNo) (before : List Event) (row : Row) (key : ℕ) → IsLawful (goes_alone task ∷ before) → Key (goes_alone task) before row key → OfEnding before task row key
+pub going_adds : (task : TaskNo) (before : List Event) (row : Row) (key : ℕ) → IsLawful (goes_alone task ∷ before) → Key (goes_alone task) before row key
+    → OfTermination before task row key
 going_adds task before row key lawful touched =
     gone_key task before row key lawful (end_key (goes_alone task) before row key (λ u. u ≡ task.0) lawful (goes_of task before) touched)

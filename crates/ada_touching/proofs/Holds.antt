@@ -19,7 +19,7 @@ use Rattle.ada_laws.specs.Suspension.{IsSuspendedAt}
 use Rattle.ada_forcing.specs.declared.row.Row.{Row}
 use Rattle.ada_forcing.specs.declared.row.Row.TheVariants.{Halting, Failing, Taking, Cancelling, Passing, Waking, Activating, QuittingBlock, Leaving}
 use Rattle.ada_records.proofs.Holding.{IsQuiet, quiet_ends}
-use Rattle.ada_touching.specs.Kinds.{itself, IsLeftIn, ComesDue, OfStart, OfCall, OfWait, OfDelay, OfClose, OfTick}
+use Rattle.ada_touching.specs.Kinds.{itself, IsUnstartedIn, ComesDue, OfStart, OfCall, OfWait, OfDelay, OfClose, OfTick}
 use Rattle.ada_touching.specs.Kinds.OfStart.{is_over}
 use Rattle.ada_touching.specs.Kinds.OfCall.{fails, is_cancelled, is_taken}
 use Rattle.ada_touching.specs.Kinds.OfWait.{takes, passes, quits}
@@ -33,7 +33,8 @@ use Rattle.ada_touching.proofs.Quietly.{QuietKey, quietly}
 use Rattle.ada_touching.proofs.Quietly.QuietKey.{at_own, frees_caller, calls_waiting, brings_moment, closes_around, closes_block, waits_open, empties_queue}
 
 -- nothing leaves a queue where nothing is released or met and nobody ends
-pub kept_queued : (event : Event) (before : List Event) (v : ℕ) → IsQuiet event → released_in event ≡ None → meeting_in event ≡ None → IsUnqueued event before v → ⊥
+pub kept_queued : (event : Event) (before : List Event) (v : ℕ) → IsQuiet event → released_in event ≡ None → meeting_in event ≡ None → IsUnqueued event before v
+    → ⊥
 kept_queued event before v quiet releases meeting left =
     elim (left.why) [
       | inl released ↦ false≢true (sym (ap (is_number left.position) releases) ∙ released)
@@ -68,7 +69,8 @@ opened_quietly by under before row key (closes_block p closed) = none-some close
 opened_quietly by under before row key (waits_open m v waits depends) = none-some waits.wait waits.says
 opened_quietly by under before row key (empties_queue m v left ready depends) = kept_queued (opens by under) before v (opens_quiet by under) refl refl left
 
-pub opening_adds : (by : TaskNo) (under : Master) (before : List Event) (row : Row) (key : ℕ) → IsLawful (opens by under ∷ before) → Key (opens by under) before row key → ⊥
+pub opening_adds : (by : TaskNo) (under : Master) (before : List Event) (row : Row) (key : ℕ) → IsLawful (opens by under ∷ before)
+    → Key (opens by under) before row key → ⊥
 opening_adds by under before row key lawful touched = opened_quietly by under before row key (quietly (opens by under) before row key lawful (opens_quiet by under) touched)
 
 -- a start adds itself
@@ -84,7 +86,8 @@ unfolding call_in wait_in delay_in start_in closing_in
 starts_own by tasks before Activating says = is_over
 starts_own by tasks before _ says = absurd (false≢true says)
 
-started_quietly : (by : TaskNo) (tasks : List TaskNo) (before : List Event) (row : Row) (key : ℕ) → QuietKey (starts by tasks) before row key → OfStart before row key
+started_quietly : (by : TaskNo) (tasks : List TaskNo) (before : List Event) (row : Row) (key : ℕ) → QuietKey (starts by tasks) before row key
+    → OfStart before row key
 unfolding call_in wait_in closing_in released_in moment_in meeting_in
 started_quietly by tasks before row key (at_own same says) = starts_own by tasks before row says
 started_quietly by tasks before row key (frees_caller u p call released at is abnormal) = absurd (none-some p released)
@@ -95,7 +98,8 @@ started_quietly by tasks before row key (closes_block p closed) = absurd (none-s
 started_quietly by tasks before row key (waits_open m v waits depends) = absurd (none-some waits.wait waits.says)
 started_quietly by tasks before row key (empties_queue m v left ready depends) = absurd (kept_queued (starts by tasks) before v (starts_quiet by tasks) refl refl left)
 
-pub start_adds : (by : TaskNo) (tasks : List TaskNo) (before : List Event) (row : Row) (key : ℕ) → IsLawful (starts by tasks ∷ before) → Key (starts by tasks) before row key → OfStart before row key
+pub start_adds : (by : TaskNo) (tasks : List TaskNo) (before : List Event) (row : Row) (key : ℕ) → IsLawful (starts by tasks ∷ before)
+    → Key (starts by tasks) before row key → OfStart before row key
 start_adds by tasks before row key lawful touched = started_quietly by tasks before row key (quietly (starts by tasks) before row key lawful (starts_quiet by tasks) touched)
 
 -- a call adds itself, and the wait at which its callee is suspended
@@ -106,13 +110,15 @@ asks_quiet : (by callee : TaskNo) (entry : Entry) (patience : Patience) (due : O
 unfolding completed_in gone_in quit_in aborted_in elaborated_in failed_in creation_in
 asks_quiet by callee entry patience due = record { completes = refl; goes = refl; quits = refl; aborts = refl; elaborates = refl; fails = refl; makes = refl }
 
-asks_own : (by callee : TaskNo) (entry : Entry) (patience : Patience) (due : Option ℤ) (before : List Event) (row : Row) → says_row row (asks by callee entry patience due) ≡ true → OfCall before callee.0 row (itself before)
+asks_own : (by callee : TaskNo) (entry : Entry) (patience : Patience) (due : Option ℤ) (before : List Event) (row : Row)
+    → says_row row (asks by callee entry patience due) ≡ true → OfCall before callee.0 row (itself before)
 unfolding call_in wait_in delay_in start_in closing_in
 asks_own by callee entry patience due before Failing says = fails
 asks_own by callee entry patience due before Cancelling says = is_cancelled
 asks_own by callee entry patience due before _ says = absurd (false≢true says)
 
-asked_quietly : (by callee : TaskNo) (entry : Entry) (patience : Patience) (due : Option ℤ) (before : List Event) (row : Row) (key : ℕ) → QuietKey (asks by callee entry patience due) before row key → OfCall before callee.0 row key
+asked_quietly : (by callee : TaskNo) (entry : Entry) (patience : Patience) (due : Option ℤ) (before : List Event) (row : Row) (key : ℕ)
+    → QuietKey (asks by callee entry patience due) before row key → OfCall before callee.0 row key
 unfolding call_in wait_in closing_in released_in moment_in meeting_in
 asked_quietly by callee entry patience due before row key (at_own same says) = asks_own by callee entry patience due before row says
 asked_quietly by callee entry patience due before row key (frees_caller u p call released at is abnormal) = absurd (none-some p released)
@@ -125,7 +131,8 @@ asked_quietly by callee entry patience due before row key (waits_open m v waits 
 asked_quietly by callee entry patience due before row key (empties_queue m v left ready depends) =
     absurd (kept_queued (asks by callee entry patience due) before v (asks_quiet by callee entry patience due) refl refl left)
 
-pub call_adds : (by callee : TaskNo) (entry : Entry) (patience : Patience) (due : Option ℤ) (before : List Event) (row : Row) (key : ℕ) → IsLawful (asks by callee entry patience due ∷ before) → Key (asks by callee entry patience due) before row key → OfCall before callee.0 row key
+pub call_adds : (by callee : TaskNo) (entry : Entry) (patience : Patience) (due : Option ℤ) (before : List Event) (row : Row) (key : ℕ)
+    → IsLawful (asks by callee entry patience due ∷ before) → Key (asks by callee entry patience due) before row key → OfCall before callee.0 row key
 call_adds by callee entry patience due before row key lawful touched =
     asked_quietly by callee entry patience due before row key
     (quietly (asks by callee entry patience due) before row key lawful (asks_quiet by callee entry patience due) touched)
@@ -138,13 +145,15 @@ waits_quiet : (by : TaskNo) (pick : ℕ) (choices : List Choice) (tail : EventTa
 unfolding completed_in gone_in quit_in aborted_in elaborated_in failed_in creation_in
 waits_quiet by pick choices tail = record { completes = refl; goes = refl; quits = refl; aborts = refl; elaborates = refl; fails = refl; makes = refl }
 
-waits_own : (by : TaskNo) (pick : ℕ) (choices : List Choice) (tail : EventTail) (before : List Event) (row : Row) → says_row row (waits_for by pick choices tail) ≡ true → OfWait before by.0 tail row (itself before)
+waits_own : (by : TaskNo) (pick : ℕ) (choices : List Choice) (tail : EventTail) (before : List Event) (row : Row)
+    → says_row row (waits_for by pick choices tail) ≡ true → OfWait before by.0 tail row (itself before)
 unfolding call_in wait_in delay_in start_in closing_in
 waits_own by pick choices tail before Taking says = takes
 waits_own by pick choices tail before Passing says = passes
 waits_own by pick choices tail before _ says = absurd (false≢true says)
 
-waited_quietly : (by : TaskNo) (pick : ℕ) (choices : List Choice) (tail : EventTail) (before : List Event) (row : Row) (key : ℕ) → QuietKey (waits_for by pick choices tail) before row key → OfWait before by.0 tail row key
+waited_quietly : (by : TaskNo) (pick : ℕ) (choices : List Choice) (tail : EventTail) (before : List Event) (row : Row) (key : ℕ)
+    → QuietKey (waits_for by pick choices tail) before row key → OfWait before by.0 tail row key
 unfolding call_in wait_in closing_in released_in moment_in meeting_in
 waited_quietly by pick choices tail before row key (at_own same says) = waits_own by pick choices tail before row says
 waited_quietly by pick choices tail before row key (frees_caller u p call released at is abnormal) = absurd (none-some p released)
@@ -159,7 +168,8 @@ waited_quietly by pick choices tail before row key (waits_open m v waits depends
 waited_quietly by pick choices tail before row key (empties_queue m v left ready depends) =
     absurd (kept_queued (waits_for by pick choices tail) before v (waits_quiet by pick choices tail) refl refl left)
 
-pub wait_adds : (by : TaskNo) (pick : ℕ) (choices : List Choice) (tail : EventTail) (before : List Event) (row : Row) (key : ℕ) → IsLawful (waits_for by pick choices tail ∷ before) → Key (waits_for by pick choices tail) before row key → OfWait before by.0 tail row key
+pub wait_adds : (by : TaskNo) (pick : ℕ) (choices : List Choice) (tail : EventTail) (before : List Event) (row : Row) (key : ℕ)
+    → IsLawful (waits_for by pick choices tail ∷ before) → Key (waits_for by pick choices tail) before row key → OfWait before by.0 tail row key
 wait_adds by pick choices tail before row key lawful touched =
     waited_quietly by pick choices tail before row key
     (quietly (waits_for by pick choices tail) before row key lawful (waits_quiet by pick choices tail) touched)
@@ -188,7 +198,8 @@ delayed_quietly by until before row key (closes_block p closed) = absurd (none-s
 delayed_quietly by until before row key (waits_open m v waits depends) = absurd (none-some waits.wait waits.says)
 delayed_quietly by until before row key (empties_queue m v left ready depends) = absurd (kept_queued (delays by until) before v (delays_quiet by until) refl refl left)
 
-pub delay_adds : (by : TaskNo) (until : ℤ) (before : List Event) (row : Row) (key : ℕ) → IsLawful (delays by until ∷ before) → Key (delays by until) before row key → OfDelay before row key
+pub delay_adds : (by : TaskNo) (until : ℤ) (before : List Event) (row : Row) (key : ℕ) → IsLawful (delays by until ∷ before)
+    → Key (delays by until) before row key → OfDelay before row key
 delay_adds by until before row key lawful touched = delayed_quietly by until before row key (quietly (delays by until) before row key lawful (delays_quiet by until) touched)
 
 -- a close adds itself, its block, and the tasks made within it that were never started
@@ -215,13 +226,14 @@ shut_quietly by block before row key (frees_caller u p call released at is abnor
 shut_quietly by block before row key (calls_waiting call p says waits) = absurd (none-some call says)
 shut_quietly by block before row key (brings_moment now same p says comes) = absurd (none-some now says)
 shut_quietly by block before row key (closes_around u p closed left) =
-    abandons u (subst (λ (n : ℕ). IsLeftIn before u n) (shuts_it by block p closed) left)
+    abandons u (subst (λ (n : ℕ). IsUnstartedIn before u n) (shuts_it by block p closed) left)
 shut_quietly by block before row key (closes_block p closed) =
     subst (λ (n : ℕ). OfClose before block QuittingBlock n) (sym (shuts_it by block p closed)) quits_itself
 shut_quietly by block before row key (waits_open m v waits depends) = absurd (none-some waits.wait waits.says)
 shut_quietly by block before row key (empties_queue m v left ready depends) = absurd (kept_queued (shuts by block) before v (shuts_quiet by block) refl refl left)
 
-pub close_adds : (by : TaskNo) (block : ℕ) (before : List Event) (row : Row) (key : ℕ) → IsLawful (shuts by block ∷ before) → Key (shuts by block) before row key → OfClose before block row key
+pub close_adds : (by : TaskNo) (block : ℕ) (before : List Event) (row : Row) (key : ℕ) → IsLawful (shuts by block ∷ before)
+    → Key (shuts by block) before row key → OfClose before block row key
 close_adds by block before row key lawful touched = shut_quietly by block before row key (quietly (shuts by block) before row key lawful (shuts_quiet by block) touched)
 
 -- a tick adds what comes due

@@ -10,6 +10,7 @@ pub mod Newcomers
 pub mod Endings
 pub mod Holds
 pub mod Noting
+pub mod Outward
 pub mod Places
 pub mod Quietly
 pub mod Quitting

@@ -61,7 +61,8 @@ reached was now (Some d) due =
     ]
 
 -- the way in which a wait ends is the same at an earlier moment, unless its moment comes
-way_newly : (was now : ℤ) (choices : List Choice) (pick : ℕ) (tail : EventTail) (way : Way) → way_of now choices pick tail ≡ Some way → (way_of was choices pick tail ≡ Some way) ⊎ IsReached was now (tail_due tail)
+way_newly : (was now : ℤ) (choices : List Choice) (pick : ℕ) (tail : EventTail) (way : Way) → way_of now choices pick tail ≡ Some way
+    → (way_of was choices pick tail ≡ Some way) ⊎ IsReached was now (tail_due tail)
 unfolding way_of taken_delay
 way_newly was now choices pick Nothing way ends = inl ends
 way_newly was now choices pick Otherwise way ends = inl ends
@@ -87,7 +88,9 @@ moment_is : (event : Event) (before : List Event) (now : ℤ) → moment_in even
 unfolding moment
 moment_is event before now says = rw says refl
 
-pub call_due : (event : Event) (before : List Event) (now : ℤ) (p : ℕ) (e step : Event) → moment_in event ≡ Some now → event_at before p ≡ Some e → then_some (is_to_cancel (event ∷ before) p e) (Cancelled p) ≡ Some step → IsGivenOrDue before now Cancelling p (then_some (is_to_cancel before p e) (Cancelled p))
+pub call_due : (event : Event) (before : List Event) (now : ℤ) (p : ℕ) (e step : Event) → moment_in event ≡ Some now → event_at before p ≡ Some e
+    → then_some (is_to_cancel (event ∷ before) p e) (Cancelled p) ≡ Some step
+    → IsGivenOrDue before now Cancelling p (then_some (is_to_cancel before p e) (Cancelled p))
 unfolding is_to_cancel is_open_at
 call_due event before now p e step moves at gives =
     let found = (then_some-some (is_to_cancel (event ∷ before) p e) (Cancelled p) step gives).0 in
@@ -121,7 +124,9 @@ call_due event before now p e step moves at gives =
     by_or true = refl
     by_or false = refl
 
-pub wait_due : (event : Event) (before : List Event) (now : ℤ) (p : ℕ) (e step : Event) → moment_in event ≡ Some now → event_at before p ≡ Some e → option_and_then (passed_at (event ∷ before) p) (wait_in e) ≡ Some step → IsGivenOrDue before now Passing p (option_and_then (passed_at before p) (wait_in e))
+pub wait_due : (event : Event) (before : List Event) (now : ℤ) (p : ℕ) (e step : Event) → moment_in event ≡ Some now → event_at before p ≡ Some e
+    → option_and_then (passed_at (event ∷ before) p) (wait_in e) ≡ Some step
+    → IsGivenOrDue before now Passing p (option_and_then (passed_at before p) (wait_in e))
 unfolding passed_at
 wait_due event before now p e step moves at gives =
     option_and_then_some (passed_at (event ∷ before) p) (wait_in e) step gives (λ w says given.
@@ -144,7 +149,9 @@ wait_due event before now p e step moves at gives =
           })
     ])
 
-pub delay_due : (event : Event) (before : List Event) (now : ℤ) (p : ℕ) (e step : Event) → moment_in event ≡ Some now → event_at before p ≡ Some e → option_and_then (λ (d : Delay). then_some (is_to_wake (event ∷ before) p d) (Woken p)) (delay_in e) ≡ Some step → IsGivenOrDue before now Waking p (option_and_then (λ (d : Delay). then_some (is_to_wake before p d) (Woken p)) (delay_in e))
+pub delay_due : (event : Event) (before : List Event) (now : ℤ) (p : ℕ) (e step : Event) → moment_in event ≡ Some now → event_at before p ≡ Some e
+    → option_and_then (λ (d : Delay). then_some (is_to_wake (event ∷ before) p d) (Woken p)) (delay_in e) ≡ Some step
+    → IsGivenOrDue before now Waking p (option_and_then (λ (d : Delay). then_some (is_to_wake before p d) (Woken p)) (delay_in e))
 unfolding is_to_wake
 delay_due event before now p e step moves at gives =
     option_and_then_some (λ (d : Delay). then_some (is_to_wake (event ∷ before) p d) (Woken p)) (delay_in e) step gives (λ d says given.

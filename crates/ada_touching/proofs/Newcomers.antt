@@ -52,7 +52,8 @@ gone_exists e before task (inl forces) says = row_gone before e task (forced-row
 gone_exists e before task (inr asked) says = absurd (none-some task (sym (asked_gone before asked.request) ∙ (ap gone_in (sym asked.becomes) ∙ says)))
 
 -- a terminated task exists
-end_exists : (e : Event) (before : List Event) (task : ℕ) → MayFollow before e → (is_terminated before task ≡ true → task < task_count before) → IsEnd e before task → task < task_count before
+end_exists : (e : Event) (before : List Event) (task : ℕ) → MayFollow before e → (is_terminated before task ≡ true → task < task_count before)
+    → IsEnd e before task → task < task_count before
 end_exists e before task follows was (alone gone) = gone_exists e before task follows gone
 end_exists e before task follows was (together m quit depends) = depends_exists before task m depends
 end_exists e before task follows was (earlier ended) = was ended
@@ -65,7 +66,8 @@ terminated_exists (e ∷ before) task lawful ended =
     let more : task_count before ≤ task_count (e ∷ before) = task_count-more e before in
     omega arith
 
-new_terminated : (e : Event) (before : List Event) (c : Creation) → IsLawful before → creation_in e ≡ Some c → is_terminated (e ∷ before) (task_count before) ≡ true → ⊥
+new_terminated : (e : Event) (before : List Event) (c : Creation) → IsLawful before → creation_in e ≡ Some c
+    → is_terminated (e ∷ before) (task_count before) ≡ true → ⊥
 unfolding is_terminated
 new_terminated e before c lawful says ended =
     let only = only_makes e c says in
@@ -79,7 +81,8 @@ new_abnormal e before c says abnormal =
     let below : task_count before < task_count before = abnormal_exists before (task_count before) (rw only.aborts at abnormal) in
     omega arith
 
-new_ready : (e : Event) (before : List Event) (c : Creation) → IsLawful before → creation_in e ≡ Some c → is_ready_to_quit (e ∷ before) (task_count before) ≡ true → ⊥
+new_ready : (e : Event) (before : List Event) (c : Creation) → IsLawful before → creation_in e ≡ Some c
+    → is_ready_to_quit (e ∷ before) (task_count before) ≡ true → ⊥
 new_ready e before c lawful says ready =
     let parts = ready_parts (e ∷ before) (task_count before) ready in
     let waits = at_wait (e ∷ before) (task_count before) parts.waits parts.live in
@@ -88,7 +91,8 @@ new_ready e before c lawful says ready =
     omega arith
 
 -- a master with a dependent that was just made doesn't quit
-pub new_dependent : (e : Event) (before : List Event) (u : ℕ) (m : Master) → IsLawful (e ∷ before) → IsMadeUnder e before u m → is_to_quit (e ∷ before) m ≡ true → ⊥
+pub new_dependent : (e : Event) (before : List Event) (u : ℕ) (m : Master) → IsLawful (e ∷ before) → IsMadeUnder e before u m → is_to_quit (e ∷ before) m ≡ true
+    → ⊥
 new_dependent e before u m lawful made quits =
     let depends : depends_on (e ∷ before) (task_count before) m ≡ true = depends_on-made e before (task_count before) m made.creation made.says refl made.reached in
     elim (cases_Bool (is_terminated (e ∷ before) (task_count before))) [

@@ -1,10 +1,10 @@
 -- Agendas that are kept up with their journal.
-use Rattle.std.proofs.Common.{◌≡◌, ◌≢◌, ℕ, suc, ◌+◌, ◌<◌, ◌≤◌, Bool, true, false, Option, Some, None, List, ◌∷◌, length, sym, refl, ap, ◌∙◌, subst, arith, ◌⊎◌, inl, inr}
+use Rattle.std.proofs.Common.{◌≡◌, ◌≢◌, ℕ, ◌+◌, ◌<◌, ◌≤◌, true, Some, List, ◌∷◌, length, sym, refl, ap, ◌∙◌, subst, arith, ◌⊎◌, inl, inr}
 use Rattle.std.specs.Option.{is_some}
 use Rattle.std.proofs.lemmas.Bool.{cases_eq, cases_lt, false≢true, both_ways}
 use Rattle.std.proofs.lemmas.Option.{none-some, same_Some}
 use Rattle.ada_events.specs.declared.event.Event.{Event}
-use Rattle.ada_events.specs.declared.event.Event.TheVariants.{Opened, Created, Started, Elaborated, Called, Waiting, Paused, Ended, Closed, Completed, Aborted, Ticked, Halted, Failed, Met, Cancelled, Passed, Woken, Activated, Gone, Quit, Left}
+use Rattle.ada_events.specs.declared.event.Event.TheVariants.{Opened, Created, Started, Elaborated, Called, Paused, Ended, Failed}
 use Rattle.ada_events.specs.declared.limits.TheConstants.{MOST_EVENTS, MOST_TASKS}
 use Rattle.ada_events.specs.declared.names.TaskNo.{TaskNo}
 use Rattle.ada_events.specs.Says.{Call, Creation, call_in, start_in, delay_in, creation_in}
@@ -23,7 +23,7 @@ use Rattle.ada_forcing.specs.Rows.{rank}
 use Rattle.ada_agenda.specs.Rows.{keeps}
 use Rattle.ada_records.specs.Records.{IsHeldAt}
 use Rattle.ada_touching.specs.Keeping.{has_key, IsAgendaOf, Grows, ended_call, IsCalledBy, IsMadeBy}
-use Rattle.ada_touching.specs.Kinds.{itself, IsActivationOf, OfCreation, OfStart, OfElaboration, OfCall, OfDelay, OfEnd, Adds}
+use Rattle.ada_touching.specs.Kinds.{itself, OfCreation, OfStart, OfElaboration, OfCall, OfDelay, OfEnd, Adds}
 use Rattle.ada_touching.specs.Kinds.OfCreation.{goes}
 use Rattle.ada_touching.specs.Kinds.OfStart.{is_over}
 use Rattle.ada_touching.specs.Kinds.OfElaboration.{activates}
@@ -65,7 +65,8 @@ task_fits before lawful =
     omega arith
 
 -- what is put in is there, and all that was
-pub put_grows : (old new : List (List ℕ)) (row : Row) (key : ℕ) → length new ≡ length old → keeps new (rank row) key ≡ true → ((r k : ℕ) → (r ≢ rank row) ⊎ (k ≢ key) → keeps new r k ≡ keeps old r k) → Grows old new
+pub put_grows : (old new : List (List ℕ)) (row : Row) (key : ℕ) → length new ≡ length old → keeps new (rank row) key ≡ true
+    → ((r k : ℕ) → (r ≢ rank row) ⊎ (k ≢ key) → keeps new r k ≡ keeps old r k) → Grows old new
 put_grows old new row key many here others = record {
   many = many;
   kept = λ other k was.
@@ -86,13 +87,14 @@ pub grows_on : (old mid new : List (List ℕ)) → Grows old mid → Grows mid n
 grows_on old mid new first second = record { many = second.many ∙ first.many; kept = λ row key was. second.kept row key (first.kept row key was) }
 
 -- an agenda that has all that the event adds
-grown : (event : Event) (before : List Event) (old new : List (List ℕ)) → IsLawful (event ∷ before) → IsAgendaOf old before → Grows old new → ((row : Row) (key : ℕ) → Adds before event row key → has_key new row key ≡ true) → IsAgendaOf new (event ∷ before)
+pub grown : (event : Event) (before : List Event) (old new : List (List ℕ)) → IsLawful (event ∷ before) → IsAgendaOf old before → Grows old new
+    → ((row : Row) (key : ℕ) → Adds before event row key → has_key new row key ≡ true) → IsAgendaOf new (event ∷ before)
 grown event before old new lawful agenda grows all = record {
   many = grows.many ∙ agenda.many;
   covers = agendas_grow event before (has_key old) (has_key new) lawful agenda.covers grows.kept (λ row key step added gives. all row key added);
 }
 
-own_is : (before : List Event) (own : ℕ) → own ≡ length before + 1 → own ≡ itself before
+pub own_is : (before : List Event) (own : ℕ) → own ≡ length before + 1 → own ≡ itself before
 own_is before own same = omega (arith, same)
 
 -- a start
@@ -102,10 +104,12 @@ of_start (Started by tasks) before row key starts added = added
 of_start (Opened by under) before row key starts added = absurd (false≢true starts)
 of_start _ before row key starts added = absurd (false≢true starts)
 
-has_start_key : (before : List Event) (new : List (List ℕ)) (row : Row) (key : ℕ) → has_key new Activating (itself before) ≡ true → OfStart before row key → has_key new row key ≡ true
+has_start_key : (before : List Event) (new : List (List ℕ)) (row : Row) (key : ℕ) → has_key new Activating (itself before) ≡ true → OfStart before row key
+    → has_key new row key ≡ true
 has_start_key before new row key here is_over = here
 
-pub start_noted : (event : Event) (before : List Event) (old new : List (List ℕ)) (own : ℕ) → IsLawful (event ∷ before) → IsAgendaOf old before → is_some (start_in event) ≡ true → own ≡ length before + 1 → Grows old new → has_key new Activating own ≡ true → IsAgendaOf new (event ∷ before)
+pub start_noted : (event : Event) (before : List Event) (old new : List (List ℕ)) (own : ℕ) → IsLawful (event ∷ before) → IsAgendaOf old before
+    → is_some (start_in event) ≡ true → own ≡ length before + 1 → Grows old new → has_key new Activating own ≡ true → IsAgendaOf new (event ∷ before)
 start_noted event before old new own lawful agenda starts same grows here =
     let here_itself = ap (has_key new Activating) (sym (own_is before own same)) ∙ here in
     grown event before old new lawful agenda grows (λ row key added. has_start_key before new row key here_itself (of_start event before row key starts added))
@@ -116,30 +120,36 @@ unfolding delay_in
 of_delay (Paused by due) before row key delays added = added
 of_delay _ before row key delays added = absurd (false≢true delays)
 
-has_delay_key : (before : List Event) (new : List (List ℕ)) (row : Row) (key : ℕ) → has_key new Waking (itself before) ≡ true → OfDelay before row key → has_key new row key ≡ true
+has_delay_key : (before : List Event) (new : List (List ℕ)) (row : Row) (key : ℕ) → has_key new Waking (itself before) ≡ true → OfDelay before row key
+    → has_key new row key ≡ true
 has_delay_key before new row key here wakes = here
 
-pub delay_noted : (event : Event) (before : List Event) (old new : List (List ℕ)) (own : ℕ) → IsLawful (event ∷ before) → IsAgendaOf old before → is_some (delay_in event) ≡ true → own ≡ length before + 1 → Grows old new → has_key new Waking own ≡ true → IsAgendaOf new (event ∷ before)
+pub delay_noted : (event : Event) (before : List Event) (old new : List (List ℕ)) (own : ℕ) → IsLawful (event ∷ before) → IsAgendaOf old before
+    → is_some (delay_in event) ≡ true → own ≡ length before + 1 → Grows old new → has_key new Waking own ≡ true → IsAgendaOf new (event ∷ before)
 delay_noted event before old new own lawful agenda delays same grows here =
     let here_itself = ap (has_key new Waking) (sym (own_is before own same)) ∙ here in
     grown event before old new lawful agenda grows (λ row key added. has_delay_key before new row key here_itself (of_delay event before row key delays added))
 
 -- a creation
-of_creation : (event : Event) (before : List Event) (row : Row) (key : ℕ) → is_some (creation_in event) ≡ true → Adds before event row key → OfCreation before row key
+of_creation : (event : Event) (before : List Event) (row : Row) (key : ℕ) → is_some (creation_in event) ≡ true → Adds before event row key
+    → OfCreation before row key
 unfolding creation_in
 of_creation (Created by under master families) before row key creates added = added
 of_creation _ before row key creates added = absurd (false≢true creates)
 
-has_creation_key : (before : List Event) (new : List (List ℕ)) (row : Row) (key : ℕ) → has_key new Going (task_count before) ≡ true → OfCreation before row key → has_key new row key ≡ true
+has_creation_key : (before : List Event) (new : List (List ℕ)) (row : Row) (key : ℕ) → has_key new Going (task_count before) ≡ true → OfCreation before row key
+    → has_key new row key ≡ true
 has_creation_key before new row key here goes = here
 
-pub creation_noted : (event : Event) (before : List Event) (old new : List (List ℕ)) (task : ℕ) → IsLawful (event ∷ before) → IsAgendaOf old before → is_some (creation_in event) ≡ true → task ≡ task_count before → Grows old new → has_key new Going task ≡ true → IsAgendaOf new (event ∷ before)
+pub creation_noted : (event : Event) (before : List Event) (old new : List (List ℕ)) (task : ℕ) → IsLawful (event ∷ before) → IsAgendaOf old before
+    → is_some (creation_in event) ≡ true → task ≡ task_count before → Grows old new → has_key new Going task ≡ true → IsAgendaOf new (event ∷ before)
 creation_noted event before old new task lawful agenda creates same grows here =
     let here_itself = ap (has_key new Going) (sym same) ∙ here in
     grown event before old new lawful agenda grows (λ row key added. has_creation_key before new row key here_itself (of_creation event before row key creates added))
 
 -- a call
-of_call : (event : Event) (before : List Event) (callee : ℕ) (row : Row) (key : ℕ) → IsCallOf event callee → Adds before event row key → OfCall before callee row key
+of_call : (event : Event) (before : List Event) (callee : ℕ) (row : Row) (key : ℕ) → IsCallOf event callee → Adds before event row key
+    → OfCall before callee row key
 unfolding call_in
 of_call (Called by task entry patience due) before callee row key calls added =
     let same : task.0 ≡ callee = ap (λ (c : Call). c.callee) (same_Some _ calls.call calls.says) ∙ calls.of in
@@ -159,20 +169,24 @@ pub record HasCallKeys (before : List Event) (new : List (List ℕ)) (own at : �
   pub cancelling : has_key new Cancelling own ≡ true
   pub taking : 0 < at → has_key new Taking at ≡ true
 
-has_call_key : (before : List Event) (new : List (List ℕ)) (callee at own : ℕ) (row : Row) (key : ℕ) → IsLawful before → IsHeldAt before callee at → own ≡ itself before → HasCallKeys before new own at → OfCall before callee row key → has_key new row key ≡ true
+has_call_key : (before : List Event) (new : List (List ℕ)) (callee at own : ℕ) (row : Row) (key : ℕ) → IsLawful before → IsHeldAt before callee at
+    → own ≡ itself before → HasCallKeys before new own at → OfCall before callee row key → has_key new row key ≡ true
 has_call_key before new callee at own row key lawful held same has fails = ap (has_key new Failing) (sym same) ∙ has.failing
 has_call_key before new callee at own row key lawful held same has is_cancelled = ap (has_key new Cancelling) (sym same) ∙ has.cancelling
 has_call_key before new callee at own row key lawful held same has (is_taken p suspended) =
     let there = held_there before callee at p lawful held suspended in
     ap (has_key new Taking) there.1 ∙ has.taking there.0
 
-pub call_noted : (event : Event) (before : List Event) (old new : List (List ℕ)) (callee at own : ℕ) → IsLawful (event ∷ before) → IsAgendaOf old before → IsCallOf event callee → IsHeldAt before callee at → own ≡ length before + 1 → Grows old new → HasCallKeys before new own at → IsAgendaOf new (event ∷ before)
+pub call_noted : (event : Event) (before : List Event) (old new : List (List ℕ)) (callee at own : ℕ) → IsLawful (event ∷ before) → IsAgendaOf old before
+    → IsCallOf event callee → IsHeldAt before callee at → own ≡ length before + 1 → Grows old new → HasCallKeys before new own at
+    → IsAgendaOf new (event ∷ before)
 call_noted event before old new callee at own lawful agenda calls held same grows has =
     grown event before old new lawful agenda grows (λ row key added.
     has_call_key before new callee at own row key lawful.0 held (own_is before own same) has (of_call event before callee row key calls added))
 
 -- the end of a rendezvous, and the failure of a call
-of_end : (event : Event) (before : List Event) (call : ℕ) (row : Row) (key : ℕ) → ended_call event ≡ Some call → Adds before event row key → OfEnd before call row key
+of_end : (event : Event) (before : List Event) (call : ℕ) (row : Row) (key : ℕ) → ended_call event ≡ Some call → Adds before event row key
+    → OfEnd before call row key
 of_end (Ended by ended raised) before call row key ends added = subst (λ (n : ℕ). OfEnd before n row key) (same_Some ended call ends) added
 of_end (Failed failed) before call row key ends added = subst (λ (n : ℕ). OfEnd before n row key) (same_Some failed call ends) added
 of_end _ before call row key ends added = absurd (none-some call ends)
@@ -183,10 +197,12 @@ caller_is before p caller c of at =
     let one = same_event before p at.event of.stands.event at.stands of.stands.stands in
     ap (λ (c : Call). c.by) (same_Some c of.call (sym at.says ∙ (ap call_in one ∙ of.stands.says))) ∙ of.by
 
-has_end_key : (before : List Event) (new : List (List ℕ)) (call caller : ℕ) (row : Row) (key : ℕ) → IsCalledBy before call caller → has_key new Halting caller ≡ true → OfEnd before call row key → has_key new row key ≡ true
+has_end_key : (before : List Event) (new : List (List ℕ)) (call caller : ℕ) (row : Row) (key : ℕ) → IsCalledBy before call caller
+    → has_key new Halting caller ≡ true → OfEnd before call row key → has_key new row key ≡ true
 has_end_key before new call caller row key of here (halts c at abnormal) = ap (has_key new Halting) (caller_is before call caller c of at) ∙ here
 
-pub end_noted : (event : Event) (before : List Event) (old new : List (List ℕ)) (call caller : ℕ) → IsLawful (event ∷ before) → IsAgendaOf old before → ended_call event ≡ Some call → IsCalledBy before call caller → Grows old new → has_key new Halting caller ≡ true → IsAgendaOf new (event ∷ before)
+pub end_noted : (event : Event) (before : List Event) (old new : List (List ℕ)) (call caller : ℕ) → IsLawful (event ∷ before) → IsAgendaOf old before
+    → ended_call event ≡ Some call → IsCalledBy before call caller → Grows old new → has_key new Halting caller ≡ true → IsAgendaOf new (event ∷ before)
 end_noted event before old new call caller lawful agenda ends of grows here =
     grown event before old new lawful agenda grows (λ row key added. has_end_key before new call caller row key of here (of_end event before call row key ends added))
 
@@ -194,13 +210,16 @@ end_noted event before old new call caller lawful agenda ends of grows here =
 pub record HasStartKey (new : List (List ℕ)) (at : ℕ) : Type 0 where
   pub activating : 0 < at → has_key new Activating at ≡ true
 
-has_up_key : (before : List Event) (new : List (List ℕ)) (task : TaskNo) (maker at : ℕ) (row : Row) (key : ℕ) → IsLawful before → IsMadeBy before task.0 maker → IsHeldAt before maker at → HasStartKey new at → OfElaboration before task row key → has_key new row key ≡ true
+has_up_key : (before : List Event) (new : List (List ℕ)) (task : TaskNo) (maker at : ℕ) (row : Row) (key : ℕ) → IsLawful before → IsMadeBy before task.0 maker
+    → IsHeldAt before maker at → HasStartKey new at → OfElaboration before task row key → has_key new row key ≡ true
 has_up_key before new task maker at row key lawful of held has (activates p active) =
     let by : active.creation.by ≡ maker = ap (λ (c : Creation). c.by) (same_Some active.creation of.creation (sym active.made ∙ of.made)) ∙ of.by in
     let there = held_there before maker at p lawful held (subst (λ (n : ℕ). IsSuspendedAt before n p) by active.suspended) in
     ap (has_key new Activating) there.1 ∙ has.activating there.0
 
-pub up_noted : (event : Event) (before : List Event) (old new : List (List ℕ)) (task : TaskNo) (maker at : ℕ) → IsLawful (event ∷ before) → IsAgendaOf old before → event ≡ Elaborated task true → IsMadeBy before task.0 maker → IsHeldAt before maker at → Grows old new → HasStartKey new at → IsAgendaOf new (event ∷ before)
+pub up_noted : (event : Event) (before : List Event) (old new : List (List ℕ)) (task : TaskNo) (maker at : ℕ) → IsLawful (event ∷ before)
+    → IsAgendaOf old before → event ≡ Elaborated task true → IsMadeBy before task.0 maker → IsHeldAt before maker at → Grows old new → HasStartKey new at
+    → IsAgendaOf new (event ∷ before)
 up_noted event before old new task maker at lawful agenda is of held grows has =
     grown event before old new lawful agenda grows (λ row key added.
     has_up_key before new task maker at row key lawful.0 of held has (subst (λ (e : Event). Adds before e row key) is added))

@@ -1,10 +1,10 @@
 -- Where open calls stand, and that who closed a block is within it until it is left.
-use Rattle.std.proofs.Common.{◌≡◌, ℕ, suc, Bool, true, false, not, ◌&&◌, ◌||◌, Option, Some, None, List, [], ◌∷◌, length, sym, refl, ap, ◌∙◌, subst, ◌⊎◌, inl, inr, eqb}
+use Rattle.std.proofs.Common.{◌≡◌, ℕ, suc, Bool, true, false, not, ◌&&◌, Option, Some, None, List, [], ◌∷◌, length, sym, refl, ap, ◌∙◌, subst, ◌⊎◌, inl, inr, eqb}
 use Rattle.std.specs.Prelude.{◌-◌}
-use Rattle.std.specs.Option.{option_map_or, option_or, option_and_then}
+use Rattle.std.specs.Option.{option_map_or}
 use Rattle.std.specs.Bool.{then_some}
 use Rattle.std.specs.List.{Contains}
-use Rattle.std.proofs.lemmas.Bool.{and_parts, and_from, or_cases, or_left, or_right, not-true, not-false, both_ways, cases_Bool, eqb-true, eq-eqb, false≢true, true≢false}
+use Rattle.std.proofs.lemmas.Bool.{and_parts, and_from, or_cases, or_left, or_right, not-true, both_ways, cases_Bool, eqb-true, eq-eqb, false≢true, true≢false}
 use Rattle.std.proofs.lemmas.Option.{none-some, same_Some, slice_get_within, get_or_from_slice_get}
 use Rattle.ada_events.specs.declared.event.Event.{Event}
 use Rattle.ada_events.specs.declared.event.Event.TheVariants as event
@@ -13,20 +13,20 @@ use Rattle.ada_events.specs.declared.request.Request.{Request}
 use Rattle.ada_events.specs.declared.request.Request.TheVariants as request
 use Rattle.ada_events.specs.declared.names.Member.{Member}
 use Rattle.ada_events.specs.declared.names.Member.TheVariants.{Block, Rendezvous}
-use Rattle.ada_events.specs.Search.{is_number, is_some_and, any_event, event_at}
-use Rattle.ada_events.specs.Says.{Call, Wait, Opening, Closing, Meeting, opening_in, closing_in, meeting_in, call_in, wait_in, left_in, released_in}
+use Rattle.ada_events.specs.Search.{is_number, is_some_and, event_at}
+use Rattle.ada_events.specs.Says.{Call, Opening, Closing, Meeting, opening_in, closing_in, meeting_in, call_in, left_in, released_in}
 use Rattle.ada_events.specs.Asks.{member_position, asked_event}
-use Rattle.ada_events.specs.Phases.{is_released, has_ended}
-use Rattle.ada_events.specs.Calls.{is_pending, is_open_at, is_open_call, queue}
+use Rattle.ada_events.specs.Phases.{is_released}
+use Rattle.ada_events.specs.Calls.{is_pending, is_open_call, queue}
 use Rattle.ada_events.specs.Nests.{is_left_close, is_left, is_wait_of, member_at, nest, innermost}
 use Rattle.ada_events.specs.Refusals.{refusal, is_rendezvous, has_no_block}
 use Rattle.ada_events.specs.Forced.{is_to_leave}
 use Rattle.ada_events.specs.Lawful.{IsLawful, MayFollow}
-use Rattle.ada_laws.specs.Calls.{IsCallAt, IsOpenCallAt}
+use Rattle.ada_laws.specs.Calls.{IsOpenCallAt}
 use Rattle.ada_laws.specs.Suspension.{IsSuspendedAt}
 use Rattle.ada_laws.proofs.Searching.{option_or-some, option_map_or-true, then_some-some, is_number-some, is_number-from, event_at-cases, event_at-older, any_event-found, any_event-from}
 use Rattle.ada_laws.proofs.Gathering.{gathered-found, gathered-from}
-use Rattle.ada_laws.proofs.Growing.{is_released-now, is_released-more, is_released-before, has_ended-before}
+use Rattle.ada_laws.proofs.Growing.{is_released-now, is_released-before, has_ended-before}
 use Rattle.ada_laws.proofs.Saying.{held_in-closing}
 use Rattle.ada_laws.proofs.Accepting.{is_accepted}
 use Rattle.ada_laws.proofs.CallLaws.{open_calls_are_joined_or_queued, one_meeting_for_a_joined_call}
@@ -42,12 +42,14 @@ use Rattle.ada_touching.proofs.Completing.{block_within}
 use Rattle.ada_touching.proofs.Waiting.{suspended_at}
 
 -- an open call stands in a queue of its callee, or its rendezvous in the callee's nest
-rendezvous_within : (journal : List Event) (task call wait q : ℕ) → event_at journal q ≡ Some (Met call wait) → is_wait_of journal task wait ≡ true → is_open_call journal call ≡ true → Contains (nest journal task) (Rendezvous call)
+rendezvous_within : (journal : List Event) (task call wait q : ℕ) → event_at journal q ≡ Some (Met call wait) → is_wait_of journal task wait ≡ true
+    → is_open_call journal call ≡ true → Contains (nest journal task) (Rendezvous call)
 unfolding nest member_at opening_in meeting_in
 rendezvous_within journal task call wait q at waits opened =
     gathered-from (member_at journal task) journal q (Met call wait) (Rendezvous call) at (rw (waits, opened) refl)
 
-pub open_place : (journal : List Event) (call : Call) (p : ℕ) → IsLawful journal → IsOpenCallAt journal call p → Contains (queue journal call.callee call.entry) p ⊎ Contains (nest journal call.callee) (Rendezvous p)
+pub open_place : (journal : List Event) (call : Call) (p : ℕ) → IsLawful journal → IsOpenCallAt journal call p
+    → Contains (queue journal call.callee call.entry) p ⊎ Contains (nest journal call.callee) (Rendezvous p)
 unfolding is_wait_of is_open_call
 open_place journal call p lawful opened =
     elim (open_calls_are_joined_or_queued journal lawful call p opened) [
@@ -67,7 +69,8 @@ pub record IsOpenBlock (journal : List Event) (task p : ℕ) : Type 0 where
   pub block : IsBlockOf journal task p
   pub unleft : is_left journal p ≡ false
 
-open_block : (journal : List Event) (task p q : ℕ) (e : Event) (o : Option Opening) → opening_in e ≡ o → event_at journal q ≡ Some e → option_map_or (λ (o : Opening). then_some (eqb o.by task && not (is_left journal q)) (Block q)) o None ≡ Some (Block p) → IsOpenBlock journal task p
+open_block : (journal : List Event) (task p q : ℕ) (e : Event) (o : Option Opening) → opening_in e ≡ o → event_at journal q ≡ Some e
+    → option_map_or (λ (o : Opening). then_some (eqb o.by task && not (is_left journal q)) (Block q)) o None ≡ Some (Block p) → IsOpenBlock journal task p
 open_block journal task p q e None says at gives = absurd (none-some (Block p) gives)
 open_block journal task p q e (Some o) says at gives =
     let found = then_some-some (eqb o.by task && not (is_left journal q)) (Block q) (Block p) gives in
@@ -76,7 +79,8 @@ open_block journal task p q e (Some o) says at gives =
     subst (IsOpenBlock journal task) same
     (record { block = record { event = e; opening = o; stands = at; says = says; by = eqb-true o.by task both.0 }; unleft = not-true (is_left journal q) both.1 })
 
-not_rendezvous : (test : Meeting → Bool) (p : ℕ) (o : Option Meeting) → option_map_or (λ (m : Meeting). then_some (test m) (Rendezvous m.call)) o None ≡ Some (Block p) → ⊥
+not_rendezvous : (test : Meeting → Bool) (p : ℕ) (o : Option Meeting)
+    → option_map_or (λ (m : Meeting). then_some (test m) (Rendezvous m.call)) o None ≡ Some (Block p) → ⊥
 not_rendezvous test p None gives = none-some (Block p) gives
 not_rendezvous test p (Some m) gives =
     let found = then_some-some (test m) (Rendezvous m.call) (Block p) gives in
@@ -95,14 +99,16 @@ within_open journal task p contains =
     ]
 
 -- who closes a block is within it
-innermost_within : (journal : List Event) (task : ℕ) (member : Option Member) → innermost (nest journal task) ≡ member → option_map_or is_rendezvous member true ≡ false → Contains (nest journal task) (Block (member_position member))
+innermost_within : (journal : List Event) (task : ℕ) (member : Option Member) → innermost (nest journal task) ≡ member
+    → option_map_or is_rendezvous member true ≡ false → Contains (nest journal task) (Block (member_position member))
 innermost_within journal task None last blockless = absurd (true≢false blockless)
 innermost_within journal task (Some (Rendezvous call)) last blockless = absurd (true≢false blockless)
 innermost_within journal task (Some (Block p)) last blockless =
     let place = length (nest journal task) - 1 in
     (place, slice_get_within (nest journal task) place (Block p) last, get_or_from_slice_get (nest journal task) place (Block p) (Block p) last)
 
-asked_closing : (journal : List Event) (r : Request) (c : Closing) → refusal journal r ≡ None → closing_in (asked_event journal r) ≡ Some c → IsOpenBlock journal c.by c.block
+asked_closing : (journal : List Event) (r : Request) (c : Closing) → refusal journal r ≡ None → closing_in (asked_event journal r) ≡ Some c
+    → IsOpenBlock journal c.by c.block
 unfolding asked_event closing_in has_no_block
 asked_closing journal (request.Close by) c accepted says =
     subst (λ (x : Closing). IsOpenBlock journal x.by x.block) (same_Some _ c says)
@@ -118,7 +124,8 @@ later_block : (e : Event) (before : List Event) (task p : ℕ) → IsBlockOf bef
 later_block e before task p block =
     record { event = block.event; opening = block.opening; stands = event_at-older e before p block.event block.stands; says = block.says; by = block.by }
 
-closer_owns : (journal : List Event) (q : ℕ) (e : Event) (k : Closing) → IsLawful journal → event_at journal q ≡ Some e → closing_in e ≡ Some k → IsBlockOf journal k.by k.block
+closer_owns : (journal : List Event) (q : ℕ) (e : Event) (k : Closing) → IsLawful journal → event_at journal q ≡ Some e → closing_in e ≡ Some k
+    → IsBlockOf journal k.by k.block
 unfolding event_at
 closer_owns [] q e k lawful at says = absurd (none-some e at)
 closer_owns (event ∷ before) q e k lawful at says =
@@ -140,7 +147,8 @@ unfolding left_in released_in closing_in
 left_in-left (event.Left close) q says = (says, refl)
 left_in-left _ q says = absurd (none-some q says)
 
-row_pending : (journal : List Event) (e : Event) (q : ℕ) → IsRow journal e → left_in e ≡ Some q → (d : Event) × (k : Closing) × (event_at journal q ≡ Some d) × (closing_in d ≡ Some k) × (is_pending journal q k.by ≡ true)
+row_pending : (journal : List Event) (e : Event) (q : ℕ) → IsRow journal e → left_in e ≡ Some q
+    → (d : Event) × (k : Closing) × (event_at journal q ≡ Some d) × (closing_in d ≡ Some k) × (is_pending journal q k.by ≡ true)
 unfolding left_in is_to_leave
 row_pending journal e q (leaves p d k at says leave) left =
     let same : p ≡ q = same_Some p q left in
@@ -152,7 +160,8 @@ unfolding left_in asked_event
 asked_stays journal (request.Open by) = refl
 asked_stays journal _ = refl
 
-leaving_suspended : (e : Event) (before : List Event) (q : ℕ) → MayFollow before e → left_in e ≡ Some q → (d : Event) × (k : Closing) × (event_at before q ≡ Some d) × (closing_in d ≡ Some k) × (is_pending before q k.by ≡ true)
+leaving_suspended : (e : Event) (before : List Event) (q : ℕ) → MayFollow before e → left_in e ≡ Some q
+    → (d : Event) × (k : Closing) × (event_at before q ≡ Some d) × (closing_in d ≡ Some k) × (is_pending before q k.by ≡ true)
 leaving_suspended e before q (inl forces) left = row_pending before e q (forced-row before e forces) left
 leaving_suspended e before q (inr asked) left =
     absurd (none-some q (sym (asked_stays before asked.request) ∙ (ap left_in (sym asked.becomes) ∙ left)))
@@ -167,7 +176,9 @@ unleft_close (e ∷ before) c left =
     ]
 
 -- a block isn't left by an event that leaves no close of it
-stays_open : (e : Event) (before : List Event) (b : ℕ) → IsLawful (e ∷ before) → is_left before b ≡ false → ((q : ℕ) (d : Event) (k : Closing) → event_at before q ≡ Some d → closing_in d ≡ Some k → k.block ≡ b → left_in e ≡ Some q → ⊥) → is_left (e ∷ before) b ≡ false
+stays_open : (e : Event) (before : List Event) (b : ℕ) → IsLawful (e ∷ before) → is_left before b ≡ false
+    → ((q : ℕ) (d : Event) (k : Closing) → event_at before q ≡ Some d → closing_in d ≡ Some k → k.block ≡ b → left_in e ≡ Some q → ⊥)
+    → is_left (e ∷ before) b ≡ false
 unfolding is_left is_left_close
 stays_open e before b lawful was none =
     elim (cases_Bool (is_left (e ∷ before) b)) [
@@ -191,7 +202,8 @@ stays_open e before b lawful was none =
     ]
 
 -- who is suspended at a close hasn't left the block
-closer_open : (journal : List Event) (c : Closing) (p : ℕ) → IsLawful journal → IsCloseAt journal c p → IsSuspendedAt journal c.by p → is_left journal c.block ≡ false
+closer_open : (journal : List Event) (c : Closing) (p : ℕ) → IsLawful journal → IsCloseAt journal c p → IsSuspendedAt journal c.by p
+    → is_left journal c.block ≡ false
 unfolding event_at
 closer_open [] c p lawful closes suspended = absurd (none-some closes.event closes.stands)
 closer_open (e ∷ before) c p lawful closes suspended =
@@ -217,6 +229,7 @@ closer_open (e ∷ before) c p lawful closes suspended =
           true≢false (sym (is_released-now e before q (left_in-left e q left).0) ∙ (ap (is_released (e ∷ before)) same ∙ suspended.unreleased)))
     ]
 
-pub closer_within : (journal : List Event) (c : Closing) (p : ℕ) → IsLawful journal → IsCloseAt journal c p → IsSuspendedAt journal c.by p → Contains (nest journal c.by) (Block c.block)
+pub closer_within : (journal : List Event) (c : Closing) (p : ℕ) → IsLawful journal → IsCloseAt journal c p → IsSuspendedAt journal c.by p
+    → Contains (nest journal c.by) (Block c.block)
 closer_within journal c p lawful closes suspended =
     block_within journal c.by c.block (closer_owns journal p closes.event c lawful closes.stands closes.says) (closer_open journal c p lawful closes suspended)

@@ -19,8 +19,8 @@ use Rattle.ada_forcing.specs.declared.row.Row.TheVariants.{Halting, Taking, Goin
 use Rattle.ada_forcing.specs.Touching.{is_lost}
 use Rattle.ada_records.proofs.Holding.{IsQuiet, quiet_ended}
 use Rattle.ada_records.proofs.Calling.{same_terminated, same_abnormal, not_done}
-use Rattle.ada_touching.specs.Kinds.{itself, quitting_row, quitting_key, IsLeftIn, ComesDue}
-use Rattle.ada_touching.proofs.Completing.{IsNewlyLeft, IsClosed, body_newly, block_newly}
+use Rattle.ada_touching.specs.Kinds.{itself, quitting_row, quitting_key, IsUnstartedIn, ComesDue}
+use Rattle.ada_touching.proofs.Completing.{IsNewlyAbandoned, IsClosed, body_newly, block_newly}
 use Rattle.ada_touching.proofs.Readying.{IsOpenWait, IsUnqueued}
 use Rattle.ada_touching.proofs.Refining.{says_row, IsNewlyEnded, Key}
 use Rattle.ada_touching.proofs.Refining.Key.{own, made, hit, freed, lost, called, due, done, completed, abandoned, going, quits_done, quits_ended, quits_idle, leaving}
@@ -28,46 +28,55 @@ use Rattle.ada_touching.proofs.Refining.Key.{own, made, hit, freed, lost, called
 -- what such an event touches
 pub data QuietKey (event : Event) (before : List Event) : Row → ℕ → Type 0 where
   at_own : (row : Row) → says_row row event ≡ true → QuietKey event before row (itself before)
-  frees_caller : (u p : ℕ) (call : Call) → released_in event ≡ Some p → IsCallAt before call p → call.by ≡ u → is_abnormal before u ≡ true → QuietKey event before Halting u
+  frees_caller : (u p : ℕ) (call : Call) → released_in event ≡ Some p → IsCallAt before call p → call.by ≡ u → is_abnormal before u ≡ true
+      → QuietKey event before Halting u
   calls_waiting : (call : Call) (p : ℕ) → call_in event ≡ Some call → IsSuspendedAt before call.callee p → QuietKey event before Taking p
   brings_moment : (now : ℤ) (row : Row) (p : ℕ) → moment_in event ≡ Some now → ComesDue before now row p → QuietKey event before row p
-  closes_around : (u p : ℕ) → IsClosed event p → IsLeftIn before u p → QuietKey event before Going u
+  closes_around : (u p : ℕ) → IsClosed event p → IsUnstartedIn before u p → QuietKey event before Going u
   closes_block : (p : ℕ) → IsClosed event p → QuietKey event before QuittingBlock p
   waits_open : (m : Master) (v : ℕ) → IsOpenWait event v → depends_on before v m ≡ true → QuietKey event before (quitting_row m) (quitting_key m)
-  empties_queue : (m : Master) (v : ℕ) → IsUnqueued event before v → is_ready_to_quit (event ∷ before) v ≡ true → depends_on before v m ≡ true → QuietKey event before (quitting_row m) (quitting_key m)
+  empties_queue : (m : Master) (v : ℕ) → IsUnqueued event before v → is_ready_to_quit (event ∷ before) v ≡ true → depends_on before v m ≡ true
+      → QuietKey event before (quitting_row m) (quitting_key m)
 
 -- a block is newly complete only where the event closes it
-block_closed : (event : Event) (before : List Event) (p : ℕ) → IsLawful (event ∷ before) → IsQuiet event → is_complete before (Block p) ≡ false → is_complete (event ∷ before) (Block p) ≡ true → IsClosed event p
+block_closed : (event : Event) (before : List Event) (p : ℕ) → IsLawful (event ∷ before) → IsQuiet event → is_complete before (Block p) ≡ false
+    → is_complete (event ∷ before) (Block p) ≡ true → IsClosed event p
 block_closed event before p lawful quiet was now =
     elim (block_newly event before p lawful was now) [
       | inl closed ↦ closed
       | inr over ↦ absurd (both_ways (has_ended before over.task) over.was (sym (quiet_ended event before over.task quiet) ∙ over.now))
     ]
 
-left_within : (event : Event) (before : List Event) (u : ℕ) (c : Creation) (m : Master) → IsLawful (event ∷ before) → IsQuiet event → creation_of before u ≡ Some c → has_start before u ≡ false → c.under ≡ m → is_complete before m ≡ false → is_complete (event ∷ before) m ≡ true → QuietKey event before Going u
+left_within : (event : Event) (before : List Event) (u : ℕ) (c : Creation) (m : Master) → IsLawful (event ∷ before) → IsQuiet event
+    → creation_of before u ≡ Some c → has_start before u ≡ false → c.under ≡ m → is_complete before m ≡ false → is_complete (event ∷ before) m ≡ true
+    → QuietKey event before Going u
 left_within event before u c (Body t) lawful quiet is never under was now = absurd (none-some t.0 (sym quiet.completes ∙ body_newly event before t was now))
 left_within event before u c (Block p) lawful quiet is never under was now =
     closes_around u p (block_closed event before p lawful quiet was now) (record { creation = c; made = is; within = under; never = never })
 
-left_why : (event : Event) (before : List Event) (u : ℕ) → IsLawful (event ∷ before) → IsQuiet event → IsNewlyLeft event before u → QuietKey event before Going u
+left_why : (event : Event) (before : List Event) (u : ℕ) → IsLawful (event ∷ before) → IsQuiet event → IsNewlyAbandoned event before u
+    → QuietKey event before Going u
 left_why event before u lawful quiet new =
     elim (new.why) [
       | inl complete ↦ left_within event before u new.creation new.creation.under lawful quiet new.made new.never refl complete.0 complete.1
       | inr ended ↦ absurd (both_ways (is_terminated before new.creation.by) ended.0 (sym (same_terminated event before new.creation.by quiet) ∙ ended.1))
     ]
 
-done_why : (event : Event) (before : List Event) (m : Master) → IsLawful (event ∷ before) → IsQuiet event → is_complete before m ≡ false → is_complete (event ∷ before) m ≡ true → QuietKey event before (quitting_row m) (quitting_key m)
+done_why : (event : Event) (before : List Event) (m : Master) → IsLawful (event ∷ before) → IsQuiet event → is_complete before m ≡ false
+    → is_complete (event ∷ before) m ≡ true → QuietKey event before (quitting_row m) (quitting_key m)
 done_why event before (Body t) lawful quiet was now = absurd (none-some t.0 (sym quiet.completes ∙ body_newly event before t was now))
 done_why event before (Block p) lawful quiet was now = closes_block p (block_closed event before p lawful quiet was now)
 
-idle_why : (event : Event) (before : List Event) (m : Master) (v : ℕ) → IsOpenWait event v ⊎ IsUnqueued event before v → is_ready_to_quit (event ∷ before) v ≡ true → depends_on before v m ≡ true → QuietKey event before (quitting_row m) (quitting_key m)
+idle_why : (event : Event) (before : List Event) (m : Master) (v : ℕ) → IsOpenWait event v ⊎ IsUnqueued event before v
+    → is_ready_to_quit (event ∷ before) v ≡ true → depends_on before v m ≡ true → QuietKey event before (quitting_row m) (quitting_key m)
 idle_why event before m v (inl waits) ready depends = waits_open m v waits depends
 idle_why event before m v (inr unqueued) ready depends = empties_queue m v unqueued ready depends
 
 pub not_ended : (event : Event) (before : List Event) (d : ℕ) → IsQuiet event → IsNewlyEnded event before d → ⊥
 not_ended event before d quiet end = both_ways (is_terminated before d) end.was (sym (same_terminated event before d quiet) ∙ end.now)
 
-pub quietly : (event : Event) (before : List Event) (row : Row) (key : ℕ) → IsLawful (event ∷ before) → IsQuiet event → Key event before row key → QuietKey event before row key
+pub quietly : (event : Event) (before : List Event) (row : Row) (key : ℕ) → IsLawful (event ∷ before) → IsQuiet event → Key event before row key
+    → QuietKey event before row key
 quietly event before row key lawful quiet (own same says) = at_own same says
 quietly event before row key lawful quiet (made c says) = absurd (none-some c (sym quiet.makes ∙ says))
 quietly event before row key lawful quiet (hit u new) = absurd (both_ways (is_abnormal before u) new.was (sym (same_abnormal event before u quiet) ∙ new.now))

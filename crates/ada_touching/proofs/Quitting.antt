@@ -26,11 +26,11 @@ use Rattle.ada_laws.proofs.DependentLaws.IsEnd.{alone, together, earlier}
 use Rattle.ada_laws.proofs.Suspending.{suspended_once}
 use Rattle.ada_forcing.specs.declared.row.Row.{Row}
 use Rattle.ada_records.proofs.Queues.{ends}
-use Rattle.ada_touching.specs.Kinds.{IsLeftBy, OfQuit}
+use Rattle.ada_touching.specs.Kinds.{IsUnstartedBy, OfQuit}
 use Rattle.ada_touching.specs.Kinds.OfQuit.{ends as ends_each, abandons}
 use Rattle.ada_touching.proofs.Acting.{made_within}
 use Rattle.ada_touching.proofs.Changing.{IsNewlyOver, newly_over}
-use Rattle.ada_touching.proofs.Completing.{IsNewlyLeft, IsBlockEnded}
+use Rattle.ada_touching.proofs.Completing.{IsNewlyAbandoned, IsBlockEnded}
 use Rattle.ada_touching.proofs.Completions.{one_owner, no_body}
 use Rattle.ada_touching.proofs.Depending.{quits_live, quits_ready}
 use Rattle.ada_touching.proofs.Refining.{Key}
@@ -83,7 +83,8 @@ quits_of m before = record {
 }
 
 -- a block reaches the body of the task that opened it
-from_parent : (e : Event) (before : List Event) (task : TaskNo) (p : ℕ) → parent_in before e (Block p) ≡ frame before task.0 → ((q : ℕ) → IsBlockOf before task.0 q → reaches before (Block q) (Body task) ≡ true) → reaches (e ∷ before) (Block p) (Body task) ≡ true
+from_parent : (e : Event) (before : List Event) (task : TaskNo) (p : ℕ) → parent_in before e (Block p) ≡ frame before task.0
+    → ((q : ℕ) → IsBlockOf before task.0 q → reaches before (Block q) (Body task) ≡ true) → reaches (e ∷ before) (Block p) (Body task) ≡ true
 unfolding reaches
 from_parent e before task p parent inner =
     or_right (same_master (Block p) (Body task)) (reaches before (parent_in before e (Block p)) (Body task))
@@ -92,7 +93,8 @@ from_parent e before task p parent inner =
       | inr block ↦ rw block.2 (inner block.0 block.1)
     ]))
 
-block_reaches_owner : (journal : List Event) (task : TaskNo) (p : ℕ) → IsLawful journal → IsBlockOf journal task.0 p → reaches journal (Block p) (Body task) ≡ true
+block_reaches_owner : (journal : List Event) (task : TaskNo) (p : ℕ) → IsLawful journal → IsBlockOf journal task.0 p
+    → reaches journal (Block p) (Body task) ≡ true
 unfolding event_at
 block_reaches_owner [] task p lawful block = absurd (none-some block.event block.stands)
 block_reaches_owner (e ∷ before) task p lawful block =
@@ -109,7 +111,8 @@ block_reaches_owner (e ∷ before) task p lawful block =
     ]
 
 -- a dependent of a block that a quitter opened quits too
-depends_too : (before : List Event) (m : Master) (task u : TaskNo) (p : ℕ) → IsLawful before → depends_on before task.0 m ≡ true → IsBlockOf before task.0 p → depends_on before u.0 (Block p) ≡ true → depends_on before u.0 m ≡ true
+depends_too : (before : List Event) (m : Master) (task u : TaskNo) (p : ℕ) → IsLawful before → depends_on before task.0 m ≡ true → IsBlockOf before task.0 p
+    → depends_on before u.0 (Block p) ≡ true → depends_on before u.0 m ≡ true
 depends_too before m task u p lawful depends block on_block =
     let known = depends_exists before u.0 (Block p) on_block in
     let reached = reaches_trans before lawful (Body u) (Block p) (Body task) known (depends_reaches before u (Block p) on_block) (block_reaches_owner before task p lawful block) in
@@ -128,7 +131,8 @@ live_depends m before u n depends =
       | inr older ↦ older
     ]
 
-no_live : (m : Master) (before : List Event) (task : TaskNo) (p : ℕ) → IsLawful (quits_all m ∷ before) → depends_on before task.0 m ≡ true → IsBlockOf before task.0 p → is_to_quit (quits_all m ∷ before) (Block p) ≡ true → ⊥
+no_live : (m : Master) (before : List Event) (task : TaskNo) (p : ℕ) → IsLawful (quits_all m ∷ before) → depends_on before task.0 m ≡ true
+    → IsBlockOf before task.0 p → is_to_quit (quits_all m ∷ before) (Block p) ≡ true → ⊥
 unfolding quit_in
 no_live m before task p lawful depends block quit =
     let live = quits_live (quits_all m ∷ before) (Block p) quit in
@@ -139,7 +143,8 @@ no_live m before task p lawful depends block quit =
 quitter_of : (m : Master) (before : List Event) (u : ℕ) → IsNewlyOver (quits_all m) before u → IsQuitter before m u
 quitter_of m before u over = (quits_of m before).over u over
 
-made_by_owner : (m : Master) (before : List Event) (p u : ℕ) (new : IsNewlyLeft (quits_all m) before u) (over : IsBlockEnded (quits_all m) before p) → IsLawful before → new.creation.under ≡ Block p → IsLeftBy before u over.task
+made_by_owner : (m : Master) (before : List Event) (p u : ℕ) (new : IsNewlyAbandoned (quits_all m) before u) (over : IsBlockEnded (quits_all m) before p)
+    → IsLawful before → new.creation.under ≡ Block p → IsUnstartedBy before u over.task
 made_by_owner m before p u new over lawful under =
     let by : new.creation.by ≡ over.task =
     elim ((made_within before u new.creation lawful new.made).within) [
@@ -150,7 +155,8 @@ made_by_owner m before p u new over lawful under =
     ] in
     record { creation = new.creation; made = new.made; by = by; never = new.never }
 
-waits_not_calls : (m : Master) (before : List Event) (p u : ℕ) (call : Call) → IsLawful (quits_all m ∷ before) → IsQuitter before m u → IsSuspendedAt before u p → IsCallAt before call p → ⊥
+waits_not_calls : (m : Master) (before : List Event) (p u : ℕ) (call : Call) → IsLawful (quits_all m ∷ before) → IsQuitter before m u → IsSuspendedAt before u p
+    → IsCallAt before call p → ⊥
 unfolding quit_in
 waits_not_calls m before p u call lawful quitter suspended at =
     let ready = ready_parts before u (quits_ready before m u (quit_quits (quits_all m) before m lawful.1 refl) quitter.depends quitter.live) in
@@ -159,7 +165,8 @@ waits_not_calls m before p u call lawful quitter suspended at =
     let one = same_event before p waits.event at.event (ap (event_at before) (sym same) ∙ waits.stands) at.stands in
     none-some waits.wait (sym (only_calls at.event call at.says).waits ∙ (ap wait_in (sym one) ∙ waits.says))
 
-quit_key : (m : Master) (before : List Event) (row : Row) (key : ℕ) → IsLawful (quits_all m ∷ before) → EndKey before (quits_all m) (IsQuitter before m) row key → OfQuit before m row key
+quit_key : (m : Master) (before : List Event) (row : Row) (key : ℕ) → IsLawful (quits_all m ∷ before) → EndKey before (quits_all m) (IsQuitter before m) row key
+    → OfQuit before m row key
 quit_key m before row key lawful (each t same also quitter of) = ends_each t row key quitter.depends quitter.live of
 quit_key m before row key lawful (leaves_alone t u end new left) =
     let quitter = (quits_of m before).ended t.0 end in
@@ -173,6 +180,7 @@ quit_key m before row key lawful (leaves_around p u new over under) =
 quit_key m before row key lawful (ends_caller n p u call over suspended at) =
     absurd (waits_not_calls m before p u call lawful (quitter_of m before u over) suspended at)
 
-pub quit_adds : (m : Master) (before : List Event) (row : Row) (key : ℕ) → IsLawful (quits_all m ∷ before) → Key (quits_all m) before row key → OfQuit before m row key
+pub quit_adds : (m : Master) (before : List Event) (row : Row) (key : ℕ) → IsLawful (quits_all m ∷ before) → Key (quits_all m) before row key
+    → OfQuit before m row key
 quit_adds m before row key lawful touched =
     quit_key m before row key lawful (end_key (quits_all m) before row key (IsQuitter before m) lawful (quits_of m before) touched)

@@ -37,7 +37,8 @@ pub record IsUnqueued (event : Event) (before : List Event) (task : ℕ) : Type 
   pub waits : is_at_open_terminate before task ≡ true
 
 -- what a task waited at is what it waits at now, or the newest event
-waited : (event : Event) (before : List Event) (task : ℕ) → is_at_open_terminate before task ≡ false → is_at_open_terminate (event ∷ before) task ≡ true → IsOpenWait event task
+waited : (event : Event) (before : List Event) (task : ℕ) → is_at_open_terminate before task ≡ false → is_at_open_terminate (event ∷ before) task ≡ true
+    → IsOpenWait event task
 unfolding any_event
 waited event before task was now =
     elim (or_cases (waits_open (event ∷ before) task (suc (length before)) event) (any_event (waits_open (event ∷ before) task) before) now) [
@@ -66,7 +67,8 @@ second_false true b same fails = fails
 second_false false b same fails = absurd (false≢true same)
 
 -- a call to the task was queued, and none is now: it has left its queue
-emptied : (event : Event) (before : List Event) (task : ℕ) → is_at_open_terminate before task ≡ true → has_empty_queues before task ≡ false → has_empty_queues (event ∷ before) task ≡ true → IsUnqueued event before task
+emptied : (event : Event) (before : List Event) (task : ℕ) → is_at_open_terminate before task ≡ true → has_empty_queues before task ≡ false
+    → has_empty_queues (event ∷ before) task ≡ true → IsUnqueued event before task
 unfolding has_empty_queues any_event
 emptied event before task waits was now =
     let (p, e, at, found) = any_event-found (calls_it before task) before (not-false (any_event (calls_it before task) before) was) in
@@ -96,7 +98,8 @@ emptied event before task waits was now =
     }
 
 -- a task is newly ready where it waits, or a call leaves its queues
-pub readied : (event : Event) (before : List Event) (task : ℕ) → is_ready_to_quit before task ≡ false → is_ready_to_quit (event ∷ before) task ≡ true → IsOpenWait event task ⊎ IsUnqueued event before task
+pub readied : (event : Event) (before : List Event) (task : ℕ) → is_ready_to_quit before task ≡ false → is_ready_to_quit (event ∷ before) task ≡ true
+    → IsOpenWait event task ⊎ IsUnqueued event before task
 unfolding is_ready_to_quit
 readied event before task was now =
     let first = and_parts (is_at_open_terminate (event ∷ before) task && not (has_ended (event ∷ before) task)) (has_empty_queues (event ∷ before) task) now in

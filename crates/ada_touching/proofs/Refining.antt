@@ -37,7 +37,7 @@ use Rattle.ada_forcing.proofs.Keys.{of_found}
 use Rattle.ada_forcing.proofs.TouchedKeys.{open_before}
 use Rattle.ada_touching.specs.Kinds.{itself, quitting_row, quitting_key, IsActivationOf, IsOpenCallTo, IsLeaving, ComesDue, IsHit, IsCloseAt}
 use Rattle.ada_touching.proofs.Acting.{starters_made}
-use Rattle.ada_touching.proofs.Completing.{IsNewlyLeft, abandoned_newly}
+use Rattle.ada_touching.proofs.Completing.{IsNewlyAbandoned, abandoned_newly}
 use Rattle.ada_touching.proofs.Depending.{quits_live, depended_known}
 use Rattle.ada_touching.proofs.Moments.{IsGivenOrDue, call_due, wait_due, delay_due}
 use Rattle.ada_touching.proofs.Newcomers.{new_abnormal, new_dependent}
@@ -66,17 +66,21 @@ pub data Key (event : Event) (before : List Event) : Row → ℕ → Type 0 wher
   own : (row : Row) → says_row row event ≡ true → Key event before row (itself before)
   made : (creation : Creation) → creation_in event ≡ Some creation → Key event before Going (task_count before)
   hit : (u : ℕ) → IsHit event before u → Key event before Halting u
-  freed : (u p : ℕ) (call : Call) → released_in event ≡ Some p → IsCallAt before call p → call.by ≡ u → is_abnormal (event ∷ before) u ≡ true → Key event before Halting u
+  freed : (u p : ℕ) (call : Call) → released_in event ≡ Some p → IsCallAt before call p → call.by ≡ u → is_abnormal (event ∷ before) u ≡ true
+      → Key event before Halting u
   lost : (u p : ℕ) → IsOpenCallTo before u p → is_lost before u ≡ false → is_lost (event ∷ before) u ≡ true → Key event before Failing p
   called : (call : Call) (p : ℕ) → call_in event ≡ Some call → IsSuspendedAt before call.callee p → Key event before Taking p
   due : (now : ℤ) (row : Row) (p : ℕ) → moment_in event ≡ Some now → ComesDue before now row p → Key event before row p
-  done : (t : TaskNo) (p : ℕ) → IsActivationOf before t p → is_done_activating before t ≡ false → is_done_activating (event ∷ before) t ≡ true → Key event before Activating p
+  done : (t : TaskNo) (p : ℕ) → IsActivationOf before t p → is_done_activating before t ≡ false → is_done_activating (event ∷ before) t ≡ true
+      → Key event before Activating p
   completed : (u : ℕ) → completed_in event ≡ Some u → Key event before Going u
-  abandoned : (u : ℕ) → IsNewlyLeft event before u → Key event before Going u
+  abandoned : (u : ℕ) → IsNewlyAbandoned event before u → Key event before Going u
   going : (d u : ℕ) → IsNewlyEnded event before d → depends_on before d (Body (task_no u)) ≡ true → Key event before Going u
-  quits_done : (m : Master) → is_to_quit (event ∷ before) m ≡ true → is_complete before m ≡ false → is_complete (event ∷ before) m ≡ true → Key event before (quitting_row m) (quitting_key m)
+  quits_done : (m : Master) → is_to_quit (event ∷ before) m ≡ true → is_complete before m ≡ false → is_complete (event ∷ before) m ≡ true
+      → Key event before (quitting_row m) (quitting_key m)
   quits_ended : (m : Master) (d : ℕ) → IsNewlyEnded event before d → depends_on before d m ≡ true → Key event before (quitting_row m) (quitting_key m)
-  quits_idle : (m : Master) (v : ℕ) → IsOpenWait event v ⊎ IsUnqueued event before v → is_ready_to_quit (event ∷ before) v ≡ true → depends_on before v m ≡ true → Key event before (quitting_row m) (quitting_key m)
+  quits_idle : (m : Master) (v : ℕ) → IsOpenWait event v ⊎ IsUnqueued event before v → is_ready_to_quit (event ∷ before) v ≡ true → depends_on before v m ≡ true
+      → Key event before (quitting_row m) (quitting_key m)
   leaving : (d block p : ℕ) → IsNewlyEnded event before d → depends_on before d (Block block) ≡ true → IsLeaving before block p → Key event before Leaving p
 
 some_of : {A : Type 0} (o : Option A) (x : A) → o ≡ Some x → is_some o ≡ true
@@ -92,7 +96,8 @@ no_new_block event before lawful quits =
     omega arith
 
 -- at its own position
-at_own : (event step : Event) (before : List Event) (row : Row) → IsLawful (event ∷ before) → goes_by_task row ≡ false → at_event (event ∷ before) row (itself before) event ≡ Some step → says_row row event ≡ true
+at_own : (event step : Event) (before : List Event) (row : Row) → IsLawful (event ∷ before) → goes_by_task row ≡ false
+    → at_event (event ∷ before) row (itself before) event ≡ Some step → says_row row event ≡ true
 unfolding is_to_fail is_to_cancel
 at_own event step before Failing lawful by gives =
     let found = (then_some-some (is_to_fail (event ∷ before) (itself before) event) (Failed (itself before)) step gives).0 in
@@ -122,7 +127,8 @@ at_own event step before Going lawful by gives = absurd (true≢false by)
 at_own event step before QuittingBody lawful by gives = absurd (true≢false by)
 
 -- the step of a row that goes by tasks, and of one that goes by positions
-task_step : (journal : List Event) (row : Row) (u : ℕ) (step : Event) → goes_by_task row ≡ true → step_at journal row u ≡ Some step → of_task journal row u ≡ Some step
+task_step : (journal : List Event) (row : Row) (u : ℕ) (step : Event) → goes_by_task row ≡ true → step_at journal row u ≡ Some step
+    → of_task journal row u ≡ Some step
 unfolding step_at
 task_step journal Halting u step by gives = (of_found (λ v. of_task journal Halting v) (task_count journal) u step (Halted (task_no u)) (nat_lt u (task_count journal)) refl gives).1
 task_step journal Going u step by gives = (of_found (λ v. of_task journal Going v) (task_count journal) u step (Halted (task_no u)) (nat_lt u (task_count journal)) refl gives).1
@@ -136,7 +142,8 @@ task_step journal Activating u step by gives = absurd (false≢true by)
 task_step journal QuittingBlock u step by gives = absurd (false≢true by)
 task_step journal Leaving u step by gives = absurd (false≢true by)
 
-position_step : (journal : List Event) (row : Row) (p : ℕ) (step : Event) → goes_by_task row ≡ false → step_at journal row p ≡ Some step → option_and_then (at_event journal row p) (event_at journal p) ≡ Some step
+position_step : (journal : List Event) (row : Row) (p : ℕ) (step : Event) → goes_by_task row ≡ false → step_at journal row p ≡ Some step
+    → option_and_then (at_event journal row p) (event_at journal p) ≡ Some step
 unfolding step_at
 position_step journal Failing p step by gives = gives
 position_step journal Taking p step by gives = gives
@@ -150,14 +157,17 @@ position_step journal Halting p step by gives = absurd (true≢false by)
 position_step journal Going p step by gives = absurd (true≢false by)
 position_step journal QuittingBody p step by gives = absurd (true≢false by)
 
-at_step : (journal : List Event) (row : Row) (p : ℕ) (e step : Event) → goes_by_task row ≡ false → event_at journal p ≡ Some e → step_at journal row p ≡ Some step → at_event journal row p e ≡ Some step
+at_step : (journal : List Event) (row : Row) (p : ℕ) (e step : Event) → goes_by_task row ≡ false → event_at journal p ≡ Some e
+    → step_at journal row p ≡ Some step → at_event journal row p e ≡ Some step
 at_step journal row p e step by at gives = sym (ap (option_and_then (at_event journal row p)) at) ∙ position_step journal row p step by gives
 
-older_step : (event step : Event) (before : List Event) (row : Row) (p : ℕ) (e : Event) → goes_by_task row ≡ false → event_at before p ≡ Some e → step_at (event ∷ before) row p ≡ Some step → at_event (event ∷ before) row p e ≡ Some step
+older_step : (event step : Event) (before : List Event) (row : Row) (p : ℕ) (e : Event) → goes_by_task row ≡ false → event_at before p ≡ Some e
+    → step_at (event ∷ before) row p ≡ Some step → at_event (event ∷ before) row p e ≡ Some step
 older_step event step before row p e by at gives = at_step (event ∷ before) row p e step by (event_at-older event before p e at) gives
 
 -- a task that was just made
-just_made : (event step : Event) (before : List Event) (row : Row) (c : Creation) → IsLawful (event ∷ before) → goes_by_task row ≡ true → creation_in event ≡ Some c → of_task (event ∷ before) row (task_count before) ≡ Some step → Key event before row (task_count before)
+just_made : (event step : Event) (before : List Event) (row : Row) (c : Creation) → IsLawful (event ∷ before) → goes_by_task row ≡ true
+    → creation_in event ≡ Some c → of_task (event ∷ before) row (task_count before) ≡ Some step → Key event before row (task_count before)
 unfolding is_to_halt
 just_made event step before Going c lawful by says gives = made c says
 just_made event step before Halting c lawful by says gives =
@@ -185,7 +195,8 @@ halts_abnormal event step before u gives =
     (three_parts (is_abnormal (event ∷ before) u) (has_ended (event ∷ before) u) (is_caller_in_rendezvous (event ∷ before) u) (then_some-some (is_to_halt (event ∷ before) u) (Halted (task_no u)) step gives).0).0
 
 -- a call that fails was open
-fails_open : (event step : Event) (before : List Event) (call : Call) (p : ℕ) (at : IsCallAt before call p) → IsLawful before → at_event (event ∷ before) Failing p at.event ≡ Some step → IsOpenCallTo before call.callee p
+fails_open : (event step : Event) (before : List Event) (call : Call) (p : ℕ) (at : IsCallAt before call p) → IsLawful before
+    → at_event (event ∷ before) Failing p at.event ≡ Some step → IsOpenCallTo before call.callee p
 unfolding is_to_fail
 fails_open event step before call p at lawful gives =
     let found = (then_some-some (is_to_fail (event ∷ before) p at.event) (Failed p) step gives).0 in
@@ -195,7 +206,8 @@ fails_open event step before call p at lawful gives =
     record { call = opened.0; opened = opened.2; to = same; place = rw (← same) (open_place before opened.0 p lawful opened.2) }
 
 -- a wait that takes a call is one at which its task was suspended
-takes_suspended : (event step : Event) (before : List Event) (wait : Wait) (p task : ℕ) (at : IsWaitAt before wait p) → wait.by ≡ task → at_event (event ∷ before) Taking p at.event ≡ Some step → IsSuspendedAt before task p
+takes_suspended : (event step : Event) (before : List Event) (wait : Wait) (p task : ℕ) (at : IsWaitAt before wait p) → wait.by ≡ task
+    → at_event (event ∷ before) Taking p at.event ≡ Some step → IsSuspendedAt before task p
 unfolding met_at
 takes_suspended event step before wait p task at by gives =
     option_and_then_some (met_at (event ∷ before) p) (wait_in at.event) step gives (λ w says given.
@@ -204,7 +216,8 @@ takes_suspended event step before wait p task at by gives =
     suspended_since event before p task at.event at.stands (held_in-wait at.event w says ∙ ap Some same) (rw same at pending))
 
 -- a start whose tasks are done is one at which their maker was suspended
-activates_maker : (event step : Event) (before : List Event) (p : ℕ) (e : Event) (start : Start) (t : TaskNo) → IsLawful before → event_at before p ≡ Some e → start_in e ≡ Some start → Contains start.tasks t → at_event (event ∷ before) Activating p e ≡ Some step → IsActivationOf before t p
+activates_maker : (event step : Event) (before : List Event) (p : ℕ) (e : Event) (start : Start) (t : TaskNo) → IsLawful before → event_at before p ≡ Some e
+    → start_in e ≡ Some start → Contains start.tasks t → at_event (event ∷ before) Activating p e ≡ Some step → IsActivationOf before t p
 unfolding activated_at
 activates_maker event step before p e start t lawful at says named gives =
     let by = starters_made before p e start t lawful at says named in
@@ -221,7 +234,8 @@ activates_maker event step before p e start t lawful at says named gives =
     })
 
 -- a close at which a block is left is one at which its task was suspended
-leaves_suspended : (event step : Event) (before : List Event) (p : ℕ) (e : Event) (closing : Closing) → IsLawful before → event_at before p ≡ Some e → closing_in e ≡ Some closing → at_event (event ∷ before) Leaving p e ≡ Some step → IsLeaving before closing.block p
+leaves_suspended : (event step : Event) (before : List Event) (p : ℕ) (e : Event) (closing : Closing) → IsLawful before → event_at before p ≡ Some e
+    → closing_in e ≡ Some closing → at_event (event ∷ before) Leaving p e ≡ Some step → IsLeaving before closing.block p
 unfolding is_to_leave
 leaves_suspended event step before p e closing lawful at says gives =
     option_and_then_some (λ (c : Closing). then_some (is_to_leave (event ∷ before) p c) (Left p)) (closing_in e) step gives (λ c is given.
@@ -238,7 +252,8 @@ leaves_suspended event step before p e closing lawful at says gives =
     })
 
 -- why a master quits
-quits_why : (event : Event) (before : List Event) (m : Master) → IsLawful (event ∷ before) → is_to_quit (event ∷ before) m ≡ true → MayQuit event before m → Key event before (quitting_row m) (quitting_key m)
+quits_why : (event : Event) (before : List Event) (m : Master) → IsLawful (event ∷ before) → is_to_quit (event ∷ before) m ≡ true → MayQuit event before m
+    → Key event before (quitting_row m) (quitting_key m)
 quits_why event before m lawful quits (complete was now) = quits_done m quits was now
 quits_why event before m lawful quits (newly_made task new) = absurd (new_dependent event before task m lawful new quits)
 quits_why event before m lawful quits (idle below) =
@@ -248,10 +263,12 @@ quits_why event before m lawful quits (idle below) =
       | inr ready ↦ quits_idle m below.task (readied event before below.task was.1 ready) ready below.depends
     ]
 
-quits_body : (event step : Event) (before : List Event) (u : ℕ) → of_task (event ∷ before) QuittingBody u ≡ Some step → is_to_quit (event ∷ before) (Body (task_no u)) ≡ true
+quits_body : (event step : Event) (before : List Event) (u : ℕ) → of_task (event ∷ before) QuittingBody u ≡ Some step
+    → is_to_quit (event ∷ before) (Body (task_no u)) ≡ true
 quits_body event step before u gives = (then_some-some (is_to_quit (event ∷ before) (Body (task_no u))) (Quit (Body (task_no u))) step gives).0
 
-quits_block : (event step : Event) (before : List Event) (p : ℕ) → option_and_then (at_event (event ∷ before) QuittingBlock p) (event_at (event ∷ before) p) ≡ Some step → is_to_quit (event ∷ before) (Block p) ≡ true
+quits_block : (event step : Event) (before : List Event) (p : ℕ)
+    → option_and_then (at_event (event ∷ before) QuittingBlock p) (event_at (event ∷ before) p) ≡ Some step → is_to_quit (event ∷ before) (Block p) ≡ true
 quits_block event step before p gives =
     option_and_then_some (at_event (event ∷ before) QuittingBlock p) (event_at (event ∷ before) p) step gives (λ e at given.
     option_and_then_some (λ (_ : Opening). then_some (is_to_quit (event ∷ before) (Block p)) (Quit (Block p))) (opening_in e) step given (λ o says last.
@@ -272,11 +289,14 @@ only_ticks _ now says = absurd (none-some now says)
 abbrev pub IsGivenOrTouched : Event → List Event → Row → ℕ → Type 0
 IsGivenOrTouched event before row key = ((older : Event) × (step_at before row key ≡ Some older)) ⊎ Key event before row key
 
-given_or_due : (event : Event) (before : List Event) (now : ℤ) (row : Row) (p : ℕ) (e : Event) → moment_in event ≡ Some now → event_at before p ≡ Some e → ((older : Event) → option_and_then (at_event before row p) (event_at before p) ≡ Some older → step_at before row p ≡ Some older) → IsGivenOrDue before now row p (at_event before row p e) → IsGivenOrTouched event before row p
+given_or_due : (event : Event) (before : List Event) (now : ℤ) (row : Row) (p : ℕ) (e : Event) → moment_in event ≡ Some now → event_at before p ≡ Some e
+    → ((older : Event) → option_and_then (at_event before row p) (event_at before p) ≡ Some older → step_at before row p ≡ Some older)
+    → IsGivenOrDue before now row p (at_event before row p e) → IsGivenOrTouched event before row p
 given_or_due event before now row p e moving at stands (inl was) = inl (was.0, stands was.0 (ap (option_and_then (at_event before row p)) at ∙ was.1))
 given_or_due event before now row p e moving at stands (inr comes) = inr (due now row p moving comes)
 
-by_tick : (event step : Event) (before : List Event) (now : ℤ) (row : Row) (p : ℕ) (e : Event) → moment_in event ≡ Some now → goes_by_moment row ≡ true → event_at before p ≡ Some e → at_event (event ∷ before) row p e ≡ Some step → IsGivenOrTouched event before row p
+by_tick : (event step : Event) (before : List Event) (now : ℤ) (row : Row) (p : ℕ) (e : Event) → moment_in event ≡ Some now → goes_by_moment row ≡ true
+    → event_at before p ≡ Some e → at_event (event ∷ before) row p e ≡ Some step → IsGivenOrTouched event before row p
 unfolding step_at
 by_tick event step before now Cancelling p e moving by at gives = given_or_due event before now Cancelling p e moving at (λ older given. given) (call_due event before now p e step moving at gives)
 by_tick event step before now Passing p e moving by at gives = given_or_due event before now Passing p e moving at (λ older given. given) (wait_due event before now p e step moving at gives)
@@ -299,7 +319,8 @@ by_position Going by = absurd (false≢true by)
 by_position QuittingBody by = absurd (false≢true by)
 by_position _ by = refl
 
-ticked : (event step : Event) (before : List Event) (row : Row) (p : ℕ) (o : Option ℤ) → IsLawful (event ∷ before) → goes_by_moment row ≡ true → moment_in event ≡ o → (moment_in event ≡ None → ⊥) → step_at (event ∷ before) row p ≡ Some step → IsGivenOrTouched event before row p
+ticked : (event step : Event) (before : List Event) (row : Row) (p : ℕ) (o : Option ℤ) → IsLawful (event ∷ before) → goes_by_moment row ≡ true
+    → moment_in event ≡ o → (moment_in event ≡ None → ⊥) → step_at (event ∷ before) row p ≡ Some step → IsGivenOrTouched event before row p
 ticked event step before row p None lawful by moving some gives = absurd (some moving)
 ticked event step before row p (Some now) lawful by moving some gives =
     option_and_then_some (at_event (event ∷ before) row p) (event_at (event ∷ before) p) step (position_step (event ∷ before) row p step (by_position row by) gives) (λ e at given.
@@ -311,7 +332,8 @@ ticked event step before row p (Some now) lawful by moving some gives =
     ])
 
 -- what an event touches where it gives a step
-pub refined : (event : Event) (before : List Event) (row : Row) (key : ℕ) (step : Event) → IsLawful (event ∷ before) → step_at (event ∷ before) row key ≡ Some step → Touches event before row key → IsGivenOrTouched event before row key
+pub refined : (event : Event) (before : List Event) (row : Row) (key : ℕ) (step : Event) → IsLawful (event ∷ before)
+    → step_at (event ∷ before) row key ≡ Some step → Touches event before row key → IsGivenOrTouched event before row key
 refined event before row key step lawful gives (newest same by) =
     inr (own row (at_own event step before row lawful by (at_step (event ∷ before) row (itself before) event step by (event_at-newest event before) gives)))
 refined event before row key step lawful gives (task_made same c by says) =

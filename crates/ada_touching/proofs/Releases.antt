@@ -32,7 +32,8 @@ use Rattle.ada_touching.proofs.Silent.{IsSilent, no_own}
 -- what a release touches: the caller of a call, and the masters of a task whose queue is emptied
 pub data ReleaseKey (event : Event) (before : List Event) (position : ℕ) : Row → ℕ → Type 0 where
   frees : (call : Call) → IsCallAt before call position → is_abnormal before call.by ≡ true → ReleaseKey event before position Halting call.by
-  empties : (m : Master) (v : ℕ) → IsUnqueued event before v → is_ready_to_quit (event ∷ before) v ≡ true → depends_on before v m ≡ true → ReleaseKey event before position (quitting_row m) (quitting_key m)
+  empties : (m : Master) (v : ℕ) → IsUnqueued event before v → is_ready_to_quit (event ∷ before) v ≡ true → depends_on before v m ≡ true
+      → ReleaseKey event before position (quitting_row m) (quitting_key m)
 
 -- a release calls, waits for, closes and moves nothing
 only_frees : (e : Event) (p : ℕ) → released_in e ≡ Some p → IsSilent e
@@ -47,7 +48,8 @@ only_frees (event.Activated start ok) p says = record { calls = refl; waits = re
 only_frees (event.Left close) p says = record { calls = refl; waits = refl; delays = refl; starts = refl; closes = refl; moment = refl }
 only_frees _ p says = absurd (none-some p says)
 
-released_quietly : (e : Event) (before : List Event) (p : ℕ) (row : Row) (key : ℕ) → released_in e ≡ Some p → IsSilent e → QuietKey e before row key → ReleaseKey e before p row key
+released_quietly : (e : Event) (before : List Event) (p : ℕ) (row : Row) (key : ℕ) → released_in e ≡ Some p → IsSilent e → QuietKey e before row key
+    → ReleaseKey e before p row key
 released_quietly e before p row key releases only (at_own same says) = absurd (no_own e row only says)
 released_quietly e before p row key releases only (frees_caller u q call released at is abnormal) =
     let same : q ≡ p = same_Some q p (sym released ∙ releases) in
@@ -60,12 +62,14 @@ released_quietly e before p row key releases only (closes_block q closed) = absu
 released_quietly e before p row key releases only (waits_open m v waits depends) = absurd (none-some waits.wait (sym only.waits ∙ waits.says))
 released_quietly e before p row key releases only (empties_queue m v left ready depends) = empties m v left ready depends
 
-pub release_key : (e : Event) (before : List Event) (p : ℕ) (row : Row) (key : ℕ) → IsLawful (e ∷ before) → released_in e ≡ Some p → Key e before row key → ReleaseKey e before p row key
+pub release_key : (e : Event) (before : List Event) (p : ℕ) (row : Row) (key : ℕ) → IsLawful (e ∷ before) → released_in e ≡ Some p → Key e before row key
+    → ReleaseKey e before p row key
 release_key e before p row key lawful releases touched =
     released_quietly e before p row key releases (only_frees e p releases) (quietly e before row key lawful (release_only e p releases).plain.quiet touched)
 
 -- a call that a release takes out of a queue is the one that it releases, or with which it begins a rendezvous
-pub left_position : (e : Event) (before : List Event) (p v : ℕ) → released_in e ≡ Some p → meeting_in e ≡ None → (left : IsUnqueued e before v) → left.position ≡ p
+pub left_position : (e : Event) (before : List Event) (p v : ℕ) → released_in e ≡ Some p → meeting_in e ≡ None → (left : IsUnqueued e before v)
+    → left.position ≡ p
 left_position e before p v releases meeting left =
     elim (left.why) [
       | inl released ↦ same_Some left.position p (sym (is_number-some left.position (released_in e) released) ∙ releases)
@@ -98,7 +102,8 @@ frees_call _ = false
 pub same_event : (journal : List Event) (p : ℕ) (d e : Event) → event_at journal p ≡ Some d → event_at journal p ≡ Some e → d ≡ e
 same_event journal p d e at also = same_Some d e (sym at ∙ also)
 
-row_no_call : (journal : List Event) (e : Event) (x : ℕ) (call : Call) → IsRow journal e → released_in e ≡ Some x → frees_call e ≡ false → IsCallAt journal call x → ⊥
+row_no_call : (journal : List Event) (e : Event) (x : ℕ) (call : Call) → IsRow journal e → released_in e ≡ Some x → frees_call e ≡ false
+    → IsCallAt journal call x → ⊥
 unfolding released_in
 row_no_call journal e x call (meets p d wait c at says pending taken) frees_it other called =
     none-some wait (sym (only_calls called.event call called.says).waits ∙ (ap wait_in (same_event journal x called.event d called.stands (ap (event_at journal) (sym (same_Some p x frees_it)) ∙ at)) ∙ says))
@@ -121,7 +126,8 @@ unfolding released_in asked_event
 asked_frees journal (request.End by raised) x says = refl
 asked_frees journal _ x says = absurd (none-some x says)
 
-pub no_call : (e : Event) (before : List Event) (x : ℕ) (call : Call) → MayFollow before e → released_in e ≡ Some x → frees_call e ≡ false → IsCallAt before call x → ⊥
+pub no_call : (e : Event) (before : List Event) (x : ℕ) (call : Call) → MayFollow before e → released_in e ≡ Some x → frees_call e ≡ false
+    → IsCallAt before call x → ⊥
 no_call e before x call (inl forces) releases other called = row_no_call before e x call (forced-row before e forces) releases other called
 no_call e before x call (inr asked) releases other called =
     true≢false (sym (asked_frees before asked.request x (ap released_in (sym asked.becomes) ∙ releases)) ∙ (ap frees_call (sym asked.becomes) ∙ other))
@@ -130,12 +136,14 @@ no_call e before x call (inr asked) releases other called =
 abbrev left_call : (e : Event) (before : List Event) (v : ℕ) (left : IsUnqueued e before v) → IsCallAt before left.call left.position
 left_call e before v left = record { event = left.called; stands = left.stands; says = left.says }
 
-freed_key : (e : Event) (before : List Event) (p : ℕ) (row : Row) (key : ℕ) → IsLawful (e ∷ before) → released_in e ≡ Some p → meeting_in e ≡ None → frees_call e ≡ false → ReleaseKey e before p row key → ⊥
+freed_key : (e : Event) (before : List Event) (p : ℕ) (row : Row) (key : ℕ) → IsLawful (e ∷ before) → released_in e ≡ Some p → meeting_in e ≡ None
+    → frees_call e ≡ false → ReleaseKey e before p row key → ⊥
 freed_key e before p row key lawful releases meeting other (frees call at abnormal) = no_call e before p call lawful.1 releases other at
 freed_key e before p row key lawful releases meeting other (empties m v left ready depends) =
     no_call e before p left.call lawful.1 releases other
     (subst (λ (n : ℕ). IsCallAt before left.call n) (left_position e before p v releases meeting left) (left_call e before v left))
 
-pub freed_adds : (e : Event) (before : List Event) (p : ℕ) (row : Row) (key : ℕ) → IsLawful (e ∷ before) → released_in e ≡ Some p → meeting_in e ≡ None → frees_call e ≡ false → Key e before row key → ⊥
+pub freed_adds : (e : Event) (before : List Event) (p : ℕ) (row : Row) (key : ℕ) → IsLawful (e ∷ before) → released_in e ≡ Some p → meeting_in e ≡ None
+    → frees_call e ≡ false → Key e before row key → ⊥
 freed_adds e before p row key lawful releases meeting other touched =
     freed_key e before p row key lawful releases meeting other (release_key e before p row key lawful releases touched)

@@ -54,7 +54,8 @@ nothing_below give (suc n) u none below =
     ]
 
 -- a live abnormal task that isn't the caller in a rendezvous is to be halted
-pub halts_free : (journal : List Event) (u : ℕ) → u < task_count journal → is_abnormal journal u ≡ true → has_ended journal u ≡ false → is_caller_in_rendezvous journal u ≡ false → halted journal ≡ None → ⊥
+pub halts_free : (journal : List Event) (u : ℕ) → u < task_count journal → is_abnormal journal u ≡ true → has_ended journal u ≡ false
+    → is_caller_in_rendezvous journal u ≡ false → halted journal ≡ None → ⊥
 unfolding halted is_to_halt
 halts_free journal u below abnormal live free none =
     none-some (Halted (task_no u)) (sym (nothing_below (λ u. then_some (is_to_halt journal u) (Halted (task_no u))) (task_count journal) u none below) ∙ rw (abnormal, live, free) refl)
@@ -86,7 +87,8 @@ joined_at journal task joined =
     )
 
 -- a task that is suspended elsewhere than at a joined call isn't the caller in a rendezvous
-pub free_elsewhere : (journal : List Event) (task p : ℕ) → IsLawful journal → IsSuspendedAt journal task p → (IsJoined journal task p → ⊥) → is_caller_in_rendezvous journal task ≡ false
+pub free_elsewhere : (journal : List Event) (task p : ℕ) → IsLawful journal → IsSuspendedAt journal task p → (IsJoined journal task p → ⊥)
+    → is_caller_in_rendezvous journal task ≡ false
 free_elsewhere journal task p lawful suspended apart =
     elim (cases_Bool (is_caller_in_rendezvous journal task)) [
       | inr free ↦ free

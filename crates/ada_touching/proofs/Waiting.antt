@@ -14,12 +14,14 @@ use Rattle.ada_laws.proofs.Stepping.{pending_parts}
 use Rattle.ada_forcing.proofs.TakingNewly.{pending_before}
 
 -- a task that is held up at a position at which it is pending is suspended there
-pub suspended_at : (journal : List Event) (p task : ℕ) (e : Event) → event_at journal p ≡ Some e → held_in e ≡ Some task → is_pending journal p task ≡ true → IsSuspendedAt journal task p
+pub suspended_at : (journal : List Event) (p task : ℕ) (e : Event) → event_at journal p ≡ Some e → held_in e ≡ Some task → is_pending journal p task ≡ true
+    → IsSuspendedAt journal task p
 suspended_at journal p task e at holds pending =
     let both = pending_parts journal p task pending in
     record { event = e; stands = at; holds = holds; unreleased = both.0; live = both.1 }
 
-pub suspended_since : (event : Event) (before : List Event) (p task : ℕ) (e : Event) → event_at before p ≡ Some e → held_in e ≡ Some task → is_pending (event ∷ before) p task ≡ true → IsSuspendedAt before task p
+pub suspended_since : (event : Event) (before : List Event) (p task : ℕ) (e : Event) → event_at before p ≡ Some e → held_in e ≡ Some task
+    → is_pending (event ∷ before) p task ≡ true → IsSuspendedAt before task p
 suspended_since event before p task e at holds pending = suspended_at before p task e at holds (pending_before event before p task pending)
 
 -- a task at an open terminate alternative that hasn't ended is suspended at a wait

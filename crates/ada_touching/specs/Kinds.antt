@@ -57,15 +57,15 @@ pub record IsActivationOf (journal : List Event) (task : TaskNo) (position : ℕ
   pub stands : IsStartAt journal start position
   pub named : Contains start.tasks task
 
--- the task was never started, and was made by that task
-pub record IsLeftBy (journal : List Event) (task maker : ℕ) : Type 0 where
+-- the task was made by that one, and was never started
+pub record IsUnstartedBy (journal : List Event) (task maker : ℕ) : Type 0 where
   pub creation : Creation
   pub made : creation_of journal task ≡ Some creation
   pub by : creation.by ≡ maker
   pub never : has_start journal task ≡ false
 
--- the task was never started, and was made within that block
-pub record IsLeftIn (journal : List Event) (task block : ℕ) : Type 0 where
+-- the task was made within that block, and was never started
+pub record IsUnstartedIn (journal : List Event) (task block : ℕ) : Type 0 where
   pub creation : Creation
   pub made : creation_of journal task ≡ Some creation
   pub within : creation.under ≡ Block block
@@ -76,7 +76,8 @@ pub record IsOpenCallTo (journal : List Event) (task position : ℕ) : Type 0 wh
   pub call : Call
   pub opened : IsOpenCallAt journal call position
   pub to : call.callee ≡ task
-  pub place : Contains (queue journal task call.entry) position ⊎ Contains (nest journal task) (Rendezvous position)
+  pub place : Contains (queue journal task call.entry) position
+      ⊎ Contains (nest journal task) (Rendezvous position)
 
 -- the task that is within a block is suspended at its close
 pub record IsLeaving (journal : List Event) (block position : ℕ) : Type 0 where
@@ -86,11 +87,13 @@ pub record IsLeaving (journal : List Event) (block position : ℕ) : Type 0 wher
   pub suspended : IsSuspendedAt journal closing.by position
   pub within : Contains (nest journal closing.by) (BlockMember block)
 
--- the moment that is waited for at an event: by a timed call, a delay, or a wait with delay alternatives
+-- the least moment of a wait's delay alternatives (9.7.1)
 abbrev pub tail_due : EventTail → Option ℤ
 tail_due (Delays dues) = least_due dues
 tail_due _ = None
 
+-- the moment that is waited for at an event: by a timed call, a delay, or a wait with delay
+-- alternatives
 abbrev pub due_in : Event → Option ℤ
 due_in (Called by callee entry patience due) = due
 due_in (Paused by due) = Some due
@@ -142,11 +145,13 @@ pub data OfCall (before : List Event) (callee : ℕ) : Row → ℕ → Type 0 wh
   is_cancelled : OfCall before callee Cancelling (itself before)
   is_taken : (p : ℕ) → IsSuspendedAt before callee p → OfCall before callee Taking p
 
--- a wait (9.7.1): itself; with an open terminate alternative also the masters on which the task depends
+-- a wait (9.7.1): itself; with an open terminate alternative also the masters on which the task
+-- depends
 pub data OfWait (before : List Event) (task : ℕ) (tail : EventTail) : Row → ℕ → Type 0 where
   takes : OfWait before task tail Taking (itself before)
   passes : OfWait before task tail Passing (itself before)
-  quits : (m : Master) → is_open_terminate tail ≡ true → depends_on before task m ≡ true → OfWait before task tail (quitting_row m) (quitting_key m)
+  quits : (m : Master) → is_open_terminate tail ≡ true → depends_on before task m ≡ true
+      → OfWait before task tail (quitting_row m) (quitting_key m)
 
 -- a delay (9.6): itself
 pub data OfDelay (before : List Event) : Row → ℕ → Type 0 where
@@ -156,55 +161,70 @@ pub data OfDelay (before : List Event) : Row → ℕ → Type 0 where
 pub data OfClose (before : List Event) (block : ℕ) : Row → ℕ → Type 0 where
   leaves : OfClose before block Leaving (itself before)
   quits : OfClose before block QuittingBlock block
-  abandons : (u : ℕ) → IsLeftIn before u block → OfClose before block Going u
+  abandons : (u : ℕ) → IsUnstartedIn before u block → OfClose before block Going u
 
 -- the end of a rendezvous (9.5), and the failure of a call: the caller, where it is abnormal
 pub data OfEnd (before : List Event) (call : ℕ) : Row → ℕ → Type 0 where
-  halts : (called : Call) → IsCallAt before called call → is_abnormal before called.by ≡ true → OfEnd before call Halting called.by
+  halts : (called : Call) → IsCallAt before called call → is_abnormal before called.by ≡ true
+      → OfEnd before call Halting called.by
 
--- a cancellation (9.7.2, 9.7.3): where it makes the callee ready to quit, the masters on which that depends
+-- a cancellation (9.7.2, 9.7.3): where it makes the callee ready to quit, the masters on which that
+-- depends
 pub data OfCancellation (event : Event) (before : List Event) (call : ℕ) : Row → ℕ → Type 0 where
-  quits : (called : Call) (m : Master) → IsCallAt before called call → is_ready_to_quit (event ∷ before) called.callee ≡ true → depends_on before called.callee m ≡ true → OfCancellation event before call (quitting_row m) (quitting_key m)
+  quits : (called : Call) (m : Master) → IsCallAt before called call
+      → is_ready_to_quit (event ∷ before) called.callee ≡ true
+      → depends_on before called.callee m ≡ true
+      → OfCancellation event before call (quitting_row m) (quitting_key m)
 
--- a completion (9.4): the task and its body, the open calls to it, the start that names it, and the tasks that
--- it made and that were never started
+-- a completion (9.4): the task and its body, the open calls to it, the start that names it, and the
+-- tasks that it made and that were never started
 pub data OfCompletion (before : List Event) (task : TaskNo) : Row → ℕ → Type 0 where
   goes : OfCompletion before task Going task.0
   quits : OfCompletion before task QuittingBody task.0
   fails : (p : ℕ) → IsOpenCallTo before task.0 p → OfCompletion before task Failing p
   activates : (p : ℕ) → IsActivationOf before task p → OfCompletion before task Activating p
-  abandons : (u : ℕ) → IsLeftBy before u task.0 → OfCompletion before task Going u
+  abandons : (u : ℕ) → IsUnstartedBy before u task.0 → OfCompletion before task Going u
 
--- a halt (9.10): all of a completion, and the blocks in the task's nest; where its call leaves a queue and makes
--- the callee ready to quit, the masters on which that depends
+-- a halt (9.10): all of a completion, and the blocks in the task's nest; where its call leaves a
+-- queue and makes the callee ready to quit, the masters on which that depends
 pub data OfHalt (event : Event) (before : List Event) (task : TaskNo) : Row → ℕ → Type 0 where
-  completes : (row : Row) (key : ℕ) → OfCompletion before task row key → OfHalt event before task row key
-  quits_block : (p : ℕ) → Contains (nest before task.0) (BlockMember p) → OfHalt event before task QuittingBlock p
-  empties : (p : ℕ) (called : Call) (m : Master) → IsSuspendedAt before task.0 p → IsCallAt before called p → is_ready_to_quit (event ∷ before) called.callee ≡ true → depends_on before called.callee m ≡ true → OfHalt event before task (quitting_row m) (quitting_key m)
+  completes : (row : Row) (key : ℕ) → OfCompletion before task row key
+      → OfHalt event before task row key
+  quits_block : (p : ℕ) → Contains (nest before task.0) (BlockMember p)
+      → OfHalt event before task QuittingBlock p
+  empties : (p : ℕ) (called : Call) (m : Master) → IsSuspendedAt before task.0 p
+      → IsCallAt before called p → is_ready_to_quit (event ∷ before) called.callee ≡ true
+      → depends_on before called.callee m ≡ true
+      → OfHalt event before task (quitting_row m) (quitting_key m)
 
 -- an abort (9.10): each task that it makes abnormal, and the open calls to it
 pub data OfAbort (event : Event) (before : List Event) : Row → ℕ → Type 0 where
   halts : (u : ℕ) → IsHit event before u → OfAbort event before Halting u
-  fails : (u p : ℕ) → IsHit event before u → IsOpenCallTo before u p → OfAbort event before Failing p
+  fails : (u p : ℕ) → IsHit event before u → IsOpenCallTo before u p
+      → OfAbort event before Failing p
 
 -- a tick (9.6, 9.7.1, 9.7.3): the timed calls, the waits and the delays whose moment comes
 pub data OfTick (before : List Event) (now : ℤ) : Row → ℕ → Type 0 where
   comes_due : (row : Row) (p : ℕ) → ComesDue before now row p → OfTick before now row p
 
--- where a task ends (9.4): the open calls to it, the start that names it, and of each master on which it depends
--- its quitting, its task's going, and its being left
-pub data OfEnding (before : List Event) (task : TaskNo) : Row → ℕ → Type 0 where
-  fails : (p : ℕ) → IsOpenCallTo before task.0 p → OfEnding before task Failing p
-  activates : (p : ℕ) → IsActivationOf before task p → OfEnding before task Activating p
-  goes : (t : TaskNo) → depends_on before task.0 (Body t) ≡ true → OfEnding before task Going t.0
-  quits : (m : Master) → depends_on before task.0 m ≡ true → OfEnding before task (quitting_row m) (quitting_key m)
-  leaves : (block p : ℕ) → depends_on before task.0 (Block block) ≡ true → IsLeaving before block p → OfEnding before task Leaving p
+-- where a task terminates (9.4): the open calls to it, the start that names it, and of each master on
+-- which it depends its quitting, its task's going, and its being left
+pub data OfTermination (before : List Event) (task : TaskNo) : Row → ℕ → Type 0 where
+  fails : (p : ℕ) → IsOpenCallTo before task.0 p → OfTermination before task Failing p
+  activates : (p : ℕ) → IsActivationOf before task p → OfTermination before task Activating p
+  goes : (t : TaskNo) → depends_on before task.0 (Body t) ≡ true → OfTermination before task Going t.0
+  quits : (m : Master) → depends_on before task.0 m ≡ true
+      → OfTermination before task (quitting_row m) (quitting_key m)
+  leaves : (block p : ℕ) → depends_on before task.0 (Block block) ≡ true → IsLeaving before block p
+      → OfTermination before task Leaving p
 
--- where all that depend on a master terminate together (9.4): what each of them ends, and the tasks that it made
--- and that were never started
+-- where all that depend on a master terminate together (9.4): all of the termination of each, and
+-- the tasks that it made and that were never started
 pub data OfQuit (before : List Event) (master : Master) : Row → ℕ → Type 0 where
-  ends : (t : TaskNo) (row : Row) (key : ℕ) → depends_on before t.0 master ≡ true → is_terminated before t.0 ≡ false → OfEnding before t row key → OfQuit before master row key
-  abandons : (t : TaskNo) (u : ℕ) → depends_on before t.0 master ≡ true → is_terminated before t.0 ≡ false → IsLeftBy before u t.0 → OfQuit before master Going u
+  ends : (t : TaskNo) (row : Row) (key : ℕ) → depends_on before t.0 master ≡ true
+      → is_terminated before t.0 ≡ false → OfTermination before t row key → OfQuit before master row key
+  abandons : (t : TaskNo) (u : ℕ) → depends_on before t.0 master ≡ true
+      → is_terminated before t.0 ≡ false → IsUnstartedBy before u t.0 → OfQuit before master Going u
 
 -- the keys that an event adds
 abbrev pub Adds : List Event → Event → Row → ℕ → Type 0
@@ -228,6 +248,6 @@ Adds before (Cancelled call) = OfCancellation (Cancelled call) before call
 Adds before (Passed wait way) = Nowhere
 Adds before (Woken pause) = Nowhere
 Adds before (Activated start ok) = Nowhere
-Adds before (Gone task) = OfEnding before task
+Adds before (Gone task) = OfTermination before task
 Adds before (Quit master) = OfQuit before master
 Adds before (Left close) = Nowhere

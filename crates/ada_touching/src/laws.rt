@@ -69,7 +69,7 @@ pub fn delays_add_themselves()
 {}
 
 /// A close can newly force only the leaving of its block, the block's quitting, and the going of tasks that were made
-/// within it and never started (9.3, 9.4).
+/// within it and were never started (9.3, 9.4).
 #[tactic(auto, using(crate::proofs::Adding::closes_add_their_block))]
 pub fn closes_add_their_block()
     ensures { ClosesAddTheirBlock }
@@ -106,7 +106,8 @@ pub fn other_releases_add_nothing()
 {}
 
 /// A completion can newly force only that the task goes, that the dependents of its body quit, that open calls to it
-/// fail, the end of the start that names it, and the going of tasks that it made and never started (9.3, 9.4, 9.5).
+/// fail, the end of the start that names it, and the going of tasks that it made and that were never started (9.3, 9.4,
+/// 9.5).
 #[tactic(auto, using(crate::proofs::Adding::completions_add_their_task, crate::proofs::Adding::failed_activations_add_their_task))]
 pub fn completions_add_their_task()
     ensures completed { CompletionsAddTheirTask }
@@ -144,7 +145,7 @@ pub fn terminations_add_masters()
 {}
 
 /// Tasks that terminate together can newly force only what each of them would by itself, and the going of tasks that
-/// they made and never started (9.3, 9.4).
+/// they made and that were never started (9.3, 9.4).
 #[tactic(auto, using(crate::proofs::Adding::quits_add_masters))]
 pub fn quits_add_masters()
     ensures { QuitsAddMasters }
