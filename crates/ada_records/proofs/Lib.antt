@@ -21,3 +21,4 @@ pub mod TaskEnds
 pub mod Starting
 pub mod Unmade
 pub mod EventKinds
+pub mod Queries

@@ -2,6 +2,7 @@
 
 ghost use Rattle.ada_records.specs.Changes.{CallsComeLast, ReleasedCallsLeave, MetCallsLeave, CompletedCallersLeave, RendezvousAreEntered, RendezvousAreLeft, BlocksAreEntered, BlocksAreLeft, OthersKeepNests, NestsAreDistinct};
 ghost use Rattle.ada_records.specs.Latest.{WhatIsReleasedHeld, HoldsAreHeld, ReleasesDecide, RaisersHaveRaised, OthersKeepOutcomes};
+ghost use Rattle.ada_records.specs.Telling.{RecordsTell};
 
 /// A call comes last in the queue of its entry (9.5).
 #[tactic(auto, using(crate::proofs::QueueKinds::queue_called))]
@@ -74,4 +75,10 @@ pub fn outcomes_are_the_latest()
     ensures released { ReleasesDecide }
     ensures raised { RaisersHaveRaised }
     ensures others { OthersKeepOutcomes }
+{}
+
+/// A right record tells of its task whether it has ended, runs and is callable (9.9), and its outcome.
+#[tactic(auto, using(crate::proofs::Queries::records_tell))]
+pub fn records_tell()
+    ensures { RecordsTell }
 {}
