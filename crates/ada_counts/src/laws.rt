@@ -1,6 +1,7 @@
 //! Laws of nests and of tables that stand for a journal.
 
 ghost use Rattle.ada_counts.specs.Holders.{BlocksNestProperly, OneHolderEach, ALeftBlockHasNoLiveDependent, MastersAreHeld, HeldTablesStand, CutsKeepTheRest};
+ghost use Rattle.ada_counts.specs.Telling.{RecordsTellPhases};
 
 /// Each block that a task is within was opened within the block before it, the first within the task's body
 /// (9.4).
@@ -39,4 +40,10 @@ pub fn held_tables_stand()
 /// leave there what the journal says once the call is released (9.5).
 pub fn cuts_keep_the_rest()
     ensures { CutsKeepTheRest }
+{}
+
+/// A right record tells its task's phase (9.3, 9.4, 9.7.1).
+#[tactic(auto, using(crate::proofs::Telling::records_tell_phases))]
+pub fn records_tell_phases()
+    ensures { RecordsTellPhases }
 {}
