@@ -22,3 +22,4 @@ pub mod Starting
 pub mod Unmade
 pub mod EventKinds
 pub mod Queries
+pub mod KeptQueues

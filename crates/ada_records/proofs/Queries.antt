@@ -1,16 +1,20 @@
 -- What a record tells of its task, and the record of the main program.
-use Rattle.std.proofs.Common.{◌≡◌, ℕ, zero, suc, ◌<◌, Bool, true, false, cond, not, ◌&&◌, ◌||◌, eqb, List, [], ◌∷◌, length, sym, refl, ap, ◌∙◌, arith}
+use Rattle.std.proofs.Common.{◌≡◌, ℕ, zero, suc, ◌<◌, Bool, true, false, cond, not, ◌&&◌, ◌||◌, eqb, List, [], ◌∷◌, length, sym, refl, ap, ◌∙◌, arith, Some, subst}
 use Rattle.std.proofs.lemmas.Bool.{ne_eqb}
 use Rattle.ada_events.specs.declared.event.Event.{Event}
 use Rattle.ada_events.specs.declared.outcome.Outcome.TheVariants.{Dead, Done, Nothing}
-use Rattle.ada_events.specs.Search.{any_event}
+use Rattle.ada_events.specs.Search.{any_event, event_at}
 use Rattle.ada_events.specs.Tasks.{task_count}
 use Rattle.ada_events.specs.Phases.{has_start, is_started, is_elaborated, has_failed, is_completed, has_ended, is_abnormal, is_terminated, is_suspended, is_running}
+use Rattle.ada_events.specs.Calls.{is_met}
+use Rattle.ada_events.specs.Termination.{is_at_open_terminate}
 use Rattle.ada_events.specs.Attributes.{is_callable}
 use Rattle.ada_events.specs.Outcomes.{last_given, outcome_of}
-use Rattle.ada_laws.proofs.Suspending.{is_suspended-from}
+use Rattle.ada_laws.proofs.Suspending.{is_suspended-from, is_suspended-at}
 use Rattle.ada_records.specs.declared.record.Record.{Record}
 use Rattle.ada_records.specs.Records.{freed, no_stage, record_at, IsHeldAt, IsRecordOf, AreRecords}
+use Rattle.ada_records.specs.Latest.{latest_outcome}
+use Rattle.ada_records.proofs.Existing.{positive}
 use Rattle.ada_records.specs.Telling.{RecordsTell}
 
 -- the main program's record at first
@@ -77,3 +81,23 @@ records_tell journal task kept is = record {
   callable = tells_callable journal task kept (kept.stage.completed || kept.stage.terminated) is (tells_ended journal task kept is);
   outcome = tells_outcome journal task kept is;
 }
+
+-- there is a right record of each task
+pub record_exists : (journal : List Event) (task : ℕ) → (r : Record) × IsRecordOf journal task r
+record_exists journal task =
+    let (at, held) = place (is_suspended journal task) refl in (
+      record {
+        doing = record { at = at; joined = is_met journal at; quittable = is_at_open_terminate journal task && not (has_ended journal task); outcome = latest_outcome journal task };
+        stage = record { named = has_start journal task; started = is_started journal task; elaborated = is_elaborated journal task; failed = has_failed journal task; completed = is_completed journal task; abnormal = is_abnormal journal task; terminated = is_terminated journal task };
+      },
+      record {
+        doing = record { at = held; joined = λ some. refl; quittable = refl; outcome = refl };
+        stage = record { named = refl; started = refl; elaborated = refl; failed = refl; completed = refl; abnormal = refl; terminated = refl };
+      },
+    )
+  where
+    place : (b : Bool) → is_suspended journal task ≡ b → (at : ℕ) × IsHeldAt journal task at
+    place false free = (0, record { free = λ _. free; held = λ some. absurd (omega (arith, some)) })
+    place true suspended =
+        let (p, held) = is_suspended-at journal task suspended in
+        (p, record { free = λ none. absurd (positive journal held.event (subst (λ (n : ℕ). event_at journal n ≡ Some held.event) none held.stands)); held = λ some. held })

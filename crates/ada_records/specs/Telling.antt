@@ -29,4 +29,5 @@ pub record IsTelling (journal : List Event) (task : ℕ) (kept : Record) : Type 
   pub outcome : outcome_by kept ≡ outcome_of journal task
 
 abbrev pub RecordsTell : Type 0
-RecordsTell = (journal : List Event) (task : ℕ) (kept : Record) → IsRecordOf journal task kept → IsTelling journal task kept
+RecordsTell =
+    (journal : List Event) (task : ℕ) (kept : Record) → IsRecordOf journal task kept → IsTelling journal task kept
