@@ -1,10 +1,14 @@
 -- Tables that follow a journal: what has to be changed in them by one more event. Laws.
 use Rattle.std.specs.Prelude.{◌≡◌, ℕ, ◌<◌, None, List, ◌∷◌, length}
 use Rattle.ada_events.specs.declared.event.Event.{Event}
+use Rattle.ada_events.specs.declared.event.Event.TheVariants.{Gone}
+use Rattle.ada_events.specs.declared.names.TaskNo.{TaskNo}
 use Rattle.ada_events.specs.declared.names.Entry.{Entry}
-use Rattle.ada_events.specs.Says.{creation_in}
+use Rattle.ada_events.specs.Says.{creation_in, call_in}
+use Rattle.ada_events.specs.Calls.{queue}
 use Rattle.ada_events.specs.Nests.{nest}
 use Rattle.ada_events.specs.Lawful.{IsLawful}
+use Rattle.ada_records.specs.Records.{IsPlainHold}
 use Rattle.ada_tables.specs.Dependents.{Facts, task_at}
 use Rattle.ada_tables.specs.Queues.{queue_at}
 use Rattle.ada_tables.specs.Tables.{State, slot_at, HasEntry}
@@ -27,3 +31,22 @@ abbrev pub TablesFollow : Type 0
 TablesFollow =
     (event : Event) (before : List Event) (old new : State) → IsLawful (event ∷ before) → creation_in event ≡ None
     → StandFor old before → AreFollowing event before old new → StandFor new (event ∷ before)
+
+-- the event makes no task, and of nests, phases and queues it changes one task's phase alone
+pub record ChangesOnePhase (event : Event) (before : List Event) (task : ℕ) : Type 0 where
+  pub makes : creation_in event ≡ None
+  pub nests : (other : ℕ) → nest (event ∷ before) other ≡ nest before other
+  pub queues : (other : ℕ) (entry : Entry) → queue (event ∷ before) other entry ≡ queue before other entry
+  pub phases : (other : ℕ) → (other ≡ task → ⊥) → phase_of (event ∷ before) other ≡ phase_of before other
+
+-- an event that holds a task up, other than a call, changes that task's phase alone
+abbrev pub HoldsChangeOnePhase : Type 0
+HoldsChangeOnePhase =
+    (event : Event) (before : List Event) (task : ℕ) → IsLawful (event ∷ before)
+    → IsPlainHold event task → call_in event ≡ None → ChangesOnePhase event before task
+
+-- so does the termination of a task by itself
+abbrev pub GoingChangesOnePhase : Type 0
+GoingChangesOnePhase =
+    (event : Event) (before : List Event) (task : TaskNo) → IsLawful (event ∷ before)
+    → event ≡ Gone task → ChangesOnePhase event before task.0

@@ -2,7 +2,7 @@
 
 ghost use Rattle.ada_counts.specs.Holders.{BlocksNestProperly, OneHolderEach, ALeftBlockHasNoLiveDependent, MastersAreHeld, HeldTablesStand, CutsKeepTheRest};
 ghost use Rattle.ada_counts.specs.Telling.{RecordsTellPhases, OthersKeepPhases};
-ghost use Rattle.ada_counts.specs.Following.{TablesFollow};
+ghost use Rattle.ada_counts.specs.Following.{TablesFollow, HoldsChangeOnePhase, GoingChangesOnePhase};
 
 /// Each block that a task is within was opened within the block before it, the first within the task's body
 /// (9.4).
@@ -59,4 +59,11 @@ pub fn others_keep_phases()
 /// changed as the event says: masters, entries and counts of dependents need no care.
 pub fn tables_follow()
     ensures { TablesFollow }
+{}
+
+/// A wait, a delay and a close change the phase of their task alone, and so does the termination of
+/// a task by itself.
+pub fn holds_change_one_phase()
+    ensures holds { HoldsChangeOnePhase }
+    ensures goes { GoingChangesOnePhase }
 {}
