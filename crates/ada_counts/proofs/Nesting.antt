@@ -1,11 +1,11 @@
 -- Blocks nest properly: in a lawful journal a block that isn't left was opened within the block before it in its
 -- task's nest, or else within the task's body.
 use Rattle.ada_counts.specs.Holders.{IsUnder, AreNested}
-use Rattle.std.proofs.Common.{◌≡◌, ℕ, suc, ◌-◌, ◌<◌, ◌≤◌, Bool, true, false, cond, not, ◌&&◌, eqb, Option, Some, None, List, [], ◌∷◌, ◌++◌, length, refl, sym, ap, ◌∙◌, subst, arith, ◌⊎◌, inl, inr, append-nil, length-append}
+use Rattle.std.proofs.Common.{◌≡◌, ℕ, suc, ◌-◌, ◌<◌, ◌≤◌, Bool, true, false, cond, not, ◌&&◌, eqb, Option, Some, None, List, [], ◌∷◌, ◌++◌, length, refl, sym, ap, ◌∙◌, subst, arith, inl, inr, append-nil, length-append}
 use Rattle.std.specs.Option.{option_map_or, option_or, option_to_list}
 use Rattle.std.specs.Bool.{then_some}
 use Rattle.std.specs.List.{filter, Contains, slice_get}
-use Rattle.std.proofs.lemmas.Bool.{and_parts, and_from, or_cases, or_left, or_right, eqb-true, not-true, false_from_ne_true, true≢false, false≢true}
+use Rattle.std.proofs.lemmas.Bool.{and_parts, eqb-true, not-true, true≢false, false≢true}
 use Rattle.std.proofs.lemmas.Option.{none-some, same_Some, slice_get_within, get_or_from_slice_get}
 use Rattle.ada_events.specs.declared.event.Event.{Event}
 use Rattle.ada_events.specs.declared.event.Event.TheVariants as event
@@ -15,11 +15,11 @@ use Rattle.ada_events.specs.declared.names.Master.{Master}
 use Rattle.ada_events.specs.declared.names.Master.TheVariants.{Body, Block as BlockMaster}
 use Rattle.ada_events.specs.declared.names.Member.{Member}
 use Rattle.ada_events.specs.declared.names.Member.TheVariants.{Block, Rendezvous}
-use Rattle.ada_events.specs.Search.{is_number, gathered, event_at, is_some_and}
-use Rattle.ada_events.specs.Says.{Opening, Closing, Meeting, opening_in, closing_in, meeting_in, left_in, released_in}
+use Rattle.ada_events.specs.Search.{gathered, event_at}
+use Rattle.ada_events.specs.Says.{Opening, Closing, Meeting, opening_in, closing_in, meeting_in, left_in}
 use Rattle.ada_events.specs.Phases.{is_released, has_ended, is_running}
 use Rattle.ada_events.specs.Calls.{is_open_call}
-use Rattle.ada_events.specs.Nests.{is_left_close, is_left, is_wait_of, member_at, nest, innermost, innermost_block, frame}
+use Rattle.ada_events.specs.Nests.{is_left, is_wait_of, member_at, nest, innermost, innermost_block, frame}
 use Rattle.ada_events.specs.Asks.{asked_event, member_position}
 use Rattle.ada_events.specs.Refusals.{refusal, has_no_block, is_rendezvous}
 use Rattle.ada_laws.proofs.Accepting.{is_accepted, running_free}
@@ -36,10 +36,10 @@ use Rattle.ada_events.specs.Forced.{is_to_leave}
 use Rattle.ada_events.specs.Calls.{is_pending}
 use Rattle.ada_events.specs.Termination.{all_terminated}
 use Rattle.ada_events.specs.Lawful.{IsLawful, MayFollow}
-use Rattle.ada_laws.proofs.Searching.{event_at-older, event_at-newest, event_at-within, event_at-cases, any_event-found, any_event-from, is_number-some, is_number-from, then_some-some, option_or-some, option_map_or-true}
+use Rattle.ada_laws.proofs.Searching.{event_at-older, event_at-newest, event_at-within, event_at-cases, then_some-some, option_or-some}
 use Rattle.ada_records.proofs.Unnesting.{gathered-filtered}
 use Rattle.ada_records.proofs.Nesting.{gathered-agree}
-use Rattle.ada_records.proofs.LeftBlocks.{left_more, unleft_before, Leaves, left_cases}
+use Rattle.ada_records.proofs.LeftBlocks.{left_more, Leaves, left_cases}
 
 -- the member is a block
 abbrev pub is_block_member : Member → Bool

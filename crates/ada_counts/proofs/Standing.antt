@@ -7,7 +7,7 @@ use Rattle.ada_tables.specs.Dependents.{Stands}
 use Rattle.ada_tables.specs.Tables.{State}
 use Rattle.ada_tables.specs.Standing.{StandFor}
 use Rattle.ada_counts.specs.Facing.{HoldFacts, HoldQueues, SameDependents}
-use Rattle.ada_counts.proofs.Phases.{live_alike, unready_alike}
+use Rattle.ada_counts.proofs.Agreeing.{live_alike, unready_alike}
 use Rattle.ada_counts.proofs.Empty.{empty_alike}
 use Rattle.ada_counts.specs.Holders.{HeldTablesStand}
 use Rattle.ada_counts.proofs.Walking.{same_dependents}

@@ -1,2 +1,4 @@
 pub mod Facing
 pub mod Holders
+pub mod Telling
+pub mod Following

@@ -1,6 +1,8 @@
 //! Laws of nests and of tables that stand for a journal.
 
 ghost use Rattle.ada_counts.specs.Holders.{BlocksNestProperly, OneHolderEach, ALeftBlockHasNoLiveDependent, MastersAreHeld, HeldTablesStand, CutsKeepTheRest};
+ghost use Rattle.ada_counts.specs.Telling.{RecordsTellPhases, OthersKeepPhases};
+ghost use Rattle.ada_counts.specs.Following.{TablesFollow, HoldsChangeOnePhase, GoingChangesOnePhase};
 
 /// Each block that a task is within was opened within the block before it, the first within the task's body
 /// (9.4).
@@ -39,4 +41,29 @@ pub fn held_tables_stand()
 /// leave there what the journal says once the call is released (9.5).
 pub fn cuts_keep_the_rest()
     ensures { CutsKeepTheRest }
+{}
+
+/// A right record tells its task's phase (9.3, 9.4, 9.7.1).
+#[tactic(auto, using(crate::proofs::Telling::records_tell_phases))]
+pub fn records_tell_phases()
+    ensures { RecordsTellPhases }
+{}
+
+/// A task that an event doesn't touch keeps its phase.
+#[tactic(auto, using(crate::proofs::KeptPhases::others_keep_phases))]
+pub fn others_keep_phases()
+    ensures { OthersKeepPhases }
+{}
+
+/// Tables that stand for a journal stand for it with an event that makes no task once nests, phases and queues are
+/// changed as the event says: masters, entries and counts of dependents need no care.
+pub fn tables_follow()
+    ensures { TablesFollow }
+{}
+
+/// A wait, a delay and a close change the phase of their task alone, and so does the termination of
+/// a task by itself.
+pub fn holds_change_one_phase()
+    ensures holds { HoldsChangeOnePhase }
+    ensures goes { GoingChangesOnePhase }
 {}

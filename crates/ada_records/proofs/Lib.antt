@@ -21,3 +21,5 @@ pub mod TaskEnds
 pub mod Starting
 pub mod Unmade
 pub mod EventKinds
+pub mod Queries
+pub mod KeptQueues

@@ -50,6 +50,13 @@ CompletedCallersLeave =
     → IsLawful before → completed_in event ≡ Some caller → IsSuspendedAt before caller position
     → queue (event ∷ before) task entry ≡ without_call position (queue before task entry)
 
+-- an event that makes no call, releases nothing, begins no rendezvous and completes nobody leaves each queue as it was
+abbrev pub OthersKeepQueues : Type 0
+OthersKeepQueues =
+    (event : Event) (before : List Event) (task : ℕ) (entry : Entry) → IsLawful (event ∷ before)
+    → call_in event ≡ None → released_in event ≡ None → meeting_in event ≡ None → completed_in event ≡ None
+    → queue (event ∷ before) task entry ≡ queue before task entry
+
 -- the member isn't the rendezvous with a call
 abbrev pub is_apart_from : ℕ → Member → Bool
 is_apart_from call (Block p) = true
@@ -77,8 +84,10 @@ is_beside_block block (Rendezvous call) = true
 -- a task that opens a block is within it
 abbrev pub BlocksAreEntered : Type 0
 BlocksAreEntered =
-    (event : Event) (before : List Event) (task : ℕ) (opening : Opening) → IsLawful (event ∷ before) → opening_in event ≡ Some opening
-    → nest (event ∷ before) task ≡ nest before task ++ option_to_list (then_some (opening.by == task) (Block (suc (length before))))
+    (event : Event) (before : List Event) (task : ℕ) (opening : Opening)
+    → IsLawful (event ∷ before) → opening_in event ≡ Some opening
+    → nest (event ∷ before) task
+    ≡ nest before task ++ option_to_list (then_some (opening.by == task) (Block (suc (length before))))
 
 -- a block that is left is in no nest any more
 abbrev pub BlocksAreLeft : Type 0

@@ -1,3 +1,4 @@
 pub mod Changes
 pub mod Latest
 pub mod Records
+pub mod Telling

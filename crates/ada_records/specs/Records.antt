@@ -1,5 +1,5 @@
 -- Records that stand for a journal: each field is what the definitions give.
-use Rattle.std.specs.Prelude.{◌≡◌, ◌⊎◌, ℕ, ◌<◌, ◌≤◌, Bool, true, false, not, ◌==◌, ◌||◌, ◌&&◌, ◌∷◌, Some, None, List, [], length, take, slice_index_or}
+use Rattle.std.specs.Prelude.{◌≡◌, ◌⊎◌, ℕ, ◌<◌, ◌≤◌, Bool, true, false, not, ◌==◌, ◌||◌, ◌&&◌, ◌∷◌, Some, None, IsSome, List, [], length, take, slice_index_or}
 use Rattle.std.specs.List.{list_any}
 use Rattle.ada_events.specs.declared.event.Event.{Event}
 use Rattle.ada_events.specs.declared.event.Event.TheVariants.{Aborted, Completed, Halted, Met, Quit}
@@ -8,7 +8,7 @@ use Rattle.ada_events.specs.declared.names.Master.TheVariants.{Body}
 use Rattle.ada_events.specs.declared.outcome.Outcome.{Outcome}
 use Rattle.ada_events.specs.declared.outcome.Outcome.TheVariants.{Dead, Held, Nothing}
 use Rattle.ada_events.specs.Search.{is_some_and}
-use Rattle.ada_events.specs.Says.{Wait, wait_in, held_in, started_in, released_in, meeting_in}
+use Rattle.ada_events.specs.Says.{Wait, creation_in, wait_in, held_in, started_in, released_in, meeting_in}
 use Rattle.ada_events.specs.Tasks.{task_count}
 use Rattle.ada_events.specs.Masters.{depends_on}
 use Rattle.ada_events.specs.Phases.{lists_task, has_start, is_started, is_elaborated, has_failed, is_completed, has_ended, is_abnormal, is_terminated, is_suspended}
@@ -31,7 +31,15 @@ held at quittable = record { at = at; joined = false; quittable = quittable; out
 
 -- a task of which nothing has become
 abbrev pub no_stage : Stage
-no_stage = record { named = false; started = false; elaborated = false; failed = false; completed = false; abnormal = false; terminated = false }
+no_stage = record {
+  named = false;
+  started = false;
+  elaborated = false;
+  failed = false;
+  completed = false;
+  abnormal = false;
+  terminated = false;
+}
 
 -- the record of a task that was just made
 abbrev pub new_record : Record
@@ -111,7 +119,10 @@ IsCompletion event task = (event ≡ Completed task) ⊎ (event ≡ Halted task)
 -- a record after its task ended its activation (9.3)
 abbrev pub elaborated_record : Bool → Record → Record
 elaborated_record true r = record r { stage = record r.stage { elaborated = true } }
-elaborated_record false r = record { doing = freed r.doing.outcome; stage = record r.stage { elaborated = true; failed = true; completed = true } }
+elaborated_record false r = record {
+  doing = freed r.doing.outcome;
+  stage = record r.stage { elaborated = true; failed = true; completed = true };
+}
 
 -- a record after all that depend on a master terminated together
 abbrev pub quit_record : Bool → Record → Record
@@ -120,7 +131,11 @@ quit_record false r = r
 
 -- a record after an abort
 abbrev pub abort_record : Bool → Record → Record
-abort_record hit r = record r { stage = record r.stage { abnormal = hit && not r.stage.terminated || r.stage.abnormal } }
+abort_record hit r = record r {
+  stage = record r.stage {
+    abnormal = hit && not r.stage.terminated || r.stage.abnormal;
+  };
+}
 
 -- a record after a start, by whether that names the task (9.3)
 abbrev pub start_record : Bool → Record → Record
@@ -157,7 +172,11 @@ touches_many _ = false
 
 -- what is known of an event beside what it says: of a rendezvous the choice by which the wait takes the call, and
 -- whom an event touches that may touch many
-pub record AreFacts (journal : List Event) (event : Event) (many choice : ℕ) (touched : List Bool) : Type 0 where
+pub record AreFacts (journal : List Event) (event : Event) (records : List Record) (choice : ℕ) (touched : List Bool) : Type 0 where
   pub chosen : (call wait : ℕ) → event ≡ Met call wait → choice ≡ choice_met journal wait
-  pub listed : touches_many event ≡ true → length touched ≡ many
+  pub listed : touches_many event ≡ true → length touched ≡ length records
   pub tells : touches_many event ≡ true → Tells touched (is_touched journal event)
+
+-- there is room for one more record where the event makes a task
+abbrev pub MakesRoom : Event → ℕ → ℕ → Type 0
+MakesRoom event many capacity = IsSome (creation_in event) → many < capacity

@@ -1,8 +1,7 @@
 //! What one more event changes in the records, whatever its kind.
-ghost use Rattle.std.specs.Prelude.{◌+◌, ◌<◌, ◌^◌, ◌∷◌, IsSome, length, vec_len, vec_capacity};
+ghost use Rattle.std.specs.Prelude.{◌+◌, ◌<◌, ◌^◌, ◌∷◌, length, vec_len, vec_capacity};
 ghost use Rattle.ada_events.specs.Lawful.{IsLawful};
-ghost use Rattle.ada_events.specs.Says.{creation_in};
-ghost use Rattle.ada_records.specs.Records.{AreRecords, AreFacts};
+ghost use Rattle.ada_records.specs.Records.{AreRecords, AreFacts, MakesRoom};
 
 use crate::record::Record;
 use crate::records::{
@@ -24,9 +23,9 @@ pub fn note(
 )
     requires lawful { IsLawful (event.now ∷ journal.now.events) }
     requires stand { AreRecords records.old.items journal.now.events }
-    requires facts { AreFacts journal.now.events event.now (length records.old.items) choice touched.now }
+    requires facts { AreFacts journal.now.events event.now records.old.items choice touched.now }
     requires room { length journal.now.events + 1 < 2 ^ 32 }
-    requires place { IsSome (creation_in event.now) → vec_len records.old < vec_capacity records.old }
+    requires place { MakesRoom event.now (vec_len records.old) (vec_capacity records.old) }
     ensures { AreRecords records.new.items (event.now ∷ journal.now.events) }
 {
     match event {

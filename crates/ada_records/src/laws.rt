@@ -1,7 +1,8 @@
 //! Laws of what one more event changes.
 
-ghost use Rattle.ada_records.specs.Changes.{CallsComeLast, ReleasedCallsLeave, MetCallsLeave, CompletedCallersLeave, RendezvousAreEntered, RendezvousAreLeft, BlocksAreEntered, BlocksAreLeft, OthersKeepNests, NestsAreDistinct};
+ghost use Rattle.ada_records.specs.Changes.{CallsComeLast, ReleasedCallsLeave, MetCallsLeave, CompletedCallersLeave, OthersKeepQueues, RendezvousAreEntered, RendezvousAreLeft, BlocksAreEntered, BlocksAreLeft, OthersKeepNests, NestsAreDistinct};
 ghost use Rattle.ada_records.specs.Latest.{WhatIsReleasedHeld, HoldsAreHeld, ReleasesDecide, RaisersHaveRaised, OthersKeepOutcomes};
+ghost use Rattle.ada_records.specs.Telling.{RecordsTell};
 
 /// A call comes last in the queue of its entry (9.5).
 #[tactic(auto, using(crate::proofs::QueueKinds::queue_called))]
@@ -22,6 +23,12 @@ pub fn met_calls_leave()
 /// The call of a task that is completed leaves its queue (9.10).
 pub fn completed_callers_leave()
     ensures { CompletedCallersLeave }
+{}
+
+/// An event that makes no call, releases nothing, begins no rendezvous and completes nobody, as the termination of a
+/// task, leaves each queue as it was.
+pub fn others_keep_queues()
+    ensures { OthersKeepQueues }
 {}
 
 /// A task whose wait takes a call is then within its rendezvous, innermost (9.5).
@@ -68,10 +75,15 @@ pub fn what_is_released_held()
 
 /// What became of a task's latest doing: who is held up is held, until the event that releases it says what became of
 /// it; who ends a rendezvous by an exception has it raised (11.5). Nothing new becomes of other tasks.
-#[tactic(auto, using(crate::proofs::LatestOutcomes::holds_are_held, crate::proofs::LatestOutcomes::raisers_have_raised))]
 pub fn outcomes_are_the_latest()
     ensures held { HoldsAreHeld }
     ensures released { ReleasesDecide }
     ensures raised { RaisersHaveRaised }
     ensures others { OthersKeepOutcomes }
+{}
+
+/// A right record tells of its task whether it has ended, runs and is callable (9.9), and its outcome.
+#[tactic(auto, using(crate::proofs::Queries::records_tell))]
+pub fn records_tell()
+    ensures { RecordsTell }
 {}

@@ -1,0 +1,136 @@
+-- Events that change one task's phase alone, and tables that follow them.
+use Rattle.std.proofs.Common.{◌≡◌, ◌≢◌, ℕ, ◌<◌, false, Option, Some, None, List, [], ◌∷◌, length, refl, sym, ap, ◌∙◌, subst, arith, inl, inr}
+use Rattle.std.specs.Option.{option_map, option_and_then}
+use Rattle.std.proofs.lemmas.Bool.{cases_eq, ne_eqb}
+use Rattle.std.proofs.lemmas.List.{length-set, get_or-set_same, get_or-set_other}
+use Rattle.std.proofs.lemmas.List.Elements.{All-weaker}
+use Rattle.std.proofs.lemmas.Option.{none-some, same_Some}
+use Rattle.ada_events.specs.declared.event.Event.{Event}
+use Rattle.ada_events.specs.declared.event.Event.TheVariants.{Called, Waiting, Paused, Started, Closed, Gone}
+use Rattle.ada_events.specs.declared.names.Entry.{Entry}
+use Rattle.ada_events.specs.declared.names.TaskNo.{TaskNo}
+use Rattle.ada_events.specs.Search.{event_at}
+use Rattle.ada_events.specs.Says.{Call, creation_in, call_in, held_in, opening_in, released_in, meeting_in, completed_in, gone_in, quit_in, started_in}
+use Rattle.ada_events.specs.Tasks.{task_count}
+use Rattle.ada_events.specs.Phases.{is_completed, is_terminated}
+use Rattle.ada_events.specs.Calls.{queue}
+use Rattle.ada_events.specs.Nests.{nest}
+use Rattle.ada_events.specs.Lawful.{IsLawful}
+use Rattle.ada_laws.proofs.Searching.{event_at-older}
+use Rattle.ada_records.specs.declared.record.Record.{Record}
+use Rattle.ada_records.specs.Records.{IsRecordOf}
+use Rattle.ada_records.proofs.Calling.{same_completed, same_terminated}
+use Rattle.ada_records.proofs.Holding.{hold_only}
+use Rattle.ada_records.proofs.KeptQueues.{others_keep_queues}
+use Rattle.ada_records.proofs.NestKinds.{others_keep_nests}
+use Rattle.ada_tables.specs.declared.phase.Phase.{Phase}
+use Rattle.ada_tables.specs.Dependents.{Facts, nobody, task_at, with_phase, is_terminated as ends}
+use Rattle.ada_tables.specs.Queues.{QueuedCall, queue_at}
+use Rattle.ada_tables.specs.Tables.{State, slot_at}
+use Rattle.ada_tables.specs.Standing.{phase_of, facts_in, caller_of, AreQueued, StandFor}
+use Rattle.ada_counts.specs.Following.{facts_after, ChangesOnePhase, HoldsChangeOnePhase, GoingChangesOnePhase}
+use Rattle.ada_counts.specs.Telling.{phase_by}
+use Rattle.ada_counts.proofs.Agreeing.{ends_phase}
+use Rattle.ada_counts.proofs.Following.{tables_follow}
+use Rattle.ada_counts.proofs.KeptPhases.{others_keep_phases}
+use Rattle.ada_counts.proofs.Telling.{records_tell_phases}
+
+-- who made a call stays who made it
+caller_later : (event : Event) (before : List Event) (call caller : ℕ) → caller_of before call ≡ Some caller → caller_of (event ∷ before) call ≡ Some caller
+caller_later event before call caller made = of_event (event_at before call) refl made
+  where
+    of_event : (o : Option Event) → event_at before call ≡ o → option_map (λ (c : Call). c.by) (option_and_then call_in o) ≡ Some caller → caller_of (event ∷ before) call ≡ Some caller
+    of_event None at made = absurd (none-some caller made)
+    of_event (Some e) at made = rw (event_at-older event before call e at) made
+
+-- the calls at an entry stay where its queue does
+pub queued_later : (event : Event) (before : List Event) (task : ℕ) (entry : Entry) (calls : List QueuedCall) → queue (event ∷ before) task entry ≡ queue before task entry → AreQueued before task entry calls → AreQueued (event ∷ before) task entry calls
+queued_later event before task entry calls same old = record {
+  positions = old.positions ∙ sym same;
+  callers = All-weaker (λ (c : QueuedCall). caller_of before c.call ≡ Some c.caller) (λ (c : QueuedCall). caller_of (event ∷ before) c.call ≡ Some c.caller) (λ c made. caller_later event before c.call c.caller made) calls old.callers;
+}
+
+-- what the tables hold of a task whose nest and phase stay
+kept_facts : (event : Event) (before : List Event) (task : ℕ) (held : Facts) → held ≡ facts_in before task → nest (event ∷ before) task ≡ nest before task → phase_of (event ∷ before) task ≡ phase_of before task → held ≡ facts_after event before task held
+kept_facts event before task held is nests phases = rw (nests, phases, is) refl
+
+new_facts : (event : Event) (before : List Event) (task : ℕ) (held : Facts) (phase : Phase) → held ≡ facts_in before task → nest (event ∷ before) task ≡ nest before task → phase ≡ phase_of (event ∷ before) task → record held { phase = phase } ≡ facts_after event before task held
+new_facts event before task held phase is nests now = rw (nests, now, is) refl
+
+pub phase_followed : (event : Event) (before : List Event) (old new : State) (task : ℕ) (phase : Phase) (kept : Record) → IsLawful (event ∷ before) → StandFor old before → task < task_count before → ChangesOnePhase event before task → IsRecordOf (event ∷ before) task kept → phase ≡ phase_by kept → new ≡ record old { tasks = with_phase task phase old.tasks } → StandFor new (event ∷ before)
+phase_followed event before old new task phase kept lawful stand known changes right by is =
+    tables_follow event before old new lawful changes.makes stand (record {
+      same = ap (λ (s : State). length s.tasks) is ∙ length-set old.tasks task (record (task_at old.tasks task) { phase = phase });
+      tasks = λ other below. ap (λ (s : State). task_at s.tasks other) is ∙ of_task other below;
+      queues = λ other entry has.
+          subst (λ (queues : List (List QueuedCall)). AreQueued (event ∷ before) other entry (queue_at queues (slot_at old.tasks other entry))) (sym (ap (λ (s : State). s.queues) is))
+          (queued_later event before other entry (queue_at old.queues (slot_at old.tasks other entry)) (changes.queues other entry) (stand.queues other entry has));
+    })
+  where
+    within : task < length old.tasks
+    within = omega (arith, known, stand.many)
+
+    of_task : (other : ℕ) → other < length old.tasks → task_at (with_phase task phase old.tasks) other ≡ facts_after event before other (task_at old.tasks other)
+    of_task other below =
+        let exists : other < task_count before = omega (arith, below, stand.many) in
+        elim (cases_eq other task) [
+          | inl same ↦
+              subst (λ (n : ℕ). task_at (with_phase task phase old.tasks) n ≡ facts_after event before n (task_at old.tasks n)) (sym same)
+              (get_or-set_same old.tasks task (record (task_at old.tasks task) { phase = phase }) nobody within
+              ∙ new_facts event before task (task_at old.tasks task) phase (stand.tasks task known) (changes.nests task) (by ∙ records_tell_phases (event ∷ before) task kept right))
+          | inr differs ↦
+              get_or-set_other old.tasks task other (record (task_at old.tasks task) { phase = phase }) nobody differs
+              ∙ kept_facts event before other (task_at old.tasks other) (stand.tasks other exists) (changes.nests other) (changes.phases other differs)
+        ]
+
+-- the tables know that a task isn't terminated
+pub live_in_tables : (old : State) (before : List Event) (task : ℕ) → StandFor old before → task < task_count before → is_terminated before task ≡ false → ends (task_at old.tasks task).phase ≡ false
+live_in_tables old before task stand known live = ap (λ (f : Facts). ends f.phase) (stand.tasks task known) ∙ ends_phase before task ∙ live
+
+held_opens_none : (e : Event) (task : ℕ) → held_in e ≡ Some task → opening_in e ≡ None
+unfolding held_in opening_in
+held_opens_none (Called by callee entry patience due) task holds = refl
+held_opens_none (Waiting by pick choices tail) task holds = refl
+held_opens_none (Paused by due) task holds = refl
+held_opens_none (Started by tasks) task holds = refl
+held_opens_none (Closed by block) task holds = refl
+held_opens_none _ task holds = absurd (none-some task holds)
+
+pub holds_change_one_phase : HoldsChangeOnePhase
+holds_change_one_phase event before task lawful hold calls =
+    let only = hold_only event task hold.holds in
+    record {
+      makes = only.quiet.makes;
+      nests = λ other. others_keep_nests event before other lawful (held_opens_none event task hold.holds) only.meets only.releases;
+      queues = λ other entry. others_keep_queues event before other entry lawful calls only.releases only.meets only.quiet.completes;
+      phases = λ other differs.
+          others_keep_phases event before other lawful (λ holds. differs (same_Some other task (sym holds ∙ hold.holds))) (rw hold.starts refl)
+          (λ p frees held. none-some p (sym only.releases ∙ frees))
+          (same_completed event before other only.quiet) (same_terminated event before other only.quiet);
+    }
+
+gone_says : (e : Event) (task : TaskNo) → e ≡ Gone task → (creation_in e ≡ None) × (opening_in e ≡ None) × (meeting_in e ≡ None) × (released_in e ≡ None) × (call_in e ≡ None) × (completed_in e ≡ None) × (held_in e ≡ None) × (started_in e ≡ [])
+unfolding creation_in opening_in meeting_in released_in call_in completed_in held_in started_in
+gone_says e task is = (ap creation_in is, ap opening_in is, ap meeting_in is, ap released_in is, ap call_in is, ap completed_in is, ap held_in is, ap started_in is)
+
+gone_completes : (event : Event) (before : List Event) (other : ℕ) → completed_in event ≡ None → is_completed (event ∷ before) other ≡ is_completed before other
+unfolding is_completed
+gone_completes event before other none = rw none refl
+
+gone_terminates : (before : List Event) (task : TaskNo) (other : ℕ) → other ≢ task.0 → is_terminated (Gone task ∷ before) other ≡ is_terminated before other
+unfolding is_terminated gone_in quit_in
+gone_terminates before task other differs = rw (ne_eqb other task.0 differs) refl
+
+pub going_changes_one_phase : GoingChangesOnePhase
+going_changes_one_phase event before task lawful is =
+    let says = gone_says event task is in
+    record {
+      makes = says.0;
+      nests = λ other. others_keep_nests event before other lawful says.1 says.2 says.3;
+      queues = λ other entry. others_keep_queues event before other entry lawful says.4 says.3 says.2 says.5;
+      phases = λ other differs.
+          others_keep_phases event before other lawful (λ holds. none-some other (sym says.6 ∙ holds)) (rw says.7 refl)
+          (λ p frees held. none-some p (sym says.3 ∙ frees))
+          (gone_completes event before other says.5)
+          (ap (λ (e : Event). is_terminated (e ∷ before) other) is ∙ gone_terminates before task other differs);
+    }
