@@ -8,20 +8,8 @@ use std::sync::Wait;
 /// hall.
 pub trait Gate {
     /// Returns once the speaker may play the line at a place, or no further line is to be played.
-    fn before<J: Session, R: Wait>(
-        &self,
-        rt: &R,
-        shared: &Shared<'_, J>,
-        speaker: u32,
-        place: u32,
-    );
+    fn before<J: Session, R: Wait>(&self, rt: &R, shared: &Shared<'_, J>, speaker: u32, place: u32);
 
     /// The speaker has played the line at a place.
-    fn after<J: Session, R: Wait>(
-        &self,
-        rt: &R,
-        shared: &Shared<'_, J>,
-        speaker: u32,
-        place: u32,
-    );
+    fn after<J: Session, R: Wait>(&self, rt: &R, shared: &Shared<'_, J>, speaker: u32, place: u32);
 }

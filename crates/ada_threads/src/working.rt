@@ -137,17 +137,18 @@ fn play_lines<J: Session, R: Wait, G: Gate>(
 )
     requires { (report.old.accepted ≡ 0) × (report.old.refused ≡ 0) }
     ensures { report.new.accepted + report.new.refused
-        ≤ count_by (is_request_of speaker.1.now) lines.now }
+        ≤ count_by (is_request_of speaker.entry.1.now) lines.now }
 {
     let (number, name) = speaker;
     for at in 0..lines.len() {
         let line = &lines[at];
-        let Ok(place) = u32::try_from(at) else {
+        let Ok(place) = u16::try_from(at) else {
             return;
         };
         if !is_spoken_by(name, &line.statement) {
             continue;
         }
+        let place = u32::from(place);
         gate.before(rt, shared, number, place);
         let goes_on = play_line(rt, shared, line, place, reader, report);
         gate.after(rt, shared, number, place);
