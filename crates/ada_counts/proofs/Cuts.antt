@@ -11,7 +11,7 @@ use Rattle.ada_records.proofs.Distinct.{nests_are_distinct}
 use Rattle.ada_tables.specs.Dependents.{cut}
 use Rattle.ada_counts.specs.Holders.{CutsKeepTheRest}
 
-all_apart : (call : ℕ) (members : List Member) → (Contains members (Rendezvous call) → ⊥) → filter (is_apart_from call) members ≡ members
+pub all_apart : (call : ℕ) (members : List Member) → (Contains members (Rendezvous call) → ⊥) → filter (is_apart_from call) members ≡ members
 all_apart call [] absent = refl
 all_apart call (Block p ∷ rest) absent = ap (λ (xs : List Member). Block p ∷ xs) (all_apart call rest (λ has. absent (Contains-later (Block p) (Rendezvous call) rest has)))
 all_apart call (Rendezvous met ∷ rest) absent =

@@ -1,14 +1,16 @@
 -- Tables that follow a journal: what has to be changed in them by one more event. Laws.
-use Rattle.std.specs.Prelude.{◌≡◌, ℕ, ◌<◌, None, List, ◌∷◌, length}
+use Rattle.std.specs.Prelude.{◌≡◌, ℕ, ◌<◌, false, Some, None, List, ◌∷◌, length}
 use Rattle.ada_events.specs.declared.event.Event.{Event}
 use Rattle.ada_events.specs.declared.event.Event.TheVariants.{Gone}
 use Rattle.ada_events.specs.declared.names.TaskNo.{TaskNo}
 use Rattle.ada_events.specs.declared.names.Entry.{Entry}
-use Rattle.ada_events.specs.Says.{creation_in, call_in}
+use Rattle.ada_events.specs.Says.{creation_in, call_in, call_at, completed_in, left_in}
 use Rattle.ada_events.specs.Calls.{queue}
 use Rattle.ada_events.specs.Nests.{nest}
 use Rattle.ada_events.specs.Lawful.{IsLawful}
-use Rattle.ada_records.specs.Records.{IsPlainHold}
+use Rattle.ada_events.specs.Phases.{is_suspended}
+use Rattle.ada_laws.specs.Suspension.{IsSuspendedAt}
+use Rattle.ada_records.specs.Records.{IsPlainHold, IsPlainRelease}
 use Rattle.ada_tables.specs.Dependents.{Facts, task_at}
 use Rattle.ada_tables.specs.Queues.{queue_at}
 use Rattle.ada_tables.specs.Tables.{State, slot_at, HasEntry}
@@ -50,3 +52,16 @@ abbrev pub GoingChangesOnePhase : Type 0
 GoingChangesOnePhase =
     (event : Event) (before : List Event) (task : TaskNo) → IsLawful (event ∷ before)
     → event ≡ Gone task → ChangesOnePhase event before task.0
+
+-- so does the end of a wait otherwise than by a rendezvous, of a delay or of a start
+abbrev pub ReleasesChangeOnePhase : Type 0
+ReleasesChangeOnePhase =
+    (event : Event) (before : List Event) (task position : ℕ) → IsLawful (event ∷ before)
+    → IsPlainRelease event position → left_in event ≡ None → call_at before position ≡ None
+    → IsSuspendedAt before task position → ChangesOnePhase event before task
+
+-- and the completion of a task that isn't suspended
+abbrev pub CompletionsChangeOnePhase : Type 0
+CompletionsChangeOnePhase =
+    (event : Event) (before : List Event) (task : ℕ) → IsLawful (event ∷ before)
+    → completed_in event ≡ Some task → is_suspended before task ≡ false → ChangesOnePhase event before task

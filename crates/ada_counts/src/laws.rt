@@ -2,7 +2,7 @@
 
 ghost use Rattle.ada_counts.specs.Holders.{BlocksNestProperly, OneHolderEach, ALeftBlockHasNoLiveDependent, MastersAreHeld, HeldTablesStand, CutsKeepTheRest};
 ghost use Rattle.ada_counts.specs.Telling.{RecordsTellPhases, OthersKeepPhases};
-ghost use Rattle.ada_counts.specs.Following.{TablesFollow, HoldsChangeOnePhase, GoingChangesOnePhase};
+ghost use Rattle.ada_counts.specs.Following.{TablesFollow, HoldsChangeOnePhase, ReleasesChangeOnePhase, CompletionsChangeOnePhase, GoingChangesOnePhase};
 
 /// Each block that a task is within was opened within the block before it, the first within the task's body
 /// (9.4).
@@ -61,9 +61,12 @@ pub fn tables_follow()
     ensures { TablesFollow }
 {}
 
-/// A wait, a delay and a close change the phase of their task alone, and so does the termination of
-/// a task by itself.
-pub fn holds_change_one_phase()
+/// A wait, a delay and a close change the phase of their task alone, and so do the end of a wait otherwise than by a
+/// rendezvous, of a delay and of a start, the completion of a task that isn't suspended, and the termination of a task
+/// by itself.
+pub fn one_phase_changes()
     ensures holds { HoldsChangeOnePhase }
+    ensures releases { ReleasesChangeOnePhase }
+    ensures completes { CompletionsChangeOnePhase }
     ensures goes { GoingChangesOnePhase }
 {}

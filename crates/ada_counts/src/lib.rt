@@ -1,5 +1,5 @@
-//! What tables hold of dependents is what a lawful journal says of them. Each law is the contract of a function
-//! that does nothing.
+//! What tables hold of dependents is what a lawful journal says of them, and what tables have to change with an
+//! event. Each law is the contract of a function that does nothing.
 #![tactic(auto)]
 
 pub mod laws;
