@@ -230,9 +230,13 @@ closer_open (e ∷ before) c p lawful closes suspended =
       | inr older ↦
           let live = has_ended-before e before c.by suspended.live in
           let was : IsSuspendedAt before c.by p =
-          record
-          { event = closes.event; stands = older; holds = held_in-closing closes.event c closes.says; unreleased = is_released-before e before p suspended.unreleased; live = live }
-          in
+          record {
+            event = closes.event;
+            stands = older;
+            holds = held_in-closing closes.event c closes.says;
+            unreleased = is_released-before e before p suspended.unreleased;
+            live = live;
+          } in
           let unleft = closer_open before c p lawful.0 (record { event = closes.event; stands = older; says = closes.says }) was in
           stays_open e before c.block lawful unleft
           (λ q d k at is block left.

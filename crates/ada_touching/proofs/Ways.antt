@@ -1,8 +1,7 @@
 -- All masters on which a task depends are found by parents.
-use Rattle.std.proofs.Common.{◌≡◌, ℕ, suc, ◌<◌, Bool, true, false, Option, Some, None, List, [], ◌∷◌, length, sym, refl, ap, ◌∙◌, subst, arith, inl, inr, eqb}
-use Rattle.std.specs.Option.{option_map, option_map_or, option_and_then, option_len}
+use Rattle.std.proofs.Common.{◌≡◌, Bool, true, false, Option, Some, None, List, [], ◌∷◌, sym, refl, ap, ◌∙◌, inl, inr}
+use Rattle.std.specs.Option.{option_map, option_map_or, option_and_then}
 use Rattle.std.proofs.lemmas.Bool.{or_cases, cases_eq, eq-eqb}
-use Rattle.std.proofs.lemmas.Option.{none-some}
 use Rattle.ada_events.specs.declared.event.Event.{Event}
 use Rattle.ada_events.specs.declared.names.TaskNo.{TaskNo}
 use Rattle.ada_events.specs.declared.names.Master.{Master}
@@ -31,8 +30,8 @@ parent_later event before (Block p) n parent =
     ap (option_map (λ (o : Opening). o.under)) (ap (option_and_then opening_in) (event_at-older event before p e at) ∙ says) ∙ ap Some same
 
 -- the parent of what the event made
-made_parent : (event : Event) (before : List Event) (t : TaskNo) (c : Creation) → t.0 ≡ task_count before → creation_in event ≡ Some c → parent_of
-(event ∷ before) (Body t) ≡ Some c.master
+made_parent : (event : Event) (before : List Event) (t : TaskNo) (c : Creation) → t.0 ≡ task_count before → creation_in event ≡ Some c
+    → parent_of (event ∷ before) (Body t) ≡ Some c.master
 unfolding creation_of
 made_parent event before t c same says = rw (eq-eqb t.0 (task_count before) same, says) refl
 
@@ -61,8 +60,8 @@ step_in In event before (Block p) known closed here =
           ap In (parent_in-known event before (Block p) (record { event = known.event; opening = known.opening; stands = older; says = known.says })) ∙ here
     ]
 
-reached_in : (In : Master → Bool) (journal : List Event) (from to : Master) → IsLawful journal →
-((m n : Master) → In m ≡ true → parent_of journal m ≡ Some n → In n ≡ true)
+reached_in : (In : Master → Bool) (journal : List Event) (from to : Master) → IsLawful journal
+    → ((m n : Master) → In m ≡ true → parent_of journal m ≡ Some n → In n ≡ true)
     → IsKnown journal from → In from ≡ true → reaches journal from to ≡ true → In to ≡ true
 unfolding reaches
 reached_in In [] from to lawful closed known here reached = ap In (sym (same_master-true from to reached)) ∙ here
@@ -75,11 +74,11 @@ reached_in In (event ∷ before) from to lawful closed known here reached =
     ]
 
 -- a task depends on the parent of its body
-depends_on_parent : (journal : List Event) (task : TaskNo) (p : Master) → IsLawful journal → parent_of journal
-(Body task) ≡ Some p → depends_on journal task.0 p ≡ true
+depends_on_parent : (journal : List Event) (task : TaskNo) (p : Master) → IsLawful journal
+    → parent_of journal (Body task) ≡ Some p → depends_on journal task.0 p ≡ true
 depends_on_parent journal task p lawful parent =
-    tasks_depend_by_parents journal task p lawful ∙ (ap
-    (λ (o : Option Master). option_map_or (λ (q : Master). reaches journal q p) o false) parent ∙ reaches-same journal p)
+    tasks_depend_by_parents journal task p lawful
+    ∙ (ap (λ (o : Option Master). option_map_or (λ (q : Master). reaches journal q p) o false) parent ∙ reaches-same journal p)
 
 pub masters_are_found_outwards : MastersAreFoundOutwards
 masters_are_found_outwards journal task In lawful first closed m depends =
