@@ -119,9 +119,14 @@ asked_start : (journal : List Event) (r : Request) (s : Start) (t : TaskNo) → 
 unfolding asked_event start_in is_not_your_task may_activate
 asked_start journal (request.Activate by tasks) s t accepted says named =
     let same = same_Some _ s says in
-    let yours = (or_parts (list_any (λ (u : TaskNo). not (may_activate journal by.0 u.0)) tasks) (has_double_task tasks) (is_accepted journal (request.Activate by tasks) accepted).your_tasks).0 in
+    let yours =
+    (or_parts (list_any (λ (u : TaskNo). not (may_activate journal by.0 u.0)) tasks) (has_double_task tasks)
+    (is_accepted journal (request.Activate by tasks) accepted).your_tasks).0
+    in
     let here = any_none (λ (u : TaskNo). not (may_activate journal by.0 u.0)) tasks t yours (subst (λ (x : Start). Contains x.tasks t) (sym same) named) in
-    let both = and_parts (is_some_and (creation_of journal t.0) (λ (c : Creation). eqb c.by by.0)) (not (has_start journal t.0)) (not-false (may_activate journal by.0 t.0) here) in
+    let both =
+    and_parts (is_some_and (creation_of journal t.0) (λ (c : Creation). eqb c.by by.0)) (not (has_start journal t.0))
+    (not-false (may_activate journal by.0 t.0) here) in
     let (c, made, is) = option_map_or-true (λ (c : Creation). eqb c.by by.0) (creation_of journal t.0) both.0 in
     subst (λ (x : Start). IsMadeBy journal t.0 x.by) same (record { creation = c; made = made; by = eqb-true c.by by.0 is })
 asked_start journal _ s t accepted says named = absurd (none-some s says)
@@ -149,7 +154,7 @@ created_exists (event ∷ before) task c made =
           omega arith
     ]
 
-still_made : (event : Event) (before : List Event) (task : ℕ) (c : Creation) → creation_of before task ≡ Some c → creation_of (event ∷ before) task ≡ Some c
+pub still_made : (event : Event) (before : List Event) (task : ℕ) (c : Creation) → creation_of before task ≡ Some c → creation_of (event ∷ before) task ≡ Some c
 unfolding creation_of
 still_made event before task c made =
     let below : task < task_count before = created_exists before task c made in

@@ -79,10 +79,12 @@ waits_no_more before call wait v lawful suspended ready =
     let waits = at_wait (begins call wait ∷ before) v parts.waits parts.live in
     let was = suspended_before (begins call wait) before v waits.position refl waits.suspended in
     let same : waits.position ≡ wait = suspended_once before v waits.position wait lawful.0 was suspended in
-    true≢false (sym (is_released-now (begins call wait) before wait refl) ∙ (ap (is_released (begins call wait ∷ before)) (sym same) ∙ waits.suspended.unreleased))
+    true≢false
+    (sym (is_released-now (begins call wait) before wait refl) ∙ (ap (is_released (begins call wait ∷ before)) (sym same) ∙ waits.suspended.unreleased))
 
 meeting_is : (call wait p : ℕ)
-    → (is_number p (released_in (begins call wait)) ≡ true → p ≡ wait) × (is_some_and (meeting_in (begins call wait)) (λ (m : Meeting). eqb m.call p) ≡ true → p ≡ call)
+    → (is_number p (released_in (begins call wait)) ≡ true → p ≡ wait) × (is_some_and (meeting_in (begins call wait))
+    (λ (m : Meeting). eqb m.call p) ≡ true → p ≡ call)
 unfolding released_in meeting_in
 meeting_is call wait p = (λ released. eqb-true p wait released, λ met. sym (eqb-true call p met))
 
@@ -98,15 +100,20 @@ met_key before call wait row key lawful (empties m v left ready depends) =
     elim (left.why) [
       | inl released ↦
           let same : left.position ≡ wait = (meeting_is call wait left.position).0 released in
-          call_or_wait before wait left.call taking.wait (subst (λ (n : ℕ). IsCallAt before left.call n) same (call_stands (begins call wait) before v left)) taking.stands
+          call_or_wait before wait left.call taking.wait (subst (λ (n : ℕ). IsCallAt before left.call n) same
+          (call_stands (begins call wait) before v left)) taking.stands
       | inr other ↦
           elim other [
             | inl ended ↦ false≢true (sym (quiet_ends (begins call wait) before left.call.by (release_only (begins call wait) wait refl).plain.quiet) ∙ ended)
             | inr met ↦
                 let same : left.position ≡ call = (meeting_is call wait left.position).1 met in
-                let one = same_call before call left.call queued.call (subst (λ (n : ℕ). IsCallAt before left.call n) same (call_stands (begins call wait) before v left)) queued.opened.stands in
+                let one =
+                same_call before call left.call queued.call (subst (λ (n : ℕ). IsCallAt before left.call n) same (call_stands (begins call wait) before v left))
+                queued.opened.stands in
                 let by : taking.wait.by ≡ v = sym queued.of_task ∙ (ap (λ (c : Call). c.callee) (sym one) ∙ left.to) in
-                let suspended = suspended_at before wait taking.wait.by taking.stands.event taking.stands.stands (held_in-wait taking.stands.event taking.wait taking.stands.says) taking.pending in
+                let suspended =
+                suspended_at before wait taking.wait.by taking.stands.event taking.stands.stands
+                (held_in-wait taking.stands.event taking.wait taking.stands.says) taking.pending in
                 waits_no_more before call wait v lawful (subst (λ (n : ℕ). IsSuspendedAt before n wait) by suspended) ready
           ]
     ]
@@ -154,8 +161,12 @@ innermost_met journal task None last within = absurd (false≢true within)
 innermost_met journal task (Some (Block p)) last within = absurd (false≢true within)
 innermost_met journal task (Some (Rendezvous call)) last within =
     let place = length (nest journal task) - 1 in
-    nest_met journal task call
-    (place, slice_get_within (nest journal task) place (Rendezvous call) last, get_or_from_slice_get (nest journal task) place (Rendezvous call) (Rendezvous call) last)
+    nest_met journal task call (
+      place,
+      slice_get_within (nest journal task) place (Rendezvous call) last,
+      get_or_from_slice_get (nest journal task) place (Rendezvous call)
+          (Rendezvous call) last,
+    )
 
 abbrev ended_call : Event → Option ℕ
 ended_call (event.Ended by call raised) = Some call
@@ -190,7 +201,9 @@ unfolding released_in meeting_in
 end_key by call raised before row key lawful (frees c at abnormal) = halts_caller c at abnormal
 end_key by call raised before row key lawful (empties m v left ready depends) =
     let same : left.position ≡ call = left_position (ends_it by call raised) before call v refl refl left in
-    absurd (true≢false (sym (ended_met before (ends_it by call raised) call lawful.1 refl) ∙ (ap (is_met before) (sym same) ∙ queued_unmet before left.position left.called left.queued)))
+    absurd
+    (true≢false (sym (ended_met before (ends_it by call raised) call lawful.1 refl) ∙
+    (ap (is_met before) (sym same) ∙ queued_unmet before left.position left.called left.queued)))
 
 pub end_adds : (by : TaskNo) (call : ℕ) (raised : Bool) (before : List Event) (row : Row) (key : ℕ) → IsLawful (ends_it by call raised ∷ before)
     → Key (ends_it by call raised) before row key → OfEnd before call row key
@@ -237,7 +250,9 @@ lost_unready journal call v lawful forces missed waits live =
     call_or_wait journal at.position joined.call at.wait joined.stands (record { event = at.event; stands = at.stands; says = at.says })) in
     elim (or_cases (has_ended journal v) (is_abnormal journal v) missed) [
       | inl ended ↦ both_ways (has_ended journal v) live ended
-      | inr abnormal ↦ halts_free journal v (suspended_exists journal v at.position lawful at.suspended) abnormal live free (unhalted journal (event.Failed call) forces refl)
+      | inr abnormal ↦
+          halts_free journal v (suspended_exists journal v at.position lawful at.suspended) abnormal live free
+          (unhalted journal (event.Failed call) forces refl)
     ]
 
 fail_key : (call : ℕ) (before : List Event) (row : Row) (key : ℕ) → IsLawful (event.Failed call ∷ before) → ReleaseKey (event.Failed call) before call row key
@@ -248,7 +263,9 @@ fail_key call before row key lawful (empties m v left ready depends) =
     let forces = answer_forced before (event.Failed call) lawful.1 refl in
     let failed = row_failed before (event.Failed call) call (forced-row before (event.Failed call) forces) refl in
     let same : left.position ≡ call = left_position (event.Failed call) before call v refl refl left in
-    let one = same_call before call failed.call left.call failed.stands (subst (λ (n : ℕ). IsCallAt before left.call n) same (call_stands (event.Failed call) before v left)) in
+    let one =
+    same_call before call failed.call left.call failed.stands
+    (subst (λ (n : ℕ). IsCallAt before left.call n) same (call_stands (event.Failed call) before v left)) in
     let callee : failed.call.callee ≡ v = ap (λ (c : Call). c.callee) one ∙ left.to in
     let live = has_ended-before (event.Failed call) before v (ready_parts (event.Failed call ∷ before) v ready).live in
     absurd (lost_unready before call v lawful.0 forces (ap (is_lost before) (sym callee) ∙ failed.is) left.waits live)
@@ -275,7 +292,8 @@ caller_normal journal call c d lawful forces stands at queued abnormal =
     let suspended : IsSuspendedAt journal c.by call =
     subst (λ (n : ℕ). IsSuspendedAt journal n call) (ap (λ (c : Call). c.by) (sym caller)) (open_call_suspends journal _ call opened) in
     let free = free_elsewhere journal c.by call lawful suspended (λ joined. both_ways (is_met journal call) (queued_unmet journal call d queued) joined.met) in
-    halts_free journal c.by (suspended_exists journal c.by call lawful suspended) abnormal suspended.live free (unhalted journal (event.Cancelled call) forces refl)
+    halts_free journal c.by (suspended_exists journal c.by call lawful suspended) abnormal suspended.live free
+    (unhalted journal (event.Cancelled call) forces refl)
 
 cancel_key : (call : ℕ) (before : List Event) (row : Row) (key : ℕ) → IsLawful (event.Cancelled call ∷ before)
     → ReleaseKey (event.Cancelled call) before call row key → OfCancellation (event.Cancelled call) before call row key
@@ -293,4 +311,5 @@ cancel_key call before row key lawful (empties m v left ready depends) =
 pub cancel_adds : (call : ℕ) (before : List Event) (row : Row) (key : ℕ) → IsLawful (event.Cancelled call ∷ before) → Key (event.Cancelled call) before row key
     → OfCancellation (event.Cancelled call) before call row key
 unfolding released_in
-cancel_adds call before row key lawful touched = cancel_key call before row key lawful (release_key (event.Cancelled call) before call row key lawful refl touched)
+cancel_adds call before row key lawful touched =
+    cancel_key call before row key lawful (release_key (event.Cancelled call) before call row key lawful refl touched)

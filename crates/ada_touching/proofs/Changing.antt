@@ -189,7 +189,8 @@ created_key by under master families before row key (elaborates t p of says) = a
 pub creation_adds : (by : TaskNo) (under master : Master) (families : List Family) (before : List Event) (row : Row) (key : ℕ)
     → IsLawful (creates by under master families ∷ before) → Key (creates by under master families) before row key → OfCreation before row key
 creation_adds by under master families before row key lawful touched =
-    created_key by under master families before row key (change_key (creates by under master families) before row key lawful (creates_only by under master families) touched)
+    created_key by under master families before row key
+    (change_key (creates by under master families) before row key lawful (creates_only by under master families) touched)
 
 -- the end of an activation
 abbrev comes_up : TaskNo → Event
@@ -240,4 +241,5 @@ hit_key by tasks before row key (elaborates t p of says) = absurd (none-some t.0
 
 pub abort_adds : (by : TaskNo) (tasks : List TaskNo) (before : List Event) (row : Row) (key : ℕ) → IsLawful (hits_tasks by tasks ∷ before)
     → Key (hits_tasks by tasks) before row key → OfAbort (hits_tasks by tasks) before row key
-abort_adds by tasks before row key lawful touched = hit_key by tasks before row key (change_key (hits_tasks by tasks) before row key lawful (hits_only by tasks) touched)
+abort_adds by tasks before row key lawful touched =
+    hit_key by tasks before row key (change_key (hits_tasks by tasks) before row key lawful (hits_only by tasks) touched)

@@ -53,7 +53,8 @@ unclosed_unleft journal p unclosed =
       | inr unleft ↦ unleft
       | inl left ↦
           let (q, e, at, found) = any_event-found (λ q e. closes p e && is_left_close journal q) journal left in
-          absurd (both_ways (list_any (closes p) journal) unclosed (any_at (closes p) journal q e at (and_parts (closes p e) (is_left_close journal q) found).0))
+          absurd
+          (both_ways (list_any (closes p) journal) unclosed (any_at (closes p) journal q e at (and_parts (closes p e) (is_left_close journal q) found).0))
     ]
 
 -- a block that a task opened and hasn't left is in its nest
@@ -79,7 +80,8 @@ pub record IsClosed (event : Event) (p : ℕ) : Type 0 where
 -- an opening ends nobody
 opening_quiet : (e : Event) (o : Opening) → opening_in e ≡ Some o → IsQuiet e
 unfolding opening_in completed_in gone_in quit_in aborted_in elaborated_in failed_in creation_in
-opening_quiet (event.Opened by under) o says = record { completes = refl; goes = refl; quits = refl; aborts = refl; elaborates = refl; fails = refl; makes = refl }
+opening_quiet (event.Opened by under) o says =
+    record { completes = refl; goes = refl; quits = refl; aborts = refl; elaborates = refl; fails = refl; makes = refl }
 opening_quiet _ o says = absurd (none-some o says)
 
 -- a block is newly complete where the event closes it, or ends its task
@@ -88,7 +90,8 @@ pub block_newly : (event : Event) (before : List Event) (p : ℕ) → IsLawful (
 unfolding is_complete is_complete_block
 block_newly event before p lawful was now =
     let parts = or_parts (list_any (closes p) before) (is_some_and (opening_at before p) (λ (o : Opening). has_ended before o.by)) was in
-    elim (or_cases (list_any (closes p) (event ∷ before)) (is_some_and (opening_at (event ∷ before) p) (λ (o : Opening). has_ended (event ∷ before) o.by)) now) [
+    elim (or_cases (list_any (closes p) (event ∷ before))
+    (is_some_and (opening_at (event ∷ before) p) (λ (o : Opening). has_ended (event ∷ before) o.by)) now) [
       | inl closed ↦
           elim (or_cases (closes p event) (list_any (closes p) before) closed) [
             | inl here ↦
@@ -107,7 +110,8 @@ block_newly event before p lawful was now =
             | inr older ↦
                 let block : IsBlockOf before o.by p = record { event = e; opening = o; stands = older; says = says; by = refl } in
                 let live : has_ended before o.by ≡ false = rw (older, says) at parts.1 in
-                inr (record { task = o.by; block = block; was = live; now = ended; within = block_within before o.by p block (unclosed_unleft before p parts.0) })
+                inr
+                (record { task = o.by; block = block; was = live; now = ended; within = block_within before o.by p block (unclosed_unleft before p parts.0) })
           ]
     ]
 

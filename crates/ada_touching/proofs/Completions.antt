@@ -147,7 +147,8 @@ pub queued_suspends : (journal : List Event) (p : ℕ) (e : Event) (c : Call) �
     → IsSuspendedAt journal c.by p
 queued_suspends journal p e c at says queued =
     let opened = is_open_at-call journal p e at (queued_open journal p e queued) in
-    subst (λ (n : ℕ). IsSuspendedAt journal n p) (ap (λ (c : Call). c.by) (same_Some opened.0 c (sym opened.1 ∙ says))) (open_call_suspends journal opened.0 p opened.2)
+    subst (λ (n : ℕ). IsSuspendedAt journal n p) (ap (λ (c : Call). c.by) (same_Some opened.0 c (sym opened.1 ∙ says)))
+    (open_call_suspends journal opened.0 p opened.2)
 
 ready_key : (e : Event) (before : List Event) (task : TaskNo) (m : Master) (v : ℕ) → OnlyCompletes e task → IsOpenWait e v ⊎ IsUnqueued e before v
     → is_ready_to_quit (e ∷ before) v ≡ true → depends_on before v m ≡ true → OfHalt e before task (quitting_row m) (quitting_key m)
@@ -170,12 +171,15 @@ ready_key e before task m v only (inr left) ready depends =
 lost_key : (e : Event) (before : List Event) (task : TaskNo) (u p : ℕ) → OnlyCompletes e task → IsOpenCallTo before u p
     → IsHit e before u ⊎ IsNewlyOver e before u → OfHalt e before task Failing p
 lost_key e before task u p only call (inl new) = absurd (no_hit e before task u only new)
-lost_key e before task u p only call (inr over) = completes Failing p (fails p (subst (λ (n : ℕ). IsOpenCallTo before n p) (over_one e before task u only over) call))
+lost_key e before task u p only call (inr over) =
+    completes Failing p (fails p (subst (λ (n : ℕ). IsOpenCallTo before n p) (over_one e before task u only over) call))
 
 done_key : (e : Event) (before : List Event) (task t : TaskNo) (p : ℕ) → OnlyCompletes e task → IsActivationOf before t p
     → (elaborated_in e ≡ Some t.0) ⊎ IsNewlyOver e before t.0 → OfHalt e before task Activating p
-done_key e before task t p only of (inl says) = completes Activating p (activates p (subst (λ (t : TaskNo). IsActivationOf before t p) (same_task t task (only.elaborates t.0 says)) of))
-done_key e before task t p only of (inr over) = completes Activating p (activates p (subst (λ (t : TaskNo). IsActivationOf before t p) (same_task t task (over_one e before task t.0 only over)) of))
+done_key e before task t p only of (inl says) =
+    completes Activating p (activates p (subst (λ (t : TaskNo). IsActivationOf before t p) (same_task t task (only.elaborates t.0 says)) of))
+done_key e before task t p only of (inr over) =
+    completes Activating p (activates p (subst (λ (t : TaskNo). IsActivationOf before t p) (same_task t task (over_one e before task t.0 only over)) of))
 
 pub completion_key : (e : Event) (before : List Event) (task : TaskNo) (row : Row) (key : ℕ) → IsLawful (e ∷ before) → OnlyCompletes e task
     → Key e before row key → OfHalt e before task row key
@@ -215,11 +219,14 @@ asked_itself : (journal : List Event) (r : Request) (task : ℕ) → refusal jou
 unfolding asked_event is_still_nested asker
 asked_itself journal (request.Complete by) task accepted says =
     let same = same_Some by.0 task says in
-    let bare = eqb-true (length (nest journal by.0)) 0 (not-false (eqb (length (nest journal by.0)) 0) (is_accepted journal (request.Complete by) accepted).not_nested) in
+    let bare =
+    eqb-true (length (nest journal by.0)) 0 (not-false (eqb (length (nest journal by.0)) 0) (is_accepted journal (request.Complete by) accepted).not_nested) in
     subst (λ (n : ℕ). RunsAlone journal n) same (record { runs = asker_runs journal (request.Complete by) by.0 accepted refl; bare = bare })
 asked_itself journal (request.Elaborated by ok) task accepted says =
     let same = same_Some by.0 task says in
-    let bare = eqb-true (length (nest journal by.0)) 0 (not-false (eqb (length (nest journal by.0)) 0) (is_accepted journal (request.Elaborated by ok) accepted).not_nested) in
+    let bare =
+    eqb-true (length (nest journal by.0)) 0
+    (not-false (eqb (length (nest journal by.0)) 0) (is_accepted journal (request.Elaborated by ok) accepted).not_nested) in
     subst (λ (n : ℕ). RunsAlone journal n) same (record { runs = asker_runs journal (request.Elaborated by ok) by.0 accepted refl; bare = bare })
 asked_itself journal _ task accepted says = absurd (none-some task says)
 

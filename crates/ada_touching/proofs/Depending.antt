@@ -57,7 +57,9 @@ unfolding is_to_quit
 quits_ready journal m u quits depends live =
     let ready = all_below (λ u. not (depends_on journal u m) || is_terminated journal u || is_ready_to_quit journal u) (task_count journal) in
     let all = last_part (is_complete journal m) (all_terminated journal m) ready quits in
-    let here = all_below-holds (λ u. not (depends_on journal u m) || is_terminated journal u || is_ready_to_quit journal u) (task_count journal) u all (depends_exists journal u m depends) in
+    let here =
+    all_below-holds (λ u. not (depends_on journal u m) || is_terminated journal u || is_ready_to_quit journal u) (task_count journal) u all
+    (depends_exists journal u m depends) in
     elim (or_cases (not (depends_on journal u m) || is_terminated journal u) (is_ready_to_quit journal u) here) [
       | inr passes ↦ passes
       | inl other ↦
@@ -69,7 +71,8 @@ quits_ready journal m u quits depends live =
 
 pub quits_complete : (journal : List Event) (m : Master) → is_to_quit journal m ≡ true → is_complete journal m ≡ true
 unfolding is_to_quit
-quits_complete journal m quits = (and_parts (is_complete journal m) (not (all_terminated journal m)) (and_parts (is_complete journal m && not (all_terminated journal m)) _ quits).0).0
+quits_complete journal m quits =
+    (and_parts (is_complete journal m) (not (all_terminated journal m)) (and_parts (is_complete journal m && not (all_terminated journal m)) _ quits).0).0
 
 -- what a task depends on was known before the event
 pub depended_known : (event : Event) (before : List Event) (u : ℕ) (m : Master) → IsLawful (event ∷ before) → depends_on (event ∷ before) u m ≡ true
@@ -78,7 +81,8 @@ depended_known event before u m lawful depends =
     elim (depends_on-cases event before u m depends) [
       | inl made ↦
           let by = creation_asked event before made.creation lawful.1 made.says in
-          let known = reaches_known before lawful.0 (frame before made.creation.by) made.creation.master (frame_known before made.creation.by by.asked.exists) by.reached in
+          let known =
+          reaches_known before lawful.0 (frame before made.creation.by) made.creation.master (frame_known before made.creation.by by.asked.exists) by.reached in
           reaches_known before lawful.0 made.creation.master m known made.reached
       | inr older ↦
           reaches_known before lawful.0 (Body (record { 0 = u })) m (depends_exists before u m older) (depends_reaches before (record { 0 = u }) m older)
@@ -93,7 +97,9 @@ abnormal_exists (event ∷ before) task abnormal =
     let listed = list_any (λ (t : TaskNo). eqb t.0 task || depends_on before task (Body t)) (aborted_in event) in
     elim (or_cases (listed && has_task before task && not (is_terminated before task)) (is_abnormal before task) abnormal) [
       | inl now ↦
-          let below : task < task_count before = ltb-true task (task_count before) (and_parts listed (has_task before task) (and_parts (listed && has_task before task) (not (is_terminated before task)) now).0).1 in
+          let below : task < task_count before =
+          ltb-true task (task_count before)
+          (and_parts listed (has_task before task) (and_parts (listed && has_task before task) (not (is_terminated before task)) now).0).1 in
           omega arith
       | inr was ↦
           let below : task < task_count before = abnormal_exists before task was in

@@ -184,7 +184,8 @@ goes_of task before = record {
 owner_complete : (journal : List Event) (p t : ℕ) → IsBlockOf journal t p → has_ended journal t ≡ true → is_complete journal (Block p) ≡ true
 unfolding is_complete is_complete_block
 owner_complete journal p t block ended =
-    or_right (list_any (λ (e : Event). is_some_and (closing_in e) (λ (c : Closing). eqb c.block p)) journal) (is_some_and (opening_at journal p) (λ (o : Opening). has_ended journal o.by))
+    or_right (list_any (λ (e : Event). is_some_and (closing_in e) (λ (c : Closing). eqb c.block p)) journal) (is_some_and (opening_at journal p)
+    (λ (o : Opening). has_ended journal o.by))
     (rw (block.stands, block.says, block.by) ended)
 
 -- what a task was made within is complete where its maker is completed
@@ -217,16 +218,23 @@ unfolding gone_in
 gone_key task before row key lawful (each t same also is of) = subst (λ (x : TaskNo). OfTermination before x row key) (same_task t task is) of
 gone_key task before row key lawful (leaves_alone t u end new left) =
     let is : t.0 ≡ task.0 = goes_ended task before t.0 end.was (is_terminated-cases (goes_alone task) before t.0 end.now) in
-    absurd (gone_leaves_none task before u t.0 new lawful is (ap (λ (c : Creation). c.by) (same_Some new.creation left.creation (sym new.made ∙ left.made)) ∙ left.by))
+    absurd (gone_leaves_none task before u t.0 new lawful is
+    (ap (λ (c : Creation). c.by) (same_Some new.creation left.creation (sym new.made ∙ left.made)) ∙ left.by))
 gone_key task before row key lawful (ends_owner p over quit) =
     let is : over.task ≡ task.0 = goes_over task before over.task (newly_over (goes_alone task) before over.task (record { was = over.was; now = over.now })) in
-    absurd (goes_unnamed before over.task (ap (is_to_go before) is ∙ gone_goes (goes_alone task) before task.0 lawful.1 refl) over.was (opener_named before over.task p lawful.0 over.block))
+    absurd
+    (goes_unnamed before over.task (ap (is_to_go before) is ∙ gone_goes (goes_alone task) before task.0 lawful.1 refl) over.was
+    (opener_named before over.task p lawful.0 over.block))
 gone_key task before row key lawful (leaves_around p u new over under) =
     let is : over.task ≡ task.0 = goes_over task before over.task (newly_over (goes_alone task) before over.task (record { was = over.was; now = over.now })) in
-    absurd (goes_unnamed before over.task (ap (is_to_go before) is ∙ gone_goes (goes_alone task) before task.0 lawful.1 refl) over.was (opener_named before over.task p lawful.0 over.block))
+    absurd
+    (goes_unnamed before over.task (ap (is_to_go before) is ∙ gone_goes (goes_alone task) before task.0 lawful.1 refl) over.was
+    (opener_named before over.task p lawful.0 over.block))
 gone_key task before row key lawful (ends_caller m p u call over suspended at) =
     let is : u ≡ task.0 = goes_over task before u (newly_over (goes_alone task) before u over) in
-    absurd (goes_unnamed before u (ap (is_to_go before) is ∙ gone_goes (goes_alone task) before task.0 lawful.1 refl) over.was (held_named before u p suspended.event lawful.0 suspended.stands suspended.holds))
+    absurd
+    (goes_unnamed before u (ap (is_to_go before) is ∙ gone_goes (goes_alone task) before task.0 lawful.1 refl) over.was
+    (held_named before u p suspended.event lawful.0 suspended.stands suspended.holds))
 
 pub going_adds : (task : TaskNo) (before : List Event) (row : Row) (key : ℕ) → IsLawful (goes_alone task ∷ before) → Key (goes_alone task) before row key
     → OfTermination before task row key

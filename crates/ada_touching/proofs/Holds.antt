@@ -71,7 +71,8 @@ opened_quietly by under before row key (empties_queue m v left ready depends) = 
 
 pub opening_adds : (by : TaskNo) (under : Master) (before : List Event) (row : Row) (key : ℕ) → IsLawful (opens by under ∷ before)
     → Key (opens by under) before row key → ⊥
-opening_adds by under before row key lawful touched = opened_quietly by under before row key (quietly (opens by under) before row key lawful (opens_quiet by under) touched)
+opening_adds by under before row key lawful touched =
+    opened_quietly by under before row key (quietly (opens by under) before row key lawful (opens_quiet by under) touched)
 
 -- a start adds itself
 abbrev starts : TaskNo → List TaskNo → Event
@@ -96,11 +97,13 @@ started_quietly by tasks before row key (brings_moment now same p says comes) = 
 started_quietly by tasks before row key (closes_around u p closed left) = absurd (none-some closed.closing closed.says)
 started_quietly by tasks before row key (closes_block p closed) = absurd (none-some closed.closing closed.says)
 started_quietly by tasks before row key (waits_open m v waits depends) = absurd (none-some waits.wait waits.says)
-started_quietly by tasks before row key (empties_queue m v left ready depends) = absurd (kept_queued (starts by tasks) before v (starts_quiet by tasks) refl refl left)
+started_quietly by tasks before row key (empties_queue m v left ready depends) =
+    absurd (kept_queued (starts by tasks) before v (starts_quiet by tasks) refl refl left)
 
 pub start_adds : (by : TaskNo) (tasks : List TaskNo) (before : List Event) (row : Row) (key : ℕ) → IsLawful (starts by tasks ∷ before)
     → Key (starts by tasks) before row key → OfStart before row key
-start_adds by tasks before row key lawful touched = started_quietly by tasks before row key (quietly (starts by tasks) before row key lawful (starts_quiet by tasks) touched)
+start_adds by tasks before row key lawful touched =
+    started_quietly by tasks before row key (quietly (starts by tasks) before row key lawful (starts_quiet by tasks) touched)
 
 -- a call adds itself, and the wait at which its callee is suspended
 abbrev asks : TaskNo → TaskNo → Entry → Patience → Option ℤ → Event
@@ -196,11 +199,13 @@ delayed_quietly by until before row key (brings_moment now same p says comes) = 
 delayed_quietly by until before row key (closes_around u p closed left) = absurd (none-some closed.closing closed.says)
 delayed_quietly by until before row key (closes_block p closed) = absurd (none-some closed.closing closed.says)
 delayed_quietly by until before row key (waits_open m v waits depends) = absurd (none-some waits.wait waits.says)
-delayed_quietly by until before row key (empties_queue m v left ready depends) = absurd (kept_queued (delays by until) before v (delays_quiet by until) refl refl left)
+delayed_quietly by until before row key (empties_queue m v left ready depends) =
+    absurd (kept_queued (delays by until) before v (delays_quiet by until) refl refl left)
 
 pub delay_adds : (by : TaskNo) (until : ℤ) (before : List Event) (row : Row) (key : ℕ) → IsLawful (delays by until ∷ before)
     → Key (delays by until) before row key → OfDelay before row key
-delay_adds by until before row key lawful touched = delayed_quietly by until before row key (quietly (delays by until) before row key lawful (delays_quiet by until) touched)
+delay_adds by until before row key lawful touched =
+    delayed_quietly by until before row key (quietly (delays by until) before row key lawful (delays_quiet by until) touched)
 
 -- a close adds itself, its block, and the tasks made within it that were never started
 abbrev shuts : TaskNo → ℕ → Event
@@ -230,11 +235,13 @@ shut_quietly by block before row key (closes_around u p closed left) =
 shut_quietly by block before row key (closes_block p closed) =
     subst (λ (n : ℕ). OfClose before block QuittingBlock n) (sym (shuts_it by block p closed)) quits_itself
 shut_quietly by block before row key (waits_open m v waits depends) = absurd (none-some waits.wait waits.says)
-shut_quietly by block before row key (empties_queue m v left ready depends) = absurd (kept_queued (shuts by block) before v (shuts_quiet by block) refl refl left)
+shut_quietly by block before row key (empties_queue m v left ready depends) =
+    absurd (kept_queued (shuts by block) before v (shuts_quiet by block) refl refl left)
 
 pub close_adds : (by : TaskNo) (block : ℕ) (before : List Event) (row : Row) (key : ℕ) → IsLawful (shuts by block ∷ before)
     → Key (shuts by block) before row key → OfClose before block row key
-close_adds by block before row key lawful touched = shut_quietly by block before row key (quietly (shuts by block) before row key lawful (shuts_quiet by block) touched)
+close_adds by block before row key lawful touched =
+    shut_quietly by block before row key (quietly (shuts by block) before row key lawful (shuts_quiet by block) touched)
 
 -- a tick adds what comes due
 abbrev ticks : ℤ → Event
@@ -254,7 +261,8 @@ unfolding call_in wait_in closing_in released_in moment_in meeting_in
 ticked_quietly to before row key (at_own same says) = absurd (ticks_own to row says)
 ticked_quietly to before row key (frees_caller u p call released at is abnormal) = absurd (none-some p released)
 ticked_quietly to before row key (calls_waiting call p says waits) = absurd (none-some call says)
-ticked_quietly to before row key (brings_moment now same p says comes) = comes_due row p (subst (λ (m : ℤ). ComesDue before m row p) (sym (same_Some to now says)) comes)
+ticked_quietly to before row key (brings_moment now same p says comes) =
+    comes_due row p (subst (λ (m : ℤ). ComesDue before m row p) (sym (same_Some to now says)) comes)
 ticked_quietly to before row key (closes_around u p closed left) = absurd (none-some closed.closing closed.says)
 ticked_quietly to before row key (closes_block p closed) = absurd (none-some closed.closing closed.says)
 ticked_quietly to before row key (waits_open m v waits depends) = absurd (none-some waits.wait waits.says)

@@ -21,3 +21,4 @@ pub mod Silent
 pub mod Unhalted
 pub mod Unstarted
 pub mod Waiting
+pub mod Ways

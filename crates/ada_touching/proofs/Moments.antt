@@ -94,7 +94,9 @@ pub call_due : (event : Event) (before : List Event) (now : ℤ) (p : ℕ) (e st
 unfolding is_to_cancel is_open_at
 call_due event before now p e step moves at gives =
     let found = (then_some-some (is_to_cancel (event ∷ before) p e) (Cancelled p) step gives).0 in
-    let both = and_parts (is_some_and (call_in e) (λ (c : Call). is_conditional c.patience || is_due (moment (event ∷ before)) c.due)) (is_queued_at (event ∷ before) p e) found in
+    let both =
+    and_parts (is_some_and (call_in e) (λ (c : Call). is_conditional c.patience || is_due (moment (event ∷ before)) c.due)) (is_queued_at (event ∷ before) p e)
+    found in
     let (c, says, ends) = option_map_or-true (λ (c : Call). is_conditional c.patience || is_due (moment (event ∷ before)) c.due) (call_in e) both.0 in
     let queued = queued_before event before p e both.1 in
     elim (or_cases (is_conditional c.patience) (is_due (moment (event ∷ before)) c.due) ends) [
@@ -132,7 +134,8 @@ wait_due event before now p e step moves at gives =
     option_and_then_some (passed_at (event ∷ before) p) (wait_in e) step gives (λ w says given.
     let found = if_some (is_pending (event ∷ before) p w.by) (option_map (Passed p) (way_of (moment (event ∷ before)) w.choices w.pick w.tail)) step given in
     let (way, ends, same) = option_map-some (Passed p) (way_of (moment (event ∷ before)) w.choices w.pick w.tail) step found.1 in
-    elim (way_newly (moment before) now w.choices w.pick w.tail way (sym (ap (λ (m : ℤ). way_of m w.choices w.pick w.tail) (moment_is event before now moves)) ∙ ends)) [
+    elim (way_newly (moment before) now w.choices w.pick w.tail way
+    (sym (ap (λ (m : ℤ). way_of m w.choices w.pick w.tail) (moment_is event before now moves)) ∙ ends)) [
       | inl earlier ↦ inl (Passed p way, rw (says, pending_before event before p w.by found.0, earlier) refl)
       | inr comes ↦
           let waits = wait_waits e w says in

@@ -62,7 +62,8 @@ pub terminated_exists : (journal : List Event) (task : ℕ) → IsLawful journal
 unfolding is_terminated
 terminated_exists [] task lawful ended = absurd (false≢true ended)
 terminated_exists (e ∷ before) task lawful ended =
-    let below : task < task_count before = end_exists e before task lawful.1 (terminated_exists before task lawful.0) (is_terminated-cases e before task ended) in
+    let below : task < task_count before =
+    end_exists e before task lawful.1 (terminated_exists before task lawful.0) (is_terminated-cases e before task ended) in
     let more : task_count before ≤ task_count (e ∷ before) = task_count-more e before in
     omega arith
 
@@ -87,14 +88,16 @@ new_ready e before c lawful says ready =
     let parts = ready_parts (e ∷ before) (task_count before) ready in
     let waits = at_wait (e ∷ before) (task_count before) parts.waits parts.live in
     let below : task_count before < task_count before =
-    suspended_exists before (task_count before) waits.position lawful (suspended_before e before (task_count before) waits.position (only_makes e c says).holds waits.suspended) in
+    suspended_exists before (task_count before) waits.position lawful
+    (suspended_before e before (task_count before) waits.position (only_makes e c says).holds waits.suspended) in
     omega arith
 
 -- a master with a dependent that was just made doesn't quit
 pub new_dependent : (e : Event) (before : List Event) (u : ℕ) (m : Master) → IsLawful (e ∷ before) → IsMadeUnder e before u m → is_to_quit (e ∷ before) m ≡ true
     → ⊥
 new_dependent e before u m lawful made quits =
-    let depends : depends_on (e ∷ before) (task_count before) m ≡ true = depends_on-made e before (task_count before) m made.creation made.says refl made.reached in
+    let depends : depends_on (e ∷ before) (task_count before) m ≡ true =
+    depends_on-made e before (task_count before) m made.creation made.says refl made.reached in
     elim (cases_Bool (is_terminated (e ∷ before) (task_count before))) [
       | inl ended ↦ new_terminated e before made.creation lawful.0 made.says ended
       | inr live ↦ new_ready e before made.creation lawful.0 made.says (quits_ready (e ∷ before) m (task_count before) quits depends live)

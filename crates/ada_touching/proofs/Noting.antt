@@ -145,7 +145,8 @@ pub creation_noted : (event : Event) (before : List Event) (old new : List (List
     → is_some (creation_in event) ≡ true → task ≡ task_count before → Grows old new → has_key new Going task ≡ true → IsAgendaOf new (event ∷ before)
 creation_noted event before old new task lawful agenda creates same grows here =
     let here_itself = ap (has_key new Going) (sym same) ∙ here in
-    grown event before old new lawful agenda grows (λ row key added. has_creation_key before new row key here_itself (of_creation event before row key creates added))
+    grown event before old new lawful agenda grows
+    (λ row key added. has_creation_key before new row key here_itself (of_creation event before row key creates added))
 
 -- a call
 of_call : (event : Event) (before : List Event) (callee : ℕ) (row : Row) (key : ℕ) → IsCallOf event callee → Adds before event row key
@@ -204,7 +205,8 @@ has_end_key before new call caller row key of here (halts c at abnormal) = ap (h
 pub end_noted : (event : Event) (before : List Event) (old new : List (List ℕ)) (call caller : ℕ) → IsLawful (event ∷ before) → IsAgendaOf old before
     → ended_call event ≡ Some call → IsCalledBy before call caller → Grows old new → has_key new Halting caller ≡ true → IsAgendaOf new (event ∷ before)
 end_noted event before old new call caller lawful agenda ends of grows here =
-    grown event before old new lawful agenda grows (λ row key added. has_end_key before new call caller row key of here (of_end event before call row key ends added))
+    grown event before old new lawful agenda grows
+    (λ row key added. has_end_key before new call caller row key of here (of_end event before call row key ends added))
 
 -- the end of an activation
 pub record HasStartKey (new : List (List ℕ)) (at : ℕ) : Type 0 where

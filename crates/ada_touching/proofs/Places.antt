@@ -77,7 +77,11 @@ open_block journal task p q e (Some o) says at gives =
     let both = and_parts (eqb o.by task) (not (is_left journal q)) found.0 in
     let same : q ≡ p = cc (found.1) in
     subst (IsOpenBlock journal task) same
-    (record { block = record { event = e; opening = o; stands = at; says = says; by = eqb-true o.by task both.0 }; unleft = not-true (is_left journal q) both.1 })
+    (record {
+      block = record { event = e; opening = o; stands = at; says = says; by = eqb-true o.by task both.0 };
+      unleft = not-true
+          (is_left journal q) both.1;
+    })
 
 not_rendezvous : (test : Meeting → Bool) (p : ℕ) (o : Option Meeting)
     → option_map_or (λ (m : Meeting). then_some (test m) (Rendezvous m.call)) o None ≡ Some (Block p) → ⊥
@@ -151,8 +155,14 @@ row_pending : (journal : List Event) (e : Event) (q : ℕ) → IsRow journal e �
     → (d : Event) × (k : Closing) × (event_at journal q ≡ Some d) × (closing_in d ≡ Some k) × (is_pending journal q k.by ≡ true)
 unfolding left_in is_to_leave
 row_pending journal e q (leaves p d k at says leave) left =
-    let same : p ≡ q = same_Some p q left in
-    (d, k, ap (event_at journal) (sym same) ∙ at, says, ap (λ (n : ℕ). is_pending journal n k.by) (sym same) ∙ (and_parts (is_pending journal p k.by) _ leave).0)
+    let same : p ≡ q = same_Some p q left in (
+      d,
+      k,
+      ap (event_at journal) (sym same) ∙ at,
+      says,
+      ap (λ (n : ℕ). is_pending journal n k.by) (sym same) ∙
+          (and_parts (is_pending journal p k.by) _ leave).0,
+    )
 row_pending journal e q _ left = absurd (none-some q left)
 
 asked_stays : (journal : List Event) (r : Request) → left_in (asked_event journal r) ≡ None
@@ -171,7 +181,9 @@ unfolding is_left_close is_released
 unleft_close [] c left = absurd (false≢true left)
 unleft_close (e ∷ before) c left =
     elim (or_cases (is_number c (left_in e)) (is_left_close before c) left) [
-      | inl now ↦ or_left (is_number c (released_in e)) (is_released before c) (is_number-from c (released_in e) (left_in-left e c (is_number-some c (left_in e) now)).0)
+      | inl now ↦
+          or_left (is_number c (released_in e)) (is_released before c)
+          (is_number-from c (released_in e) (left_in-left e c (is_number-some c (left_in e) now)).0)
       | inr was ↦ or_right (is_number c (released_in e)) (is_released before c) (unleft_close before c was)
     ]
 
@@ -184,19 +196,22 @@ stays_open e before b lawful was none =
     elim (cases_Bool (is_left (e ∷ before) b)) [
       | inr unleft ↦ unleft
       | inl left ↦
-          let (q, d, at, passes) = any_event-found (λ q d. is_some_and (closing_in d) (λ (c : Closing). eqb c.block b) && is_left_close (e ∷ before) q) (e ∷ before) left in
+          let (q, d, at, passes) =
+          any_event-found (λ q d. is_some_and (closing_in d) (λ (c : Closing). eqb c.block b) && is_left_close (e ∷ before) q) (e ∷ before) left in
           let both = and_parts (is_some_and (closing_in d) (λ (c : Closing). eqb c.block b)) (is_left_close (e ∷ before) q) passes in
           let (k, says, closes) = option_map_or-true (λ (c : Closing). eqb c.block b) (closing_in d) both.0 in
           elim (event_at-cases e before q d at) [
             | inl newest ↦
-                let freed : is_released (e ∷ before) (suc (length before)) ≡ true = unleft_close (e ∷ before) (suc (length before)) (subst (λ (n : ℕ). is_left_close (e ∷ before) n ≡ true) newest.0 both.1) in
+                let freed : is_released (e ∷ before) (suc (length before)) ≡ true =
+                unleft_close (e ∷ before) (suc (length before)) (subst (λ (n : ℕ). is_left_close (e ∷ before) n ≡ true) newest.0 both.1) in
                 absurd (true≢false (sym freed ∙ next_unreleased e before lawful))
             | inr older ↦
                 elim (or_cases (is_number q (left_in e)) (is_left_close before q) both.1) [
                   | inl now ↦ absurd (none q d k older says (eqb-true k.block b closes) (is_number-some q (left_in e) now))
                   | inr earlier ↦
                       absurd (both_ways (is_left before b) was
-                      (any_event-from (λ q d. is_some_and (closing_in d) (λ (c : Closing). eqb c.block b) && is_left_close before q) before q d older (and_from (is_some_and (closing_in d) (λ (c : Closing). eqb c.block b)) (is_left_close before q) both.0 earlier)))
+                      (any_event-from (λ q d. is_some_and (closing_in d) (λ (c : Closing). eqb c.block b) && is_left_close before q) before q d older
+                      (and_from (is_some_and (closing_in d) (λ (c : Closing). eqb c.block b)) (is_left_close before q) both.0 earlier)))
                 ]
           ]
     ]
@@ -215,14 +230,22 @@ closer_open (e ∷ before) c p lawful closes suspended =
       | inr older ↦
           let live = has_ended-before e before c.by suspended.live in
           let was : IsSuspendedAt before c.by p =
-          record { event = closes.event; stands = older; holds = held_in-closing closes.event c closes.says; unreleased = is_released-before e before p suspended.unreleased; live = live } in
+          record {
+            event = closes.event;
+            stands = older;
+            holds = held_in-closing closes.event c closes.says;
+            unreleased = is_released-before e before p suspended.unreleased;
+            live = live;
+          } in
           let unleft = closer_open before c p lawful.0 (record { event = closes.event; stands = older; says = closes.says }) was in
           stays_open e before c.block lawful unleft
           (λ q d k at is block left.
           let (d2, k2, at2, is2, pending) = leaving_suspended e before q lawful.1 left in
           let one : d2 ≡ d = same_Some d2 d (sym at2 ∙ at) in
           let kept : k2 ≡ k = same_Some k2 k (sym is2 ∙ (ap closing_in one ∙ is)) in
-          let other = owner_is before c.block k.by c.by (subst (λ (n : ℕ). IsBlockOf before k.by n) block (closer_owns before q d k lawful.0 at is)) (closer_owns before p closes.event c lawful.0 older closes.says) in
+          let other =
+          owner_is before c.block k.by c.by (subst (λ (n : ℕ). IsBlockOf before k.by n) block (closer_owns before q d k lawful.0 at is))
+          (closer_owns before p closes.event c lawful.0 older closes.says) in
           let by : k2.by ≡ c.by = ap (λ (k : Closing). k.by) kept ∙ other in
           let here = suspended_at before q c.by d at (held_in-closing d k is ∙ ap Some other) (subst (λ (n : ℕ). is_pending before q n ≡ true) by pending) in
           let same : q ≡ p = suspended_once before c.by q p lawful.0 here was in

@@ -80,12 +80,14 @@ pub quietly : (event : Event) (before : List Event) (row : Row) (key : ℕ) → 
 quietly event before row key lawful quiet (own same says) = at_own same says
 quietly event before row key lawful quiet (made c says) = absurd (none-some c (sym quiet.makes ∙ says))
 quietly event before row key lawful quiet (hit u new) = absurd (both_ways (is_abnormal before u) new.was (sym (same_abnormal event before u quiet) ∙ new.now))
-quietly event before row key lawful quiet (freed u p call released at by abnormal) = frees_caller u p call released at by (sym (same_abnormal event before u quiet) ∙ abnormal)
+quietly event before row key lawful quiet (freed u p call released at by abnormal) =
+    frees_caller u p call released at by (sym (same_abnormal event before u quiet) ∙ abnormal)
 quietly event before row key lawful quiet (lost u p call was now) =
     absurd (both_ways (is_lost before u) was (sym (rw (quiet_ended event before u quiet, same_abnormal event before u quiet) refl) ∙ now))
 quietly event before row key lawful quiet (called call p says waits) = calls_waiting call p says waits
 quietly event before row key lawful quiet (due now same p says comes) = brings_moment now same p says comes
-quietly event before row key lawful quiet (done t p of was now) = absurd (both_ways (is_done_activating before t) was (sym (not_done event before t quiet) ∙ now))
+quietly event before row key lawful quiet (done t p of was now) =
+    absurd (both_ways (is_done_activating before t) was (sym (not_done event before t quiet) ∙ now))
 quietly event before row key lawful quiet (completed u says) = absurd (none-some u (sym quiet.completes ∙ says))
 quietly event before row key lawful quiet (abandoned u new) = left_why event before u lawful quiet new
 quietly event before row key lawful quiet (going d u end depends) = absurd (not_ended event before d quiet end)

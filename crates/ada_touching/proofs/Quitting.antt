@@ -115,7 +115,9 @@ depends_too : (before : List Event) (m : Master) (task u : TaskNo) (p : ℕ) →
     → depends_on before u.0 (Block p) ≡ true → depends_on before u.0 m ≡ true
 depends_too before m task u p lawful depends block on_block =
     let known = depends_exists before u.0 (Block p) on_block in
-    let reached = reaches_trans before lawful (Body u) (Block p) (Body task) known (depends_reaches before u (Block p) on_block) (block_reaches_owner before task p lawful block) in
+    let reached =
+    reaches_trans before lawful (Body u) (Block p) (Body task) known (depends_reaches before u (Block p) on_block)
+    (block_reaches_owner before task p lawful block) in
     elim (reaches_from_body before u (Body task) reached) [
       | inl same ↦
           let one : task.0 ≡ u.0 = sym (ap (λ (t : TaskNo). t.0) (cc same)) in

@@ -43,13 +43,16 @@ unfolding any_event
 waited event before task was now =
     elim (or_cases (waits_open (event ∷ before) task (suc (length before)) event) (any_event (waits_open (event ∷ before) task) before) now) [
       | inl newest ↦
-          let both = and_parts (is_some_and (wait_in event) (λ (w : Wait). eqb w.by task && is_open_terminate w.tail)) (not (is_released (event ∷ before) (suc (length before)))) newest in
+          let both =
+          and_parts (is_some_and (wait_in event) (λ (w : Wait). eqb w.by task && is_open_terminate w.tail))
+          (not (is_released (event ∷ before) (suc (length before)))) newest in
           let (w, says, found) = option_map_or-true (λ (w : Wait). eqb w.by task && is_open_terminate w.tail) (wait_in event) both.0 in
           let parts = and_parts (eqb w.by task) (is_open_terminate w.tail) found in
           record { wait = w; says = says; by = eqb-true w.by task parts.0; open_end = parts.1 }
       | inr older ↦
           let (p, e, at, found) = any_event-found (waits_open (event ∷ before) task) before older in
-          let both = and_parts (is_some_and (wait_in e) (λ (w : Wait). eqb w.by task && is_open_terminate w.tail)) (not (is_released (event ∷ before) p)) found in
+          let both =
+          and_parts (is_some_and (wait_in e) (λ (w : Wait). eqb w.by task && is_open_terminate w.tail)) (not (is_released (event ∷ before) p)) found in
           let still : waits_open before task p e ≡ true =
           and_from (is_some_and (wait_in e) (λ (w : Wait). eqb w.by task && is_open_terminate w.tail)) (not (is_released before p)) both.0
           (not_from_false (is_released before p) (is_released-before event before p (not-true (is_released (event ∷ before) p) both.1))) in
@@ -80,10 +83,14 @@ emptied event before task waits was now =
       | inl stays ↦
           let here = any_event-from (calls_it (event ∷ before) task) (event ∷ before) p e (event_at-older event before p e at)
           (and_from (is_some_and (call_in e) (λ (c : Call). eqb c.callee task)) (is_queued_at (event ∷ before) p e) both.0 stays) in
-          absurd (both_ways (any_event (calls_it (event ∷ before) task) (event ∷ before)) (not-true (any_event (calls_it (event ∷ before) task) (event ∷ before)) now) here)
+          absurd
+          (both_ways (any_event (calls_it (event ∷ before) task) (event ∷ before))
+          (not-true (any_event (calls_it (event ∷ before) task) (event ∷ before)) now) here)
     ] in
-    let more : is_queued_at (event ∷ before) p e ≡ (is_queued_at before p e && (not (is_number p (released_in event)) && not (ends event before c.by) && not (meets event p))) =
-    queued-more event before p e ∙ ap (λ (o : Option Call). is_queued_at before p e && (not (is_number p (released_in event)) && not (ends_caller event before o) && not (meets event p))) says in
+    let more : is_queued_at (event ∷ before) p e ≡ (is_queued_at before p e &&
+    (not (is_number p (released_in event)) && not (ends event before c.by) && not (meets event p))) =
+    queued-more event before p e ∙ ap (λ (o : Option Call). is_queued_at before p e &&
+    (not (is_number p (released_in event)) && not (ends_caller event before o) && not (meets event p))) says in
     record {
       position = p;
       called = e;

@@ -101,7 +101,8 @@ at_own : (event step : Event) (before : List Event) (row : Row) → IsLawful (ev
 unfolding is_to_fail is_to_cancel
 at_own event step before Failing lawful by gives =
     let found = (then_some-some (is_to_fail (event ∷ before) (itself before) event) (Failed (itself before)) step gives).0 in
-    let both = and_parts (is_some_and (call_in event) (λ (c : Call). is_lost (event ∷ before) c.callee)) (is_open_at (event ∷ before) (itself before) event) found in
+    let both =
+    and_parts (is_some_and (call_in event) (λ (c : Call). is_lost (event ∷ before) c.callee)) (is_open_at (event ∷ before) (itself before) event) found in
     let (c, says, unanswered) = option_map_or-true (λ (c : Call). is_lost (event ∷ before) c.callee) (call_in event) both.0 in
     some_of (call_in event) c says
 at_own event step before Cancelling lawful by gives =
@@ -114,14 +115,18 @@ at_own event step before Taking lawful by gives =
 at_own event step before Passing lawful by gives =
     option_and_then_some (passed_at (event ∷ before) (itself before)) (wait_in event) step gives (λ w says given. some_of (wait_in event) w says)
 at_own event step before Waking lawful by gives =
-    option_and_then_some (λ (d : Delay). then_some (is_to_wake (event ∷ before) (itself before) d) (Woken (itself before))) (delay_in event) step gives (λ d says given. some_of (delay_in event) d says)
+    option_and_then_some (λ (d : Delay). then_some (is_to_wake (event ∷ before) (itself before) d) (Woken (itself before))) (delay_in event) step gives
+    (λ d says given. some_of (delay_in event) d says)
 at_own event step before Activating lawful by gives =
     option_and_then_some (activated_at (event ∷ before) (itself before)) (start_in event) step gives (λ s says given. some_of (start_in event) s says)
 at_own event step before Leaving lawful by gives =
-    option_and_then_some (λ (c : Closing). then_some (is_to_leave (event ∷ before) (itself before) c) (Left (itself before))) (closing_in event) step gives (λ c says given. some_of (closing_in event) c says)
+    option_and_then_some (λ (c : Closing). then_some (is_to_leave (event ∷ before) (itself before) c) (Left (itself before))) (closing_in event) step gives
+    (λ c says given. some_of (closing_in event) c says)
 at_own event step before QuittingBlock lawful by gives =
-    option_and_then_some (λ (_ : Opening). then_some (is_to_quit (event ∷ before) (Block (itself before))) (Quit (Block (itself before)))) (opening_in event) step gives
-    (λ o says given. absurd (no_new_block event before lawful (then_some-some (is_to_quit (event ∷ before) (Block (itself before))) (Quit (Block (itself before))) step given).0))
+    option_and_then_some (λ (_ : Opening). then_some (is_to_quit (event ∷ before) (Block (itself before))) (Quit (Block (itself before))))
+    (opening_in event) step gives
+    (λ o says given. absurd
+    (no_new_block event before lawful (then_some-some (is_to_quit (event ∷ before) (Block (itself before))) (Quit (Block (itself before))) step given).0))
 at_own event step before Halting lawful by gives = absurd (true≢false by)
 at_own event step before Going lawful by gives = absurd (true≢false by)
 at_own event step before QuittingBody lawful by gives = absurd (true≢false by)
@@ -130,9 +135,12 @@ at_own event step before QuittingBody lawful by gives = absurd (true≢false by)
 task_step : (journal : List Event) (row : Row) (u : ℕ) (step : Event) → goes_by_task row ≡ true → step_at journal row u ≡ Some step
     → of_task journal row u ≡ Some step
 unfolding step_at
-task_step journal Halting u step by gives = (of_found (λ v. of_task journal Halting v) (task_count journal) u step (Halted (task_no u)) (nat_lt u (task_count journal)) refl gives).1
-task_step journal Going u step by gives = (of_found (λ v. of_task journal Going v) (task_count journal) u step (Halted (task_no u)) (nat_lt u (task_count journal)) refl gives).1
-task_step journal QuittingBody u step by gives = (of_found (λ v. of_task journal QuittingBody v) (task_count journal) u step (Halted (task_no u)) (nat_lt u (task_count journal)) refl gives).1
+task_step journal Halting u step by gives =
+    (of_found (λ v. of_task journal Halting v) (task_count journal) u step (Halted (task_no u)) (nat_lt u (task_count journal)) refl gives).1
+task_step journal Going u step by gives =
+    (of_found (λ v. of_task journal Going v) (task_count journal) u step (Halted (task_no u)) (nat_lt u (task_count journal)) refl gives).1
+task_step journal QuittingBody u step by gives =
+    (of_found (λ v. of_task journal QuittingBody v) (task_count journal) u step (Halted (task_no u)) (nat_lt u (task_count journal)) refl gives).1
 task_step journal Failing u step by gives = absurd (false≢true by)
 task_step journal Taking u step by gives = absurd (false≢true by)
 task_step journal Cancelling u step by gives = absurd (false≢true by)
@@ -173,7 +181,9 @@ just_made event step before Going c lawful by says gives = made c says
 just_made event step before Halting c lawful by says gives =
     let new = task_count before in
     let found = (then_some-some (is_to_halt (event ∷ before) new) (Halted (task_no new)) step gives).0 in
-    absurd (new_abnormal event before c says (three_parts (is_abnormal (event ∷ before) new) (has_ended (event ∷ before) new) (is_caller_in_rendezvous (event ∷ before) new) found).0)
+    absurd
+    (new_abnormal event before c says
+    (three_parts (is_abnormal (event ∷ before) new) (has_ended (event ∷ before) new) (is_caller_in_rendezvous (event ∷ before) new) found).0)
 just_made event step before QuittingBody c lawful by says gives =
     let new = task_no (task_count before) in
     let live = quits_live (event ∷ before) (Body new) (then_some-some (is_to_quit (event ∷ before) (Body new)) (Quit (Body new)) step gives).0 in
@@ -192,7 +202,8 @@ just_made event step before Leaving c lawful by says gives = absurd (false≢tru
 halts_abnormal : (event step : Event) (before : List Event) (u : ℕ) → of_task (event ∷ before) Halting u ≡ Some step → is_abnormal (event ∷ before) u ≡ true
 unfolding is_to_halt
 halts_abnormal event step before u gives =
-    (three_parts (is_abnormal (event ∷ before) u) (has_ended (event ∷ before) u) (is_caller_in_rendezvous (event ∷ before) u) (then_some-some (is_to_halt (event ∷ before) u) (Halted (task_no u)) step gives).0).0
+    (three_parts (is_abnormal (event ∷ before) u) (has_ended (event ∷ before) u) (is_caller_in_rendezvous (event ∷ before) u)
+    (then_some-some (is_to_halt (event ∷ before) u) (Halted (task_no u)) step gives).0).0
 
 -- a call that fails was open
 fails_open : (event step : Event) (before : List Event) (call : Call) (p : ℕ) (at : IsCallAt before call p) → IsLawful before
@@ -222,7 +233,9 @@ unfolding activated_at
 activates_maker event step before p e start t lawful at says named gives =
     let by = starters_made before p e start t lawful at says named in
     option_and_then_some (activated_at (event ∷ before) p) (start_in e) step gives (λ s is given.
-    let both = and_parts (is_pending (event ∷ before) p s.by) (list_all (is_done_activating (event ∷ before)) s.tasks) (if_some (is_pending (event ∷ before) p s.by && list_all (is_done_activating (event ∷ before)) s.tasks) _ step given).0 in
+    let both =
+    and_parts (is_pending (event ∷ before) p s.by) (list_all (is_done_activating (event ∷ before)) s.tasks)
+    (if_some (is_pending (event ∷ before) p s.by && list_all (is_done_activating (event ∷ before)) s.tasks) _ step given).0 in
     let same : s.by ≡ by.creation.by = ap (λ (s : Start). s.by) (same_Some s start (sym is ∙ says)) ∙ sym by.by in
     record {
       creation = by.creation;
@@ -239,7 +252,10 @@ leaves_suspended : (event step : Event) (before : List Event) (p : ℕ) (e : Eve
 unfolding is_to_leave
 leaves_suspended event step before p e closing lawful at says gives =
     option_and_then_some (λ (c : Closing). then_some (is_to_leave (event ∷ before) p c) (Left p)) (closing_in e) step gives (λ c is given.
-    let pending = (and_parts (is_pending (event ∷ before) p c.by) (all_terminated (event ∷ before) (Block c.block)) (then_some-some (is_to_leave (event ∷ before) p c) (Left p) step given).0).0 in
+    let pending =
+    (and_parts (is_pending (event ∷ before) p c.by) (all_terminated (event ∷ before) (Block c.block))
+    (then_some-some (is_to_leave (event ∷ before) p c) (Left p) step given).0).0
+    in
     let by : c.by ≡ closing.by = ap (λ (c : Closing). c.by) (same_Some c closing (sym is ∙ says)) in
     let closes : IsCloseAt before closing p = record { event = e; stands = at; says = says } in
     let suspended = suspended_since event before p closing.by e at (held_in-closing e closing says) (rw by at pending) in
@@ -298,9 +314,12 @@ given_or_due event before now row p e moving at stands (inr comes) = inr (due no
 by_tick : (event step : Event) (before : List Event) (now : ℤ) (row : Row) (p : ℕ) (e : Event) → moment_in event ≡ Some now → goes_by_moment row ≡ true
     → event_at before p ≡ Some e → at_event (event ∷ before) row p e ≡ Some step → IsGivenOrTouched event before row p
 unfolding step_at
-by_tick event step before now Cancelling p e moving by at gives = given_or_due event before now Cancelling p e moving at (λ older given. given) (call_due event before now p e step moving at gives)
-by_tick event step before now Passing p e moving by at gives = given_or_due event before now Passing p e moving at (λ older given. given) (wait_due event before now p e step moving at gives)
-by_tick event step before now Waking p e moving by at gives = given_or_due event before now Waking p e moving at (λ older given. given) (delay_due event before now p e step moving at gives)
+by_tick event step before now Cancelling p e moving by at gives =
+    given_or_due event before now Cancelling p e moving at (λ older given. given) (call_due event before now p e step moving at gives)
+by_tick event step before now Passing p e moving by at gives =
+    given_or_due event before now Passing p e moving at (λ older given. given) (wait_due event before now p e step moving at gives)
+by_tick event step before now Waking p e moving by at gives =
+    given_or_due event before now Waking p e moving at (λ older given. given) (delay_due event before now p e step moving at gives)
 by_tick event step before now Halting p e moving by at gives = absurd (false≢true by)
 by_tick event step before now Failing p e moving by at gives = absurd (false≢true by)
 by_tick event step before now Taking p e moving by at gives = absurd (false≢true by)
@@ -323,12 +342,14 @@ ticked : (event step : Event) (before : List Event) (row : Row) (p : ℕ) (o : O
     → moment_in event ≡ o → (moment_in event ≡ None → ⊥) → step_at (event ∷ before) row p ≡ Some step → IsGivenOrTouched event before row p
 ticked event step before row p None lawful by moving some gives = absurd (some moving)
 ticked event step before row p (Some now) lawful by moving some gives =
-    option_and_then_some (at_event (event ∷ before) row p) (event_at (event ∷ before) p) step (position_step (event ∷ before) row p step (by_position row by) gives) (λ e at given.
+    option_and_then_some (at_event (event ∷ before) row p) (event_at (event ∷ before) p) step
+    (position_step (event ∷ before) row p step (by_position row by) gives) (λ e at given.
     elim (event_at-cases event before p e at) [
       | inr older ↦ by_tick event step before now row p e moving by older given
       | inl last ↦
           inr (subst (λ (n : ℕ). Key event before row n) (sym last.0)
-          (own row (at_own event step before row lawful (by_position row by) (subst (λ (n : ℕ). at_event (event ∷ before) row n event ≡ Some step) last.0 (ap (at_event (event ∷ before) row p) last.1 ∙ given)))))
+          (own row (at_own event step before row lawful (by_position row by)
+          (subst (λ (n : ℕ). at_event (event ∷ before) row n event ≡ Some step) last.0 (ap (at_event (event ∷ before) row p) last.1 ∙ given)))))
     ])
 
 -- what an event touches where it gives a step
@@ -344,7 +365,9 @@ refined event before row key step lawful gives (frees u p call released at by) =
 refined event before row key step lawful gives (loses p call at was now) =
     inr (lost call.callee p (fails_open event step before call p at lawful.0 (older_step event step before Failing p at.event refl at.stands gives)) was now)
 refined event before row key step lawful gives (calls p wait at of) =
-    inr (called of.call p of.says (takes_suspended event step before wait p of.call.callee at (sym of.of) (older_step event step before Taking p at.event refl at.stands gives)))
+    inr
+    (called of.call p of.says
+    (takes_suspended event step before wait p of.call.callee at (sym of.of) (older_step event step before Taking p at.event refl at.stands gives)))
 refined event before row key step lawful gives (moves same p by some) = ticked event step before row p (moment_in event) lawful by refl some gives
 refined event before row key step lawful gives (elaborates p e start t at says among was now) =
     inr (done t p (activates_maker event step before p e start t lawful.0 at says among (older_step event step before Activating p e refl at gives)) was now)

@@ -106,15 +106,25 @@ row_no_call : (journal : List Event) (e : Event) (x : ℕ) (call : Call) → IsR
     → IsCallAt journal call x → ⊥
 unfolding released_in
 row_no_call journal e x call (meets p d wait c at says pending taken) frees_it other called =
-    none-some wait (sym (only_calls called.event call called.says).waits ∙ (ap wait_in (same_event journal x called.event d called.stands (ap (event_at journal) (sym (same_Some p x frees_it)) ∙ at)) ∙ says))
+    none-some wait
+    (sym (only_calls called.event call called.says).waits ∙
+    (ap wait_in (same_event journal x called.event d called.stands (ap (event_at journal) (sym (same_Some p x frees_it)) ∙ at)) ∙ says))
 row_no_call journal e x call (passes p d wait way at says pending taken) frees_it other called =
-    none-some wait (sym (only_calls called.event call called.says).waits ∙ (ap wait_in (same_event journal x called.event d called.stands (ap (event_at journal) (sym (same_Some p x frees_it)) ∙ at)) ∙ says))
+    none-some wait
+    (sym (only_calls called.event call called.says).waits ∙
+    (ap wait_in (same_event journal x called.event d called.stands (ap (event_at journal) (sym (same_Some p x frees_it)) ∙ at)) ∙ says))
 row_no_call journal e x call (wakes p d delay at says wake) frees_it other called =
-    none-some delay (sym (only_calls called.event call called.says).delays ∙ (ap delay_in (same_event journal x called.event d called.stands (ap (event_at journal) (sym (same_Some p x frees_it)) ∙ at)) ∙ says))
+    none-some delay
+    (sym (only_calls called.event call called.says).delays ∙
+    (ap delay_in (same_event journal x called.event d called.stands (ap (event_at journal) (sym (same_Some p x frees_it)) ∙ at)) ∙ says))
 row_no_call journal e x call (activates p d start ok at says pending done is) frees_it other called =
-    none-some start (sym (only_calls called.event call called.says).starts ∙ (ap start_in (same_event journal x called.event d called.stands (ap (event_at journal) (sym (same_Some p x frees_it)) ∙ at)) ∙ says))
+    none-some start
+    (sym (only_calls called.event call called.says).starts ∙
+    (ap start_in (same_event journal x called.event d called.stands (ap (event_at journal) (sym (same_Some p x frees_it)) ∙ at)) ∙ says))
 row_no_call journal e x call (leaves p d closing at says leave) frees_it other called =
-    none-some closing (sym (only_calls called.event call called.says).closes ∙ (ap closing_in (same_event journal x called.event d called.stands (ap (event_at journal) (sym (same_Some p x frees_it)) ∙ at)) ∙ says))
+    none-some closing
+    (sym (only_calls called.event call called.says).closes ∙
+    (ap closing_in (same_event journal x called.event d called.stands (ap (event_at journal) (sym (same_Some p x frees_it)) ∙ at)) ∙ says))
 row_no_call journal e x call (fails p d at fail) frees_it other called = true≢false other
 row_no_call journal e x call (cancels p d at cancel) frees_it other called = true≢false other
 row_no_call journal e x call (halts u below halt) frees_it other called = none-some x frees_it

@@ -58,7 +58,8 @@ pub halts_free : (journal : List Event) (u : ℕ) → u < task_count journal →
     → is_caller_in_rendezvous journal u ≡ false → halted journal ≡ None → ⊥
 unfolding halted is_to_halt
 halts_free journal u below abnormal live free none =
-    none-some (Halted (task_no u)) (sym (nothing_below (λ u. then_some (is_to_halt journal u) (Halted (task_no u))) (task_count journal) u none below) ∙ rw (abnormal, live, free) refl)
+    none-some (Halted (task_no u))
+    (sym (nothing_below (λ u. then_some (is_to_halt journal u) (Halted (task_no u))) (task_count journal) u none below) ∙ rw (abnormal, live, free) refl)
 
 -- the call of a caller in a rendezvous
 pub record IsJoined (journal : List Event) (task position : ℕ) : Type 0 where
@@ -81,7 +82,15 @@ joined_at journal task joined =
       record {
         call = call;
         stands = opened.stands;
-        suspended = record { event = h.event; stands = h.stands; holds = h.holds ∙ ap Some same; unreleased = h.unreleased; live = ap (has_ended journal) (sym same) ∙ h.live };
+        suspended =
+            record {
+              event = h.event;
+              stands = h.stands;
+              holds = h.holds ∙ ap Some same;
+              unreleased = h.unreleased;
+              live = ap (has_ended journal)
+                  (sym same) ∙ h.live;
+            };
         met = parts.1;
       },
     )

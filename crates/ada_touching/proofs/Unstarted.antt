@@ -51,7 +51,10 @@ quit_quits e before m (inr asked) says =
 pub goes_how : (journal : List Event) (task : ℕ) → is_to_go journal task ≡ true → (is_completed journal task ≡ true) ⊎ (is_abandoned journal task ≡ true)
 unfolding is_to_go
 goes_how journal task go =
-    let ways = (and_parts (not (is_terminated journal task)) (is_completed journal task && all_terminated journal (Body (record { 0 = task })) || is_abandoned journal task) go).1 in
+    let ways =
+    (and_parts (not (is_terminated journal task))
+    (is_completed journal task && all_terminated journal (Body (record { 0 = task })) || is_abandoned journal task) go).1
+    in
     elim (or_cases (is_completed journal task && all_terminated journal (Body (record { 0 = task }))) (is_abandoned journal task) ways) [
       | inl both ↦ inl (and_parts (is_completed journal task) (all_terminated journal (Body (record { 0 = task }))) both).0
       | inr abandoned ↦ inr abandoned
@@ -60,7 +63,9 @@ goes_how journal task go =
 pub abandoned_unnamed : (journal : List Event) (task : ℕ) → is_abandoned journal task ≡ true → IsNamed journal task → ⊥
 unfolding is_abandoned
 abandoned_unnamed journal task abandoned named =
-    let both = and_parts (is_some_and (creation_of journal task) (λ (c : Creation). is_complete journal c.under || is_terminated journal c.by)) (not (has_start journal task)) abandoned in
+    let both =
+    and_parts (is_some_and (creation_of journal task) (λ (c : Creation). is_complete journal c.under || is_terminated journal c.by))
+    (not (has_start journal task)) abandoned in
     let (c, says, over) = option_map_or-true (λ (c : Creation). is_complete journal c.under || is_terminated journal c.by) (creation_of journal task) both.0 in
     let positive : 0 < task = created_positive journal task c says in
     elim named [

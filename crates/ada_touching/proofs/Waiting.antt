@@ -35,7 +35,8 @@ pub record IsAtWait (journal : List Event) (task : ℕ) : Type 0 where
 
 pub at_wait : (journal : List Event) (task : ℕ) → is_at_open_terminate journal task ≡ true → has_ended journal task ≡ false → IsAtWait journal task
 at_wait journal task waits live =
-    let (p, e, at, found) = any_event-found (λ p e. is_some_and (wait_in e) (λ (w : Wait). eqb w.by task && is_open_terminate w.tail) && not (is_released journal p)) journal waits in
+    let (p, e, at, found) =
+    any_event-found (λ p e. is_some_and (wait_in e) (λ (w : Wait). eqb w.by task && is_open_terminate w.tail) && not (is_released journal p)) journal waits in
     let both = and_parts (is_some_and (wait_in e) (λ (w : Wait). eqb w.by task && is_open_terminate w.tail)) (not (is_released journal p)) found in
     let (w, says, here) = option_map_or-true (λ (w : Wait). eqb w.by task && is_open_terminate w.tail) (wait_in e) both.0 in
     let by : w.by ≡ task = eqb-true w.by task (and_parts (eqb w.by task) (is_open_terminate w.tail) here).0 in
@@ -43,7 +44,8 @@ at_wait journal task waits live =
       position = p;
       event = e;
       wait = w;
-      suspended = record { event = e; stands = at; holds = held_in-wait e w says ∙ ap Some by; unreleased = not-true (is_released journal p) both.1; live = live };
+      suspended =
+          record { event = e; stands = at; holds = held_in-wait e w says ∙ ap Some by; unreleased = not-true (is_released journal p) both.1; live = live };
       stands = at;
       says = says;
     }

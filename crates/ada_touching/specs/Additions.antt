@@ -10,7 +10,10 @@ use Rattle.ada_events.specs.declared.names.Entry.{Entry}
 use Rattle.ada_events.specs.declared.names.Family.{Family}
 use Rattle.ada_events.specs.declared.names.Choice.{Choice}
 use Rattle.ada_events.specs.declared.names.Patience.{Patience}
+use Rattle.ada_events.specs.declared.names.Master.TheVariants.{Body}
+use Rattle.ada_events.specs.Masters.{depends_on}
 use Rattle.ada_events.specs.Lawful.{IsLawful}
+use Rattle.ada_laws.specs.Masters.{parent_of}
 use Rattle.ada_forcing.specs.declared.row.Row.{Row}
 use Rattle.ada_forcing.specs.Rows.{step_at, IsAgenda}
 use Rattle.ada_touching.specs.Kinds.{Nowhere, OfCreation, OfStart, OfElaboration, OfCall, OfWait, OfDelay, OfClose, OfEnd, OfCancellation, OfCompletion, OfHalt, OfAbort, OfTick, OfTermination, OfQuit, Adds}
@@ -166,3 +169,12 @@ abbrev pub QuitsAddMasters : Type 0
 QuitsAddMasters =
     (before : List Event) (master : Master)
     → LawfullyAddsOnly (Quit master) before (OfQuit before master)
+
+-- what has the parent of a task's body, and the parent of each master that it has, has all masters on
+-- which the task depends
+abbrev pub MastersAreFoundOutwards : Type 0
+MastersAreFoundOutwards =
+    (journal : List Event) (task : TaskNo) (In : Master → Bool) → IsLawful journal
+    → ((m : Master) → parent_of journal (Body task) ≡ Some m → In m ≡ true)
+    → ((m n : Master) → In m ≡ true → parent_of journal m ≡ Some n → In n ≡ true)
+    → (m : Master) → depends_on journal task.0 m ≡ true → In m ≡ true

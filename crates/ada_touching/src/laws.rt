@@ -1,6 +1,6 @@
 //! Laws of where each kind of event can newly force a step.
 
-ghost use Rattle.ada_touching.specs.Additions.{EventsAddTheirKeys, AgendasGrow, AgendasStay, OpeningsAddNothing, CreationsAddTheirTask, StartsAddThemselves, ElaborationsAddTheirStart, CallsAddTheWait, WaitsAddMasters, DelaysAddThemselves, ClosesAddTheirBlock, EndsAddTheCaller, FailuresAddTheCaller, CancellationsAddMasters, MeetingsAddNothing, PassingsAddNothing, WakingsAddNothing, ActivationsAddNothing, LeavingsAddNothing, CompletionsAddTheirTask, FailedActivationsAddTheirTask, HaltsAddTheirTask, AbortsAddTheirTasks, TicksAddWhatIsDue, TerminationsAddMasters, QuitsAddMasters};
+ghost use Rattle.ada_touching.specs.Additions.{EventsAddTheirKeys, AgendasGrow, AgendasStay, OpeningsAddNothing, CreationsAddTheirTask, StartsAddThemselves, ElaborationsAddTheirStart, CallsAddTheWait, WaitsAddMasters, DelaysAddThemselves, ClosesAddTheirBlock, EndsAddTheCaller, FailuresAddTheCaller, CancellationsAddMasters, MeetingsAddNothing, PassingsAddNothing, WakingsAddNothing, ActivationsAddNothing, LeavingsAddNothing, CompletionsAddTheirTask, FailedActivationsAddTheirTask, HaltsAddTheirTask, AbortsAddTheirTasks, TicksAddWhatIsDue, TerminationsAddMasters, QuitsAddMasters, MastersAreFoundOutwards};
 
 /// After one more event of a lawful journal a row gives a step only where it gave one before, or at one of the few
 /// keys that an event of its kind adds.
@@ -149,4 +149,9 @@ pub fn terminations_add_masters()
 #[tactic(auto, using(crate::proofs::Adding::quits_add_masters))]
 pub fn quits_add_masters()
     ensures { QuitsAddMasters }
+{}
+
+/// A walk by parents, from what a task was made under outwards, finds all masters on which the task depends (9.4).
+pub fn masters_are_found_outwards()
+    ensures { MastersAreFoundOutwards }
 {}

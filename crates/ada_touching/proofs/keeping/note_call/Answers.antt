@@ -12,9 +12,11 @@ returns c =
     let one = c.put.ensures in
     let two = c.put-2.ensures in
     let three = c.put_at.ensures in
-    call_noted c.args.event.now c.args.journal.now.events c.args.agenda.now c.put_at.new.agenda c.args._callee.0 c.args.at own c.requires.lawful c.requires.stands
+    call_noted c.args.event.now c.args.journal.now.events c.args.agenda.now c.put_at.new.agenda c.args._callee.0 c.args.at own c.requires.lawful
+    c.requires.stands
     c.requires.calls c.requires.waits c.own_key-own.ensures.own
-    (grows_on c.args.agenda.now c.put-2.new.agenda c.put_at.new.agenda (grows_on c.args.agenda.now c.put.new.agenda c.put-2.new.agenda one.grows two.grows) three.grows)
+    (grows_on c.args.agenda.now c.put-2.new.agenda c.put_at.new.agenda
+    (grows_on c.args.agenda.now c.put.new.agenda c.put-2.new.agenda one.grows two.grows) three.grows)
     (record {
       failing = three.grows.kept Failing own (two.grows.kept Failing own one.here);
       cancelling = three.grows.kept Cancelling own two.here;

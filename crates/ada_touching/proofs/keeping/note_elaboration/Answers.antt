@@ -7,5 +7,6 @@ put_at-requires-clause-fits c some =
 
 pub returns : goal.returns
 returns c =
-    up_noted c.args._event.now c.args._journal.now.events c.args.agenda.now c.put_at.new.agenda c.args._task c.args._maker.0 c.args.at c.requires.lawful c.requires.stands
+    up_noted c.args._event.now c.args._journal.now.events c.args.agenda.now c.put_at.new.agenda c.args._task c.args._maker.0 c.args.at c.requires.lawful
+    c.requires.stands
     c.requires.comes_up c.requires.made c.requires.waits c.put_at.ensures.grows (record { activating = c.put_at.ensures.here })
