@@ -23,7 +23,8 @@ use Rattle.ada_hall.proofs.Counts.{accepted_counts, count_within, nothing_counte
 use Rattle.ada_hall.proofs.Telling.{history_begins, history_goes_on, history_push, accepted_goes_on, gives_value, gives_answer}
 
 pub hall_opens : (script : List Line) (places total : ℕ) (showing : Showing) (names : Scope) (answers : List Kept) → places ≡ length script → total ≡ 0
-    → showing ≡ record { journal = []; published = []; behind = false } → names ≡ scope_of script → answers ≡ [] → IsHall script places total (held showing names answers)
+    → showing ≡ record { journal = []; published = []; behind = false } → names ≡ scope_of script → answers ≡ []
+    → IsHall script places total (held showing names answers)
 hall_opens script places total showing names answers places_are none opening names_are empty =
     let state_is : state showing.journal names ≡ state [] (scope_of script) = ap (λ (w : Showing). state w.journal names) opening ∙ ap (state []) names_are in
     record {
@@ -34,7 +35,8 @@ hall_opens script places total showing names answers places_are none opening nam
     }
 
 pub hall_steps : (script : List Line) (places total next : ℕ) (old new : Showing) (names : Scope) (answers : List Kept) (request : Request) (at : ℕ)
-    → IsHall script places total (held old names answers) → IsAccepted old.journal request at new.journal → next ≡ total + 1 → IsHall script places next (held new names answers)
+    → IsHall script places total (held old names answers) → IsAccepted old.journal request at new.journal → next ≡ total + 1
+    → IsHall script places next (held new names answers)
 hall_steps script places total next old new names answers request at hall accepted more = record {
   places_are = hall.places_are;
   history = history_goes_on script answers (state old.journal names) (state new.journal names) hall.history (accepted_goes_on old.journal new.journal names request at accepted);
@@ -42,13 +44,15 @@ hall_steps script places total next old new names answers request at hall accept
 }
 
 -- the total is below the number of events of the next lawful journal, which is 65,536 at most
-pub total_fits : (total more : ℕ) (old new : List Event) → total ≡ asked_count old → asked_count new ≡ asked_count old + more → IsLawful new → total + more ≤ 65536
+pub total_fits : (total more : ℕ) (old new : List Event) → total ≡ asked_count old → asked_count new ≡ asked_count old + more → IsLawful new
+    → total + more ≤ 65536
 total_fits total more old new counted gains lawful =
     let few : length new ≤ 65536 = events_are_few new lawful in
     let within : asked_count new ≤ length new = count_within new in
     omega arith
 
-pub accepted_fits : (total : ℕ) (old new : List Event) (request : Request) (at : ℕ) → total ≡ asked_count old → IsAccepted old request at new → IsLawful new → total < 65536
+pub accepted_fits : (total : ℕ) (old new : List Event) (request : Request) (at : ℕ) → total ≡ asked_count old → IsAccepted old request at new
+    → IsLawful new → total < 65536
 accepted_fits total old new request at counted accepted lawful =
     let fits : total + 1 ≤ 65536 = total_fits total 1 old new counted (accepted_counts old request new accepted.after) lawful in
     omega arith
@@ -58,7 +62,8 @@ then_stands true o line is = absurd (none-some line is)
 then_stands false o line is = is
 
 -- a place without an answer has a line
-pub open_stands : (script : List Line) (answers : List Kept) (place : ℕ) (line : Line) → open_line script answers place ≡ Some line → slice_get script place ≡ Some line
+pub open_stands : (script : List Line) (answers : List Kept) (place : ℕ) (line : Line) → open_line script answers place ≡ Some line
+    → slice_get script place ≡ Some line
 open_stands script answers place line is = then_stands (is_some (answer_at answers place)) (slice_get script place) line is
 
 pub open_within : (script : List Line) (places total : ℕ) (showing : Showing) (names : Scope) (answers : List Kept) (place : ℕ) (line : Line)

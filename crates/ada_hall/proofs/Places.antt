@@ -32,7 +32,8 @@ fails_each p [] none k d below = absurd (omega arith)
 fails_each p (first ∷ rest) none zero d below = (first_fails (p first) first (find p rest) none).0
 fails_each p (first ∷ rest) none (suc k) d below = fails_each p rest (first_fails (p first) first (find p rest) none).1 k d (omega arith)
 
-pub apart_from : (answers : List Kept) (place : ℕ) → answer_at answers place ≡ None → (k : ℕ) (d : Kept) → k < length answers → (get_or answers k d).place ≢ place
+pub apart_from : (answers : List Kept) (place : ℕ) → answer_at answers place ≡ None → (k : ℕ) (d : Kept) → k < length answers
+    → (get_or answers k d).place ≢ place
 apart_from answers place none k d below = λ same.
     let fails : ((get_or answers k d).place == place) ≡ false =
     fails_each (λ (a : Kept). a.place == place) answers (no_answer (find (λ (a : Kept). a.place == place) answers) none) k d below in
@@ -42,7 +43,8 @@ pub stay_apart : (answers : List Kept) (kept : Kept) → AreApart answers → an
 stay_apart answers kept apart none =
     all_pairs_push (λ (a : Kept) (b : Kept). a.place ≢ b.place) answers kept apart (apart_from answers kept.place none)
 
-pub stay_within : (answers : List Kept) (kept : Kept) (places : ℕ) → All (λ (k : Kept). k.place < places) answers → kept.place < places → All (λ (k : Kept). k.place < places) (answers ++ kept ∷ [])
+pub stay_within : (answers : List Kept) (kept : Kept) (places : ℕ) → All (λ (k : Kept). k.place < places) answers → kept.place < places
+    → All (λ (k : Kept). k.place < places) (answers ++ kept ∷ [])
 stay_within answers kept places within below = All-push (λ (k : Kept). k.place < places) answers kept within below
 
 -- there are no more answers than places

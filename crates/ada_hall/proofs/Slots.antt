@@ -16,7 +16,8 @@ use Rattle.ada_events.specs.Attributes.{count_refusal, own_count}
 use Rattle.ada_events.specs.Slots.{slot_of}
 use Rattle.ada_laws.proofs.SlotPlaces.{declared_entries_have_slots}
 
-none_applies : (a b c d : Bool) → first_cause (cause a UnknownTask ∷ cause b NotRunning ∷ cause c NoSuchFamily ∷ cause d ConstraintError ∷ []) ≡ None → (c || d) ≡ false
+none_applies : (a b c d : Bool)
+    → first_cause (cause a UnknownTask ∷ cause b NotRunning ∷ cause c NoSuchFamily ∷ cause d ConstraintError ∷ []) ≡ None → (c || d) ≡ false
 unfolding first_cause
 none_applies true b c d none = absurd (none-some UnknownTask (sym none))
 none_applies false true c d none = absurd (none-some NotRunning (sym none))
@@ -24,7 +25,8 @@ none_applies false false true d none = absurd (none-some NoSuchFamily (sym none)
 none_applies false false false true none = absurd (none-some ConstraintError (sym none))
 none_applies false false false false none = refl
 
-may_count : (journal : List Event) (by : ℕ) (entry : Entry) → count_refusal journal by entry ≡ None → (lacks_family journal by entry || is_outside journal by entry) ≡ false
+may_count : (journal : List Event) (by : ℕ) (entry : Entry) → count_refusal journal by entry ≡ None
+    → (lacks_family journal by entry || is_outside journal by entry) ≡ false
 unfolding count_refusal
 may_count journal by entry none = none_applies (not (has_task journal by)) (not (is_running journal by)) (lacks_family journal by entry) (is_outside journal by entry) none
 

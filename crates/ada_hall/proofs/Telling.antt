@@ -49,7 +49,8 @@ accepted_goes_on old new names request at accepted =
 
 -- ---- one more answer
 
-given_push : (script : List Line) (answers : List Kept) (kept : Kept) (old last before after : State) (text said : List ℕ) → AreGiven script answers old text last
+given_push : (script : List Line) (answers : List Kept) (kept : Kept) (old last before after : State) (text said : List ℕ)
+    → AreGiven script answers old text last
     → GoesOn last before → IsGiven script kept before said after → AreGiven script (answers ++ kept ∷ []) old (text ++ said) after
 given_push script [] kept old last before after text said (empty, same) on given =
     (before, after, said, [], subst (λ s. GoesOn s before) same on, given, (refl, refl), ap (λ t. t ++ said) empty ∙ sym (append-nil said))
@@ -59,7 +60,8 @@ given_push script (first ∷ others) kept old last before after text said (b, a,
 pub history_begins : (script : List Line) → IsHistory script [] (beginning script)
 history_begins script = record { text = []; last = beginning script; given = (refl, refl); goes_on = stays (beginning script) }
 
-pub history_goes_on : (script : List Line) (answers : List Kept) (now next : State) → IsHistory script answers now → GoesOn now next → IsHistory script answers next
+pub history_goes_on : (script : List Line) (answers : List Kept) (now next : State) → IsHistory script answers now → GoesOn now next
+    → IsHistory script answers next
 history_goes_on script answers now next history on =
     record { text = history.text; last = history.last; given = history.given; goes_on = goes_further history.last now next history.goes_on on }
 
@@ -98,7 +100,8 @@ answers_group line request old new first last made asks accepted number bound la
 )
 
 pub answers_refusal : (line : Line) (request : Request) (old new : State) (cause : Refusal) → request_of old.names line.statement ≡ Some request
-    → IsRefused old.journal request cause new.journal → ¬ (cause ≡ OutOfMemory) → new.names ≡ old.names → (text : List ℕ) × IsAnswerTo line old (Refused cause) text new
+    → IsRefused old.journal request cause new.journal → ¬ (cause ≡ OutOfMemory) → new.names ≡ old.names
+    → (text : List ℕ) × IsAnswerTo line old (Refused cause) text new
 answers_refusal line request old new cause asks refused other names = (
   refusal_text line.line cause,
   asks_it line request old (Refused cause) (refusal_text line.line cause) new asks (record {
@@ -136,13 +139,15 @@ shows_it line old (Group first last) of_show = absurd of_show
 shows_it line old (Refused cause) of_show = (refusal_text line.line cause, (refl, refl))
 shows_it line old (Shown value) of_show = (shown_text line.line value, (refl, refl))
 
-pub gives_answer : (script : List Line) (line : Line) (kept : Kept) (old new : State) (said : List ℕ) → slice_get script kept.place ≡ Some line → IsLawful old.journal
+pub gives_answer : (script : List Line) (line : Line) (kept : Kept) (old new : State) (said : List ℕ) → slice_get script kept.place ≡ Some line
+    → IsLawful old.journal
     → IsSettled old.journal → kept.events ≡ length old.journal → IsAnswerTo line old kept.answer said new → IsGiven script kept old said new
 gives_answer script line kept old new said stands lawful settled long answers =
     record { line = line; stands = stands; lawful = lawful; settled = settled; events = long; answers = answers }
 
 -- the answer to a line that shows an attribute is given where it is kept
-pub gives_value : (script : List Line) (line : Line) (place events : ℕ) (answer : Answer) (now : State) → slice_get script place ≡ Some line → is_show line.statement ≡ true
+pub gives_value : (script : List Line) (line : Line) (place events : ℕ) (answer : Answer) (now : State) → slice_get script place ≡ Some line
+    → is_show line.statement ≡ true
     → IsOfShow answer → IsLawful now.journal → IsSettled now.journal → events ≡ length now.journal
     → (said : List ℕ) × IsGiven script (record { place = place; events = events; answer = answer }) now said now
 gives_value script line place events answer now stands shows of_show lawful settled long =

@@ -52,7 +52,8 @@ unfolding board_of
 board_events journal = refl
 
 -- the board of a list is no newer than its boards
-events_within : (n : ℕ) (before : Board) (boards : List Board) → before.events ≤ n → All (λ (b : Board). b.events ≤ n) boards → (latest_behind before boards).events ≤ n
+events_within : (n : ℕ) (before : Board) (boards : List Board) → before.events ≤ n → All (λ (b : Board). b.events ≤ n) boards
+    → (latest_behind before boards).events ≤ n
 events_within n before [] first all = first
 events_within n before (board ∷ boards) first all =
     events_within n board boards (All-head (λ (b : Board). b.events ≤ n) board boards all) (All-tail (λ (b : Board). b.events ≤ n) board boards all)

@@ -112,7 +112,8 @@ impl<'s, J: Session> Hall<'s, J> {
             IsAccepted self.old.showing.journal request told.at self.new.showing.journal) }
         ensures published { IfOk result (λ told.
             Publishes self.old.showing self.new.showing told.mark) }
-        ensures answers { (self.new.answers ≡ self.old.answers) × (self.new.names ≡ self.old.names) }
+        ensures answers { (self.new.answers ≡ self.old.answers)
+            × (self.new.names ≡ self.old.names) }
         ensures err { IfErr result (λ cause.
             IsRefused self.old.showing.journal request cause self.new.showing.journal) }
         ensures unchanged { OnErr result (self.new ≡ self.old) }
@@ -134,7 +135,8 @@ impl<'s, J: Session> Hall<'s, J> {
         ensures unchanged { OnErr result (self.new ≡ self.old) }
         ensures share { share.new.amount + asked_count self.old.showing.journal
             ≡ share.old.amount + asked_count self.new.showing.journal }
-        ensures one { (share.old.amount ≤ share.new.amount) × (share.new.amount ≤ share.old.amount + 1) }
+        ensures one { (share.old.amount ≤ share.new.amount)
+            × (share.new.amount ≤ share.old.amount + 1) }
         ensures parts { share.new.parts ≡ share.old.parts }
     {
         let script = self.script;
@@ -223,7 +225,8 @@ impl<'s, J: Session> Hall<'s, J> {
     /// journal.
     pub fn behind(&self) -> bool
         ensures behind { result ≡ self.now.showing.behind }
-        ensures tied { IsTied self.now.showing.journal self.now.showing.published self.now.showing.behind }
+        ensures tied { let showing = self.now.showing in
+            IsTied showing.journal showing.published showing.behind }
     {
         self.station.is_behind()
     }
@@ -260,7 +263,8 @@ impl<'s, J: Session> Hall<'s, J> {
         requires { whole.old.parts ≡ J.parts }
         ensures amount { whole.old.amount ≡ asked_count self.old.showing.journal }
         ensures same { self.new ≡ self.old }
-        ensures share { (whole.new.amount ≡ whole.old.amount) × (whole.new.parts ≡ whole.old.parts) }
+        ensures share { (whole.new.amount ≡ whole.old.amount)
+            × (whole.new.parts ≡ whole.old.parts) }
     {
         self.tally.audit(whole);
     }

@@ -70,7 +70,8 @@ impl<L: Ledger> Tally<L> {
         requires { whole.old.parts ≡ L.parts }
         ensures amount { whole.old.amount ≡ self.old }
         ensures total { self.new ≡ self.old }
-        ensures share { (whole.new.amount ≡ whole.old.amount) × (whole.new.parts ≡ whole.old.parts) }
+        ensures share { (whole.new.amount ≡ whole.old.amount)
+            × (whole.new.parts ≡ whole.old.parts) }
     {
         self.book.audit(whole);
     }

@@ -8,4 +8,6 @@ mod asking;
 #[cfg(test)]
 mod opened;
 #[cfg(test)]
+mod playing;
+#[cfg(test)]
 mod stepping;

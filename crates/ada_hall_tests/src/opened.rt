@@ -27,7 +27,8 @@ pub fn opened<'s, J: Session, R: Wait + AllocGlobal>(
     requires script { script.now ≡ J.script }
     requires ledger { (blank.name ≡ J.name) × (blank.parts ≡ J.parts) }
     requires readers { (0 < readers) × (readers ≤ 256) }
-    ensures { IfOk result (λ opened. opened.share.parts ≡ J.parts) }
+    ensures { IfOk result (λ opened.
+        (opened.share.parts ≡ J.parts) × (opened.share.amount ≡ 0)) }
 {
     let (writer, places) = open_board::<J, R>(rt, rt.alloc(), history, readers)?;
     let (book, share) = blank.open::<J>();

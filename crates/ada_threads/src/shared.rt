@@ -4,8 +4,8 @@ use ada_hall::{Hall, Session};
 use std::mem::ManuallyDrop;
 use std::sync::{Condvar, Mutex, Wait};
 
-/// A hall under its lock, and what wakes those who wait for a change of it. It is taken out again, and closed,
-/// by [`close`](Shared::close) or [`into_hall`](Shared::into_hall).
+/// A hall under its lock, and what wakes those who wait for a change of it. The hall is taken out again by
+/// [`into_hall`](Shared::into_hall), and then has to be closed.
 pub struct Shared<'s, J: Session> {
     /// A hall isn't `Drop`, since its writer has to be ended.
     pub hall: Mutex<ManuallyDrop<Hall<'s, J>>>,

@@ -179,7 +179,7 @@ pub fn work<J: Session, R: Wait, G: Gate>(
     if let Some(name) = speaker_name(lines, speaker) {
         let who = (speaker, &name);
         play_lines(rt, shared, lines, who, &mut reader, &mut report, gate);
+        shared.leave(rt);
     }
-    shared.leave(rt);
     report
 }
