@@ -40,7 +40,7 @@ use Rattle.ada_laws.proofs.Suspending.{suspended_before, suspended_once, suspend
 use Rattle.ada_forcing.specs.declared.row.Row.{Row}
 use Rattle.ada_forcing.specs.Touching.{is_lost}
 use Rattle.ada_records.proofs.Holding.{quiet_ends}
-use Rattle.ada_records.proofs.Recording.{release_only}
+use Rattle.ada_records.proofs.Saying.{release_only}
 use Rattle.ada_touching.specs.Kinds.{OfEnd, OfCancellation}
 use Rattle.ada_touching.specs.Kinds.OfEnd.{halts as halts_caller}
 use Rattle.ada_touching.specs.Kinds.OfCancellation.{quits as quits_with}

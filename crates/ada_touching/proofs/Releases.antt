@@ -21,7 +21,7 @@ use Rattle.ada_laws.proofs.Rows.IsRow.{halts, fails, meets, cancels, passes, wak
 use Rattle.ada_forcing.specs.declared.row.Row.{Row}
 use Rattle.ada_forcing.specs.declared.row.Row.TheVariants.{Halting}
 use Rattle.ada_records.proofs.Holding.{quiet_ends}
-use Rattle.ada_records.proofs.Recording.{release_only}
+use Rattle.ada_records.proofs.Saying.{release_only}
 use Rattle.ada_touching.specs.Kinds.{quitting_row, quitting_key}
 use Rattle.ada_touching.proofs.Readying.{IsUnqueued}
 use Rattle.ada_touching.proofs.Refining.{Key}
