@@ -4,7 +4,7 @@ use crate::floors::{Tokens, push_events, read_text, write_text};
 use crate::sink::Sink;
 use ada_events::{Event, Request};
 use ada_kernel::Kernel;
-use ada_run::replay;
+use ada_replay::replay;
 use ada_script::read;
 use ada_timing::Job;
 use std::alloc::{AllocError, Global};

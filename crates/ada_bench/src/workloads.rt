@@ -7,7 +7,7 @@ use crate::scripts::{Kind, script};
 use crate::sink::Sink;
 use ada_events::Event;
 use ada_kernel::Kernel;
-use ada_run::replay;
+use ada_replay::replay;
 use ada_script::{Script, read};
 use ada_timing::{measure, print_head, print_memory, print_row};
 

@@ -11,7 +11,7 @@ use Rattle.ada_script.specs.declared.script.Line.{Line}
 use Rattle.ada_script.specs.Script.{scope_of}
 use Rattle.ada_statements.specs.Scope.{Scope}
 use Rattle.ada_statements.specs.Binding.{is_show}
-use Rattle.ada_run.specs.Ends.{state}
+use Rattle.ada_replay.specs.Ends.{state}
 use Rattle.ada_hall.specs.declared.answer.Answer.{Answer}
 use Rattle.ada_hall.specs.declared.answer.Kept.{Kept}
 use Rattle.ada_hall.specs.Answers.{answer_at}

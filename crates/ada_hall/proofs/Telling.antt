@@ -19,8 +19,8 @@ use Rattle.ada_statements.specs.Binding.{bind, is_show, request_of}
 use Rattle.ada_statements.specs.declared.statement.Statement.{Statement}
 use Rattle.ada_statements.specs.declared.statement.Statement.TheVariants.{Tick, Open, Create, Activate, Up, Fail, Call, CallWithin, Try, Accept, Select, End, Raise, Close, Delay, Complete, Abort, ShowCallable, ShowTerminated, ShowCount}
 use Rattle.ada_printing.specs.Texts.{refusal_text, shown_text}
-use Rattle.ada_run.specs.Play.{State, group_text}
-use Rattle.ada_run.specs.Replay.{beginning}
+use Rattle.ada_replay.specs.Play.{State, group_text}
+use Rattle.ada_replay.specs.Replay.{beginning}
 use Rattle.ada_hall.specs.declared.answer.Answer.{Answer}
 use Rattle.ada_hall.specs.declared.answer.Answer.TheVariants.{Group, Refused, Shown}
 use Rattle.ada_hall.specs.declared.answer.Kept.{Kept}

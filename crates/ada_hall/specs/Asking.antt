@@ -7,7 +7,7 @@ use Rattle.ada_statements.specs.Binding.{task_of, entry_of}
 use Rattle.ada_statements.specs.declared.statement.Statement.{Statement}
 use Rattle.ada_statements.specs.declared.statement.Statement.TheVariants.{ShowCallable, ShowTerminated, ShowCount}
 use Rattle.ada_printing.specs.declared.value.Value.{Value}
-use Rattle.ada_run.specs.Play.{shown}
+use Rattle.ada_replay.specs.Play.{shown}
 use Rattle.ada_hall.specs.declared.asking.Asking.{Asking}
 use Rattle.ada_hall.specs.declared.asking.Asking.TheVariants.{Callable, Terminated, Count}
 

@@ -9,7 +9,7 @@ use Rattle.ada_events.specs.Refusals.{refusal}
 use Rattle.ada_script.specs.declared.script.Line.{Line}
 use Rattle.ada_statements.specs.Binding.{request_of}
 use Rattle.ada_printing.specs.Texts.{refusal_text, shown_text}
-use Rattle.ada_run.specs.Play.{State, SaysGroup}
+use Rattle.ada_replay.specs.Play.{State, SaysGroup}
 use Rattle.ada_hall.specs.declared.answer.Answer.{Answer}
 use Rattle.ada_hall.specs.declared.answer.Answer.TheVariants.{Group, Refused, Shown}
 use Rattle.ada_hall.specs.declared.answer.Kept.{Kept}

@@ -2,14 +2,14 @@
 ghost use Rattle.std.specs.Prelude.{◌≡◌, Some, Err, IsOk, IfOk, IfErr};
 ghost use Rattle.ada_events.specs.Attributes.{own_count};
 ghost use Rattle.ada_events.specs.Slots.{slot_of};
-ghost use Rattle.ada_run.specs.Play.{shown as shown_of};
+ghost use Rattle.ada_replay.specs.Play.{shown as shown_of};
 ghost use Rattle.ada_hall.specs.Asking.{Asks};
 
 use crate::Session;
 use ada_board::Mark;
 use ada_events::{Entry, Refusal, TaskNo};
 use ada_kernel::Kernel;
-use ada_run::shows::shown;
+use ada_replay::shows::shown;
 use ada_script::{Names, Statement};
 
 /// What is read of a board.

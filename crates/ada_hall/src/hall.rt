@@ -8,7 +8,7 @@ ghost use Rattle.ada_board.specs.Sights.{Posted};
 ghost use Rattle.ada_hall.specs.Answers.{answer_at, AreApart};
 ghost use Rattle.ada_hall.specs.Asking.{Asks};
 ghost use Rattle.ada_hall.specs.Counting.{asked_count};
-ghost use Rattle.ada_run.specs.Play.{shown as shown_of};
+ghost use Rattle.ada_replay.specs.Play.{shown as shown_of};
 ghost use Rattle.ada_hall.specs.Halls.{state_of, IsHistory, Says, noted, opening, IsOfShow};
 ghost use Rattle.ada_hall.specs.Stations.{Publishes, IsTied};
 

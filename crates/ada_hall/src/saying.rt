@@ -4,7 +4,7 @@ ghost use Rattle.std.specs.Option.{option_copied};
 ghost use Rattle.ada_events.specs.Lawful.{IsLawful};
 ghost use Rattle.ada_events.specs.Tasks.{task_count};
 ghost use Rattle.ada_statements.specs.Binding.{is_show};
-ghost use Rattle.ada_run.specs.Ends.{state};
+ghost use Rattle.ada_replay.specs.Ends.{state};
 ghost use Rattle.ada_hall.specs.History.{IsAnswerTo};
 ghost use Rattle.ada_hall.specs.Stations.{GoesOnShowing};
 ghost use Rattle.ada_hall.specs.Counting.{asked_count};

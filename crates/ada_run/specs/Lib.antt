@@ -1,6 +1,1 @@
-pub mod Statuses
-pub mod Input
-pub mod Play
-pub mod Ends
-pub mod Replay
 pub mod Orders

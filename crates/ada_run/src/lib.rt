@@ -1,15 +1,7 @@
-//! Playing scripts of requests on a kernel.
+//! What the program does: what a command line orders, and how a script is played.
 #![tactic(auto)]
 
-pub mod fault;
-pub mod input;
-pub mod laws;
 pub mod order;
-pub mod output;
-pub mod play;
-pub mod replaying;
-pub mod shows;
 
-pub use fault::{Ending, RunFault, status_of};
+pub use ada_replay::{Ending, RunFault, replay, status_of};
 pub use order::{Order, order_of};
-pub use replaying::replay;

@@ -1,5 +1,5 @@
 use Rattle.std.proofs.Common.{arith, rules, sym, ap, ◌∙◌, inl, refl, length}
-use Rattle.ada_run.specs.Ends.{state}
+use Rattle.ada_replay.specs.Ends.{state}
 use Rattle.ada_events.specs.Tasks.{task_count}
 use Rattle.ada_hall.specs.Counting.{asked_count}
 use Rattle.ada_hall.proofs.Counts.{accepted_counts}

@@ -1,0 +1,5 @@
+pub mod Statuses
+pub mod Input
+pub mod Play
+pub mod Ends
+pub mod Replay

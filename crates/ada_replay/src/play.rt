@@ -1,0 +1,144 @@
+//! Playing the lines of a script on a kernel.
+ghost use Rattle.std.specs.Prelude.{◌≡◌, ℕ, ◌≤◌, ◌++◌, List, length, IfErr, OnOk};
+ghost use Rattle.ada_events.specs.Lawful.{IsLawful, IsSettled};
+ghost use Rattle.ada_replay.specs.Play.{group_text, SaysRequest, SaysShown, Says, Plays};
+ghost use Rattle.ada_replay.specs.Ends.{state, IsShortage, IsWritten, IsCutShort};
+ghost use Rattle.ada_printing.specs.Texts.{refusal_text, shown_text};
+ghost use Rattle.ada_events.specs.Tasks.{task_count};
+
+use crate::RunFault;
+use crate::output::{write_output, write_piece};
+use crate::shows::shown;
+use ada_events::{Journal, Refusal, Request, TaskNo};
+use ada_kernel::Kernel;
+use ada_script::{Line, Names, Value, asked, write_event, write_refusal, write_shown};
+use std::alloc::Global;
+use std::io::Write;
+
+/// Appends the lines of all events behind the first `from`, in their order, or nothing.
+#[tactic(auto, using(crate::proofs::Groups::group_grows, crate::proofs::Groups::group_begins))]
+pub fn print_group(
+    journal: &Journal,
+    names: &Names,
+    from: u32,
+    text: &mut Vec<u8>,
+) -> Result<(), RunFault>
+    requires { from ≤ length journal.now.events }
+    ensures ok { OnOk result (text.new.items ≡ text.old.items ++ group_text names.now from journal.now.events) }
+    ensures err { IfErr result (λ fault. (fault ≡ RunFault.Memory) × (text.new.items ≡ text.old.items)) }
+{
+    let before = text.len();
+    let events = journal.as_slice();
+    for at in from as usize..events.len() {
+        if write_event(at as u32 + 1, &events[at], names, text).is_err() {
+            text.truncate(before);
+            return Err(RunFault::Memory);
+        }
+    }
+    Ok(())
+}
+
+/// Appends the line that a refused line of a script prints, or nothing.
+pub fn print_refusal(line: u32, cause: Refusal, text: &mut Vec<u8>) -> Result<(), RunFault>
+    ensures ok { OnOk result (text.new.items ≡ text.old.items ++ refusal_text line cause) }
+    ensures err { IfErr result (λ fault. (fault ≡ RunFault.Memory) × (text.new.items ≡ text.old.items)) }
+{
+    write_refusal(line, cause, text).map_err(|_| RunFault::Memory)
+}
+
+/// Appends the line that a line of a script prints which shows an attribute, or nothing.
+pub fn print_value(line: u32, value: Value, text: &mut Vec<u8>) -> Result<(), RunFault>
+    ensures ok { OnOk result (text.new.items ≡ text.old.items ++ shown_text line value) }
+    ensures err { IfErr result (λ fault. (fault ≡ RunFault.Memory) × (text.new.items ≡ text.old.items)) }
+{
+    write_shown(line, value, text).map_err(|_| RunFault::Memory)
+}
+
+// The number of the task that the kernel makes next.
+fn next_task(kernel: &Kernel) -> TaskNo
+    ensures { result.0 ≡ task_count kernel.now }
+{
+    TaskNo(kernel.tasks())
+}
+
+// Makes a request of the kernel, and appends what the line prints.
+fn say_request(
+    kernel: &mut Kernel,
+    names: &mut Names,
+    line: &Line,
+    request: Request,
+    text: &mut Vec<u8>,
+) -> Result<(), RunFault>
+    ensures ok { OnOk result ((said : List ℕ) × (text.new.items ≡ text.old.items ++ said) × SaysRequest line.now (state kernel.old names.old) said (state kernel.new names.new) request) }
+    ensures err { IfErr result (λ fault. (fault ≡ RunFault.Memory) × (text.new.items ≡ text.old.items)) }
+{
+    let from = kernel.journal().len();
+    let made = next_task(kernel);
+    match kernel.step(request) {
+        Ok(at) => {
+            names.bind(&line.statement, at, made);
+            print_group(kernel.journal(), names, from, text)
+        }
+        Err(Refusal::OutOfMemory) => Err(RunFault::Memory),
+        Err(cause) => print_refusal(line.line, cause, text),
+    }
+}
+
+// Appends what a line prints that shows an attribute.
+fn say_shown(
+    kernel: &Kernel,
+    names: &Names,
+    line: &Line,
+    text: &mut Vec<u8>,
+) -> Result<(), RunFault>
+    ensures ok { OnOk result ((said : List ℕ) × (text.new.items ≡ text.old.items ++ said) × SaysShown line.now (state kernel.now names.now) said (state kernel.now names.now)) }
+    ensures err { IfErr result (λ fault. (fault ≡ RunFault.Memory) × (text.new.items ≡ text.old.items)) }
+{
+    match shown(kernel, names, &line.statement) {
+        Ok(value) => print_value(line.line, value, text),
+        Err(cause) => print_refusal(line.line, cause, text),
+    }
+}
+
+// Appends what a line prints: what its request leads to, or the attribute that it shows.
+fn say(
+    kernel: &mut Kernel,
+    names: &mut Names,
+    line: &Line,
+    text: &mut Vec<u8>,
+) -> Result<(), RunFault>
+    ensures ok { OnOk result ((said : List ℕ) × (text.new.items ≡ text.old.items ++ said) × Says line.now (state kernel.old names.old) said (state kernel.new names.new)) }
+    ensures err { IfErr result (λ fault. (fault ≡ RunFault.Memory) × (text.new.items ≡ text.old.items)) }
+    ensures at_rest { IsLawful kernel.old × IsSettled kernel.old }
+{
+    let _journal = kernel.journal();
+    if line.statement.is_show() {
+        say_shown(kernel, names, line, text)
+    } else {
+        say_request(kernel, names, line, asked(&line.statement, names), text)
+    }
+}
+
+/// Plays some lines, one after another, and writes what they print, in pieces. Where memory or the output
+/// is refused, a beginning of what they print was written.
+pub fn play<W: Write>(
+    alloc: Global,
+    kernel: &mut Kernel,
+    names: &mut Names,
+    lines: &[Line],
+    writer: &mut W,
+) -> Result<(), RunFault>
+    ensures ok { OnOk result (IsWritten (Plays lines.now (state kernel.old names.old)) (W.contents writer.old) (W.contents writer.new) (state kernel.new names.new)) }
+    ensures err { IfErr result (λ fault. IsShortage fault × IsCutShort (Plays lines.now (state kernel.old names.old)) (W.contents writer.old) (W.contents writer.new)) }
+{
+    let mut text = Vec::new(alloc);
+    for line in lines {
+        if let Err(fault) = say(kernel, names, line, &mut text) {
+            // what was played isn't lost, and the first fault is the answer
+            let _ = write_output(writer, &text);
+            return Err(fault);
+        }
+        write_piece(writer, &mut text)?;
+    }
+    write_output(writer, &text)
+}

@@ -1,6 +1,0 @@
-use Rattle.std.proofs.Common.{◌≡◌, ◌++◌, reverse, take}
-use Rattle.ada_run.specs.Play.{group_text}
-use Rattle.ada_run.proofs.play.print_group.Given as goal
-
-abbrev pub invariant-loop-at : goal.invariant-loop-at
-invariant-loop-at l = l.text.items ≡ l.initial.text.items ++ group_text l.names l.from (reverse (take l.at l.events))
