@@ -71,9 +71,10 @@ fn publish_alone<J: Naming, R: Wait + Clock + AllocGlobal>(
 {
     let (mut writer, _places) = open_board::<J, _>(rt, rt.alloc(), history, 1)?;
     let start = Instant::now(rt);
-    publish_all(rt, &mut writer, album.boards());
+    let published = publish_all(rt, &mut writer, album.boards());
     let end = Instant::now(rt);
     writer.close(rt);
+    anyhow::ensure!(published, "out of memory");
     Ok(end?.duration_since(start?))
 }
 
