@@ -124,18 +124,6 @@ impl<'a> Words<'a> {
         Some(word)
     }
 
-    /// Room for the words that are left, as a guess: one for the next, and one for each blank behind it.
-    pub fn room(&self) -> usize {
-        match self.next {
-            None => 0,
-            Some((_, rest)) => rest
-                .iter()
-                .filter(|byte| **byte == b' ')
-                .count()
-                .saturating_add(1),
-        }
-    }
-
     /// Whether no word is left.
     pub fn is_over(&self) -> bool
         ensures { result ≡ is_over self.now }

@@ -7,7 +7,7 @@ ghost use Rattle.ada_reading.specs.Reading.{Gives, GivesInMemory, tasks_at, fami
 
 use crate::cursor::Words;
 use crate::fault::Fault;
-use crate::parts::{read_bounds, read_name, read_task};
+use crate::parts::{read_bounds, read_name, read_task_word};
 use ada_statements::{Declaration, Declarations, Name, Names, TaskNames};
 use std::alloc::Global;
 
@@ -16,13 +16,12 @@ pub fn read_tasks(alloc: Global, names: &Names, words: &mut Words) -> Result<Tas
     ensures { GivesInMemory result words.new (tasks_at names.now words.old) }
 {
     let mut tasks = TaskNames::new(alloc);
-    tasks.reserve(words.room())?;
     while !words.is_over() {
         if tasks.is_full() {
             return Err(Fault::BadStatement);
         }
-        let task = read_task(names, words)?;
-        tasks.push(task)?;
+        let task = read_task_word(names, words)?;
+        tasks.push(Name::from_bytes(task))?;
     }
     Ok(tasks)
 }

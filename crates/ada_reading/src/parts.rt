@@ -1,6 +1,6 @@
 //! Reading the parts of a statement.
 
-ghost use Rattle.std.specs.Prelude.{◌≡◌, ◌≤◌, length, IsTrue};
+ghost use Rattle.std.specs.Prelude.{◌≡◌, ◌≤◌, length, IfOk, IsTrue};
 ghost use Rattle.std.specs.List.{list_all};
 ghost use Rattle.ada_statements.specs.Scope.{is_task, is_declared, has_entry};
 ghost use Rattle.ada_statements.specs.Text.{is_name as name_form, is_name_byte as name_byte};
@@ -154,27 +154,46 @@ pub fn is_name(word: &[u8]) -> bool
 
 /// Takes a word that has the form of a name.
 #[tactic(auto, unfolding(crate::specs::Reading::name_at))]
+fn read_name_word<'a>(words: &mut Words<'a>) -> Result<&'a [u8], Fault>
+    ensures word { GivesWord result words.new (name_at words.old) }
+    ensures short { IfOk result (λ word. length word.now ≤ 16) }
+{
+    let word = read_word(words)?;
+    if is_name(word) {
+        Ok(word)
+    } else {
+        Err(Fault::BadStatement)
+    }
+}
+
+/// Takes a name.
 pub fn read_name(words: &mut Words) -> Result<Name, Fault>
     ensures { Gives result words.new (name_at words.old) }
 {
-    let word = read_word(words)?;
-    if !is_name(word) {
-        return Err(Fault::BadStatement);
-    }
-    Ok(Name::from_bytes(word))
+    let name = read_name_word(words)?;
+    Ok(Name::from_bytes(name))
 }
 
-/// Takes the name of a task that is declared.
+/// Takes a word that is the name of a declared task.
 #[tactic(auto, unfolding(crate::specs::Reading::task_at))]
-pub fn read_task(names: &Names, words: &mut Words) -> Result<Name, Fault>
-    ensures { Gives result words.new (task_at names.now words.old) }
+pub fn read_task_word<'a>(names: &Names, words: &mut Words<'a>) -> Result<&'a [u8], Fault>
+    ensures word { GivesWord result words.new (task_at names.now words.old) }
+    ensures short { IfOk result (λ word. length word.now ≤ 16) }
 {
-    let name = read_name(words)?;
-    if names.is_task(&name) {
+    let name = read_name_word(words)?;
+    if names.is_task(name) {
         Ok(name)
     } else {
         Err(Fault::UnknownName)
     }
+}
+
+/// Takes the name of a declared task.
+pub fn read_task(names: &Names, words: &mut Words) -> Result<Name, Fault>
+    ensures { Gives result words.new (task_at names.now words.old) }
+{
+    let name = read_task_word(names, words)?;
+    Ok(Name::from_bytes(name))
 }
 
 /// Takes the name of a task or a block that is declared.
@@ -182,9 +201,9 @@ pub fn read_task(names: &Names, words: &mut Words) -> Result<Name, Fault>
 pub fn read_master(names: &Names, words: &mut Words) -> Result<Name, Fault>
     ensures { Gives result words.new (master_at names.now words.old) }
 {
-    let name = read_name(words)?;
-    if names.is_declared(&name) {
-        Ok(name)
+    let name = read_name_word(words)?;
+    if names.is_declared(name) {
+        Ok(Name::from_bytes(name))
     } else {
         Err(Fault::UnknownName)
     }
@@ -195,11 +214,11 @@ pub fn read_master(names: &Names, words: &mut Words) -> Result<Name, Fault>
 pub fn read_new_name(names: &Names, words: &mut Words) -> Result<Name, Fault>
     ensures { Gives result words.new (new_name_at names.now words.old) }
 {
-    let name = read_name(words)?;
-    if names.is_declared(&name) {
+    let name = read_name_word(words)?;
+    if names.is_declared(name) {
         Err(Fault::DoubleName)
     } else {
-        Ok(name)
+        Ok(Name::from_bytes(name))
     }
 }
 

@@ -281,9 +281,8 @@ fn speaker(names: &Names, word: &[u8]) -> Result<Name, Fault>
     if !is_name(name) {
         return Err(Fault::BadStatement);
     }
-    let by = Name::from_bytes(name);
-    if names.is_task(&by) {
-        Ok(by)
+    if names.is_task(name) {
+        Ok(Name::from_bytes(name))
     } else {
         Err(Fault::UnknownName)
     }

@@ -1,8 +1,13 @@
 //! The names of a script.
 
 ghost use Rattle.std.specs.Prelude.{◌≡◌, ◌≤◌, length, []};
+ghost use Rattle.std.specs.Cmp.Lexicographic.{bytes_decides, nat_list_eq_equiv};
+ghost use Rattle.std.specs.Hash as fed;
+ghost use Rattle.std.specs.Str.{bytes_eq};
+ghost use Rattle.std.proofs.Common.{ap};
 
 use arrayvec::ArrayVec;
+use indexmap::Equivalent;
 use std::marker::Model;
 
 /// The name of a task, a block or an entry: at most 16 bytes. Contracts see it as its bytes.
@@ -28,7 +33,9 @@ impl Name {
         ensures { result ≡ bytes.now }
     {
         let mut name = ArrayVec::new();
-        let _ = name.try_extend_from_slice(bytes);
+        for byte in bytes {
+            name.push(*byte);
+        }
         Name { bytes: name }
     }
 
@@ -45,5 +52,18 @@ impl Name {
         ensures { result ≡ self.now }
     {
         Name::from_bytes(self.as_bytes())
+    }
+}
+
+/// A name is found by its bytes.
+impl Equivalent<Name> for &[u8] {
+    ghost equivalent = { λ q k. bytes_eq q.now k };
+
+    ghost respects_hash = { λ q k h. ap (fed.slice fed.u8) ((bytes_decides q.now k).0 h) };
+
+    ghost respects_eq = { λ q x y. nat_list_eq_equiv.congr q.now x y };
+
+    fn equivalent(&self, key: &Name) -> bool {
+        *self == key.as_bytes()
     }
 }

@@ -80,22 +80,22 @@ impl Names {
         Ok(names)
     }
 
-    /// What a name stands for, if it is declared.
-    pub fn meaning(&self, name: &Name) -> Option<&Meaning>
+    /// What a name of these bytes stands for, if it is declared.
+    pub fn meaning(&self, name: &[u8]) -> Option<&Meaning>
         ensures { option_copied result ≡ meaning_of self.now name.now }
     {
         self.table.get(name)
     }
 
-    /// Whether the name is declared.
-    pub fn is_declared(&self, name: &Name) -> bool
+    /// Whether a name of these bytes is declared.
+    pub fn is_declared(&self, name: &[u8]) -> bool
         ensures { result ≡ is_declared self.now name.now }
     {
         self.meaning(name).is_some()
     }
 
-    /// Whether the name is a task's.
-    pub fn is_task(&self, name: &Name) -> bool
+    /// Whether a name of these bytes is a task's.
+    pub fn is_task(&self, name: &[u8]) -> bool
         ensures { result ≡ is_task self.now name.now }
     {
         matches!(self.meaning(name), Some(Meaning::Task { .. }))
@@ -105,7 +105,7 @@ impl Names {
     pub fn has_entry(&self, task: &Name, entry: &Name) -> bool
         ensures { result ≡ has_entry self.now task.now entry.now }
     {
-        match self.meaning(task) {
+        match self.meaning(task.as_bytes()) {
             Some(Meaning::Task { entries, .. }) => entries.as_slice().contains(entry),
             _ => false,
         }
@@ -115,7 +115,7 @@ impl Names {
     pub fn task(&self, name: &Name) -> TaskNo
         ensures { result ≡ task_of self.now name.now }
     {
-        match self.meaning(name) {
+        match self.meaning(name.as_bytes()) {
             Some(
                 Meaning::Task {
                     made: Some(made),
@@ -131,7 +131,7 @@ impl Names {
     pub fn master(&self, name: &Name) -> Master
         ensures { result ≡ master_of self.now name.now }
     {
-        match self.meaning(name) {
+        match self.meaning(name.as_bytes()) {
             Some(Meaning::Task { made, .. }) => match made {
                 Some(made) => Master::Body(made.task),
                 None => Master::Body(NO_TASK),
@@ -145,7 +145,7 @@ impl Names {
     fn family_number(&self, task: &Name, family: &Name) -> u8
         ensures { result ≡ family_number self.now task.now family.now }
     {
-        match self.meaning(task) {
+        match self.meaning(task.as_bytes()) {
             Some(Meaning::Task { entries, .. }) => place_of(family, entries),
             _ => 255,
         }
