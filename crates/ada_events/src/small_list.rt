@@ -48,13 +48,6 @@ impl<T: Default + Drop, const HERE: usize, const MOST: usize> SmallList<T, HERE,
         }
     }
 
-    /// Makes room for so many items more, in memory where they are more than `HERE` in all.
-    pub fn reserve(&mut self, additional: usize) -> Result<(), AllocError>
-        ensures { self.new ≡ self.old }
-    {
-        self.items.reserve(additional)
-    }
-
     /// Appends an item. There must be fewer than `MOST`. An `Err` leaves the list as it was.
     pub fn push(&mut self, item: T) -> Result<(), AllocError>
         requires { length self.old < MOST }
