@@ -1,0 +1,7 @@
+//! Whether a row of the forced steps gives a step at a key, told by what is kept of a journal, with no search.
+#![tactic(auto)]
+
+pub mod calls;
+pub mod state;
+
+pub use state::State;

@@ -1,0 +1,79 @@
+//! A journal, and what is kept of it.
+
+ghost use Rattle.std.specs.Prelude.{◌≡◌, Some};
+ghost use Rattle.std.specs.Option.{option_copied};
+ghost use Rattle.ada_events.specs.Calls.{is_pending};
+ghost use Rattle.ada_events.specs.Lawful.{IsLawful};
+ghost use Rattle.ada_events.specs.Says.{held_in};
+ghost use Rattle.ada_events.specs.Search.{event_at};
+ghost use Rattle.ada_records.specs.Records.{IsRecordOf};
+ghost use Rattle.ada_rows.specs.States.{IsKept};
+
+use ada_events::{Event, Journal, TaskNo};
+use ada_records::Record;
+use ada_tables::Tables;
+use std::marker::Model;
+
+/// A journal with the records and the tables that stand for it, and its moment in milliseconds. Contracts see it as the
+/// events of the journal, the newest first.
+#[derive(Drop)]
+pub struct State<'a> {
+    journal: &'a Journal,
+    records: &'a [Record],
+    tables: &'a Tables,
+    moment: i64,
+}
+
+impl<'a> Model for State<'a> {
+    ghost use Rattle.std.specs.Prelude.{List};
+    ghost use Rattle.ada_events.specs.declared.event.Event.{Event};
+    ghost use Rattle.ada_rows.specs.States.{IsKept};
+
+    ghost Value = { List Event };
+
+    ghost view = { λ s. s.journal.now.events };
+
+    ghost invariant = { λ s. IsKept s.journal.now.events s.records.now s.tables.now s.moment };
+}
+
+impl<'a> State<'a> {
+    /// A journal, and what is kept of it.
+    pub fn new(journal: &'a Journal, records: &'a [Record], tables: &'a Tables, moment: i64) -> Self
+        requires { IsKept journal.now.events records.now tables.now moment }
+        ensures { result ≡ journal.now.events }
+    {
+        State {
+            journal,
+            records,
+            tables,
+            moment,
+        }
+    }
+
+    /// The event at a position, from 1; none at 0 and past the end.
+    pub(crate) fn event(&self, at: u32) -> Option<&Event>
+        ensures { option_copied result ≡ event_at self.now at }
+    {
+        self.journal.get(at)
+    }
+
+    /// What is kept of a task, or of none.
+    pub(crate) fn record(&self, task: TaskNo) -> Record
+        ensures right { IsRecordOf self.now task.0 result }
+        ensures lawful { IsLawful self.now }
+    {
+        match self.records.get(task.0 as usize) {
+            Some(kept) => *kept,
+            None => Record::of_new_task(),
+        }
+    }
+
+    /// Whether what an event at a position holds up is neither released, nor has its task ended.
+    pub(crate) fn is_pending(&self, at: u32, by: TaskNo, _event: &Event) -> bool
+        requires stands { event_at self.now at ≡ Some _event.now }
+        requires holds { held_in _event.now ≡ Some by.0 }
+        ensures { result ≡ is_pending self.now at by.0 }
+    {
+        self.record(by).doing.at == at
+    }
+}
