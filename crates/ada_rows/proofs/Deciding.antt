@@ -1,5 +1,5 @@
 -- The rows of abnormal tasks and of entry calls, decided by records.
-use Rattle.std.proofs.Common.{◌≡◌, ℕ, zero, suc, ◌<◌, Bool, true, false, not, ◌&&◌, ◌||◌, eqb, ltb, Option, Some, None, List, refl, sym, ap, ◌∙◌, subst, arith, inl, inr}
+use Rattle.std.proofs.Common.{◌≡◌, ◌≢◌, ℕ, zero, suc, ◌<◌, Bool, true, false, not, ◌&&◌, ◌||◌, eqb, ltb, Option, Some, None, List, refl, sym, ap, ◌∙◌, subst, arith, inl, inr}
 use Rattle.std.specs.Option.{option_and_then}
 use Rattle.std.specs.Bool.{then_some}
 use Rattle.std.proofs.lemmas.Bool.{and_from, and_parts, eqb-true, ne_eqb, false≢true, ltb-false}
@@ -27,13 +27,17 @@ use Rattle.ada_records.specs.Telling.{has_ended_by}
 use Rattle.ada_records.proofs.Callers.{joined_caller}
 use Rattle.ada_records.proofs.Existing.{positive}
 use Rattle.ada_records.proofs.Unmade.{unmade}
-use Rattle.ada_rows.specs.Deciding.{is_met_by, is_to_halt_by, is_lost_by}
-use Rattle.ada_rows.proofs.Pending.{held_there}
+use Rattle.ada_rows.specs.Deciding.{is_met_by, is_to_halt_by, is_lost_by, is_queued_by}
+use Rattle.ada_rows.proofs.Pending.{held_there, pending_told}
 
 same_truth : (a b : Bool) → (a ≡ true → b ≡ true) → (b ≡ true → a ≡ true) → a ≡ b
 same_truth true b there back = sym (there refl)
 same_truth false true there back = back refl
 same_truth false false there back = refl
+
+positive_at : (n : ℕ) → n ≢ 0 → 0 < n
+positive_at zero apart = absurd (apart refl)
+positive_at (suc n) apart = omega arith
 
 positive_from : (n : ℕ) → not (eqb n 0) ≡ true → 0 < n
 positive_from zero apart = absurd (false≢true apart)
@@ -45,8 +49,10 @@ met_by journal c p kept lawful right opened met = of_kept kept.doing.at refl rig
   where
     suspended : IsSuspendedAt journal c.by p
     suspended = open_call_suspends journal c p opened
+
     there : kept.doing.at ≡ p
     there = held_there journal c.by kept.doing.at p lawful right.doing.at suspended
+
     of_kept : (at : ℕ) → kept.doing.at ≡ at → (0 < kept.doing.at → kept.doing.joined ≡ is_met journal kept.doing.at) → is_met_by kept ≡ true
     of_kept zero none joined = absurd (positive journal suspended.event (subst (λ (n : ℕ). event_at journal n ≡ Some suspended.event) (sym there ∙ none) suspended.stands))
     of_kept (suc n) some joined =
@@ -71,6 +77,7 @@ met_told journal task kept lawful right = same_truth (is_met_by kept) (is_caller
         let by : meeting.called.by ≡ task = same_Some meeting.called.by task (sym (held_in-call meeting.call_stands.event meeting.called meeting.call_stands.says) ∙ ap held_in same ∙ suspended.holds) in
         subst (λ (u : ℕ). is_caller_in_rendezvous journal u ≡ true) by
         (joined_caller journal meeting.called kept.doing.at (record { stands = meeting.call_stands; unreleased = suspended.unreleased; live = subst (λ (u : ℕ). has_ended journal u ≡ false) (sym by) suspended.live }) met)
+
     back : is_caller_in_rendezvous journal task ≡ true → is_met_by kept ≡ true
     back says =
         let (p, e, stands, found) = any_event-found (λ p e. is_some_and (call_in e) (λ (c : Call). eqb c.by task) && is_joined_at journal p e) journal says in
@@ -101,3 +108,15 @@ halts_told journal task kept lawful right =
 pub lost_told : (journal : List Event) (task : ℕ) (kept : Record) → IsRecordOf journal task kept → is_lost_by kept ≡ (has_ended journal task || is_abnormal journal task)
 unfolding has_ended
 lost_told journal task kept right = rw (right.stage.abnormal, right.stage.completed, right.stage.terminated) refl
+
+-- a call is queued where its caller's record says so
+pub queued_told : (journal : List Event) (task at : ℕ) (kept : Record) (e : Event) → IsLawful journal → IsRecordOf journal task kept → event_at journal at ≡ Some e → held_in e ≡ Some task → is_queued_by kept at ≡ (is_pending journal at task && not (is_met journal at))
+queued_told journal task at kept e lawful right stands holds =
+    rw (sym (pending_told journal task kept.doing.at at e lawful right.doing.at stands holds)) (by_place (eqb kept.doing.at at) refl)
+  where
+    by_place : (b : Bool) → eqb kept.doing.at at ≡ b → (b && not kept.doing.joined) ≡ (b && not (is_met journal at))
+    by_place false apart = refl
+    by_place true same =
+        let there : kept.doing.at ≡ at = eqb-true kept.doing.at at same in
+        let some : 0 < kept.doing.at = positive_at kept.doing.at (λ none. positive journal e (subst (λ (n : ℕ). event_at journal n ≡ Some e) (sym there ∙ none) stands)) in
+        ap not (right.doing.joined some ∙ ap (is_met journal) there)

@@ -1,5 +1,5 @@
 -- What a record says of its task where a step is decided.
-use Rattle.std.specs.Prelude.{Bool, not, ◌==◌, ◌&&◌, ◌||◌}
+use Rattle.std.specs.Prelude.{ℕ, Bool, not, ◌==◌, ◌&&◌, ◌||◌}
 use Rattle.ada_records.specs.declared.record.Record.{Record}
 use Rattle.ada_records.specs.Telling.{has_ended_by}
 
@@ -14,3 +14,7 @@ is_to_halt_by kept = kept.stage.abnormal && not (has_ended_by kept) && not (is_m
 -- no call to the task can be served any more
 abbrev pub is_lost_by : Record → Bool
 is_lost_by kept = has_ended_by kept || kept.stage.abnormal
+
+-- the task is suspended at the position, and no rendezvous began with it (9.5)
+abbrev pub is_queued_by : Record → ℕ → Bool
+is_queued_by kept at = kept.doing.at == at && not kept.doing.joined

@@ -6,6 +6,7 @@ ghost use Rattle.ada_events.specs.Calls.{is_pending};
 ghost use Rattle.ada_events.specs.Lawful.{IsLawful};
 ghost use Rattle.ada_events.specs.Says.{held_in};
 ghost use Rattle.ada_events.specs.Search.{event_at};
+ghost use Rattle.ada_events.specs.Tasks.{moment};
 ghost use Rattle.ada_records.specs.Records.{IsRecordOf};
 ghost use Rattle.ada_rows.specs.States.{IsKept};
 
@@ -55,6 +56,13 @@ impl<'a> State<'a> {
         ensures { option_copied result ≡ event_at self.now at }
     {
         self.journal.get(at)
+    }
+
+    /// The moment, in milliseconds.
+    pub(crate) fn moment(&self) -> i64
+        ensures { result ≡ moment self.now }
+    {
+        self.moment
     }
 
     /// What is kept of a task, or of none.
