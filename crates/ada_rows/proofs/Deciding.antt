@@ -5,12 +5,13 @@ use Rattle.std.specs.Bool.{then_some}
 use Rattle.std.proofs.lemmas.Bool.{and_from, and_parts, eqb-true, ne_eqb, false≢true, ltb-false}
 use Rattle.ada_events.specs.declared.event.Event.{Event}
 use Rattle.ada_events.specs.declared.event.Event.TheVariants.{Called, Halted}
+use Rattle.ada_events.specs.declared.names.TaskNo.{TaskNo}
 use Rattle.ada_events.specs.Search.{is_some_and, event_at}
 use Rattle.ada_events.specs.Says.{Call, call_in, held_in}
 use Rattle.ada_events.specs.Tasks.{task_count}
 use Rattle.ada_events.specs.Phases.{has_ended, is_abnormal, is_released}
 use Rattle.ada_events.specs.Calls.{is_pending, is_open_at, is_joined_at, is_caller_in_rendezvous, is_met}
-use Rattle.ada_events.specs.Forced.{task_no, is_to_halt, is_to_fail}
+use Rattle.ada_events.specs.Forced.{task_no, is_done_activating, is_to_halt}
 use Rattle.ada_events.specs.Lawful.{IsLawful}
 use Rattle.ada_laws.specs.Suspension.{IsSuspendedAt}
 use Rattle.ada_laws.specs.Calls.{IsOpenCallAt}
@@ -27,7 +28,7 @@ use Rattle.ada_records.specs.Telling.{has_ended_by}
 use Rattle.ada_records.proofs.Callers.{joined_caller}
 use Rattle.ada_records.proofs.Existing.{positive}
 use Rattle.ada_records.proofs.Unmade.{unmade}
-use Rattle.ada_rows.specs.Deciding.{is_met_by, is_to_halt_by, is_lost_by, is_queued_by}
+use Rattle.ada_rows.specs.Deciding.{is_met_by, is_to_halt_by, is_done_by, is_lost_by, is_queued_by}
 use Rattle.ada_rows.proofs.Pending.{held_there, pending_told}
 
 same_truth : (a b : Bool) → (a ≡ true → b ≡ true) → (b ≡ true → a ≡ true) → a ≡ b
@@ -120,3 +121,7 @@ queued_told journal task at kept e lawful right stands holds =
         let there : kept.doing.at ≡ at = eqb-true kept.doing.at at same in
         let some : 0 < kept.doing.at = positive_at kept.doing.at (λ none. positive journal e (subst (λ (n : ℕ). event_at journal n ≡ Some e) (sym there ∙ none) stands)) in
         ap not (right.doing.joined some ∙ ap (is_met journal) there)
+
+pub done_told : (journal : List Event) (task : TaskNo) (kept : Record) → IsRecordOf journal task.0 kept → is_done_by kept ≡ is_done_activating journal task
+unfolding is_done_activating has_ended
+done_told journal task kept right = rw (right.stage.elaborated, right.stage.completed, right.stage.terminated) refl

@@ -18,3 +18,7 @@ is_lost_by kept = has_ended_by kept || kept.stage.abnormal
 -- the task is suspended at the position, and no rendezvous began with it (9.5)
 abbrev pub is_queued_by : Record → ℕ → Bool
 is_queued_by kept at = kept.doing.at == at && not kept.doing.joined
+
+-- the task has ended its activation (9.3), or has ended
+abbrev pub is_done_by : Record → Bool
+is_done_by kept = kept.stage.elaborated || has_ended_by kept

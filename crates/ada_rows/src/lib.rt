@@ -2,6 +2,7 @@
 #![tactic(auto)]
 
 pub mod calls;
+pub mod holds;
 pub mod state;
 
 pub use state::State;
