@@ -2,6 +2,7 @@
 #![tactic(auto)]
 
 pub mod calls;
+pub mod endings;
 pub mod holds;
 pub mod state;
 

@@ -9,6 +9,7 @@ ghost use Rattle.ada_events.specs.Search.{event_at};
 ghost use Rattle.ada_events.specs.Tasks.{moment};
 ghost use Rattle.ada_records.specs.Records.{IsRecordOf};
 ghost use Rattle.ada_rows.specs.States.{IsKept};
+ghost use Rattle.ada_tables.specs.Standing.{StandFor};
 
 use ada_events::{Event, Journal, TaskNo};
 use ada_records::Record;
@@ -29,6 +30,7 @@ impl<'a> Model for State<'a> {
     ghost use Rattle.std.specs.Prelude.{List};
     ghost use Rattle.ada_events.specs.declared.event.Event.{Event};
     ghost use Rattle.ada_rows.specs.States.{IsKept};
+    ghost use Rattle.ada_tables.specs.Standing.{StandFor};
 
     ghost Value = { List Event };
 
@@ -65,6 +67,13 @@ impl<'a> State<'a> {
         self.moment
     }
 
+    /// The tables.
+    pub(crate) fn tables(&self) -> &Tables
+        ensures stand { StandFor result.now self.now }
+    {
+        self.tables
+    }
+
     /// What is kept of a task, or of none.
     pub(crate) fn record(&self, task: TaskNo) -> Record
         ensures right { IsRecordOf self.now task.0 result }
@@ -80,7 +89,8 @@ impl<'a> State<'a> {
     pub(crate) fn is_pending(&self, at: u32, by: TaskNo, _event: &Event) -> bool
         requires stands { event_at self.now at ≡ Some _event.now }
         requires holds { held_in _event.now ≡ Some by.0 }
-        ensures { result ≡ is_pending self.now at by.0 }
+        ensures pending { result ≡ is_pending self.now at by.0 }
+        ensures lawful { IsLawful self.now }
     {
         self.record(by).doing.at == at
     }
