@@ -5,5 +5,6 @@ pub mod calls;
 pub mod endings;
 pub mod holds;
 pub mod state;
+pub mod waits;
 
 pub use state::State;
