@@ -2,7 +2,7 @@ use Rattle.std.proofs.Common.{◌∙◌, ap, ◌++◌, ◌∷◌, []}
 use Rattle.std.specs.Prelude.{if◌then◌else◌}
 use Rattle.ada_events.specs.Waits.{is_due_exactly}
 use Rattle.ada_waits.proofs.Lists.{numbers_from_step}
-use Rattle.ada_waits.proofs.ways.due_exactly.Goals as goal
+use Rattle.ada_waits.proofs.waits.due_exactly.Goals as goal
 
 pub loop-i-preserved : goal.loop-i-preserved
 loop-i-preserved c =
