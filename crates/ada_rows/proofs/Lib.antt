@@ -1,4 +1,5 @@
 pub mod Choosing
+pub mod Closing
 pub mod Deciding
 pub mod Leaving
 pub mod Pending
