@@ -31,6 +31,7 @@ use Rattle.ada_records.proofs.Within.{nest_open, next_unreleased}
 use Rattle.ada_touching.specs.Kinds.{IsCloseAt}
 use Rattle.ada_touching.proofs.Completions.{one_owner}
 use Rattle.ada_touching.proofs.Places.{closer_owns, later_block}
+use Rattle.ada_rows.specs.Ending.{closes}
 
 pub record SaysNothingElse (e : Event) : Type 0 where
   pub calls : call_in e ≡ None
@@ -104,9 +105,6 @@ pub record IsAtClose (journal : List Event) (task block : ℕ) : Type 0 where
   pub of : closing.block ≡ block
   pub suspended : IsSuspendedAt journal task at
 
-abbrev pub closes : ℕ → Event → Bool
-closes block e = is_some_and (closing_in e) (λ (c : Closing). eqb c.block block)
-
 left_by : (e : Event) (before : List Event) (at block : ℕ) (d : Event) (k : Closing) → event_at before at ≡ Some d → closing_in d ≡ Some k → k.block ≡ block → left_in e ≡ Some at → is_left (e ∷ before) block ≡ true
 unfolding is_left is_left_close
 left_by e before at block d k there says of left =
@@ -125,7 +123,7 @@ stays_unreleased e before task block lawful unleft was =
       | inr already ↦ true≢false (sym already ∙ was.suspended.unreleased)
     ])
 
-any_found : (test : Event → Bool) (journal : List Event) → list_any test journal ≡ true → (p : ℕ) × (e : Event) × (event_at journal p ≡ Some e) × (test e ≡ true)
+pub any_found : (test : Event → Bool) (journal : List Event) → list_any test journal ≡ true → (p : ℕ) × (e : Event) × (event_at journal p ≡ Some e) × (test e ≡ true)
 any_found test [] found = absurd (false≢true found)
 any_found test (e ∷ before) found =
     elim (or_cases (test e) (list_any test before) found) [

@@ -48,7 +48,7 @@ one_passes count true good other = ne_eqb (count + 1) 0 (λ none. omega (arith, 
 one_passes count false good other = ap (λ k. eqb k 0) (no_more count) ∙ and_true (eqb count 0) good other
 
 -- none passes exactly where all others do
-none_counted : (test good : ℕ → Bool) → ((u : ℕ) → good u ≡ not (test u)) → (n : ℕ) → eqb (count_below test n) 0 ≡ all_below good n
+pub none_counted : (test good : ℕ → Bool) → ((u : ℕ) → good u ≡ not (test u)) → (n : ℕ) → eqb (count_below test n) 0 ≡ all_below good n
 unfolding count_below all_below
 none_counted test good other zero = refl
 none_counted test good other (suc n) =

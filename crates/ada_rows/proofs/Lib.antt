@@ -3,3 +3,4 @@ pub mod Closing
 pub mod Deciding
 pub mod Leaving
 pub mod Pending
+pub mod Quitting

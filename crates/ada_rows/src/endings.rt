@@ -1,22 +1,27 @@
-//! The rows of terminations: what leaves its block.
+//! The rows of terminations: what leaves its block, and what terminates together.
 
 ghost use Rattle.std.specs.Prelude.{◌≡◌, Some};
 ghost use Rattle.std.specs.Bool.{then_some};
+ghost use Rattle.ada_events.specs.Forced.{is_to_quit};
+ghost use Rattle.ada_events.specs.Nests.{nest};
 ghost use Rattle.ada_events.specs.Search.{event_at};
-ghost use Rattle.ada_events.specs.Termination.{all_terminated};
+ghost use Rattle.ada_events.specs.Termination as ending;
 ghost use Rattle.ada_events.specs.declared.event.Event.TheVariants as step;
+ghost use Rattle.ada_events.specs.declared.names.Master.TheVariants.{Body as BodyMaster, Block as BlockMaster};
 ghost use Rattle.ada_forcing.specs.Rows.{at_event, step_at};
 ghost use Rattle.ada_forcing.specs.declared.row.Row.TheVariants as row;
+ghost use Rattle.ada_rows.specs.Ending.{closes_at};
 ghost use Rattle.ada_rows.specs.States.{IsHeldBySome};
+ghost use Rattle.ada_tables.specs.Dependents.{has_block};
 
 use crate::state::State;
-use ada_events::{Event, Master};
+use ada_events::{Event, Master, TaskNo};
 
 impl<'a> State<'a> {
     // Whether every dependent of a master is terminated (9.4). The master is a task's body, or a block that isn't left.
     fn are_all_terminated(&self, master: Master) -> bool
         requires { IsHeldBySome self.now master }
-        ensures { result ≡ all_terminated self.now master }
+        ensures { result ≡ ending.all_terminated self.now master }
     {
         self.tables().live_dependents(master) == 0
     }
@@ -44,5 +49,31 @@ impl<'a> State<'a> {
             Some(event) => self.is_to_leave(at, event),
             None => false,
         }
+    }
+
+    // Whether all that depend on a master are to terminate together (9.4): it is complete, some of them live, and each is
+    // terminated or ready to.
+    fn is_to_quit(&self, master: Master, complete: bool) -> bool
+        requires held { IsHeldBySome self.now master }
+        requires complete { complete ≡ ending.is_complete self.now master }
+        ensures { result ≡ is_to_quit self.now master }
+    {
+        if !complete {
+            return false;
+        }
+        if self.are_all_terminated(master) {
+            return false;
+        }
+        self.tables().unready_dependents(master) == 0
+    }
+
+    /// Whether all that depend on the task's body terminate together (9.4).
+    pub fn quits_body(&self, task: TaskNo) -> bool
+        ensures { step_at self.now row.QuittingBody task.0 ≡ then_some result (step.Quit (BodyMaster task)) }
+    {
+        if task.0 >= self.tables().tasks() {
+            return false;
+        }
+        self.is_to_quit(Master::Body(task), self.record(task).stage.completed)
     }
 }

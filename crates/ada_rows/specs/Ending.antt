@@ -1,0 +1,13 @@
+-- Blocks that are closed (9.4).
+use Rattle.std.specs.Prelude.{ℕ, Bool, ◌==◌, List}
+use Rattle.ada_events.specs.declared.event.Event.{Event}
+use Rattle.ada_events.specs.Search.{is_some_and, event_at}
+use Rattle.ada_events.specs.Says.{Closing, closing_in}
+
+-- the event is a close of the block
+abbrev pub closes : ℕ → Event → Bool
+closes block event = is_some_and (closing_in event) (λ (c : Closing). c.block == block)
+
+-- a close of the block stands at the position
+abbrev pub closes_at : List Event → ℕ → ℕ → Bool
+closes_at journal block position = is_some_and (event_at journal position) (closes block)
