@@ -1,3 +1,4 @@
+pub mod Blocks
 pub mod Choosing
 pub mod Closing
 pub mod Deciding

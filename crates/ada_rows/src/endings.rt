@@ -1,21 +1,25 @@
 //! The rows of terminations: what leaves its block, and what terminates together.
 
-ghost use Rattle.std.specs.Prelude.{◌≡◌, Some};
+ghost use Rattle.std.specs.Prelude.{◌≡◌, ◌<◌, true, Some};
 ghost use Rattle.std.specs.Bool.{then_some};
 ghost use Rattle.ada_events.specs.Forced.{is_to_quit};
+ghost use Rattle.ada_events.specs.Lawful.{IsLawful};
 ghost use Rattle.ada_events.specs.Nests.{nest};
+ghost use Rattle.ada_records.specs.Records.{IsRecordOf};
 ghost use Rattle.ada_events.specs.Search.{event_at};
 ghost use Rattle.ada_events.specs.Termination as ending;
 ghost use Rattle.ada_events.specs.declared.event.Event.TheVariants as step;
 ghost use Rattle.ada_events.specs.declared.names.Master.TheVariants.{Body as BodyMaster, Block as BlockMaster};
 ghost use Rattle.ada_forcing.specs.Rows.{at_event, step_at};
 ghost use Rattle.ada_forcing.specs.declared.row.Row.TheVariants as row;
-ghost use Rattle.ada_rows.specs.Ending.{closes_at};
+ghost use Rattle.ada_events.specs.Tasks.{task_count};
+ghost use Rattle.ada_rows.specs.Ending.{IsOpenedBy, closes_at};
 ghost use Rattle.ada_rows.specs.States.{IsHeldBySome};
 ghost use Rattle.ada_tables.specs.Dependents.{has_block};
 
 use crate::state::State;
 use ada_events::{Event, Master, TaskNo};
+use ada_records::Record;
 
 impl<'a> State<'a> {
     // Whether every dependent of a master is terminated (9.4). The master is a task's body, or a block that isn't left.
@@ -75,5 +79,68 @@ impl<'a> State<'a> {
             return false;
         }
         self.is_to_quit(Master::Body(task), self.record(task).stage.completed)
+    }
+
+    // Whether the task is within the block.
+    fn is_within(&self, by: TaskNo, block: u32) -> bool
+        requires { by.0 < task_count self.now }
+        ensures { result ≡ has_block block (nest self.now by.0) }
+    {
+        self.tables().nest(by).has_block(block)
+    }
+
+    // Whether a close of the block stands at the position.
+    #[tactic(auto, unfolding(ada_events::specs::Says::closing_in))]
+    fn is_closed_at(&self, block: u32, at: u32) -> bool
+        ensures { result ≡ closes_at self.now block at }
+    {
+        match self.event(at) {
+            Some(Event::Closed { block: closed, .. }) => *closed == block,
+            _ => false,
+        }
+    }
+
+    // Whether the block that the task of this record is within is complete (9.4): the task has ended, or is suspended at a
+    // close of the block.
+    fn is_complete_block(&self, block: u32, _by: TaskNo, kept: &Record, _event: &Event) -> bool
+        requires lawful { IsLawful self.now }
+        requires right { IsRecordOf self.now _by.0 kept.now }
+        requires opened { event_at self.now block ≡ Some _event.now }
+        requires by { IsOpenedBy _event.now _by.0 }
+        requires within { has_block block (nest self.now _by.0) ≡ true }
+        ensures { result ≡ ending.is_complete self.now (BlockMaster block) }
+    {
+        let closed = self.is_closed_at(block, kept.doing.at);
+        kept.has_ended() || closed
+    }
+
+    // Whether the event opened a block of which all dependents are to terminate together.
+    #[tactic(auto, unfolding(ada_events::specs::Says::opening_in))]
+    fn is_block_to_quit(&self, at: u32, event: &Event) -> bool
+        requires { event_at self.now at ≡ Some event.now }
+        ensures { then_some result (step.Quit (BlockMaster at)) ≡ at_event self.now row.QuittingBlock at event.now }
+    {
+        match event {
+            Event::Opened { by, .. } => {
+                let kept = self.record(*by);
+                if !self.is_within(*by, at) {
+                    return false;
+                }
+                let complete = self.is_complete_block(at, *by, &kept, event);
+                self.is_to_quit(Master::Block(at), complete)
+            }
+            _ => false,
+        }
+    }
+
+    /// Whether a block was opened at the position of which all dependents terminate together (9.4).
+    #[tactic(auto, unfolding(ada_forcing::specs::Rows::step_at))]
+    pub fn quits_block(&self, at: u32) -> bool
+        ensures { step_at self.now row.QuittingBlock at ≡ then_some result (step.Quit (BlockMaster at)) }
+    {
+        match self.event(at) {
+            Some(event) => self.is_block_to_quit(at, event),
+            None => false,
+        }
     }
 }
