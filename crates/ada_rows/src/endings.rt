@@ -1,12 +1,14 @@
 //! The rows of terminations: what leaves its block, and what terminates together.
 
-ghost use Rattle.std.specs.Prelude.{◌≡◌, ◌<◌, true, Some};
+ghost use Rattle.std.specs.Prelude.{◌≡◌, ◌<◌, ◌&&◌, ◌||◌, true, Some};
 ghost use Rattle.std.specs.Bool.{then_some};
-ghost use Rattle.ada_events.specs.Forced.{is_to_quit};
+ghost use Rattle.ada_events.specs.Forced as forced;
 ghost use Rattle.ada_events.specs.Lawful.{IsLawful};
 ghost use Rattle.ada_events.specs.Nests.{nest};
 ghost use Rattle.ada_records.specs.Records.{IsRecordOf};
-ghost use Rattle.ada_events.specs.Search.{event_at};
+ghost use Rattle.ada_events.specs.Phases.{is_completed, is_terminated};
+ghost use Rattle.ada_events.specs.Says.{Creation, creation_in};
+ghost use Rattle.ada_events.specs.Search.{event_at, is_some_and};
 ghost use Rattle.ada_events.specs.Termination as ending;
 ghost use Rattle.ada_events.specs.declared.event.Event.TheVariants as step;
 ghost use Rattle.ada_events.specs.declared.names.Master.TheVariants.{Body as BodyMaster, Block as BlockMaster};
@@ -60,7 +62,7 @@ impl<'a> State<'a> {
     fn is_to_quit(&self, master: Master, complete: bool) -> bool
         requires held { IsHeldBySome self.now master }
         requires complete { complete ≡ ending.is_complete self.now master }
-        ensures { result ≡ is_to_quit self.now master }
+        ensures { result ≡ forced.is_to_quit self.now master }
     {
         if !complete {
             return false;
@@ -142,5 +144,92 @@ impl<'a> State<'a> {
             Some(event) => self.is_block_to_quit(at, event),
             None => false,
         }
+    }
+
+    // Whether the event opened a block that is complete: its task left it, or is within it and has closed it or ended.
+    fn is_complete_at(&self, block: u32, event: &Event) -> bool
+        requires lawful { IsLawful self.now }
+        requires opened { event_at self.now block ≡ Some event.now }
+        ensures { result ≡ ending.is_complete self.now (BlockMaster block) }
+    {
+        match event {
+            Event::Opened { by, .. } => {
+                if !self.is_within(*by, block) {
+                    return true;
+                }
+                self.is_complete_block(block, *by, &self.record(*by), event)
+            }
+            _ => false,
+        }
+    }
+
+    // Whether a master is complete (9.4): the task of a body is completed, a block is closed or its task has ended.
+    fn is_complete(&self, master: Master) -> bool
+        ensures { result ≡ ending.is_complete self.now master }
+    {
+        match master {
+            Master::Body(task) => self.record(task).stage.completed,
+            Master::Block(block) => match self.event(block) {
+                Some(event) => self.is_complete_at(block, event),
+                None => false,
+            },
+        }
+    }
+
+    // Whether what the event made a task within is complete, or its maker is terminated.
+    #[tactic(auto, unfolding(ada_events::specs::Says::creation_in))]
+    fn is_orphaned(&self, event: &Event) -> bool
+        ensures { result ≡ is_some_and (creation_in event.now) (λ (c : Creation).
+            ending.is_complete self.now c.under || is_terminated self.now c.by) }
+    {
+        match event {
+            Event::Created { by, under, .. } => {
+                let gone = self.record(*by).stage.terminated;
+                self.is_complete(*under) || gone
+            }
+            _ => false,
+        }
+    }
+
+    // Whether the task will never be activated (9.3, 9.4).
+    #[tactic(auto, unfolding(ada_events::specs::Termination::is_abandoned))]
+    fn is_abandoned(&self, task: TaskNo) -> bool
+        ensures { result ≡ ending.is_abandoned self.now task.0 }
+    {
+        let named = self.record(task).stage.named;
+        match self.creation(task) {
+            Some(event) => self.is_orphaned(event) && !named,
+            None => false,
+        }
+    }
+
+    // Whether the task is completed and its dependents are terminated (9.4).
+    fn is_left_alone(&self, task: TaskNo) -> bool
+        requires { task.0 < task_count self.now }
+        ensures { result ≡ (is_completed self.now task.0 && ending.all_terminated self.now (BodyMaster task)) }
+    {
+        self.record(task).stage.completed && self.are_all_terminated(Master::Body(task))
+    }
+
+    // Whether a task that is there is to terminate by itself.
+    fn is_to_go(&self, task: TaskNo) -> bool
+        requires { task.0 < task_count self.now }
+        ensures { result ≡ forced.is_to_go self.now task.0 }
+    {
+        if self.record(task).stage.terminated {
+            return false;
+        }
+        self.is_left_alone(task) || self.is_abandoned(task)
+    }
+
+    /// Whether the task terminates by itself (9.3, 9.4): it is completed and its dependents are terminated, or it will
+    /// never be activated.
+    pub fn goes(&self, task: TaskNo) -> bool
+        ensures { step_at self.now row.Going task.0 ≡ then_some result (step.Gone task) }
+    {
+        if task.0 >= self.tables().tasks() {
+            return false;
+        }
+        self.is_to_go(task)
     }
 }

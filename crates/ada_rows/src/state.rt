@@ -1,12 +1,12 @@
 //! A journal, and what is kept of it.
 
 ghost use Rattle.std.specs.Prelude.{◌≡◌, Some};
-ghost use Rattle.std.specs.Option.{option_copied};
+ghost use Rattle.std.specs.Option.{option_and_then, option_copied};
 ghost use Rattle.ada_events.specs.Calls.{is_pending};
 ghost use Rattle.ada_events.specs.Lawful.{IsLawful};
-ghost use Rattle.ada_events.specs.Says.{held_in};
+ghost use Rattle.ada_events.specs.Says.{creation_in, held_in};
 ghost use Rattle.ada_events.specs.Search.{event_at};
-ghost use Rattle.ada_events.specs.Tasks.{moment};
+ghost use Rattle.ada_events.specs.Tasks.{creation_of, moment};
 ghost use Rattle.ada_records.specs.Records.{IsRecordOf};
 ghost use Rattle.ada_rows.specs.States.{IsKept};
 ghost use Rattle.ada_tables.specs.Standing.{StandFor};
@@ -23,6 +23,7 @@ pub struct State<'a> {
     journal: &'a Journal,
     records: &'a [Record],
     tables: &'a Tables,
+    made: &'a [u32],
     moment: i64,
 }
 
@@ -36,28 +37,47 @@ impl<'a> Model for State<'a> {
 
     ghost view = { λ s. s.journal.now.events };
 
-    ghost invariant = { λ s. IsKept s.journal.now.events s.records.now s.tables.now s.moment };
+    ghost invariant = { λ s. IsKept s.journal.now.events s.records.now s.tables.now s.made.now s.moment };
 }
 
 impl<'a> State<'a> {
-    /// A journal, and what is kept of it.
-    pub fn new(journal: &'a Journal, records: &'a [Record], tables: &'a Tables, moment: i64) -> Self
-        requires { IsKept journal.now.events records.now tables.now moment }
+    /// A journal, and what is kept of it: the records, the tables, the positions of the creations of all tasks, and the
+    /// moment.
+    pub fn new(
+        journal: &'a Journal,
+        records: &'a [Record],
+        tables: &'a Tables,
+        made: &'a [u32],
+        moment: i64,
+    ) -> Self
+        requires { IsKept journal.now.events records.now tables.now made.now moment }
         ensures { result ≡ journal.now.events }
     {
         State {
             journal,
             records,
             tables,
+            made,
             moment,
         }
     }
 
     /// The event at a position, from 1; none at 0 and past the end.
     pub(crate) fn event(&self, at: u32) -> Option<&Event>
-        ensures { option_copied result ≡ event_at self.now at }
+        ensures event { option_copied result ≡ event_at self.now at }
+        ensures lawful { IsLawful self.now }
     {
         self.journal.get(at)
+    }
+
+    /// The event by which a task was made (9.1); none for the main program and for no task.
+    pub(crate) fn creation(&self, task: TaskNo) -> Option<&Event>
+        ensures { option_and_then creation_in (option_copied result) ≡ creation_of self.now task.0 }
+    {
+        match self.made.get(task.0 as usize) {
+            Some(at) => self.journal.get(*at),
+            None => None,
+        }
     }
 
     /// The moment, in milliseconds.
