@@ -81,7 +81,7 @@ declarer_exists journal task e n number =
     let by = declared_by (creation_of journal task) e n number in
     creation_exists journal task by.0 by.1
 
-families_stay : (event : Event) (before : List Event) (task : ℕ) → task < task_count before → families_of (event ∷ before) task ≡ families_of before task
+pub families_stay : (event : Event) (before : List Event) (task : ℕ) → task < task_count before → families_of (event ∷ before) task ≡ families_of before task
 unfolding families_of creation_of
 families_stay event before task below = rw (ne_eqb task (task_count before) (λ same. omega (arith, same, below))) refl
 

@@ -48,7 +48,7 @@ block_in_nest journal task b has =
         let found = then_some-some (is_wait_of journal task m.wait && is_open_call journal m.call) (Rendezvous m.call) (Block b) gives in
         cc (found.1)
 
-has_contained : (members : List Member) (b k : ℕ) → k < length members → get_or members k (Block b) ≡ Block b → has_block b members ≡ true
+pub has_contained : (members : List Member) (b k : ℕ) → k < length members → get_or members k (Block b) ≡ Block b → has_block b members ≡ true
 has_contained [] b k below is = absurd (omega (arith, below))
 has_contained (member ∷ rest) b zero below is = or_left (is_block b member) (has_block b rest) (ap (is_block b) is ∙ eq-eqb b b refl)
 has_contained (member ∷ rest) b (suc k) below is = or_right (is_block b member) (has_block b rest) (has_contained rest b k (omega (arith, below)) is)

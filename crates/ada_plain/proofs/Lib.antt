@@ -5,7 +5,6 @@ pub mod Dues
 pub mod Few
 pub mod Filling
 pub mod Latest
-pub mod Lists
 pub mod Loops
 pub mod Members
 pub mod Numbers

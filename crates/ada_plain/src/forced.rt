@@ -22,8 +22,9 @@ use crate::phases::{
 };
 use crate::tasks::{moment, task_count};
 use crate::termination::{all_terminated, is_abandoned, is_to_quit};
-use crate::waits::{is_due, taken_call, way_of};
+use crate::waits::taken_call;
 use ada_events::{Choice, Event, EventTail, Master, Patience, TaskNo};
+use ada_waits::{is_due, way_of};
 
 /// An abnormal task is to complete (9.10).
 #[tactic(auto, unfolding(ada_events::specs::Forced::is_to_halt))]

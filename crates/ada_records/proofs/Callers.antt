@@ -53,7 +53,7 @@ held_started (event ∷ before) p task e lawful at holds =
       | inr older ↦ held_started before p task e lawful.0 older holds
     ])
 
-joined_caller : (journal : List Event) (c : Call) (p : ℕ) → IsOpenCallAt journal c p → is_met journal p ≡ true → is_caller_in_rendezvous journal c.by ≡ true
+pub joined_caller : (journal : List Event) (c : Call) (p : ℕ) → IsOpenCallAt journal c p → is_met journal p ≡ true → is_caller_in_rendezvous journal c.by ≡ true
 unfolding is_caller_in_rendezvous is_joined_at
 joined_caller journal c p opened met =
     any_event-from (λ p e. is_some_and (call_in e) (λ (d : Call). eqb d.by c.by) && (is_open_at journal p e && is_met journal p)) journal p opened.stands.event opened.stands.stands

@@ -104,7 +104,7 @@ made_within (event ∷ before) task c lawful made =
     ]
 
 -- the start that names a task is by its maker
-any_none : {A : Type 0} (test : A → Bool) (xs : List A) (x : A) → list_any test xs ≡ false → Contains xs x → test x ≡ false
+pub any_none : {A : Type 0} (test : A → Bool) (xs : List A) (x : A) → list_any test xs ≡ false → Contains xs x → test x ≡ false
 any_none test [] x none (k, below, same) = absurd (omega arith)
 any_none test (y ∷ xs) x none (zero, below, same) = ap test (sym same) ∙ (or_parts (test y) (list_any test xs) none).0
 any_none test (y ∷ xs) x none (suc k, below, same) = any_none test xs x (or_parts (test y) (list_any test xs) none).1 (k, omega arith, same)

@@ -42,11 +42,11 @@ any_at test (event ∷ before) p e at passes =
       | inr older ↦ or_right (test event) (list_any test before) (any_at test before p e older passes)
     ]
 
-abbrev closes : ℕ → Event → Bool
+abbrev pub closes : ℕ → Event → Bool
 closes p e = is_some_and (closing_in e) (λ (c : Closing). eqb c.block p)
 
 -- a block that isn't closed isn't left
-unclosed_unleft : (journal : List Event) (p : ℕ) → list_any (closes p) journal ≡ false → is_left journal p ≡ false
+pub unclosed_unleft : (journal : List Event) (p : ℕ) → list_any (closes p) journal ≡ false → is_left journal p ≡ false
 unfolding is_left
 unclosed_unleft journal p unclosed =
     elim (cases_Bool (any_event (λ q e. closes p e && is_left_close journal q) journal)) [

@@ -124,11 +124,11 @@ closing_open : (e : Event) (before : List Event) (c : Closing) → MayFollow bef
 closing_open e before c (inl forces) says = absurd (none-some c.by (sym (forced-step before e forces).holds_none ∙ held_in-closing e c says))
 closing_open e before c (inr asked) says = asked_closing before asked.request c asked.accepted (ap closing_in (sym asked.becomes) ∙ says)
 
-later_block : (e : Event) (before : List Event) (task p : ℕ) → IsBlockOf before task p → IsBlockOf (e ∷ before) task p
+pub later_block : (e : Event) (before : List Event) (task p : ℕ) → IsBlockOf before task p → IsBlockOf (e ∷ before) task p
 later_block e before task p block =
     record { event = block.event; opening = block.opening; stands = event_at-older e before p block.event block.stands; says = block.says; by = block.by }
 
-closer_owns : (journal : List Event) (q : ℕ) (e : Event) (k : Closing) → IsLawful journal → event_at journal q ≡ Some e → closing_in e ≡ Some k
+pub closer_owns : (journal : List Event) (q : ℕ) (e : Event) (k : Closing) → IsLawful journal → event_at journal q ≡ Some e → closing_in e ≡ Some k
     → IsBlockOf journal k.by k.block
 unfolding event_at
 closer_owns [] q e k lawful at says = absurd (none-some e at)

@@ -1,8 +1,8 @@
 use Rattle.std.proofs.Common.{◌∙◌, ap, ◌++◌, ◌∷◌, []}
 use Rattle.std.specs.Prelude.{if◌then◌else◌}
 use Rattle.ada_events.specs.Waits.{is_due_exactly}
-use Rattle.ada_plain.proofs.Lists.{numbers_from_step}
-use Rattle.ada_plain.proofs.waits.due_exactly.Goals as goal
+use Rattle.ada_waits.proofs.Lists.{numbers_from_step}
+use Rattle.ada_waits.proofs.waits.due_exactly.Goals as goal
 
 pub loop-i-preserved : goal.loop-i-preserved
 loop-i-preserved c =

@@ -1,0 +1,8 @@
+pub mod Blocks
+pub mod Choosing
+pub mod Closing
+pub mod Deciding
+pub mod Leaving
+pub mod Orphans
+pub mod Pending
+pub mod Quitting

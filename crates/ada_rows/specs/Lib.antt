@@ -1,0 +1,4 @@
+pub mod Choosing
+pub mod Deciding
+pub mod Ending
+pub mod States

@@ -1,0 +1,34 @@
+-- What is kept of a journal.
+use Rattle.std.specs.Prelude.{◌≡◌, ℕ, ◌<◌, true, ℤ, List, length, slice_index_or}
+use Rattle.std.specs.Option.{option_and_then}
+use Rattle.ada_events.specs.declared.event.Event.{Event}
+use Rattle.ada_events.specs.declared.names.Master.{Master}
+use Rattle.ada_events.specs.Search.{event_at}
+use Rattle.ada_events.specs.Says.{creation_in}
+use Rattle.ada_events.specs.Tasks.{task_count, creation_of, moment}
+use Rattle.ada_events.specs.Nests.{nest}
+use Rattle.ada_events.specs.Lawful.{IsLawful}
+use Rattle.ada_records.specs.declared.record.Record.{Record}
+use Rattle.ada_records.specs.Records.{AreRecords}
+use Rattle.ada_tables.specs.Dependents.{holds}
+use Rattle.ada_tables.specs.Tables.{State}
+use Rattle.ada_tables.specs.Standing.{StandFor}
+
+-- the position of each task's creation (9.1) is kept, and 0 for the main program, which has none
+pub record AreMade (made : List ℕ) (journal : List Event) : Type 0 where
+  pub many : length made ≡ task_count journal
+  pub each : (task : ℕ) → task < length made → option_and_then creation_in (event_at journal (slice_index_or made task 0)) ≡ creation_of journal task
+
+-- the journal is lawful, and records, tables, the positions of creations and the moment are right
+pub record IsKept (journal : List Event) (records : List Record) (tables : State) (made : List ℕ) (now : ℤ) : Type 0 where
+  pub lawful : IsLawful journal
+  pub recorded : AreRecords records journal
+  pub tabled : StandFor tables journal
+  pub created : AreMade made journal
+  pub timed : now ≡ moment journal
+
+-- the master is the body of a task, or a block that a task is within (9.4)
+pub record IsHeldBySome (journal : List Event) (master : Master) : Type 0 where
+  pub task : ℕ
+  pub known : task < task_count journal
+  pub held : holds task (nest journal task) master ≡ true

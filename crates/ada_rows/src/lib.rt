@@ -1,0 +1,10 @@
+//! Whether a row of the forced steps gives a step at a key, told by what is kept of a journal, with no search.
+#![tactic(auto)]
+
+pub mod calls;
+pub mod endings;
+pub mod holds;
+pub mod state;
+pub mod waits;
+
+pub use state::State;
