@@ -71,18 +71,18 @@ releases_change_one_phase event before task position lawful frees leaves uncalle
     }
 
 -- what a completion says, and what it doesn't
-record OnlyCompletes (event : Event) : Type 0 where
-  makes : creation_in event ≡ None
-  opens : opening_in event ≡ None
-  meets : meeting_in event ≡ None
-  frees : released_in event ≡ None
-  calls : call_in event ≡ None
-  holds : held_in event ≡ None
-  starts : started_in event ≡ []
-  goes : gone_in event ≡ None
-  quits : quit_in event ≡ None
+pub record OnlyCompletes (event : Event) : Type 0 where
+  pub makes : creation_in event ≡ None
+  pub opens : opening_in event ≡ None
+  pub meets : meeting_in event ≡ None
+  pub frees : released_in event ≡ None
+  pub calls : call_in event ≡ None
+  pub holds : held_in event ≡ None
+  pub starts : started_in event ≡ []
+  pub goes : gone_in event ≡ None
+  pub quits : quit_in event ≡ None
 
-completes_only : (e : Event) (task : ℕ) → completed_in e ≡ Some task → OnlyCompletes e
+pub completes_only : (e : Event) (task : ℕ) → completed_in e ≡ Some task → OnlyCompletes e
 unfolding completed_in creation_in opening_in meeting_in released_in call_in held_in started_in gone_in quit_in
 completes_only (Completed by) task says = record { makes = refl; opens = refl; meets = refl; frees = refl; calls = refl; holds = refl; starts = refl; goes = refl; quits = refl }
 completes_only (Elaborated by false) task says = record { makes = refl; opens = refl; meets = refl; frees = refl; calls = refl; holds = refl; starts = refl; goes = refl; quits = refl }
@@ -112,11 +112,11 @@ completed_queue event before task other entry lawful completes free only =
     ∙ rw (only.frees, only.meets) (all_kept (is_queued_at before p e) (ends_caller event before (call_in e)) (queued_stays event before task p e lawful completes free at)))
     ∙ rw (no_newest event before other entry only.calls, filter_all (queue before other entry)) (append-nil (queue before other entry))
 
-other_completed : (event : Event) (before : List Event) (task other : ℕ) → completed_in event ≡ Some task → other ≢ task → is_completed (event ∷ before) other ≡ is_completed before other
+pub other_completed : (event : Event) (before : List Event) (task other : ℕ) → completed_in event ≡ Some task → other ≢ task → is_completed (event ∷ before) other ≡ is_completed before other
 unfolding is_completed
 other_completed event before task other says differs = rw (says, ne_eqb other task differs) refl
 
-same_ends : (event : Event) (before : List Event) (other : ℕ) → OnlyCompletes event → is_terminated (event ∷ before) other ≡ is_terminated before other
+pub same_ends : (event : Event) (before : List Event) (other : ℕ) → OnlyCompletes event → is_terminated (event ∷ before) other ≡ is_terminated before other
 unfolding is_terminated
 same_ends event before other only = rw (only.goes, only.quits) refl
 

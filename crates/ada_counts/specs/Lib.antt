@@ -2,3 +2,4 @@ pub mod Facing
 pub mod Holders
 pub mod Telling
 pub mod Following
+pub mod Phasing
