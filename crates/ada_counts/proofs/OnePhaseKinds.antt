@@ -36,19 +36,19 @@ called_at : (journal : List Event) (p : ℕ) (e : Event) (c : Call) → event_at
 called_at journal p e c at says = ap (option_and_then call_in) at ∙ says
 
 -- what isn't a call is in no nest and in no queue
-not_in_nest : (journal : List Event) (task p : ℕ) → call_at journal p ≡ None → Contains (nest journal task) (Rendezvous p) → ⊥
+pub not_in_nest : (journal : List Event) (task p : ℕ) → call_at journal p ≡ None → Contains (nest journal task) (Rendezvous p) → ⊥
 unfolding is_open_call
 not_in_nest journal task p none has =
     let (e, at, here) = option_map_or-true (is_open_at journal p) (event_at journal p) (nest_open journal task p has) in
     let (c, says, opened) = is_open_at-call journal p e at here in
     none-some c (sym none ∙ called_at journal p e c at says)
 
-not_in_queue : (journal : List Event) (task p : ℕ) (entry : Entry) → call_at journal p ≡ None → Contains (queue journal task entry) p → ⊥
+pub not_in_queue : (journal : List Event) (task p : ℕ) (entry : Entry) → call_at journal p ≡ None → Contains (queue journal task entry) p → ⊥
 not_in_queue journal task p entry none has =
     let queued = queue-found journal task entry p has in
     none-some queued.call (sym none ∙ called_at journal p queued.opened.stands.event queued.call queued.opened.stands.stands queued.opened.stands.says)
 
-filter_absent : (p : ℕ) (xs : List ℕ) → (Contains xs p → ⊥) → filter (λ q. not (eqb q p)) xs ≡ xs
+pub filter_absent : (p : ℕ) (xs : List ℕ) → (Contains xs p → ⊥) → filter (λ q. not (eqb q p)) xs ≡ xs
 filter_absent p [] absent = refl
 filter_absent p (x ∷ xs) absent =
     rw (ne_eqb x p (λ same. absent (subst (λ (n : ℕ). Contains (x ∷ xs) n) same (Contains-first x xs))))

@@ -3,3 +3,4 @@ pub mod Holders
 pub mod Telling
 pub mod Following
 pub mod Phasing
+pub mod Renesting

@@ -3,5 +3,6 @@
 #![tactic(auto)]
 
 pub mod laws;
+pub mod nests;
 pub mod phases;
 pub mod phasing;
