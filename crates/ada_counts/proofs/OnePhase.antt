@@ -36,7 +36,7 @@ use Rattle.ada_counts.proofs.KeptPhases.{others_keep_phases}
 use Rattle.ada_counts.proofs.Telling.{records_tell_phases}
 
 -- who made a call stays who made it
-caller_later : (event : Event) (before : List Event) (call caller : ℕ) → caller_of before call ≡ Some caller → caller_of (event ∷ before) call ≡ Some caller
+pub caller_later : (event : Event) (before : List Event) (call caller : ℕ) → caller_of before call ≡ Some caller → caller_of (event ∷ before) call ≡ Some caller
 caller_later event before call caller made = of_event (event_at before call) refl made
   where
     of_event : (o : Option Event) → event_at before call ≡ o → option_map (λ (c : Call). c.by) (option_and_then call_in o) ≡ Some caller → caller_of (event ∷ before) call ≡ Some caller

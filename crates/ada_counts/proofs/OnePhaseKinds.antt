@@ -104,7 +104,7 @@ all_kept : (q a : Bool) → (q ≡ true → a ≡ false) → (q && (true && not 
 all_kept true a lives = rw (lives refl) refl
 all_kept false a lives = refl
 
-completed_queue : (event : Event) (before : List Event) (task other : ℕ) (entry : Entry) → IsLawful (event ∷ before) → completed_in event ≡ Some task → is_suspended before task ≡ false → OnlyCompletes event → queue (event ∷ before) other entry ≡ queue before other entry
+pub completed_queue : (event : Event) (before : List Event) (task other : ℕ) (entry : Entry) → IsLawful (event ∷ before) → completed_in event ≡ Some task → is_suspended before task ≡ false → OnlyCompletes event → queue (event ∷ before) other entry ≡ queue before other entry
 completed_queue event before task other entry lawful completes free only =
     queue_more event before other entry (λ _. true)
     (λ p e at.

@@ -4,3 +4,4 @@ pub mod Telling
 pub mod Following
 pub mod Phasing
 pub mod Renesting
+pub mod Requeuing

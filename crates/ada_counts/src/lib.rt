@@ -6,3 +6,4 @@ pub mod laws;
 pub mod nests;
 pub mod phases;
 pub mod phasing;
+pub mod queues;
