@@ -99,7 +99,7 @@ nests_cancelled event before p is lawful = λ task.
     (λ has. true≢false (sym (met_member before task p (nest_member before task (Rendezvous p) lawful.0 has)) ∙ cancelled_unmet event before p lawful is))
 
 -- whose nest has the rendezvous with a call is the task called
-accepted_by_callee : (journal : List Event) (task p : ℕ) (c : Call) → IsLawful journal → call_at journal p ≡ Some c → Contains (nest journal task) (Rendezvous p) → task ≡ c.callee
+pub accepted_by_callee : (journal : List Event) (task p : ℕ) (c : Call) → IsLawful journal → call_at journal p ≡ Some c → Contains (nest journal task) (Rendezvous p) → task ≡ c.callee
 unfolding nest is_wait_of
 accepted_by_callee journal task p c lawful calls has =
     let (q, e, at, gives) = gathered-found (member_at journal task) journal (Rendezvous p) has in
@@ -112,7 +112,7 @@ accepted_by_callee journal task p c lawful calls has =
     let called : is.called ≡ c = same_Some is.called c (sym (rw (is.call_stands.stands) is.call_stands.says) ∙ calls) in
     sym (eqb-true w.by task by) ∙ ap (λ (x : Wait). x.by) wait ∙ is.by_callee ∙ ap (λ (x : Call). x.callee) called
 
-called : (journal : List Event) (p : ℕ) (has : HasOpenCall journal p) → call_at journal p ≡ Some has.0
+pub called : (journal : List Event) (p : ℕ) (has : HasOpenCall journal p) → call_at journal p ≡ Some has.0
 called journal p has = ap (option_and_then call_in) has.1.stands.stands ∙ has.1.stands.says
 
 -- the end of a rendezvous, or of a call that may be joined

@@ -60,17 +60,22 @@ waiting_call journal u (c ∷ rest) waits made =
           (p, Contains-later c.call p (map (λ (c : QueuedCall). c.call) rest) has, by)
     ]
 
+-- a task that waits in a queue of the tables is suspended
+waiting_held : (tables : State) (journal : List Event) (u task : ℕ) (entry : Entry) → AreQueued journal task entry (queue_at tables.queues (slot_at tables.tasks task entry)) → waits_in u (queue_at tables.queues (slot_at tables.tasks task entry)) ≡ true → is_suspended journal u ≡ true
+waiting_held tables journal u task entry are waiting =
+    let (p, has, by) = waiting_call journal u (queue_at tables.queues (slot_at tables.tasks task entry)) waiting are.callers in
+    let (v, caller, held) = queued_by journal task entry p (subst (λ (ps : List ℕ). Contains ps p) are.positions has) in
+    let one : v ≡ u = same_Some v u (sym caller ∙ by) in
+    subst (λ (n : ℕ). is_suspended journal n ≡ true) one (is_suspended-from journal v p held)
+
 -- who isn't suspended waits in no queue of the tables
 pub idle_caller : (tables : State) (journal : List Event) (u : ℕ) → HoldFacts tables.tasks journal → HoldQueues tables journal → length tables.queues ≡ slot_count journal → is_suspended journal u ≡ false → waits u tables.queues ≡ false
 idle_caller tables journal u hold queues slots free =
     false_from_ne_true (waits u tables.queues) (λ waiting.
     let (slot, within, there) = any_place (waits_in u) tables.queues [] waiting in
     let found = slot_found tables.tasks slot (omega (arith, within, slots, slots_held tables.tasks journal hold)) in
-    let are = queues found.task found.entry found.has in
-    let (p, has, by) = waiting_call journal u (queue_at tables.queues (slot_at tables.tasks found.task found.entry)) (ap (λ (n : ℕ). waits_in u (queue_at tables.queues n)) found.at ∙ there) are.callers in
-    let (v, caller, held) = queued_by journal found.task found.entry p (subst (λ (ps : List ℕ). Contains ps p) are.positions has) in
-    let one : v ≡ u = same_Some v u (sym caller ∙ by) in
-    true≢false (sym (ap (is_suspended journal) (sym one) ∙ is_suspended-from journal v p held) ∙ free))
+    let held = waiting_held tables journal u found.task found.entry (queues found.task found.entry found.has) (subst (λ (n : ℕ). waits_in u (queue_at tables.queues n) ≡ true) (sym found.at) there) in
+    true≢false (sym held ∙ free))
 
 -- the entry of a call is one that the tables have
 pub called_entry : (tasks : List Facts) (journal : List Event) (callee : ℕ) (entry : Entry) → HoldFacts tasks journal → callee < task_count journal → IsSome (number_within (families_of journal callee) entry) → HasEntry tasks callee entry

@@ -23,15 +23,15 @@ use Rattle.ada_counts.proofs.Empty.{is_some, unwrapped}
 use Rattle.ada_counts.proofs.Entries.{numbered, families_stay}
 
 -- the slots before a task are those of the first one, and those before it among the others
-before_later : (x : Facts) (rest : List Facts) (task : ℕ) → slots_before (declared (x ∷ rest)) (suc task) ≡ entries_in x.families + slots_before (declared rest) task
+pub before_later : (x : Facts) (rest : List Facts) (task : ℕ) → slots_before (declared (x ∷ rest)) (suc task) ≡ entries_in x.families + slots_before (declared rest) task
 before_later x rest task = sum_by-cons entries_in x.families (take task (declared rest))
 
-before_first : (tasks : List Facts) → slots_before (declared tasks) 0 ≡ 0
+pub before_first : (tasks : List Facts) → slots_before (declared tasks) 0 ≡ 0
 before_first [] = refl
 before_first (x ∷ rest) = refl
 
 -- the number of an entry is below how many there are
-number_found : (fs : List Family) (e : Entry) → IsSome (number_within fs e) → (n : ℕ) × (number_within fs e ≡ Some n)
+pub number_found : (fs : List Family) (e : Entry) → IsSome (number_within fs e) → (n : ℕ) × (number_within fs e ≡ Some n)
 number_found fs e has = by_number (number_within fs e) has
   where
     by_number : (o : Option ℕ) → IsSome o → (n : ℕ) × (o ≡ Some n)
@@ -52,10 +52,10 @@ numbers_apart fs e f has also same =
     let number : one.0 ≡ two.0 = sym (unwrapped (number_within fs e) one.0 one.1) ∙ same ∙ unwrapped (number_within fs f) two.0 two.1 in
     same_Some e f (sym (number_is fs e one.0 one.1) ∙ number_is fs f one.0 (two.1 ∙ ap Some (sym number)))
 
-has_later : (x : Facts) (rest : List Facts) (task : ℕ) (e : Entry) → HasEntry (x ∷ rest) (suc task) e → HasEntry rest task e
+pub has_later : (x : Facts) (rest : List Facts) (task : ℕ) (e : Entry) → HasEntry (x ∷ rest) (suc task) e → HasEntry rest task e
 has_later x rest task e has = record { known = omega (arith, has.known); declares = has.declares }
 
-slot_later : (x : Facts) (rest : List Facts) (task : ℕ) (e : Entry) → slot_at (x ∷ rest) (suc task) e ≡ entries_in x.families + slot_at rest task e
+pub slot_later : (x : Facts) (rest : List Facts) (task : ℕ) (e : Entry) → slot_at (x ∷ rest) (suc task) e ≡ entries_in x.families + slot_at rest task e
 slot_later x rest task e = omega (arith, before_later x rest task)
 
 -- an entry's slot is one of all
@@ -122,15 +122,15 @@ main_families : families_of [] 0 ≡ []
 unfolding families_of creation_of
 main_families = refl
 
-new_families : (event : Event) (before : List Event) (c : Creation) → creation_in event ≡ Some c → families_of (event ∷ before) (task_count before) ≡ c.families
+pub new_families : (event : Event) (before : List Event) (c : Creation) → creation_in event ≡ Some c → families_of (event ∷ before) (task_count before) ≡ c.families
 unfolding families_of creation_of
 new_families event before c makes = rw (eq-eqb (task_count before) (task_count before) refl, makes) refl
 
-one_more_task : (event : Event) (before : List Event) (c : Creation) → creation_in event ≡ Some c → task_count (event ∷ before) ≡ suc (task_count before)
+pub one_more_task : (event : Event) (before : List Event) (c : Creation) → creation_in event ≡ Some c → task_count (event ∷ before) ≡ suc (task_count before)
 unfolding task_count
 one_more_task event before c makes = rw makes (omega arith)
 
-more_slots : (event : Event) (before : List Event) (c : Creation) → creation_in event ≡ Some c → slot_count (event ∷ before) ≡ entries_in c.families + slot_count before
+pub more_slots : (event : Event) (before : List Event) (c : Creation) → creation_in event ≡ Some c → slot_count (event ∷ before) ≡ entries_in c.families + slot_count before
 unfolding slot_count
 more_slots event before c makes = rw makes refl
 

@@ -70,7 +70,7 @@ nobody_completed : (event : Event) (before : List Event) (task : ℕ) → comple
 unfolding is_completed
 nobody_completed event before task completes = rw completes refl
 
-nobody_terminated : (event : Event) (before : List Event) (task : ℕ) → gone_in event ≡ None → quit_in event ≡ None → is_terminated (event ∷ before) task ≡ is_terminated before task
+pub nobody_terminated : (event : Event) (before : List Event) (task : ℕ) → gone_in event ≡ None → quit_in event ≡ None → is_terminated (event ∷ before) task ≡ is_terminated before task
 unfolding is_terminated
 nobody_terminated event before task goes quits = rw (goes, quits) refl
 

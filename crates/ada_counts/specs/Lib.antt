@@ -5,3 +5,4 @@ pub mod Following
 pub mod Phasing
 pub mod Renesting
 pub mod Requeuing
+pub mod Making

@@ -2,6 +2,7 @@
 //! event. Each law is the contract of a function that does nothing.
 #![tactic(auto)]
 
+pub mod follow;
 pub mod laws;
 pub mod nests;
 pub mod phases;
