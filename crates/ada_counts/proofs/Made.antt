@@ -1,6 +1,6 @@
 -- Tables to which the task is added that an event makes.
-use Rattle.std.proofs.Common.{◌≡◌, ◌≢◌, ℕ, zero, suc, ◌+◌, ◌-◌, ◌<◌, ◌≤◌, Bool, true, false, not, eqb, Option, Some, None, IsSome, List, [], ◌∷◌, ◌++◌, length, map, get_or, replicate, refl, sym, ap, ◌∙◌, subst, arith, inl, inr, length-append}
-use Rattle.std.specs.Option.{option_map, option_and_then, unwrap_or}
+use Rattle.std.proofs.Common.{◌≡◌, ℕ, zero, suc, ◌+◌, ◌<◌, ◌≤◌, false, Some, None, IsSome, List, [], ◌∷◌, ◌++◌, length, replicate, refl, sym, ap, ◌∙◌, subst, arith, inl, inr, length-append}
+use Rattle.std.specs.Option.{option_and_then, unwrap_or}
 use Rattle.std.specs.List.{Contains}
 use Rattle.std.proofs.Math.Seq.{get_or-append_seam}
 use Rattle.std.proofs.lemmas.Bool.{cases_lt, eq-eqb, ne_eqb, leb-false, ltb-false}
@@ -14,7 +14,6 @@ use Rattle.ada_events.specs.declared.names.Entry.{Entry}
 use Rattle.ada_events.specs.declared.names.Family.{Family}
 use Rattle.ada_events.specs.declared.names.Master.{Master}
 use Rattle.ada_events.specs.declared.names.Member.{Member}
-use Rattle.ada_events.specs.declared.names.Member.TheVariants.{Block, Rendezvous}
 use Rattle.ada_events.specs.declared.names.TaskNo.{TaskNo}
 use Rattle.ada_events.specs.declared.request.Request.{Request}
 use Rattle.ada_events.specs.declared.request.Request.TheVariants as request
@@ -23,16 +22,16 @@ use Rattle.ada_events.specs.Entries.{entries_in}
 use Rattle.ada_events.specs.Limits.{slot_count, makes_too_many_tasks, makes_too_many_slots}
 use Rattle.ada_events.specs.Refusals.{refusal}
 use Rattle.ada_events.specs.Search.{event_at}
-use Rattle.ada_events.specs.Says.{Creation, Opening, Call, creation_in, opening_in, call_in, call_at, meeting_in, released_in, completed_in, gone_in, quit_in, held_in, started_in}
+use Rattle.ada_events.specs.Says.{Creation, Opening, Call, creation_in, opening_in, call_in, meeting_in, released_in, completed_in, gone_in, quit_in, held_in, started_in}
 use Rattle.ada_events.specs.Slots.{number_within}
-use Rattle.ada_events.specs.Tasks.{task_count, creation_of, families_of}
+use Rattle.ada_events.specs.Tasks.{task_count, creation_of}
 use Rattle.ada_events.specs.Phases.{is_terminated}
 use Rattle.ada_events.specs.Calls.{queue}
 use Rattle.ada_events.specs.Nests.{nest}
 use Rattle.ada_events.specs.Lawful.{IsLawful, MayFollow}
 use Rattle.ada_laws.specs.Calls.{IsOpenCallAt}
 use Rattle.ada_laws.proofs.Accepting.{is_accepted}
-use Rattle.ada_laws.proofs.Framing.{IsBlockOf, nest_block}
+use Rattle.ada_laws.proofs.Framing.{nest_block}
 use Rattle.ada_laws.proofs.Gathering.{Contains-first}
 use Rattle.ada_laws.proofs.Growing.{task_count-more}
 use Rattle.ada_laws.proofs.Queueing.{queue-found}
@@ -50,14 +49,13 @@ use Rattle.ada_tables.specs.Queues.{QueuedCall, queue_at}
 use Rattle.ada_tables.specs.Tables.{State, declared, slots_before, slot_at, HasEntry}
 use Rattle.ada_tables.specs.Standing.{phase_of, facts_in, caller_of, AreQueued, StandFor}
 use Rattle.ada_counts.specs.Facing.{HoldFacts, HoldQueues}
-use Rattle.ada_counts.specs.Holders.{IsHeld}
 use Rattle.ada_counts.specs.Making.{MakesTask}
 use Rattle.ada_counts.proofs.Agreeing.{ends_phase}
 use Rattle.ada_counts.proofs.Entries.{call_names_entry, declarer_exists, families_stay}
 use Rattle.ada_counts.proofs.LiveHolders.{masters_are_held}
 use Rattle.ada_counts.proofs.NestTurns.{accepted_by_callee}
 use Rattle.ada_counts.proofs.OnePhase.{queued_later}
-use Rattle.ada_counts.proofs.SlotsApart.{before_later, before_first, slot_later, has_later, slot_within, slots_held, number_found, new_families, one_more_task, more_slots}
+use Rattle.ada_counts.proofs.SlotsApart.{before_later, before_first, slot_later, slot_within, slots_held, new_families, one_more_task, more_slots}
 use Rattle.ada_counts.proofs.Standing.{held_tables_stand}
 use Rattle.ada_counts.proofs.Telling.{records_tell_phases}
 use Rattle.ada_counts.proofs.TouchedTasks.{nobody_touched, nobody_terminated}

@@ -1,7 +1,6 @@
 -- What each kind of event changes in nests.
-use Rattle.std.proofs.Common.{◌≡◌, ◌≢◌, ℕ, zero, suc, ◌-◌, ◌<◌, ◌≤◌, Bool, true, false, cond, not, ◌&&◌, eqb, Option, Some, None, List, [], ◌∷◌, ◌++◌, length, take, refl, sym, ap, ◌∙◌, subst, arith, inl, inr, append-nil, length-append}
-use Rattle.std.specs.Option.{option_and_then, option_to_list}
-use Rattle.std.specs.Bool.{then_some}
+use Rattle.std.proofs.Common.{◌≡◌, ℕ, zero, suc, ◌-◌, ◌<◌, ◌≤◌, Bool, true, false, cond, not, ◌&&◌, eqb, Option, Some, None, List, [], ◌∷◌, ◌++◌, length, take, refl, sym, ap, ◌∙◌, subst, arith, inl, inr, append-nil, length-append}
+use Rattle.std.specs.Option.{option_and_then, option_map_or}
 use Rattle.std.specs.List.{filter, Contains}
 use Rattle.std.proofs.Math.Seq.{take-append_seam}
 use Rattle.std.proofs.lemmas.Bool.{and_parts, eq-eqb, eqb-true, leb-false, ne_eqb, or_parts, true≢false, false_from_ne_true}
@@ -18,7 +17,7 @@ use Rattle.ada_events.specs.declared.names.TaskNo.{TaskNo}
 use Rattle.ada_events.specs.declared.request.Request.{Request}
 use Rattle.ada_events.specs.declared.request.Request.TheVariants as request
 use Rattle.ada_events.specs.Search.{event_at}
-use Rattle.ada_events.specs.Says.{Opening, Closing, Call, Wait, opening_in, opening_at, call_in, call_at, wait_in, wait_at, meeting_in, released_in, left_in, held_in}
+use Rattle.ada_events.specs.Says.{Opening, Closing, Call, Wait, opening_in, call_in, call_at, wait_in, wait_at, meeting_in, released_in, left_in, held_in}
 use Rattle.ada_events.specs.Tasks.{task_count}
 use Rattle.ada_events.specs.Masters.{depends_on}
 use Rattle.ada_events.specs.Phases.{is_terminated, is_released, has_ended}
@@ -30,11 +29,10 @@ use Rattle.ada_events.specs.Limits.{is_too_deep}
 use Rattle.ada_events.specs.Termination.{all_terminated}
 use Rattle.ada_events.specs.Forced.{is_to_leave}
 use Rattle.ada_events.specs.Lawful.{IsLawful, MayFollow}
-use Rattle.ada_laws.specs.Calls.{IsOpenCallAt}
 use Rattle.ada_laws.specs.Suspension.{IsSuspendedAt}
 use Rattle.ada_laws.proofs.Accepting.{is_accepted}
 use Rattle.ada_laws.proofs.DependentLaws.{all_terminated_at}
-use Rattle.ada_laws.proofs.Gathering.{gathered-found, Contains-first, Contains-later}
+use Rattle.ada_laws.proofs.Gathering.{gathered-found, Contains-first}
 use Rattle.ada_laws.proofs.Meeting.{IsTaking, met_taking, meeting_in-met, meeting_at}
 use Rattle.ada_laws.proofs.Reaching.{opening_asked}
 use Rattle.ada_laws.proofs.Rows.{forced-row}
@@ -49,9 +47,9 @@ use Rattle.ada_records.proofs.NestKinds.{IsMember, nest_member, others_keep_nest
 use Rattle.ada_records.proofs.NestKinds.IsMember.{of_block, of_rendezvous}
 use Rattle.ada_records.proofs.Saying.{met_says}
 use Rattle.ada_records.proofs.Unnesting.{nest_released}
-use Rattle.ada_tables.specs.Dependents.{has_block, is_block, cut, count_below}
+use Rattle.ada_tables.specs.Dependents.{has_block, count_below}
 use Rattle.ada_tables.specs.Standing.{live_count}
-use Rattle.ada_counts.specs.Renesting.{NestBecomes, IsIdleIn, CanEnter, CanLeave, ChangesNests}
+use Rattle.ada_counts.specs.Renesting.{IsIdleIn, ChangesNests}
 use Rattle.ada_counts.specs.declared.nests.NestChange.TheVariants.{Nothing, Enters, LeavesBlock, EndsRendezvous}
 use Rattle.ada_counts.proofs.Cuts.{all_apart, cuts_keep_the_rest}
 use Rattle.ada_counts.proofs.Entries.{call_names_entry, declarer_exists}
@@ -59,7 +57,7 @@ use Rattle.ada_counts.proofs.Nesting.{innermost_last}
 use Rattle.ada_counts.proofs.OnePhaseKinds.{not_in_nest}
 use Rattle.ada_counts.proofs.Owners.{block_in_nest, one_holder}
 use Rattle.ada_counts.proofs.PendingNests.{EndsWith, has_innermost, closed_last, waiting_shallow}
-use Rattle.ada_counts.proofs.ReleasedKinds.{HasOpenCall, plain_release, plainly_uncalled, cancelled_open, cancelled_unmet, failed_open, ended_open, IsLeaving, is_leaving, closing_is}
+use Rattle.ada_counts.proofs.ReleasedKinds.{HasOpenCall, plain_release, plainly_uncalled, cancelled_unmet, failed_open, ended_open, IsLeaving, is_leaving, closing_is}
 
 -- an event that opens, meets and releases nothing
 pub nests_kept : (event f : Event) (before : List Event) → event ≡ f → opening_in f ≡ None → meeting_in f ≡ None → released_in f ≡ None → IsLawful (event ∷ before) → ChangesNests event before Nothing
@@ -315,3 +313,7 @@ nests_left event before task close is held lawful = (
 
     left : (t : ℕ) → nest (event ∷ before) t ≡ filter (is_beside_block k.block) (nest before t)
     left t = blocks_are_left event before t close k.block (record { 0 = k.by }) lawful (left_says event close is) (leaving.stands ∙ ap Some (closing_is leaving.event k leaving.says))
+
+-- the callee of a call, by the equation that tells it
+pub callee_of : (journal : List Event) (p task : ℕ) → task ≡ option_map_or (λ (c : Call). c.callee) (call_at journal p) 0 → (c : Call) → call_at journal p ≡ Some c → task ≡ c.callee
+callee_of journal p task is c at = is ∙ ap (λ (o : Option Call). option_map_or (λ (c : Call). c.callee) o 0) at

@@ -1,9 +1,9 @@
 -- What a task is within while it waits, or while a block that it closed waits for its dependents.
 use Rattle.std.proofs.Common.{◌≡◌, ℕ, zero, suc, ◌+◌, ◌-◌, ◌<◌, ◌≤◌, Bool, true, false, cond, not, ◌&&◌, eqb, Option, Some, None, List, [], ◌∷◌, ◌++◌, length, refl, sym, ap, ◌∙◌, subst, arith, inl, inr, append-nil}
-use Rattle.std.specs.Option.{option_map_or, option_or, option_to_list}
+use Rattle.std.specs.Option.{option_map_or, option_or}
 use Rattle.std.specs.Bool.{then_some}
 use Rattle.std.specs.List.{filter, slice_get}
-use Rattle.std.proofs.lemmas.Bool.{cases_Bool, eq-eqb, eqb-true, leb-false, or_left, or_right, true≢false, false_from_ne_true}
+use Rattle.std.proofs.lemmas.Bool.{eq-eqb, eqb-true, leb-false, or_left, or_right, true≢false, false_from_ne_true}
 use Rattle.std.proofs.lemmas.List.Elements.{filter-append}
 use Rattle.std.proofs.lemmas.Option.{none-some, same_Some}
 use Rattle.ada_events.specs.declared.event.Event.{Event}
@@ -34,7 +34,7 @@ use Rattle.ada_laws.proofs.Searching.{event_at-cases, option_map_or-true}
 use Rattle.ada_laws.proofs.Stepping.{forced-step, pending_parts}
 use Rattle.ada_laws.proofs.Suspending.{is_suspended-from, suspended_once}
 use Rattle.ada_records.proofs.Holding.{hold_only}
-use Rattle.ada_records.proofs.LeftBlocks.{Leaves, left_cases, left_frees}
+use Rattle.ada_records.proofs.LeftBlocks.{left_cases, left_frees}
 use Rattle.ada_records.proofs.Nesting.{wait_same}
 use Rattle.ada_records.proofs.NestKinds.{nest_more, others_keep_nests}
 use Rattle.ada_records.proofs.Saying.{met_frees}

@@ -1,19 +1,19 @@
 -- What each kind of event changes in queues.
-use Rattle.std.proofs.Common.{◌≡◌, ◌≢◌, ℕ, suc, ◌<◌, Bool, true, false, not, eqb, Option, Some, None, IsSome, List, [], ◌∷◌, length, refl, sym, ap, ◌∙◌, subst, inl, inr}
+use Rattle.std.proofs.Common.{◌≡◌, ℕ, Bool, true, false, not, eqb, Option, Some, None, IsSome, List, [], ◌∷◌, refl, sym, ap, ◌∙◌, subst, inl, inr}
 use Rattle.std.specs.Option.{option_and_then, option_map}
 use Rattle.std.specs.List.{filter, Contains}
-use Rattle.std.proofs.lemmas.Bool.{cases_Bool, cases_eq, eq-eqb, ne_eqb, true≢false, false_from_ne_true}
-use Rattle.std.proofs.lemmas.Option.{none-some, same_Some}
+use Rattle.std.proofs.lemmas.Bool.{cases_Bool, cases_eq, eq-eqb, ne_eqb, true≢false}
+use Rattle.std.proofs.lemmas.Option.{none-some}
 use Rattle.ada_events.specs.declared.event.Event.{Event}
 use Rattle.ada_events.specs.declared.event.Event.TheVariants as kind
 use Rattle.ada_events.specs.declared.names.Entry.{Entry}
 use Rattle.ada_events.specs.declared.names.TaskNo.{TaskNo}
 use Rattle.ada_events.specs.declared.request.Request.{Request}
 use Rattle.ada_events.specs.declared.request.Request.TheVariants as request
-use Rattle.ada_events.specs.Search.{is_number, event_at}
-use Rattle.ada_events.specs.Says.{Call, call_in, call_at, meeting_in, released_in, completed_in, left_in, held_in}
+use Rattle.ada_events.specs.Search.{is_number}
+use Rattle.ada_events.specs.Says.{Call, call_in, call_at, meeting_in, released_in, completed_in, left_in}
 use Rattle.ada_events.specs.Slots.{number_within}
-use Rattle.ada_events.specs.Tasks.{task_count, families_of}
+use Rattle.ada_events.specs.Tasks.{families_of}
 use Rattle.ada_events.specs.Phases.{is_suspended}
 use Rattle.ada_events.specs.Calls.{queue}
 use Rattle.ada_events.specs.Asks.{asker, asked_event}
@@ -21,11 +21,11 @@ use Rattle.ada_events.specs.Lawful.{IsLawful, MayFollow}
 use Rattle.ada_laws.specs.Suspension.{IsSuspendedAt}
 use Rattle.ada_laws.proofs.Accepting.{asker_runs, running_free}
 use Rattle.ada_laws.proofs.Gathering.{Contains-first, Contains-later}
-use Rattle.ada_laws.proofs.Queueing.{IsQueuedCall, queue-found, open_call_suspends}
+use Rattle.ada_laws.proofs.Queueing.{queue-found, open_call_suspends}
 use Rattle.ada_laws.proofs.Rows.{IsRow, forced-row}
 use Rattle.ada_laws.proofs.Rows.IsRow.{halts}
 use Rattle.ada_laws.proofs.Saying.{held_in-call}
-use Rattle.ada_laws.proofs.Searching.{event_at-newest, event_at-older}
+use Rattle.ada_laws.proofs.Searching.{event_at-newest}
 use Rattle.ada_laws.proofs.Suspending.{is_suspended-at, is_suspended-from, suspended_exists, suspended_once}
 use Rattle.ada_records.proofs.Holding.{holder_ran}
 use Rattle.ada_records.proofs.KeptQueues.{others_keep_queues}
@@ -33,12 +33,12 @@ use Rattle.ada_records.proofs.QueueKinds.{queue_called, queue_released, queue_me
 use Rattle.ada_records.proofs.Saying.{held_apart}
 use Rattle.ada_records.proofs.TaskEnds.{completion_exists}
 use Rattle.ada_tables.specs.Standing.{caller_of}
-use Rattle.ada_counts.specs.Requeuing.{without_caller, ComesLast, LeavesQueue, ChangesQueues}
+use Rattle.ada_counts.specs.Requeuing.{without_caller, ComesLast, ChangesQueues}
 use Rattle.ada_counts.specs.declared.queues.QueueChange.TheVariants.{Nothing, Joins, Leaves}
 use Rattle.ada_counts.proofs.Empty.{is_some}
 use Rattle.ada_counts.proofs.Entries.{new_number, declarer_exists}
 use Rattle.ada_counts.proofs.OnePhaseKinds.{completes_only, completed_queue, filter_absent, not_in_queue}
-use Rattle.ada_counts.proofs.ReleasedKinds.{plain_release, plainly_uncalled, IsLeaving, is_leaving, closing_is}
+use Rattle.ada_counts.proofs.ReleasedKinds.{plain_release, plainly_uncalled, is_leaving, closing_is}
 
 -- an event that makes no call, releases nothing, meets and completes nobody
 pub queues_kept : (event f : Event) (before : List Event) → event ≡ f → call_in f ≡ None → released_in f ≡ None → meeting_in f ≡ None → completed_in f ≡ None → IsLawful (event ∷ before) → ChangesQueues event before Nothing

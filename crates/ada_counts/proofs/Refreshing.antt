@@ -1,12 +1,15 @@
 -- Tables in which tasks got the phases that they have after one more event.
-use Rattle.std.proofs.Common.{◌≡◌, ◌≢◌, ℕ, ◌+◌, ◌<◌, ◌≤◌, Bool, true, false, cond, ◌||◌, eqb, ltb, None, List, ◌∷◌, length, refl, sym, ap, ◌∙◌, subst, arith, inl, inr}
-use Rattle.std.proofs.lemmas.Bool.{cases_eq, cases_lt, eq-eqb, ne_eqb, lt-ltb, le-ltb, true≢false}
-use Rattle.std.proofs.lemmas.List.{length-set, get_or-set_same, get_or-set_other}
+use Rattle.std.proofs.Common.{◌≡◌, ◌≢◌, ℕ, ◌+◌, ◌<◌, ◌≤◌, Bool, true, false, cond, ◌||◌, eqb, ltb, Some, None, List, [], ◌∷◌, length, take, get_or, refl, sym, ap, ◌∙◌, subst, arith, inl, inr}
+use Rattle.std.proofs.lemmas.Bool.{cases_eq, cases_lt, eq-eqb, ne_eqb, lt-ltb, le-ltb, or_parts, true≢false}
+use Rattle.std.proofs.lemmas.List.{length-set, get_or-set_same, get_or-set_other, take_all}
+use Rattle.std.proofs.lemmas.List.Folds.{list_any_more}
 use Rattle.ada_events.specs.declared.event.Event.{Event}
 use Rattle.ada_events.specs.declared.names.TaskNo.{TaskNo}
 use Rattle.ada_events.specs.Says.{creation_in}
 use Rattle.ada_events.specs.Tasks.{task_count}
-use Rattle.ada_events.specs.Phases.{is_terminated}
+use Rattle.ada_events.specs.Phases.{lists_task, is_terminated}
+use Rattle.ada_events.specs.Lawful.{IsLawful}
+use Rattle.ada_events.specs.declared.event.Event.TheVariants.{Started}
 use Rattle.ada_events.specs.Nests.{nest}
 use Rattle.ada_laws.proofs.Growing.{task_count-same, is_terminated-more}
 use Rattle.ada_records.specs.declared.record.Record.{Record}
@@ -17,11 +20,11 @@ use Rattle.ada_tables.specs.Tables.{State}
 use Rattle.ada_tables.specs.Standing.{phase_of, facts_in}
 use Rattle.ada_counts.specs.Facing.{HoldFacts}
 use Rattle.ada_counts.specs.Phasing.{TouchesOnly, facts_between, AreBetween, AreRenested, refreshed}
-use Rattle.ada_counts.specs.declared.phasing.Touched.TheVariants.{One}
 use Rattle.ada_counts.specs.Telling.{phase_by}
 use Rattle.ada_counts.proofs.Agreeing.{ends_phase}
 use Rattle.ada_counts.proofs.Following.{same_facts}
 use Rattle.ada_counts.proofs.Telling.{records_tell_phases}
+use Rattle.ada_counts.proofs.TouchedTasks.{start_touches}
 
 -- who is terminated stays in that phase
 ended_phase : (event : Event) (before : List Event) (task : ℕ) → is_terminated before task ≡ true → phase_of (event ∷ before) task ≡ phase_of before task
@@ -151,9 +154,57 @@ all_swept event before first now many makes whole swept =
     (λ t below undone. absurd (true≢false (sym (lt-ltb t many (omega (arith, whole, below))) ∙ undone))) swept.0
 
 -- where one phase changes at most
-pub one_refreshed : (event : Event) (before : List Event) (old new : State) (task : TaskNo) (kept : Record) → creation_in event ≡ None → TouchesOnly event before (One task) → AreRenested event before old.tasks → IsRecordOf (event ∷ before) task.0 kept → new ≡ refreshed task.0 kept old → HoldFacts new.tasks (event ∷ before)
+pub one_refreshed : (event : Event) (before : List Event) (old new : State) (task : TaskNo) (kept : Record) → creation_in event ≡ None → TouchesOnly event before (Some task) → AreRenested event before old.tasks → IsRecordOf (event ∷ before) task.0 kept → new ≡ refreshed task.0 kept old → HoldFacts new.tasks (event ∷ before)
 one_refreshed event before old new task kept makes touches nests right is =
     subst (λ (s : State). HoldFacts s.tasks (event ∷ before)) (sym is)
     (all_done event before (λ t. eqb t task.0 || false) (refreshed task.0 kept old).tasks makes
     (λ t below undone. touches.1 t (λ same. true≢false (sym (ap (λ (b : Bool). b || false) (eq-eqb t task.0 same)) ∙ undone)))
     (refreshed_more event before (λ _. false) old task.0 kept nests touches.0 right))
+
+-- of the tasks that a start names, the first so many are done
+abbrev pub AreNamed : Event → List Event → List TaskNo → State → State → ℕ → Type 0
+AreNamed event before tasks first now many =
+    AreBetween event before (λ t. lists_task t (take many tasks)) now.tasks × (now ≡ record first { tasks = now.tasks })
+
+pub none_named : (event : Event) (before : List Event) (tasks : List TaskNo) (first : State) → AreRenested event before first.tasks → AreNamed event before tasks first first 0
+none_named event before [] first nests = (nests, refl)
+none_named event before (t ∷ rest) first nests = (nests, refl)
+
+eqb_swap : (a b : ℕ) → eqb a b ≡ eqb b a
+eqb_swap a b =
+    elim (cases_eq a b) [
+      | inl same ↦ eq-eqb a b same ∙ sym (eq-eqb b a (sym same))
+      | inr other ↦ ne_eqb a b other ∙ sym (ne_eqb b a (λ back. other (sym back)))
+    ]
+
+or_swap : (a b : Bool) → (a || b) ≡ (b || a)
+or_swap true true = refl
+or_swap true false = refl
+or_swap false true = refl
+or_swap false false = refl
+
+pub one_named : (event : Event) (before : List Event) (tasks : List TaskNo) (first old new : State) (many : ℕ) (d : TaskNo) (kept : Record) → AreNamed event before tasks first old many → many < length tasks → (get_or tasks many d).0 < task_count before → IsRecordOf (event ∷ before) (get_or tasks many d).0 kept → new ≡ refreshed (get_or tasks many d).0 kept old → AreNamed event before tasks first new (many + 1)
+one_named event before tasks first old new many d kept named below known right is = (
+  subst (λ (s : State). AreBetween event before (λ t. lists_task t (take (many + 1) tasks)) s.tasks) (sym is)
+      (between_same event before (λ t. eqb t (get_or tasks many d).0 || lists_task t (take many tasks)) (λ t. lists_task t (take (many + 1) tasks)) (refreshed (get_or tasks many d).0 kept old).tasks
+      (λ t exists.
+      or_swap (eqb t (get_or tasks many d).0) (lists_task t (take many tasks))
+      ∙ ap (λ (b : Bool). lists_task t (take many tasks) || b) (eqb_swap t (get_or tasks many d).0)
+      ∙ sym (list_any_more (λ (x : TaskNo). eqb x.0 t) tasks many d below))
+      (refreshed_more event before (λ t. lists_task t (take many tasks)) old (get_or tasks many d).0 kept named.0 known right)),
+  kept_more (get_or tasks many d).0 kept first old new named.1 is,
+)
+
+-- once all that a start names are done, and then who starts them
+pub all_named : (event : Event) (before : List Event) (by : TaskNo) (tasks : List TaskNo) (first old new : State) (many : ℕ) (kept : Record) → IsLawful (event ∷ before) → event ≡ Started by tasks → creation_in event ≡ None → length tasks ≤ many → AreNamed event before tasks first old many → by.0 < task_count before → IsRecordOf (event ∷ before) by.0 kept → new ≡ refreshed by.0 kept old → HoldFacts new.tasks (event ∷ before)
+all_named event before by tasks first old new many kept lawful starts makes whole named known right is =
+    subst (λ (s : State). HoldFacts s.tasks (event ∷ before)) (sym is)
+    (all_done event before (λ t. eqb t by.0 || lists_task t (take many tasks)) (refreshed by.0 kept old).tasks makes
+    (λ t below undone.
+    let both = or_parts (eqb t by.0) (lists_task t (take many tasks)) undone in
+    start_touches event before by tasks t starts lawful (λ same. true≢false (sym (eq-eqb t by.0 same) ∙ both.0)) (ap (lists_task t) (sym (take_all many tasks whole)) ∙ both.1))
+    (refreshed_more event before (λ t. lists_task t (take many tasks)) old by.0 kept named.0 known right))
+
+pub start_makes : (event : Event) (by : TaskNo) (tasks : List TaskNo) → event ≡ Started by tasks → creation_in event ≡ None
+unfolding creation_in
+start_makes event by tasks is = ap creation_in is

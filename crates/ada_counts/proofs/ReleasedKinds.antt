@@ -12,7 +12,7 @@ use Rattle.ada_events.specs.declared.names.TaskNo.{TaskNo}
 use Rattle.ada_events.specs.declared.request.Request.{Request}
 use Rattle.ada_events.specs.declared.request.Request.TheVariants as request
 use Rattle.ada_events.specs.Search.{event_at}
-use Rattle.ada_events.specs.Says.{Call, Wait, Delay, Start, Closing, call_in, call_at, wait_in, delay_in, start_in, closing_in, left_in}
+use Rattle.ada_events.specs.Says.{Call, Delay, Start, Closing, call_in, call_at, delay_in, start_in, closing_in, left_in}
 use Rattle.ada_events.specs.Calls.{is_open_at, is_open_call, is_queued_at, is_met}
 use Rattle.ada_events.specs.Nests.{nest, innermost}
 use Rattle.ada_events.specs.Asks.{asked_event, member_position}

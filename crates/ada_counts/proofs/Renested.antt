@@ -5,7 +5,7 @@ use Rattle.ada_events.specs.declared.names.Master.TheVariants.{Block as BlockMas
 use Rattle.ada_events.specs.declared.names.Member.{Member}
 use Rattle.ada_events.specs.declared.names.Member.TheVariants.{Block, Rendezvous}
 use Rattle.ada_events.specs.Tasks.{task_count}
-use Rattle.ada_events.specs.Nests.{nest, innermost}
+use Rattle.ada_events.specs.Nests.{innermost}
 use Rattle.ada_events.specs.Lawful.{IsLawful}
 use Rattle.ada_tables.specs.Dependents.{Facts, task_at, IsIdle}
 use Rattle.ada_counts.specs.Facing.{HoldFacts}

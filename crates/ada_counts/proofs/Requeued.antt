@@ -1,19 +1,17 @@
 -- Tables in which a call comes last at an entry, or a task's call leaves its queue.
-use Rattle.std.proofs.Common.{◌≡◌, ◌≢◌, ℕ, suc, ◌+◌, ◌<◌, Bool, true, false, cond, not, ◌&&◌, ◌||◌, eqb, Option, Some, None, IsSome, List, [], ◌∷◌, ◌++◌, length, map, set, get_or, refl, sym, ap, ◌∙◌, subst, arith, inl, inr, append-nil}
+use Rattle.std.proofs.Common.{◌≡◌, ◌≢◌, ℕ, suc, ◌<◌, Bool, true, false, cond, not, ◌&&◌, eqb, Some, IsSome, List, [], ◌∷◌, ◌++◌, length, map, refl, sym, ap, ◌∙◌, subst, arith, inl, inr, append-nil}
 use Rattle.std.specs.Option.{option_to_list}
 use Rattle.std.specs.Bool.{then_some}
-use Rattle.std.specs.List.{All, Contains, filter, list_any}
-use Rattle.std.proofs.lemmas.Bool.{cases_eq, cases_Bool, and_parts, eq-eqb, eqb-true, ne_eqb, or_cases, or_left, or_parts, or_right, true≢false, false≢true, false_from_ne_true}
-use Rattle.std.proofs.lemmas.List.{length-set, get_or-set_same, get_or-set_other}
+use Rattle.std.specs.List.{All, Contains, filter}
+use Rattle.std.proofs.lemmas.Bool.{cases_eq, and_parts, eq-eqb, eqb-true, ne_eqb, or_cases, or_parts, true≢false, false≢true, false_from_ne_true}
+use Rattle.std.proofs.lemmas.List.{get_or-set_same, get_or-set_other}
 use Rattle.std.proofs.lemmas.List.Elements.{All-append, All-cons, All-filter, All-head, All-nil, All-tail, All-weaker}
-use Rattle.std.proofs.lemmas.Option.{none-some, same_Some}
+use Rattle.std.proofs.lemmas.Option.{same_Some}
 use Rattle.std.proofs.Math.ListN.{get_or-map}
 use Rattle.ada_events.specs.declared.event.Event.{Event}
 use Rattle.ada_events.specs.declared.names.Entry.{Entry}
-use Rattle.ada_events.specs.declared.names.Family.{Family}
 use Rattle.ada_events.specs.Entries.{same_entry}
 use Rattle.ada_events.specs.Limits.{slot_count}
-use Rattle.ada_events.specs.Search.{is_number}
 use Rattle.ada_events.specs.Slots.{number_within}
 use Rattle.ada_events.specs.Tasks.{task_count, families_of}
 use Rattle.ada_events.specs.Phases.{is_suspended}
@@ -21,7 +19,7 @@ use Rattle.ada_events.specs.Calls.{queue}
 use Rattle.ada_laws.proofs.Gathering.{Contains-first, Contains-later}
 use Rattle.ada_laws.proofs.Queueing.{same_entry-same}
 use Rattle.ada_laws.proofs.Suspending.{is_suspended-from}
-use Rattle.ada_tables.specs.Dependents.{Facts, task_at}
+use Rattle.ada_tables.specs.Dependents.{Facts}
 use Rattle.ada_tables.specs.Queues.{QueuedCall, is_by, waits_in, waits, queue_at, with_last, without}
 use Rattle.ada_tables.specs.Tables.{State, slot_at, HasEntry}
 use Rattle.ada_tables.specs.Standing.{caller_of, AreQueued}

@@ -1,6 +1,6 @@
 //! Whose nest an event changes, and tables in which nests follow.
 ghost use Rattle.std.specs.Prelude.{◌≡◌, ◌∷◌};
-ghost use Rattle.std.specs.Option.{ForSome};
+ghost use Rattle.std.specs.Option.{option_map_or};
 ghost use Rattle.ada_events.specs.Lawful.{IsLawful};
 ghost use Rattle.ada_events.specs.Says.{call_in, call_at};
 ghost use Rattle.ada_counts.specs.Facing.{HoldFacts};
@@ -26,7 +26,7 @@ pub enum NestChange {
 // The task that a call calls; the main program where the event is no call.
 #[tactic(auto, unfolding(ada_events::specs::Says::call_in))]
 fn callee_in(event: &Event) -> TaskNo
-    ensures { ForSome (call_in event.now) (λ call. result.0 ≡ call.callee) }
+    ensures { result.0 ≡ option_map_or (λ call. call.callee) (call_in event.now) 0 }
 {
     match event {
         Event::Called { callee, .. } => *callee,
@@ -36,7 +36,7 @@ fn callee_in(event: &Event) -> TaskNo
 
 /// The task that the call at a position calls (9.5); the main program where no call stands there.
 pub fn callee_at(journal: &Journal, position: u32) -> TaskNo
-    ensures { ForSome (call_at journal.now.events position) (λ call. result.0 ≡ call.callee) }
+    ensures { result.0 ≡ option_map_or (λ call. call.callee) (call_at journal.now.events position) 0 }
 {
     match journal.get(position) {
         Some(event) => callee_in(event),
