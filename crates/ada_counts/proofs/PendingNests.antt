@@ -39,7 +39,8 @@ use Rattle.ada_records.proofs.Nesting.{wait_same}
 use Rattle.ada_records.proofs.NestKinds.{nest_more, others_keep_nests}
 use Rattle.ada_records.proofs.Saying.{met_frees}
 use Rattle.ada_tables.specs.Dependents.{has_block, is_block}
-use Rattle.ada_counts.proofs.Nesting.{leaves_ready}
+use Rattle.ada_counts.specs.Pending.{ClosedBlocksAreInnermost, WaitsHaveRoom}
+use Rattle.ada_counts.proofs.Nesting.{innermost_last, leaves_ready}
 use Rattle.ada_counts.proofs.OnePhase.{held_opens_none}
 use Rattle.ada_counts.proofs.Owners.{block_in_nest, one_holder}
 
@@ -225,3 +226,15 @@ waiting_shallow (event ∷ before) c e w lawful at says unreleased live =
           let many = ap (λ (members : List Member). length members) (held_nest event before w.by c lawful held unreleased) in
           omega (arith, was, shorter, many)
     ]
+
+pub closed_blocks_are_innermost : ClosedBlocksAreInnermost
+closed_blocks_are_innermost journal task close closing lawful held says =
+    let by : closing.by ≡ task = same_Some closing.by task (sym (held_in-closing held.event closing says) ∙ held.holds) in
+    let last = closed_last journal close held.event closing lawful held.stands says held.unreleased (ap (has_ended journal) by ∙ held.live) in
+    ap (λ (u : ℕ). innermost (nest journal u)) (sym by) ∙ ap innermost last.1 ∙ innermost_last last.0 (Block closing.block)
+
+pub waits_have_room : WaitsHaveRoom
+waits_have_room journal task position wait lawful held says =
+    let by : wait.by ≡ task = same_Some wait.by task (sym (held_in-wait held.event wait says) ∙ held.holds) in
+    subst (λ (u : ℕ). length (nest journal u) < MOST_MEMBERS) by
+    (waiting_shallow journal position held.event wait lawful held.stands says held.unreleased (ap (has_ended journal) by ∙ held.live))

@@ -1,5 +1,6 @@
 pub mod Facing
 pub mod Holders
+pub mod Pending
 pub mod Telling
 pub mod Following
 pub mod Phasing

@@ -54,8 +54,8 @@ pub fn follow_creation(
 }
 
 /// Lets tables that stand for a journal follow any event, before that is appended. There is a queue for each entry, and
-/// room for one more call where the event makes one; the records are those after the event. Fails with `OutOfMemory`
-/// alone, where the event makes a task, and then changes nothing.
+/// room for one more call where the event makes one. The records are those after the event, unless it makes a task. Fails
+/// with `OutOfMemory` alone, where the event makes a task, and then changes nothing.
 pub fn note(
     tables: &mut Tables,
     records: &[Record],
@@ -65,7 +65,7 @@ pub fn note(
     requires lawful { IsLawful (event.now ∷ journal.now.events) }
     requires stand { StandFor tables.old journal.now.events }
     requires slots { length tables.old.queues ≡ slot_count journal.now.events }
-    requires records { AreRecords records.now (event.now ∷ journal.now.events) }
+    requires records { creation_in event.now ≡ None → AreRecords records.now (event.now ∷ journal.now.events) }
     requires room { IsSome (call_in event.now) → 0 < tables.old.spare }
     ensures stand { OnOk result (StandFor tables.new (event.now ∷ journal.now.events)) }
     ensures slots { OnOk result (length tables.new.queues ≡ slot_count (event.now ∷ journal.now.events)) }

@@ -6,14 +6,16 @@ use Rattle.ada_counts.proofs.Followed.{makes_none}
 use Rattle.ada_counts.proofs.follow.note.Goals as goal
 
 pub follow-requires : goal.follow-requires
-follow-requires c = record {
-  lawful = c.requires.lawful;
-  makes = makes_none c.args.event.now c.in_default.not-Created;
-  stand = c.requires.stand;
-  slots = c.requires.slots;
-  records = c.requires.records;
-  room = c.requires.room;
-}
+follow-requires c =
+    let none = makes_none c.args.event.now c.in_default.not-Created in
+    record {
+      lawful = c.requires.lawful;
+      makes = none;
+      stand = c.requires.stand;
+      slots = c.requires.slots;
+      records = c.requires.records none;
+      room = c.requires.room;
+    }
 
 pub returns-in-Created-clause-makes : goal.returns-in-Created-clause-makes
 returns-in-Created-clause-makes c =
