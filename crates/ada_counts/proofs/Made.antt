@@ -49,7 +49,7 @@ use Rattle.ada_tables.specs.Queues.{QueuedCall, queue_at}
 use Rattle.ada_tables.specs.Tables.{State, declared, slots_before, slot_at, HasEntry}
 use Rattle.ada_tables.specs.Standing.{phase_of, facts_in, caller_of, AreQueued, StandFor}
 use Rattle.ada_counts.specs.Facing.{HoldFacts, HoldQueues}
-use Rattle.ada_counts.specs.Making.{MakesTask}
+use Rattle.ada_counts.specs.Noting.{MakesTask}
 use Rattle.ada_counts.proofs.Agreeing.{ends_phase}
 use Rattle.ada_counts.proofs.Entries.{call_names_entry, declarer_exists, families_stay}
 use Rattle.ada_counts.proofs.LiveHolders.{masters_are_held}

@@ -6,4 +6,4 @@ pub mod Following
 pub mod Phasing
 pub mod Renesting
 pub mod Requeuing
-pub mod Making
+pub mod Noting

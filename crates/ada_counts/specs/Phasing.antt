@@ -34,7 +34,8 @@ facts_between event before done task = record (facts_in before task) {
 -- else the phase before
 pub record AreBetween (event : Event) (before : List Event) (done : ℕ → Bool) (tasks : List Facts) : Type 0 where
   pub many : length tasks ≡ task_count before
-  pub facts : (task : ℕ) → task < task_count before → task_at tasks task ≡ facts_between event before (done task) task
+  pub facts : (task : ℕ) → task < task_count before
+      → task_at tasks task ≡ facts_between event before (done task) task
 
 -- nests are changed, and no phase is
 abbrev pub AreRenested : Event → List Event → List Facts → Type 0

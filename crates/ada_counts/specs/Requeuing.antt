@@ -15,15 +15,22 @@ use Rattle.ada_tables.specs.Standing.{caller_of}
 use Rattle.ada_counts.specs.declared.queues.QueueChange.{QueueChange}
 use Rattle.ada_counts.specs.declared.queues.QueueChange.TheVariants.{Nothing, Joins, Leaves}
 
+-- a new call at an entry of a task, where that is the one that it calls
+abbrev pub newest_at : ℕ → Entry → ℕ → Entry → ℕ → List ℕ
+newest_at callee entry task other call =
+    option_to_list (then_some (callee == task && same_entry entry other) call)
+
 -- a task that runs calls an entry that another has, and its call comes last there
-pub record ComesLast (event : Event) (before : List Event) (by callee : ℕ) (entry : Entry) : Type 0 where
+pub record ComesLast (event : Event) (before : List Event) (by callee : ℕ) (entry : Entry)
+    : Type 0 where
   pub exists : by < task_count before
   pub free : is_suspended before by ≡ false
   pub called : callee < task_count before
   pub declares : IsSome (number_within (families_of before callee) entry)
   pub calls : IsSome (call_in event)
   pub caller : caller_of (event ∷ before) (suc (length before)) ≡ Some by
-  pub queues : (task : ℕ) (other : Entry) → queue (event ∷ before) task other ≡ queue before task other ++ option_to_list (then_some (callee == task && same_entry entry other) (suc (length before)))
+  pub queues : (task : ℕ) (other : Entry) → queue (event ∷ before) task other
+      ≡ queue before task other ++ newest_at callee entry task other (suc (length before))
 
 -- a queue without the calls of a task
 abbrev pub without_caller : List Event → ℕ → List ℕ → List ℕ
@@ -32,7 +39,8 @@ without_caller journal task = filter (λ call. not (is_number task (caller_of jo
 -- an existing task's call leaves the queue in which it waits, if it waits
 pub record LeavesQueue (event : Event) (before : List Event) (caller : ℕ) : Type 0 where
   pub exists : caller < task_count before
-  pub queues : (task : ℕ) (entry : Entry) → queue (event ∷ before) task entry ≡ without_caller before caller (queue before task entry)
+  pub queues : (task : ℕ) (entry : Entry) → queue (event ∷ before) task entry
+      ≡ without_caller before caller (queue before task entry)
 
 -- an event changes queues so
 abbrev pub ChangesQueues : Event → List Event → QueueChange → Type 0

@@ -1,11 +1,10 @@
 //! Tables that follow a journal, whatever its next event.
-ghost use Rattle.std.specs.Prelude.{◌≡◌, ◌<◌, ◌∷◌, None, IsSome, OnOk, IfErr, length};
+ghost use Rattle.std.specs.Prelude.{◌≡◌, ◌∷◌, None, IsSome, OnOk, OnErr, IfErr};
 ghost use Rattle.ada_events.specs.Lawful.{IsLawful};
-ghost use Rattle.ada_events.specs.Limits.{slot_count};
-ghost use Rattle.ada_events.specs.Says.{call_in, creation_in};
+ghost use Rattle.ada_events.specs.Says.{creation_in};
 ghost use Rattle.ada_tables.specs.Standing.{StandFor};
 ghost use Rattle.ada_records.specs.Records.{AreRecords};
-ghost use Rattle.ada_counts.specs.Making.{MakesTask};
+ghost use Rattle.ada_counts.specs.Noting.{HaveAllQueues, HaveRoomFor, AreRecordsAfter, MakesTask};
 
 use crate::nests::follow_nests;
 use crate::phasing::follow_phases;
@@ -20,11 +19,11 @@ pub fn follow(tables: &mut Tables, records: &[Record], journal: &Journal, event:
     requires lawful { IsLawful (event.now ∷ journal.now.events) }
     requires makes { creation_in event.now ≡ None }
     requires stand { StandFor tables.old journal.now.events }
-    requires slots { length tables.old.queues ≡ slot_count journal.now.events }
+    requires slots { HaveAllQueues tables.old journal.now.events }
     requires records { AreRecords records.now (event.now ∷ journal.now.events) }
-    requires room { IsSome (call_in event.now) → 0 < tables.old.spare }
+    requires room { HaveRoomFor tables.old event.now }
     ensures stand { StandFor tables.new (event.now ∷ journal.now.events) }
-    ensures slots { length tables.new.queues ≡ slot_count (event.now ∷ journal.now.events) }
+    ensures slots { HaveAllQueues tables.new (event.now ∷ journal.now.events) }
 {
     follow_queues(tables, journal, event);
     follow_nests(tables, journal, event);
@@ -43,10 +42,11 @@ pub fn follow_creation(
     requires lawful { IsLawful (_event.now ∷ _journal.now.events) }
     requires makes { MakesTask _event.now master families.now }
     requires stand { StandFor tables.old _journal.now.events }
-    requires slots { length tables.old.queues ≡ slot_count _journal.now.events }
+    requires slots { HaveAllQueues tables.old _journal.now.events }
     ensures stand { OnOk result (StandFor tables.new (_event.now ∷ _journal.now.events)) }
-    ensures slots { OnOk result (length tables.new.queues ≡ slot_count (_event.now ∷ _journal.now.events)) }
-    ensures err { IfErr result (λ cause. (cause ≡ Refusal.OutOfMemory) × (tables.new ≡ tables.old)) }
+    ensures slots { OnOk result (HaveAllQueues tables.new (_event.now ∷ _journal.now.events)) }
+    ensures err { IfErr result (λ cause. cause ≡ Refusal.OutOfMemory) }
+    ensures unchanged { OnErr result (tables.new ≡ tables.old) }
 {
     let declared = Families::from_slice(families.as_slice());
     tables.add_task(master, &declared)?;
@@ -64,13 +64,14 @@ pub fn note(
 ) -> Result<(), Refusal>
     requires lawful { IsLawful (event.now ∷ journal.now.events) }
     requires stand { StandFor tables.old journal.now.events }
-    requires slots { length tables.old.queues ≡ slot_count journal.now.events }
-    requires records { creation_in event.now ≡ None → AreRecords records.now (event.now ∷ journal.now.events) }
-    requires room { IsSome (call_in event.now) → 0 < tables.old.spare }
+    requires slots { HaveAllQueues tables.old journal.now.events }
+    requires records { AreRecordsAfter event.now journal.now.events records.now }
+    requires room { HaveRoomFor tables.old event.now }
     ensures stand { OnOk result (StandFor tables.new (event.now ∷ journal.now.events)) }
-    ensures slots { OnOk result (length tables.new.queues ≡ slot_count (event.now ∷ journal.now.events)) }
-    ensures err { IfErr result (λ cause. (cause ≡ Refusal.OutOfMemory) × (tables.new ≡ tables.old)) }
-    ensures makes { IfErr result (λ _. IsSome (creation_in event.now)) }
+    ensures slots { OnOk result (HaveAllQueues tables.new (event.now ∷ journal.now.events)) }
+    ensures err { IfErr result (λ cause. cause ≡ Refusal.OutOfMemory) }
+    ensures unchanged { OnErr result (tables.new ≡ tables.old) }
+    ensures makes { OnErr result (IsSome (creation_in event.now)) }
 {
     match event {
         Event::Created {

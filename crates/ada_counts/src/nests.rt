@@ -35,10 +35,10 @@ fn callee_in(event: &Event) -> TaskNo
 }
 
 /// The task that the call at a position calls (9.5); the main program where no call stands there.
-pub fn callee_at(journal: &Journal, position: u32) -> TaskNo
-    ensures { result.0 ≡ option_map_or (λ call. call.callee) (call_at journal.now.events position) 0 }
+pub fn callee_at(journal: &Journal, at: u32) -> TaskNo
+    ensures { result.0 ≡ option_map_or (λ call. call.callee) (call_at journal.now.events at) 0 }
 {
-    match journal.get(position) {
+    match journal.get(at) {
         Some(event) => callee_in(event),
         None => TaskNo(0),
     }

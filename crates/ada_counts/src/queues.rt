@@ -1,10 +1,9 @@
 //! Which queue an event changes, and tables in which queues follow.
-ghost use Rattle.std.specs.Prelude.{◌≡◌, ◌<◌, ◌≤◌, ◌∷◌, IsSome, length};
+ghost use Rattle.std.specs.Prelude.{◌≡◌, ◌<◌, ◌≤◌, ◌∷◌, length};
 ghost use Rattle.ada_events.specs.Lawful.{IsLawful};
-ghost use Rattle.ada_events.specs.Limits.{slot_count};
-ghost use Rattle.ada_events.specs.Says.{call_in};
 ghost use Rattle.ada_tables.specs.Queues.{without};
 ghost use Rattle.ada_counts.specs.Facing.{HoldFacts, HoldQueues};
+ghost use Rattle.ada_counts.specs.Noting.{HaveAllQueues, HaveRoomFor};
 ghost use Rattle.ada_counts.specs.Requeuing.{ChangesQueues};
 
 use ada_events::{Entry, Event, Journal, TaskNo};
@@ -96,11 +95,14 @@ pub fn follow_queues(tables: &mut Tables, journal: &Journal, event: &Event)
     requires lawful { IsLawful (event.now ∷ journal.now.events) }
     requires hold { HoldFacts tables.old.tasks journal.now.events }
     requires queues { HoldQueues tables.old journal.now.events }
-    requires slots { length tables.old.queues ≡ slot_count journal.now.events }
-    requires room { IsSome (call_in event.now) → 0 < tables.old.spare }
+    requires slots { HaveAllQueues tables.old journal.now.events }
+    requires room { HaveRoomFor tables.old event.now }
     ensures queues { HoldQueues tables.new (event.now ∷ journal.now.events) }
     ensures slots { length tables.new.queues ≡ length tables.old.queues }
-    ensures kept { tables.new ≡ record tables.old { queues = tables.new.queues; spare = tables.new.spare } }
+    ensures kept { tables.new ≡ record tables.old {
+      queues = tables.new.queues;
+      spare = tables.new.spare;
+    } }
 {
     match queue_change(journal, event) {
         QueueChange::Nothing => {}

@@ -1,6 +1,4 @@
-use Rattle.std.proofs.Common.{IsSome}
-use Rattle.std.proofs.lemmas.Result.{IfErr-weaker}
-use Rattle.ada_events.specs.Says.{creation_in}
+use Rattle.std.proofs.lemmas.Result.{on_err_weaker}
 use Rattle.ada_records.proofs.EventKinds.{makes_some}
 use Rattle.ada_counts.proofs.Followed.{makes_none}
 use Rattle.ada_counts.proofs.follow.note.Goals as goal
@@ -19,6 +17,6 @@ follow-requires c =
 
 pub returns-in-Created-clause-makes : goal.returns-in-Created-clause-makes
 returns-in-Created-clause-makes c =
-    IfErr-weaker c.follow_creation.result _ (λ _. IsSome (creation_in c.args.event.now))
-    (λ cause failed. makes_some c.args.event.now c.in-Created.by c.in-Created.under c.in-Created.master c.in-Created.families c.in-Created.is)
-    c.follow_creation.ensures.err
+    on_err_weaker c.follow_creation.result
+    (λ same. makes_some c.args.event.now c.in-Created.by c.in-Created.under c.in-Created.master c.in-Created.families c.in-Created.is)
+    c.follow_creation.ensures.unchanged
