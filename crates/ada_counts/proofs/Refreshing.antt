@@ -170,7 +170,7 @@ pub none_named : (event : Event) (before : List Event) (tasks : List TaskNo) (fi
 none_named event before [] first nests = (nests, refl)
 none_named event before (t ∷ rest) first nests = (nests, refl)
 
-eqb_swap : (a b : ℕ) → eqb a b ≡ eqb b a
+pub eqb_swap : (a b : ℕ) → eqb a b ≡ eqb b a
 eqb_swap a b =
     elim (cases_eq a b) [
       | inl same ↦ eq-eqb a b same ∙ sym (eq-eqb b a (sym same))

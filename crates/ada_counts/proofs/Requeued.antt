@@ -3,7 +3,7 @@ use Rattle.std.proofs.Common.{◌≡◌, ◌≢◌, ℕ, suc, ◌<◌, Bool, tru
 use Rattle.std.specs.Option.{option_to_list}
 use Rattle.std.specs.Bool.{then_some}
 use Rattle.std.specs.List.{All, Contains, filter}
-use Rattle.std.proofs.lemmas.Bool.{cases_eq, and_parts, eq-eqb, eqb-true, ne_eqb, or_cases, or_parts, true≢false, false≢true, false_from_ne_true}
+use Rattle.std.proofs.lemmas.Bool.{cases_eq, and_parts, eq-eqb, eqb-true, or_cases, or_parts, true≢false, false≢true, false_from_ne_true}
 use Rattle.std.proofs.lemmas.List.{get_or-set_same, get_or-set_other}
 use Rattle.std.proofs.lemmas.List.Elements.{All-append, All-cons, All-filter, All-head, All-nil, All-tail, All-weaker}
 use Rattle.std.proofs.lemmas.Option.{same_Some}
@@ -28,6 +28,7 @@ use Rattle.ada_counts.specs.Facing.{HoldFacts, HoldQueues}
 use Rattle.ada_counts.specs.Requeuing.{without_caller, ComesLast, LeavesQueue}
 use Rattle.ada_counts.proofs.OnePhase.{caller_later}
 use Rattle.ada_counts.proofs.QueueTurns.{queued_by}
+use Rattle.ada_counts.proofs.Refreshing.{eqb_swap}
 use Rattle.ada_counts.proofs.SlotsApart.{slot_within, slots_apart, slot_found, slots_held, same_entry-true}
 
 -- who doesn't wait is in no queue
@@ -81,13 +82,6 @@ called_entry tasks journal callee entry hold exists declares = record {
   known = omega (arith, exists, hold.many);
   declares = subst (λ (f : Facts). IsSome (number_within f.families entry)) (sym (hold.facts callee exists)) declares;
 }
-
-eqb_swap : (a b : ℕ) → eqb a b ≡ eqb b a
-eqb_swap a b =
-    elim (cases_eq a b) [
-      | inl same ↦ eq-eqb a b same ∙ sym (eq-eqb b a (sym same))
-      | inr other ↦ ne_eqb a b other ∙ sym (ne_eqb b a (λ back. other (sym back)))
-    ]
 
 taken_positions : (journal : List Event) (u : ℕ) (calls : List QueuedCall) → All (λ (c : QueuedCall). caller_of journal c.call ≡ Some c.caller) calls → map (λ (c : QueuedCall). c.call) (filter (λ c. not (is_by u c)) calls) ≡ without_caller journal u (map (λ (c : QueuedCall). c.call) calls)
 taken_positions journal u [] made = refl

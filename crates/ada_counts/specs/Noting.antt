@@ -1,5 +1,5 @@
 -- What has to be known where an event is noted in tables.
-use Rattle.std.specs.Prelude.{◌≡◌, ℕ, ◌<◌, None, IsSome, List, ◌∷◌, length}
+use Rattle.std.specs.Prelude.{◌≡◌, ◌<◌, None, IsSome, List, ◌∷◌, length}
 use Rattle.ada_events.specs.declared.event.Event.{Event}
 use Rattle.ada_events.specs.declared.event.Event.TheVariants.{Created}
 use Rattle.ada_events.specs.declared.names.Family.{Family}
