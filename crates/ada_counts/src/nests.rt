@@ -16,11 +16,11 @@ use ada_tables::Tables;
 pub enum NestChange {
     Nothing,
     /// A task comes into a block that it opened (9.4), or into a rendezvous (9.5).
-    Enters { task: TaskNo, member: Member },
+    Enters(TaskNo, Member),
     /// A task leaves the innermost block that it is in (9.4).
-    LeavesBlock { task: TaskNo },
-    /// The rendezvous with a call ends for the task called (9.5).
-    EndsRendezvous { task: TaskNo, call: u32 },
+    LeavesBlock(TaskNo),
+    /// The rendezvous with the call at a position ends for the task called (9.5).
+    EndsRendezvous(TaskNo, u32),
 }
 
 // The task that a call calls; the main program where the event is no call.
@@ -51,25 +51,13 @@ pub fn nest_change(journal: &Journal, event: &Event) -> NestChange
     ensures { ChangesNests event.now journal.now.events result }
 {
     match event {
-        Event::Opened { by, .. } => NestChange::Enters {
-            task: *by,
-            member: Member::Block(journal.len() + 1),
-        },
-        Event::Met { call, wait } => NestChange::Enters {
-            task: holder_at(journal, *wait),
-            member: Member::Rendezvous(*call),
-        },
-        Event::Ended { call, .. } => NestChange::EndsRendezvous {
-            task: callee_at(journal, *call),
-            call: *call,
-        },
-        Event::Failed { call } => NestChange::EndsRendezvous {
-            task: callee_at(journal, *call),
-            call: *call,
-        },
-        Event::Left { close } => NestChange::LeavesBlock {
-            task: holder_at(journal, *close),
-        },
+        Event::Opened { by, .. } => NestChange::Enters(*by, Member::Block(journal.len() + 1)),
+        Event::Met { call, wait } => {
+            NestChange::Enters(holder_at(journal, *wait), Member::Rendezvous(*call))
+        }
+        Event::Ended { call, .. } => NestChange::EndsRendezvous(callee_at(journal, *call), *call),
+        Event::Failed { call } => NestChange::EndsRendezvous(callee_at(journal, *call), *call),
+        Event::Left { close } => NestChange::LeavesBlock(holder_at(journal, *close)),
         Event::Created { .. } => NestChange::Nothing,
         Event::Started { .. } => NestChange::Nothing,
         Event::Elaborated { .. } => NestChange::Nothing,
@@ -99,8 +87,8 @@ pub fn follow_nests(tables: &mut Tables, journal: &Journal, event: &Event)
 {
     match nest_change(journal, event) {
         NestChange::Nothing => {}
-        NestChange::Enters { task, member } => tables.push_nest(task, member),
-        NestChange::LeavesBlock { task } => tables.pop_nest(task),
-        NestChange::EndsRendezvous { task, call } => tables.cut_nest(task, call),
+        NestChange::Enters(task, member) => tables.push_nest(task, member),
+        NestChange::LeavesBlock(task) => tables.pop_nest(task),
+        NestChange::EndsRendezvous(task, call) => tables.cut_nest(task, call),
     }
 }

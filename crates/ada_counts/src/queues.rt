@@ -21,9 +21,7 @@ pub enum QueueChange {
         entry: Entry,
     },
     /// A task's call leaves the queue in which it waits, if it waits.
-    Leaves {
-        task: TaskNo,
-    },
+    Leaves(TaskNo),
 }
 
 /// What an event changes in queues: a call comes last at its entry, and leaves it when its rendezvous begins, when it
@@ -43,19 +41,11 @@ pub fn queue_change(journal: &Journal, event: &Event) -> QueueChange
             callee: *callee,
             entry: *entry,
         },
-        Event::Ended { call, .. } => QueueChange::Leaves {
-            task: holder_at(journal, *call),
-        },
-        Event::Failed { call } => QueueChange::Leaves {
-            task: holder_at(journal, *call),
-        },
-        Event::Cancelled { call } => QueueChange::Leaves {
-            task: holder_at(journal, *call),
-        },
-        Event::Met { call, .. } => QueueChange::Leaves {
-            task: holder_at(journal, *call),
-        },
-        Event::Halted { task } => QueueChange::Leaves { task: *task },
+        Event::Ended { call, .. } => QueueChange::Leaves(holder_at(journal, *call)),
+        Event::Failed { call } => QueueChange::Leaves(holder_at(journal, *call)),
+        Event::Cancelled { call } => QueueChange::Leaves(holder_at(journal, *call)),
+        Event::Met { call, .. } => QueueChange::Leaves(holder_at(journal, *call)),
+        Event::Halted { task } => QueueChange::Leaves(*task),
         Event::Opened { .. } => QueueChange::Nothing,
         Event::Created { .. } => QueueChange::Nothing,
         Event::Started { .. } => QueueChange::Nothing,
@@ -109,6 +99,6 @@ pub fn follow_queues(tables: &mut Tables, journal: &Journal, event: &Event)
         QueueChange::Joins { by, callee, entry } => {
             tables.enqueue_reserved(by, callee, entry, journal.len() + 1)
         }
-        QueueChange::Leaves { task } => leave_queue(tables, task),
+        QueueChange::Leaves(task) => leave_queue(tables, task),
     }
 }
