@@ -1,5 +1,6 @@
 //! The value under the lock.
 ghost use Rattle.std.specs.Prelude.{◌≡◌, ◌+◌, ◌<◌, ◌≤◌, false, Err, [], IsTrue, IfOk, IfErr, OnOk, OnErr, MatchOption, length, slice_get};
+ghost use Rattle.ada_events.specs.Attributes.{is_finished};
 ghost use Rattle.ada_events.specs.Lawful.{IsLawful, IsSettled};
 ghost use Rattle.ada_events.specs.Steps.{IsAccepted, IsRefused};
 ghost use Rattle.ada_events.specs.Boards.{AreTrueOf};
@@ -261,6 +262,13 @@ impl<'s, J: Session> Hall<'s, J> {
     {
         let _script = self.script;
         self.answers.is_full()
+    }
+
+    /// Whether the main program is terminated.
+    pub fn is_finished(&self) -> bool
+        ensures { result ≡ is_finished self.now.showing.journal }
+    {
+        self.station.kernel().finished()
     }
 
     /// How many requests were accepted: the number of asked events in the journal.
