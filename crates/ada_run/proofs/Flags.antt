@@ -1,5 +1,5 @@
 -- The flag of a command line, read among the rows of its subcommand.
-use Rattle.std.proofs.Common.{◌≡◌, ℕ, false, Option, Some, None, List, sym, ap, ◌∙◌, codes}
+use Rattle.std.proofs.Common.{◌≡◌, ℕ, false, Option, List, ap, ◌∙◌, codes}
 use Rattle.std.specs.Option.{option_map_or}
 use Rattle.std.specs.Str.{bytes_eq}
 use Rattle.clap.specs.Words.{first_value, rows_of}

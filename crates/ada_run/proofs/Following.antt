@@ -11,10 +11,12 @@ use Rattle.ada_replay.specs.Replay.{beginning}
 use Rattle.ada_hall.specs.declared.answer.Answer.{Answer}
 use Rattle.ada_hall.specs.declared.answer.Answer.TheVariants.{Group, Refused, Shown}
 use Rattle.ada_hall.specs.declared.answer.Kept.{Kept}
-use Rattle.ada_hall.specs.Answers.{AreAll, AreApart, AreJoined, end_of}
+use Rattle.ada_hall.specs.Answers.{AreJoined, end_of}
 use Rattle.ada_hall.specs.History.{GoesOn, AnswersRequest, AnswersShow, IsGiven, AreGiven}
 use Rattle.ada_hall.specs.Printing.{Continues, ArePrinted}
-use Rattle.ada_run.specs.Running.{Follow, IsRun, BreaksRun}
+use Rattle.ada_replay.proofs.Breaking.{keeps_same}
+use Rattle.ada_threads.specs.Opening.{IsOpeningFault}
+use Rattle.ada_run.specs.Running.{Follow, IsRun, AreWhole, BreaksRun}
 
 -- a journal that went on by nothing is the same
 same_journal : (old new : List Event) → Continues old new → length old ≡ length new → new ≡ old
@@ -49,28 +51,32 @@ follow_given script (kept ∷ others) old last text journal (before, after, said
     ((after, said, rest, subst (λ s. IsGiven script kept s said after) same given, others_follow.0, whole), others_follow.1)
 
 -- what is printed of answers without a gap is a run
-pub run_of : (script : List Line) (answers : List Kept) (journal : List Event) → AreAll (length script) answers → AreApart answers
-    → AreJoined answers 0 (length journal) → (text : List ℕ) (last : State) → ArePrinted script answers journal text last
-    → IsRun script text last × (journal ≡ last.journal)
-run_of script answers journal all apart joined text last printed =
-    let follow = follow_given script answers (beginning script) last text journal printed.0 printed.1 joined in
-    (record { answers = answers; all = all; apart = apart; follow = follow.0 }, follow.1)
+run_of : (script : List Line) (answers : List Kept) (journal : List Event) → AreWhole script answers (length journal)
+    → (text : List ℕ) (last : State) → ArePrinted script answers journal text last → IsRun script text last × (journal ≡ last.journal)
+run_of script answers journal whole text last printed =
+    let follow = follow_given script answers (beginning script) last text journal printed.0 printed.1 whole.joined in
+    (record { answers = answers; all = whole.all; apart = whole.apart; follow = follow.0 }, follow.1)
 
-pub run_written : (script : List Line) (answers : List Kept) (journal : List Event) (before after : Option (List ℕ)) → AreAll (length script) answers
-    → AreApart answers → AreJoined answers 0 (length journal) → (written : (last : State) × IsWritten (ArePrinted script answers journal) before after last)
+pub run_written : (script : List Line) (answers : List Kept) (journal : List Event) (before after : Option (List ℕ)) → AreWhole script answers (length journal)
+    → (written : (last : State) × IsWritten (ArePrinted script answers journal) before after last)
     → (last : State) × IsWritten (IsRun script) before after last × (journal ≡ last.journal)
-run_written script answers journal before after all apart joined (last, written) =
-    let run = run_of script answers journal all apart joined written.text last written.prints in
+run_written script answers journal before after whole (last, written) =
+    let run = run_of script answers journal whole written.text last written.prints in
     (last, record { text = written.text; prints = run.0; appended = written.appended }, run.1)
 
 pub run_cut : (script : List Line) (answers : List Kept) (journal : List Event) (before after : Option (List ℕ)) (fault : RunFault)
-    → AreAll (length script) answers → AreApart answers → AreJoined answers 0 (length journal) → IsShortage fault
-    → IsCutShort (ArePrinted script answers journal) before after → BreaksRun fault script before after
-run_cut script answers journal before after fault all apart joined short cut =
-    let run = run_of script answers journal all apart joined (cut.written ++ cut.rest) cut.new cut.prints in
+    → AreWhole script answers (length journal) → IsShortage fault → IsCutShort (ArePrinted script answers journal) before after
+    → BreaksRun fault script before after
+run_cut script answers journal before after fault whole short cut =
+    let run = run_of script answers journal whole (cut.written ++ cut.rest) cut.new cut.prints in
     let broken : IsCutShort (IsRun script) before after =
     record { written = cut.written; rest = cut.rest; new = cut.new; prints = run.0; appended = cut.appended } in
     elim short [
       | inl is ↦ subst (λ f. BreaksRun f script before after) (sym is) (inr broken)
       | inr is ↦ subst (λ f. BreaksRun f script before after) (sym is) broken
     ]
+
+-- where nothing was written yet
+pub nothing_run : (script : List Line) (bytes : Option (List ℕ)) (fault : RunFault) → IsOpeningFault fault → BreaksRun fault script bytes bytes
+nothing_run script bytes fault (inl is) = subst (λ f. BreaksRun f script bytes bytes) (sym is) (inl (keeps_same bytes))
+nothing_run script bytes fault (inr is) = subst (λ f. BreaksRun f script bytes bytes) (sym is) (keeps_same bytes)

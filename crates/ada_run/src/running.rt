@@ -1,9 +1,10 @@
 //! Running a script: one thread for each of its tasks, from the bytes that are read to those that are written.
-ghost use Rattle.std.specs.Prelude.{◌≡◌, ◌⊎◌, ◌<◌, ◌≤◌, IfOk, IfErr, length};
+ghost use Rattle.std.specs.Prelude.{◌≡◌, ◌⊎◌, ◌<◌, ◌≤◌, IfOk, IfErr, OnOk, length};
 ghost use Rattle.ada_replay.specs.Input.{most_bytes, TakesAtMost};
 ghost use Rattle.ada_replay.specs.Replay.{Tells};
 ghost use Rattle.ada_hall.specs.Speakers.{created};
-ghost use Rattle.ada_run.specs.Running.{IsScriptRun, BreaksRun, IsTextRun, IsTextBroken, IsUnread, Runs, RunBreaks};
+ghost use Rattle.ada_threads.specs.Opening.{IsOpeningFault};
+ghost use Rattle.ada_run.specs.Running.{AreWhole, IsScriptRun, BreaksRun, IsTextRun, IsTextBroken, IsUnread, Runs, RunBreaks};
 
 use ada_board::History;
 use ada_hall::printing::{are_joined, write_answers};
@@ -36,6 +37,22 @@ fn ending_of<J: Session>(hall: &Hall<'_, J>) -> Ending
     }
 }
 
+// Looks whether each line has its answer, and whether no event lies between the answers. Where memory is refused
+// the hall is stopped, and a line has none.
+fn look_through<J: Session>(hall: &Hall<'_, J>) -> Result<(), RunFault>
+    ensures ok { OnOk result
+        (AreWhole J.script hall.now.answers (length hall.now.showing.journal)) }
+    ensures err { IfErr result IsOpeningFault }
+{
+    if hall.floor().is_stopped() || !hall.is_answered() {
+        return Err(RunFault::Memory);
+    }
+    if !are_joined(hall.answers(), hall.journal().len()) {
+        return Err(RunFault::Threads);
+    }
+    Ok(())
+}
+
 // Writes what the answers of a hall print, if each line has its answer and no event lies between the answers.
 fn tell<J: Session, W: Write>(
     alloc: Global,
@@ -50,16 +67,9 @@ fn tell<J: Session, W: Write>(
     ensures err { IfErr result (λ fault.
         BreaksRun fault J.script (W.contents writer.old) (W.contents writer.new)) }
 {
-    if hall.floor().is_stopped() || !hall.is_answered() {
-        return Err(RunFault::Memory);
-    }
-    if !are_joined(hall.answers(), hall.journal().len()) {
-        return Err(RunFault::Threads);
-    }
-    match write_answers(alloc, script, hall, writer) {
-        Ok(()) => Ok(ending_of(hall)),
-        Err(fault) => Err(fault),
-    }
+    look_through(hall)?;
+    write_answers(alloc, script, hall, writer)?;
+    Ok(ending_of(hall))
 }
 
 // Runs a script with so many speakers.

@@ -1,4 +1,4 @@
-use Rattle.std.proofs.Common.{◌≡◌, ℕ, None, Some, List, option_map, sym, ap, ◌∙◌}
+use Rattle.std.proofs.Common.{None, Some, option_map, sym, ap, ◌∙◌}
 use Rattle.clap.specs.Words.{found_of}
 use Rattle.ada_run.proofs.Flags.{free_is}
 use Rattle.ada_run.proofs.order.is_free.Goals as goal
