@@ -3,11 +3,13 @@
  * realloc that a program makes, number REFUSE_AT answers null, and with REFUSE_ON=1 each later one too. At the
  * program's end the file REFUSE_REPORT gets a line with how many calls there were and how many were refused. */
 #define _GNU_SOURCE
+#include <errno.h>
 #include <fcntl.h>
 #include <stdatomic.h>
 #include <stddef.h>
 #include <stdlib.h>
 #include <string.h>
+#include <sys/syscall.h>
 #include <unistd.h>
 
 extern void *__libc_malloc(size_t);
@@ -39,6 +41,7 @@ static int is_refused(void) {
   long call = atomic_fetch_add(&calls, 1) + 1;
   if (first == 0 || call < first || (call > first && !goes_on)) return 0;
   atomic_fetch_add(&refused, 1);
+  errno = ENOMEM;
   return 1;
 }
 
@@ -56,6 +59,10 @@ static char *put(char *to, long n) {
   return to;
 }
 
+__attribute__((noreturn)) static void leave(int status) {
+  for (;;) syscall(SYS_exit_group, status);
+}
+
 __attribute__((destructor)) static void end(void) {
   const char *report = getenv("REFUSE_REPORT");
   if (!report) return;
@@ -66,6 +73,12 @@ __attribute__((destructor)) static void end(void) {
   *to++ = '\n';
   int file = open(report, O_WRONLY | O_CREAT | O_TRUNC, 0600);
   if (file < 0) return;
-  if (write(file, line, (size_t)(to - line)) < 0) _exit(70);
+  if (write(file, line, (size_t)(to - line)) < 0) leave(70);
   close(file);
+}
+
+/* A program that may have threads ends by this call, behind which no destructor runs. */
+void _exit(int status) {
+  end();
+  leave(status);
 }

@@ -4,3 +4,4 @@ pub mod Slots
 pub mod Counts
 pub mod Telling
 pub mod Keeping
+pub mod Printed

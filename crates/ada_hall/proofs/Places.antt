@@ -1,6 +1,6 @@
 -- Answers at places of their own: there are never more than places.
 use Rattle.std.proofs.Common.{◌≡◌, ◌≢◌, ℕ, zero, suc, ◌<◌, ◌≤◌, ◌==◌, Bool, true, false, cond, Option, Some, None, List, [], ◌∷◌, ◌++◌, length, map, get_or, refl, sym, ◌∙◌, arith}
-use Rattle.std.specs.Prelude.{find, option_map}
+use Rattle.std.specs.Prelude.{find, option_map, IsSome}
 use Rattle.std.specs.List.{All, AllPairs, Contains}
 use Rattle.std.proofs.lemmas.Option.{none-some}
 use Rattle.std.proofs.lemmas.Bool.{eqb-true}
@@ -11,9 +11,10 @@ use Rattle.std.proofs.lemmas.List.Quantifiers.{all_pairs_push}
 use Rattle.std.proofs.lemmas.Map.Steps.{length-le_from_distinct_below}
 use Rattle.std.proofs.lemmas.Map.Made.{IsDistinct-from_AllPairs}
 use Rattle.std.proofs.lemmas.Map.Views.{Contains-from_any}
+use Rattle.ada_hall.specs.declared.answer.Answer.{Answer}
 use Rattle.ada_hall.specs.declared.answer.Answer.TheVariants.{Group}
 use Rattle.ada_hall.specs.declared.answer.Kept.{Kept}
-use Rattle.ada_hall.specs.Answers.{answer_at, AreApart}
+use Rattle.ada_hall.specs.Answers.{answer_at, AreAll, AreApart}
 
 place_of : Kept → ℕ
 place_of kept = kept.place
@@ -52,7 +53,7 @@ few : (answers : List Kept) (places : ℕ) → AreApart answers → All (λ (k :
 unfolding place_of
 few answers places apart within =
     let numbers = map place_of answers in
-    let dummy : Kept = record { place = 0; events = 0; answer = Group 0 0 } in
+    let dummy : Kept = record { place = 0; events = 0; tasks = 0; answer = Group 0 0 } in
     let distinct : AllPairs (λ (x : ℕ) (y : ℕ). x ≢ y) numbers = λ i j d less below.
     let inside : j < length answers = omega (arith, length-map answers place_of) in
     let differ : (get_or answers i dummy).place ≢ (get_or answers j dummy).place = apart i j dummy less inside in
@@ -73,3 +74,16 @@ room_for_one answers kept places apart within below none =
     let more : length (answers ++ kept ∷ []) ≤ places =
     few (answers ++ kept ∷ []) places (stay_apart answers kept apart none) (stay_within answers kept places within below) in
     omega (arith, length-append answers (kept ∷ []))
+
+found : (answer : Option Answer) → (answer ≡ None → ⊥) → IsSome answer
+found None never = absurd (never refl)
+found (Some answer) never = refl
+
+-- where there are as many answers as places, each place has one
+pub no_place_left : (answers : List Kept) (places : ℕ) → AreApart answers → All (λ (k : Kept). k.place < places) answers → length answers ≡ places
+    → AreAll places answers
+no_place_left answers places apart within full place below =
+    found (answer_at answers place) (λ none.
+    let kept : Kept = record { place = place; events = 0; tasks = 0; answer = Group 0 0 } in
+    let room : length answers < places = room_for_one answers kept places apart within below none in
+    omega arith)

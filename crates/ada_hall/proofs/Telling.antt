@@ -141,19 +141,20 @@ shows_it line old (Shown value) of_show = (shown_text line.line value, (refl, re
 
 pub gives_answer : (script : List Line) (line : Line) (kept : Kept) (old new : State) (said : List ℕ) → slice_get script kept.place ≡ Some line
     → IsLawful old.journal
-    → IsSettled old.journal → kept.events ≡ length old.journal → IsAnswerTo line old kept.answer said new → IsGiven script kept old said new
-gives_answer script line kept old new said stands lawful settled long answers =
-    record { line = line; stands = stands; lawful = lawful; settled = settled; events = long; answers = answers }
+    → IsSettled old.journal → kept.events ≡ length old.journal → kept.tasks ≡ task_count old.journal → IsAnswerTo line old kept.answer said new
+    → IsGiven script kept old said new
+gives_answer script line kept old new said stands lawful settled long many answers =
+    record { line = line; stands = stands; lawful = lawful; settled = settled; events = long; tasks = many; answers = answers }
 
 -- the answer to a line that shows an attribute is given where it is kept
-pub gives_value : (script : List Line) (line : Line) (place events : ℕ) (answer : Answer) (now : State) → slice_get script place ≡ Some line
+pub gives_value : (script : List Line) (line : Line) (place events tasks : ℕ) (answer : Answer) (now : State) → slice_get script place ≡ Some line
     → is_show line.statement ≡ true
-    → IsOfShow answer → IsLawful now.journal → IsSettled now.journal → events ≡ length now.journal
-    → (said : List ℕ) × IsGiven script (record { place = place; events = events; answer = answer }) now said now
-gives_value script line place events answer now stands shows of_show lawful settled long =
+    → IsOfShow answer → IsLawful now.journal → IsSettled now.journal → events ≡ length now.journal → tasks ≡ task_count now.journal
+    → (said : List ℕ) × IsGiven script (record { place = place; events = events; tasks = tasks; answer = answer }) now said now
+gives_value script line place events tasks answer now stands shows of_show lawful settled long many =
     let shown = shows_it line now answer of_show in (
       shown.0,
-      gives_answer script line (record { place = place; events = events; answer = answer }) now now shown.0 stands lawful settled long
+      gives_answer script line (record { place = place; events = events; tasks = tasks; answer = answer }) now now shown.0 stands lawful settled long many
           (subst (λ (o : Option Request). MatchOption o (AnswersShow line now answer shown.0 now) (AnswersRequest line now answer shown.0 now))
           (sym (asks_nothing now.names line.statement shows)) shown.1),
     )

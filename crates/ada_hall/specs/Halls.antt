@@ -2,6 +2,7 @@
 use Rattle.std.specs.Prelude.{◌≡◌, ℕ, false, Option, Some, None, if◌then◌else◌, List, [], ◌∷◌, ◌++◌, length, slice_get, is_some, MatchOption}
 use Rattle.std.specs.Option.{option_and_then}
 use Rattle.ada_events.specs.declared.event.Event.{Event}
+use Rattle.ada_events.specs.Tasks.{task_count}
 use Rattle.ada_script.specs.declared.script.Line.{Line}
 use Rattle.ada_script.specs.Script.{scope_of}
 use Rattle.ada_statements.specs.Scope.{Scope}
@@ -51,9 +52,9 @@ open_request script answers place = option_and_then (λ (line : Line). if is_sho
 abbrev pub open_show : List Line → List Kept → ℕ → Option Line
 open_show script answers place = option_and_then (λ (line : Line). if is_show line.statement then Some line else None) (open_line script answers place)
 
--- the answer to a place, over a journal of so many events
+-- the answer to a place, over a journal of so many events and tasks
 abbrev pub kept_at : ℕ → List Event → Answer → Kept
-kept_at place journal answer = record { place = place; events = length journal; answer = answer }
+kept_at place journal answer = record { place = place; events = length journal; tasks = task_count journal; answer = answer }
 
 -- how many requests an answer says were accepted
 abbrev pub gained : Answer → ℕ

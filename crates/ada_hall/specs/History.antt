@@ -6,6 +6,7 @@ use Rattle.ada_events.specs.declared.request.Request.{Request}
 use Rattle.ada_events.specs.declared.refusal.Refusal.{Refusal}
 use Rattle.ada_events.specs.Lawful.{IsLawful, IsSettled}
 use Rattle.ada_events.specs.Refusals.{refusal}
+use Rattle.ada_events.specs.Tasks.{task_count}
 use Rattle.ada_script.specs.declared.script.Line.{Line}
 use Rattle.ada_statements.specs.Binding.{request_of}
 use Rattle.ada_printing.specs.Texts.{refusal_text, shown_text}
@@ -48,14 +49,15 @@ pub record GoesOn (old new : State) : Type 0 where
   pub names : new.names ≡ old.names
   pub journal : (steps : List Event) × (new.journal ≡ steps ++ old.journal)
 
--- the answer that is kept is that of its own place's line over a lawful and settled journal, whose length is
--- kept beside it
+-- the answer that is kept is that of its own place's line over a lawful and settled journal, of which the
+-- number of events and that of tasks are kept beside it
 pub record IsGiven (script : List Line) (kept : Kept) (old : State) (text : List ℕ) (new : State) : Type 0 where
   pub line : Line
   pub stands : slice_get script kept.place ≡ Some line
   pub lawful : IsLawful old.journal
   pub settled : IsSettled old.journal
   pub events : kept.events ≡ length old.journal
+  pub tasks : kept.tasks ≡ task_count old.journal
   pub answers : IsAnswerTo line old kept.answer text new
 
 -- answers that were given one after another, and what they print

@@ -5,3 +5,4 @@ pub mod Speakers
 pub mod History
 pub mod Asking
 pub mod Halls
+pub mod Printing

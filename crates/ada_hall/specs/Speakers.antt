@@ -1,5 +1,5 @@
 -- Who speaks the lines of a script: speaker 0 is the main program, and speaker k the task of the k-th creation.
-use Rattle.std.specs.Prelude.{ℕ, Bool, false, ◌&&◌, ◌==◌, ◌-◌, not, if◌then◌else◌, Option, Some, None, List, codes, slice_get, unwrap_or}
+use Rattle.std.specs.Prelude.{ℕ, Bool, ◌&&◌, ◌==◌, ◌-◌, not, if◌then◌else◌, Option, Some, None, List, codes, slice_get, unwrap_or}
 use Rattle.std.specs.Str.{bytes_eq}
 use Rattle.std.specs.Option.{option_map_or}
 use Rattle.std.specs.List.{count_by, filter_map}

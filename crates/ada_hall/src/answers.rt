@@ -1,6 +1,6 @@
 //! The answers that are kept.
-ghost use Rattle.std.specs.Prelude.{◌≡◌, ◌<◌, None, [], ◌∷◌, ◌++◌, IfOk};
-ghost use Rattle.ada_hall.specs.Answers.{answer_at, AreApart};
+ghost use Rattle.std.specs.Prelude.{◌≡◌, ◌<◌, None, [], ◌∷◌, ◌++◌, IsTrue, IfOk};
+ghost use Rattle.ada_hall.specs.Answers.{answer_at, AreAll, AreApart};
 
 use crate::answer::{Answer, Kept};
 use std::alloc::{AllocError, Global};
@@ -55,6 +55,14 @@ impl Answers {
             .iter()
             .find(|kept| kept.place == place)
             .map(|kept| kept.answer)
+    }
+
+    /// Whether each place has its answer.
+    #[tactic(auto, using(crate::proofs::Places::no_place_left))]
+    pub fn is_full(&self) -> bool
+        ensures { IsTrue result → AreAll self.now.places self.now.kept }
+    {
+        self.kept.len() == self.places
     }
 
     /// Keeps the answer to a place that has none. It takes no memory.

@@ -1,11 +1,12 @@
 //! The value under the lock.
-ghost use Rattle.std.specs.Prelude.{◌≡◌, ◌+◌, ◌<◌, ◌≤◌, false, Err, [], IfOk, IfErr, OnOk, OnErr, MatchOption, length, slice_get};
+ghost use Rattle.std.specs.Prelude.{◌≡◌, ◌+◌, ◌<◌, ◌≤◌, false, Err, [], IsTrue, IfOk, IfErr, OnOk, OnErr, MatchOption, length, slice_get};
+ghost use Rattle.ada_events.specs.Attributes.{is_finished};
 ghost use Rattle.ada_events.specs.Lawful.{IsLawful, IsSettled};
 ghost use Rattle.ada_events.specs.Steps.{IsAccepted, IsRefused};
 ghost use Rattle.ada_events.specs.Boards.{AreTrueOf};
 ghost use Rattle.ada_script.specs.Script.{scope_of};
 ghost use Rattle.ada_board.specs.Sights.{Posted};
-ghost use Rattle.ada_hall.specs.Answers.{answer_at, AreApart};
+ghost use Rattle.ada_hall.specs.Answers.{answer_at, AreAll, AreApart};
 ghost use Rattle.ada_hall.specs.Asking.{Asks};
 ghost use Rattle.ada_hall.specs.Counting.{asked_count};
 ghost use Rattle.ada_replay.specs.Play.{shown as shown_of};
@@ -147,11 +148,13 @@ impl<'s, J: Session> Hall<'s, J> {
             return Ok(());
         }
         let events = self.station.kernel().journal().len();
+        let tasks = self.station.kernel().tasks();
         let answer = answer_request(rt, &mut self.station, &mut self.names, line)?;
         self.tally.count(share, answer);
         self.answers.keep(Kept {
             place,
             events,
+            tasks,
             answer,
         });
         Ok(())
@@ -206,9 +209,11 @@ impl<'s, J: Session> Hall<'s, J> {
         };
         if line.statement.is_show() {
             let events = self.station.kernel().journal().len();
+            let tasks = self.station.kernel().tasks();
             self.answers.keep(Kept {
                 place,
                 events,
+                tasks,
                 answer,
             });
         }
@@ -249,6 +254,21 @@ impl<'s, J: Session> Hall<'s, J> {
     {
         let _script = self.script;
         self.answers.as_slice()
+    }
+
+    /// Whether each line of the script has its answer.
+    pub fn is_answered(&self) -> bool
+        ensures { IsTrue result → AreAll (length J.script) self.now.answers }
+    {
+        let _script = self.script;
+        self.answers.is_full()
+    }
+
+    /// Whether the main program is terminated.
+    pub fn is_finished(&self) -> bool
+        ensures { result ≡ is_finished self.now.showing.journal }
+    {
+        self.station.kernel().finished()
     }
 
     /// How many requests were accepted: the number of asked events in the journal.

@@ -7,6 +7,7 @@ pub mod answers;
 pub mod asking;
 pub mod floor;
 pub mod hall;
+pub mod printing;
 mod saying;
 pub mod session;
 pub mod speakers;

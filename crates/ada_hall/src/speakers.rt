@@ -1,5 +1,5 @@
 //! Who speaks the lines of a script.
-ghost use Rattle.std.specs.Prelude.{◌≡◌, option_map, slice_get};
+ghost use Rattle.std.specs.Prelude.{◌≡◌, length, option_map, slice_get};
 ghost use Rattle.ada_hall.specs.Speakers.{speaker_in, created_in, created, speaker_name, is_spoken_by};
 
 use ada_script::{Line, Name, Statement};
@@ -32,15 +32,24 @@ pub fn speaker(statement: &Statement) -> Option<&Name>
     }
 }
 
-/// How many tasks speak: the main program, and each task that a line creates.
-pub fn speakers(lines: &[Line]) -> u32 {
-    let mut count = 1u32;
+/// How many tasks the lines create.
+pub fn creations(lines: &[Line]) -> usize
+    ensures { result ≡ length (created lines.now) }
+{
+    let mut count = 0;
     for line in lines {
-        if let Statement::Create { .. } = line.statement {
-            count = count.saturating_add(1);
+        if created(&line.statement).is_some() {
+            count += 1;
         }
     }
     count
+}
+
+/// How many tasks speak: the main program, and each task that a line creates.
+pub fn speakers(lines: &[Line]) -> u32 {
+    u32::try_from(creations(lines))
+        .unwrap_or(u32::MAX)
+        .saturating_add(1)
 }
 
 /// The name of the task that a statement creates, if it creates one.

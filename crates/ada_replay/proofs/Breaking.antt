@@ -11,7 +11,7 @@ use Rattle.ada_replay.specs.Replay.{beginning, Breaks}
 use Rattle.ada_replay.proofs.Playing.{lines_play}
 use Rattle.ada_replay.proofs.Cuts.{appends_nothing}
 
-keeps_same : (bytes : Option (List ℕ)) → Keeps bytes bytes
+pub keeps_same : (bytes : Option (List ℕ)) → Keeps bytes bytes
 keeps_same None = tt
 keeps_same (Some us) = refl
 

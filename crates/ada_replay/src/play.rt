@@ -1,5 +1,5 @@
 //! Playing the lines of a script on a kernel.
-ghost use Rattle.std.specs.Prelude.{◌≡◌, ℕ, ◌≤◌, ◌++◌, List, length, IfErr, OnOk};
+ghost use Rattle.std.specs.Prelude.{◌≡◌, ℕ, ◌<◌, ◌≤◌, ◌^◌, ◌++◌, List, length, reverse, IfErr, OnOk};
 ghost use Rattle.ada_events.specs.Lawful.{IsLawful, IsSettled};
 ghost use Rattle.ada_replay.specs.Play.{group_text, SaysRequest, SaysShown, Says, Plays};
 ghost use Rattle.ada_replay.specs.Ends.{state, IsShortage, IsWritten, IsCutShort};
@@ -9,26 +9,27 @@ ghost use Rattle.ada_events.specs.Tasks.{task_count};
 use crate::RunFault;
 use crate::output::{write_output, write_piece};
 use crate::shows::shown;
-use ada_events::{Journal, Refusal, Request, TaskNo};
+use ada_events::{Event, Refusal, Request, TaskNo};
 use ada_kernel::Kernel;
 use ada_script::{Line, Names, Value, asked, write_event, write_refusal, write_shown};
 use std::alloc::Global;
 use std::io::Write;
 
-/// Appends the lines of all events behind the first `from`, in their order, or nothing.
+/// Appends the lines of all events behind the first `from`, in the order in which they came, or nothing.
 #[tactic(auto, using(crate::proofs::Groups::group_grows, crate::proofs::Groups::group_begins))]
-pub fn print_group(
-    journal: &Journal,
+pub fn print_events(
+    events: &[Event],
     names: &Names,
     from: u32,
     text: &mut Vec<u8>,
 ) -> Result<(), RunFault>
-    requires { from ≤ length journal.now.events }
-    ensures ok { OnOk result (text.new.items ≡ text.old.items ++ group_text names.now from journal.now.events) }
+    requires behind { from ≤ length events.now }
+    requires fits { length events.now < 2 ^ 32 }
+    ensures ok { OnOk result
+        (text.new.items ≡ text.old.items ++ group_text names.now from (reverse events.now)) }
     ensures err { IfErr result (λ fault. (fault ≡ RunFault.Memory) × (text.new.items ≡ text.old.items)) }
 {
     let before = text.len();
-    let events = journal.as_slice();
     for at in from as usize..events.len() {
         if write_event(at as u32 + 1, &events[at], names, text).is_err() {
             text.truncate(before);
@@ -77,7 +78,7 @@ fn say_request(
     match kernel.step(request) {
         Ok(at) => {
             names.bind(&line.statement, at, made);
-            print_group(kernel.journal(), names, from, text)
+            print_events(kernel.journal().as_slice(), names, from, text)
         }
         Err(Refusal::OutOfMemory) => Err(RunFault::Memory),
         Err(cause) => print_refusal(line.line, cause, text),

@@ -35,8 +35,8 @@ pub fn replay<R: Read, W: Write>(
     }
 }
 
-// Reads a text as a script. Want of memory isn't a fault of the script.
-fn read_script(alloc: Global, text: &[u8]) -> Result<Script, RunFault>
+/// Reads a text as a script. Want of memory isn't a fault of the script.
+pub fn read_script(alloc: Global, text: &[u8]) -> Result<Script, RunFault>
     ensures ok { IfOk result (λ script. IsScript text.now script) }
     ensures err { IfErr result (IsReadingFault text.now) }
 {

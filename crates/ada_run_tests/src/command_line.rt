@@ -43,10 +43,31 @@ fn other_words_are_refused(rt: HostRuntime) -> Result<(), Fail> {
     is_answered(&rt, &["adatask", "--walk"], ErrorKind::UnknownArgument, 2)
 }
 
-// There are no threads to run a script on yet.
 #[test]
-fn run_is_refused(rt: HostRuntime) -> Result<(), Fail> {
-    is_answered(&rt, &["adatask", "run"], ErrorKind::InvalidSubcommand, 2)
+fn runs(rt: HostRuntime) -> Result<(), Fail> {
+    let in_turn = order_of(rt.alloc(), &["adatask", "run"])?;
+    assert_eq!(rt; in_turn, Order::Run);
+    let free = order_of(rt.alloc(), &["adatask", "run", "--free"])?;
+    assert_eq!(rt; free, Order::RunFree);
+    Ok(())
+}
+
+// The flag is one of `run`.
+#[test]
+fn other_flags_are_refused(rt: HostRuntime) -> Result<(), Fail> {
+    is_answered(&rt, &["adatask", "--free"], ErrorKind::UnknownArgument, 2)?;
+    is_answered(
+        &rt,
+        &["adatask", "replay", "--free"],
+        ErrorKind::UnknownArgument,
+        2,
+    )?;
+    is_answered(
+        &rt,
+        &["adatask", "run", "--turn"],
+        ErrorKind::UnknownArgument,
+        2,
+    )
 }
 
 #[test]

@@ -1,5 +1,5 @@
-//! Tests of replays and command lines: readers that come in pieces or fail, writers that fail, long outputs,
-//! and a script cut after each of its bytes.
+//! Tests of replays, runs and command lines: readers that come in pieces or fail, writers that fail, long
+//! outputs, a script cut after each of its bytes, and threads that play one script.
 #![tactic(auto)]
 
 #[cfg(test)]
@@ -10,5 +10,7 @@ mod cuts;
 mod outputs;
 #[cfg(test)]
 mod pieces;
+#[cfg(test)]
+mod running;
 #[cfg(test)]
 mod streams;

@@ -1,12 +1,14 @@
-//! Plays a script of requests to the tasking kernel, given on standard input, and prints the events that
-//! it leads to on standard output.
+//! Plays a script of requests to the tasking kernel, given on standard input, line by line or with one thread
+//! for each task, and prints the events that it leads to on standard output.
 #![tactic(auto)]
 
-use ada_run::{Ending, Order, RunFault, order_of, replay, status_of};
+use ada_run::{Ending, Free, InTurn, Order, RunFault, order_of, replay, run, status_of};
 use clap::Error;
 use clap::error::ErrorKind;
-use std::alloc::AllocError;
+use std::io::{Eprint, Input, Print};
 use std::process::ExitCode;
+use std::sync::Wait;
+use std::thread::Threads;
 use std::{env, io};
 
 fn main(rt: HostRuntime) -> ExitCode {
@@ -22,18 +24,26 @@ fn words_of(rt: &HostRuntime) -> io::Result<Vec<String>> {
     Ok(words)
 }
 
-fn obey(rt: &HostRuntime, words: &[String]) -> ExitCode {
-    match order_of(rt.alloc(), words) {
-        Ok(Order::Replay) => end(
-            rt,
-            &replay(rt.alloc(), &mut rt.reader(), &mut io::writer(rt)),
-        ),
-        Err(fault) => answer(rt, &fault),
-    }
+fn obey<R>(rt: &R, words: &[String]) -> ExitCode
+where
+    R: Threads + Wait + Sync + AllocGlobal + Input + Print + Eprint,
+{
+    let order = match order_of(rt.alloc(), words) {
+        Ok(order) => order,
+        Err(fault) => return answer(rt, &fault),
+    };
+    let reader = &mut rt.reader();
+    let writer = &mut io::writer(rt);
+    let outcome = match order {
+        Order::Replay => replay(rt.alloc(), reader, writer),
+        Order::Run => run(rt, reader, &InTurn, writer),
+        Order::RunFree => run(rt, reader, &Free, writer),
+    };
+    end(rt, &outcome)
 }
 
 // Help, or why the words are refused.
-fn answer(rt: &HostRuntime, fault: &Error) -> ExitCode {
+fn answer<R: Print + Eprint>(rt: &R, fault: &Error) -> ExitCode {
     if fault.kind() == ErrorKind::OutOfMemory {
         return end(rt, &Err(RunFault::Memory));
     }
@@ -43,7 +53,7 @@ fn answer(rt: &HostRuntime, fault: &Error) -> ExitCode {
     }
 }
 
-fn refuse_words(rt: &HostRuntime, fault: &io::Error) -> ExitCode {
+fn refuse_words<R: Eprint>(rt: &R, fault: &io::Error) -> ExitCode {
     if fault.kind() == io::ErrorKind::OutOfMemory {
         return end(rt, &Err(RunFault::Memory));
     }
@@ -51,7 +61,7 @@ fn refuse_words(rt: &HostRuntime, fault: &io::Error) -> ExitCode {
     ExitCode::from(2)
 }
 
-fn end(rt: &HostRuntime, outcome: &Result<Ending, RunFault>) -> ExitCode {
+fn end<R: Eprint>(rt: &R, outcome: &Result<Ending, RunFault>) -> ExitCode {
     if let Err(fault) = outcome {
         let _ = eprintln!(rt; "{fault}");
     }

@@ -1,5 +1,6 @@
 use Rattle.std.proofs.Common.{◌≡◌, Some, ap, sym, subst, ◌∙◌, length}
 use Rattle.std.specs.Option.{option_copied}
+use Rattle.ada_events.specs.Tasks.{task_count}
 use Rattle.ada_hall.specs.Halls.{open_line}
 use Rattle.ada_hall.proofs.Keeping.{hall_says, open_within, total_fits}
 use Rattle.ada_hall.proofs.hall.Hall.say.Goals as goal
@@ -21,7 +22,8 @@ invariant_of-self-2 g c =
     subst (λ s. open_line s c.self.inside.answers.kept c.args.place ≡ Some c.in-Some.line.now) c.self.invariant.0 (sym c.open_line.ensures ∙ ap option_copied c.in-Some.is) in (
       c.self.invariant.0,
       rw c.keep.ensures (hall_says g.J.Session.script c.self.inside.answers.places c.self.inside.tally c.count.new.self c.self.inside.station c.answer_request.new.station
-          c.self.inside.names c.answer_request.new.names c.self.inside.answers.kept c.args.place c.len-events.result c.in_ok-answer.answer c.in-Some.line.now c.self.invariant.1 is
+          c.self.inside.names c.answer_request.new.names c.self.inside.answers.kept c.args.place c.len-events.result c.tasks-tasks.result c.in_ok-answer.answer c.in-Some.line.now c.self.invariant.1 is
           c.kernel.ensures.lawful c.kernel.ensures.settled c.in_ok-answer.ensures.ok c.in_ok-answer.ensures.counted c.count.ensures.total
-          (c.len-events.ensures ∙ ap length (c.journal.ensures.events ∙ c.kernel.ensures.journal))),
+          (c.len-events.ensures ∙ ap length (c.journal.ensures.events ∙ c.kernel.ensures.journal))
+          (c.tasks-tasks.ensures ∙ ap task_count c.kernel-2.ensures.journal)),
     )

@@ -1,0 +1,7 @@
+use Rattle.std.proofs.Common.{ℕ, drop}
+use Rattle.ada_hall.specs.Answers.{AreJoined}
+use Rattle.ada_hall.proofs.printing.are_joined.Given as goal
+
+-- where those that are left are joined to what was found so far, all are
+abbrev pub invariant-loop-kept : goal.invariant-loop-kept
+invariant-loop-kept l = (to : ℕ) → AreJoined (drop l.kept-index l.answers) l.«end» to → AreJoined l.answers 0 to

@@ -1,0 +1,89 @@
+-- A run of a script: threads play its lines, and what the answers print is written.
+use Rattle.std.specs.Prelude.{◌≡◌, ◌⊎◌, ◌<◌, ℕ, Option, List, [], ◌∷◌, ◌++◌, length}
+use Rattle.std.specs.Io.KnownBytes.{Keeps}
+use Rattle.ada_script.specs.declared.script.Line.{Line}
+use Rattle.ada_script.specs.Script.{IsScript}
+use Rattle.ada_replay.specs.declared.fault.Ending.{Ending}
+use Rattle.ada_replay.specs.declared.fault.RunFault.{RunFault}
+use Rattle.ada_replay.specs.declared.fault.RunFault.TheVariants.{Script, TooManyTasks, Memory, Read, Write, Threads}
+use Rattle.ada_replay.specs.Input.{IsInputFault}
+use Rattle.ada_replay.specs.Play.{State}
+use Rattle.ada_replay.specs.Ends.{IsWritten, IsCutShort}
+use Rattle.ada_replay.specs.Replay.{beginning, Tells, IsFaultOf, IsReadOf}
+use Rattle.ada_hall.specs.declared.answer.Kept.{Kept}
+use Rattle.ada_hall.specs.Answers.{AreAll, AreApart, AreJoined}
+use Rattle.ada_hall.specs.History.{IsGiven}
+use Rattle.ada_hall.specs.Speakers.{created}
+
+-- answers that follow one another: each is that of its own place's line over the very journal and bindings that the one
+-- before it left
+abbrev pub Follow : List Line → List Kept → State → List ℕ → State → Type 0
+Follow script [] old text new = (text ≡ []) × (new ≡ old)
+Follow script (kept ∷ others) old text new =
+    (after : State) × (said : List ℕ) × (rest : List ℕ) × IsGiven script kept old said after × Follow script others after rest new × (text ≡ said ++ rest)
+
+-- each line of the script is answered once, one after another in some order, from the script's beginning on; this is what
+-- the answers print, and what they lead to
+pub record IsRun (script : List Line) (text : List ℕ) (new : State) : Type 0 where
+  pub answers : List Kept
+  pub all : AreAll (length script) answers
+  pub apart : AreApart answers
+  pub follow : Follow script answers (beginning script) text new
+
+-- each line of the script has one answer, and each answer was given where the one before it ended, the first at the
+-- beginning, up to so many events
+pub record AreWhole (script : List Line) (answers : List Kept) (events : ℕ) : Type 0 where
+  pub all : AreAll (length script) answers
+  pub apart : AreApart answers
+  pub joined : AreJoined answers 0 events
+
+-- there are more tasks than there may be, the main program counted among them
+abbrev pub HasTooMany : List Line → Type 0
+HasTooMany script = 255 < length (created script)
+
+-- a run of the script was written; the ending says whether the main program is terminated behind it
+pub record IsScriptRun (ending : Ending) (script : List Line) (before after : Option (List ℕ)) : Type 0 where
+  pub few : ¬ HasTooMany script
+  pub new : State
+  pub written : IsWritten (IsRun script) before after new
+  pub tells : Tells ending new.journal
+
+-- what a fault says of what was written: nothing, or where memory or the output was refused a beginning of a run
+abbrev pub BreaksRun : RunFault → List Line → Option (List ℕ) → Option (List ℕ) → Type 0
+BreaksRun (Script fault) script before after = ⊥
+BreaksRun TooManyTasks script before after = HasTooMany script × Keeps before after
+BreaksRun Memory script before after = Keeps before after ⊎ IsCutShort (IsRun script) before after
+BreaksRun Read script before after = ⊥
+BreaksRun Write script before after = IsCutShort (IsRun script) before after
+BreaksRun Threads script before after = Keeps before after
+
+-- the text is a script, and a run of it was written
+pub record IsTextRun (ending : Ending) (text : List ℕ) (before after : Option (List ℕ)) : Type 0 where
+  pub script : List Line
+  pub reads : IsScript text script
+  pub run : IsScriptRun ending script before after
+
+-- the text is a script, and its run was broken off
+pub record IsTextBroken (fault : RunFault) (text : List ℕ) (before after : Option (List ℕ)) : Type 0 where
+  pub script : List Line
+  pub reads : IsScript text script
+  pub breaks : BreaksRun fault script before after
+
+-- the text is no script, or memory was refused before that was known; and nothing was written
+abbrev pub IsUnread : RunFault → List ℕ → Option (List ℕ) → Option (List ℕ) → Type 0
+IsUnread (Script fault) text before after = Keeps before after × IsFaultOf text fault
+IsUnread TooManyTasks text before after = ⊥
+IsUnread Memory text before after = Keeps before after
+IsUnread Read text before after = ⊥
+IsUnread Write text before after = ⊥
+IsUnread Threads text before after = ⊥
+
+-- some text was read of the input, and a run of it was written
+abbrev pub Runs : Ending → Option (List ℕ) → Option (List ℕ) → Option (List ℕ) → Type 0
+Runs ending input before after = (text : List ℕ) × IsReadOf input text × IsTextRun ending text before after
+
+-- the input wasn't read whole, and nothing was written; or some text was read of it, which is no script or whose run was
+-- broken off
+abbrev pub RunBreaks : RunFault → Option (List ℕ) → Option (List ℕ) → Option (List ℕ) → Type 0
+RunBreaks fault input before after = (IsInputFault fault × Keeps before after)
+    ⊎ ((text : List ℕ) × IsReadOf input text × (IsUnread fault text before after ⊎ IsTextBroken fault text before after))
