@@ -5,9 +5,6 @@
 mod answering;
 #[cfg(test)]
 mod asking;
-#[cfg(test)]
-mod opened;
-#[cfg(test)]
-mod playing;
+pub mod opened;
 #[cfg(test)]
 mod stepping;

@@ -1,10 +1,10 @@
 //! Scripts of which each speaker's lines are played by work of its own, one after another.
 ghost use Rattle.std.specs.Prelude.{◌≡◌};
 
-use crate::opened::{Setting, opened};
 use ada_board::{History, Readers};
 use ada_events::Refusal;
 use ada_hall::{Answer, Hall, Session};
+use ada_hall_tests::opened::{Setting, opened};
 use ada_script::{Script, Value, read};
 use ada_threads::{Free, Gate, InTurn, Report, Shared, work};
 use std::marker::Brand;

@@ -1,0 +1,14 @@
+//! Tests of the work of threads: each speaker of a script in a thread of its own, and a check of what the lines
+//! were answered that knows the kernel and the printer alone.
+#![tactic(auto)]
+
+#[cfg(test)]
+mod crew;
+#[cfg(test)]
+mod legal;
+#[cfg(test)]
+mod one_by_one;
+#[cfg(test)]
+mod rows;
+#[cfg(test)]
+mod together;
