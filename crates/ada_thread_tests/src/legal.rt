@@ -212,3 +212,18 @@ pub fn is_legal(
     }
     Ok(answers.len() == lines.len() && referee.kernel.journal().as_slice() == events)
 }
+
+/// A kernel that has played the lines of a script in their order.
+pub fn replayed(alloc: Global, script: &Script) -> Result<Kernel, Fail> {
+    let mut referee = Referee::new(alloc, script)?;
+    let mut text = Vec::new(alloc);
+    for line in script.lines() {
+        referee.say(line, &mut text)?;
+    }
+    let Referee {
+        kernel,
+        names: _names,
+        boards: _boards,
+    } = referee;
+    Ok(kernel)
+}

@@ -5,9 +5,15 @@
 #[cfg(test)]
 mod crew;
 #[cfg(test)]
+mod free;
+#[cfg(test)]
 mod legal;
 #[cfg(test)]
 mod one_by_one;
+#[cfg(test)]
+mod orders;
+#[cfg(test)]
+mod readers;
 #[cfg(test)]
 mod rows;
 #[cfg(test)]
