@@ -7,6 +7,8 @@ mod crew;
 #[cfg(test)]
 mod free;
 #[cfg(test)]
+mod hazards;
+#[cfg(test)]
 mod legal;
 #[cfg(test)]
 mod one_by_one;
@@ -16,5 +18,7 @@ mod orders;
 mod readers;
 #[cfg(test)]
 mod rows;
+#[cfg(test)]
+mod shown;
 #[cfg(test)]
 mod together;

@@ -45,7 +45,7 @@ const LOOKS: u32 = 100_000_000;
 
 /// Holds the first line of each of four speakers until all four have come, and then lets the lines go in turn.
 #[derive(Drop)]
-struct AllAtOnce {
+pub struct AllAtOnce {
     /// How often a thread looks for the others.
     looks: u32,
     /// Which speakers have come.
@@ -55,7 +55,8 @@ struct AllAtOnce {
 }
 
 impl AllAtOnce {
-    fn new(looks: u32) -> AllAtOnce {
+    /// A gate at which a thread looks so often.
+    pub fn new(looks: u32) -> AllAtOnce {
         AllAtOnce {
             looks,
             came: [
@@ -79,7 +80,8 @@ impl AllAtOnce {
         self.late.fetch_add(1, Ordering::SeqCst);
     }
 
-    fn is_late(&self) -> bool {
+    /// Whether a thread gave up.
+    pub fn is_late(&self) -> bool {
         self.late.load(Ordering::SeqCst) > 0
     }
 }
@@ -105,7 +107,7 @@ impl Gate for AllAtOnce {
     }
 }
 
-/// The places in the order in which they were answered, and the answers.
+/// Whether the lines were answered in the order of their places.
 fn is_in_turn(played: &Played) -> bool {
     (0u32..)
         .zip(played.answers.iter())
