@@ -3,8 +3,6 @@
 
 #[cfg(test)]
 mod answering;
-#[cfg(test)]
-mod asking;
 pub mod opened;
 #[cfg(test)]
 mod stepping;
