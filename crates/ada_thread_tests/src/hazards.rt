@@ -1,7 +1,9 @@
 //! Scripts as the threads come whose requests may be accepted or refused, by who comes first.
 
+use crate::rows::RENDEZVOUS;
 use crate::together::play;
-use ada_threads::Free;
+use ada_hall::Session;
+use ada_threads::{Free, Gate, Shared};
 use std::process::Abort;
 use std::sync::Wait;
 use std::test::Fail;
@@ -62,28 +64,63 @@ main: close
 main: complete
 ";
 
-/// Plays a script again and again. Each time the answers are one legal order of its lines.
-fn play_often<R: Threads + Wait + Sync + AllocGlobal + Abort>(
+/// Lets each line go at once.
+#[derive(Drop)]
+struct Hasty;
+
+impl Gate for Hasty {
+    fn before<J: Session, R: Wait>(
+        &self,
+        _rt: &R,
+        _shared: &Shared<'_, J>,
+        _speaker: u32,
+        _place: u32,
+    ) {}
+
+    fn after<J: Session, R: Wait>(
+        &self,
+        _rt: &R,
+        _shared: &Shared<'_, J>,
+        _speaker: u32,
+        _place: u32,
+    ) {}
+}
+
+/// Plays a script again and again. Each time the answers are one legal order of its lines, and what the threads
+/// report as accepted is the total.
+fn play_often<R: Threads + Wait + Sync + AllocGlobal + Abort, G: Gate + Sync>(
     rt: &R,
     script: &[u8],
+    gate: &G,
 ) -> Result<(), Fail> {
     for _ in 0..200 {
-        assert!(rt; play(rt, script, &Free)?.legal);
+        let played = play(rt, script, gate)?;
+        let accepted = played
+            .counts
+            .iter()
+            .fold(0u32, |sum, counts| sum.saturating_add(counts.0));
+        assert!(rt; played.legal && accepted == played.total);
     }
     Ok(())
 }
 
 #[test]
 fn abort_free(rt: HostRuntime) -> Result<(), Fail> {
-    play_often(&rt, ABORTED)
+    play_often(&rt, ABORTED, &Free)
 }
 
 #[test]
 fn ticks_free(rt: HostRuntime) -> Result<(), Fail> {
-    play_often(&rt, WATCHED)
+    play_often(&rt, WATCHED, &Free)
 }
 
 #[test]
 fn terminate_free(rt: HostRuntime) -> Result<(), Fail> {
-    play_often(&rt, QUITTING)
+    play_often(&rt, QUITTING, &Free)
+}
+
+// Whatever a gate does, the answers are one legal order.
+#[test]
+fn gate_that_never_waits(rt: HostRuntime) -> Result<(), Fail> {
+    play_often(&rt, RENDEZVOUS, &Hasty)
 }
