@@ -6,8 +6,6 @@ pub mod station;
 pub use station::Station;
 
 #[cfg(test)]
-mod asking;
-#[cfg(test)]
 mod opened;
 #[cfg(test)]
 mod reading;

@@ -2,10 +2,10 @@
 ghost use Rattle.std.specs.Prelude.{◌≡◌, ◌<◌, ◌≤◌};
 
 use crate::Station;
-use crate::asking::{MAIN, SINGLE, create, tasks, up};
 use ada_board::{History, Naming, Readers, open_board};
 use ada_events::{Refusal, Request, TaskNo};
 use ada_kernel::Kernel;
+use ada_requests::{MAIN, SINGLE, create, tasks, up};
 use std::sync::Wait;
 use std::test::Fail;
 

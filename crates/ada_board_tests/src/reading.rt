@@ -2,10 +2,10 @@
 ghost use Rattle.std.specs.Prelude.{◌≡◌};
 
 use crate::Station;
-use crate::asking::{entry, tasks};
 use crate::opened::{make_clients, opened};
 use ada_board::{BoardFault, BoardReader, History, Mark, Naming, Readers};
 use ada_events::{Patience, Request, TaskNo};
+use ada_requests::{entry, tasks};
 use std::marker::Brand;
 use std::sync::Wait;
 use std::test::Fail;

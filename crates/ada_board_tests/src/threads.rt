@@ -2,10 +2,10 @@
 ghost use Rattle.std.specs.Prelude.{◌≡◌};
 
 use crate::Station;
-use crate::asking::{MAIN, create};
 use crate::opened::opened;
 use ada_board::{BoardReader, History, Naming, Readers};
 use ada_events::{Request, TaskNo};
+use ada_requests::{MAIN, create};
 use std::marker::Brand;
 use std::mem::ManuallyDrop;
 use std::sync::{Mutex, Wait};

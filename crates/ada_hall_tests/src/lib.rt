@@ -3,11 +3,6 @@
 
 #[cfg(test)]
 mod answering;
-#[cfg(test)]
-mod asking;
-#[cfg(test)]
-mod opened;
-#[cfg(test)]
-mod playing;
+pub mod opened;
 #[cfg(test)]
 mod stepping;

@@ -1,11 +1,11 @@
 //! Steps of a hall, with readers beside it.
 ghost use Rattle.std.specs.Prelude.{◌≡◌, ◌<◌};
 
-use crate::asking::{MAIN, SINGLE, create, entry, tasks, up};
 use crate::opened::{Setting, opened};
 use ada_board::{BoardFault, BoardReader, History, Readers};
 use ada_events::{Patience, Refusal, Request, TaskNo};
 use ada_hall::{Hall, Session, Told};
+use ada_requests::{MAIN, SINGLE, create, entry, tasks, up};
 use ada_script::{Script, read};
 use std::marker::Brand;
 use std::sync::Wait;

@@ -3,7 +3,7 @@
 #![tactic(auto)]
 
 #[cfg(test)]
-mod asking;
+mod crowd;
 #[cfg(test)]
 mod journals;
 #[cfg(test)]

@@ -1,9 +1,10 @@
 //! The kernel's first answers, its limits, and the abort of many tasks at once.
 
-use crate::asking::{MAIN, SINGLE, accept, call, create, entry, make_tasks, tasks};
+use crate::crowd::make_tasks;
 use ada_events::{Event, Family, Outcome, Refusal, Request, TaskNo};
 use ada_kernel::Kernel;
 use ada_plain::PlainKernel;
+use ada_requests::{MAIN, SINGLE, accept, call, create, entry, tasks};
 use std::test::Fail;
 
 #[test]

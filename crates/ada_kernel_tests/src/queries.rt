@@ -1,8 +1,9 @@
 //! What a kernel answers about its tasks and entries.
 
-use crate::asking::{MAIN, SINGLE, accept, call, create, entry, make_tasks, tasks, up};
+use crate::crowd::make_tasks;
 use ada_events::{Entry, Family, Outcome, Patience, Refusal, Request, TaskNo};
 use ada_kernel::Kernel;
+use ada_requests::{MAIN, SINGLE, accept, call, create, entry, tasks, up};
 use std::process::Abort;
 use std::test::Fail;
 

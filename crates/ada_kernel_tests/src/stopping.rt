@@ -1,9 +1,9 @@
 //! A caller of the kernel with a promise of its own.
 
-use crate::asking::{MAIN, SINGLE, create};
 use ada_events::{Refusal, TaskNo};
 use ada_example::stop;
 use ada_kernel::Kernel;
+use ada_requests::{MAIN, SINGLE, create};
 use std::test::Fail;
 
 const SERVER: TaskNo = TaskNo(1);

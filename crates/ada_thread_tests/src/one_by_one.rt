@@ -1,10 +1,11 @@
 //! Scripts of which each speaker's lines are played by work of its own, one after another.
 ghost use Rattle.std.specs.Prelude.{◌≡◌};
 
-use crate::opened::{Setting, opened};
+use crate::rows::AllAtOnce;
 use ada_board::{History, Readers};
 use ada_events::Refusal;
 use ada_hall::{Answer, Hall, Session};
+use ada_hall_tests::opened::{Setting, opened};
 use ada_script::{Script, Value, read};
 use ada_threads::{Free, Gate, InTurn, Report, Shared, work};
 use std::marker::Brand;
@@ -123,5 +124,23 @@ fn waits_for_good_are_found(rt: HostRuntime) -> Result<(), Fail> {
     assert_eq!(rt; total, 2);
     assert_eq!(rt; third, Some(Answer::Refused(Refusal::NotRunning)));
     assert_eq!(rt; fourth, Some(Answer::Group { first: 2, last: 2 }));
+    Ok(())
+}
+
+// One thread that plays the lines of all speakers waits for the others in vain at a gate that holds the first
+// lines until all have come.
+#[test]
+fn one_thread_is_late(rt: HostRuntime) -> Result<(), Fail> {
+    let script = read(rt.alloc(), ONE_BY_ONE)?;
+    let gate = AllAtOnce::new(1_000);
+    let (_, total, _, _) = played::<Brand, _, _>(
+        &rt,
+        History::new(),
+        Blank::new(2),
+        &script,
+        &gate,
+    )?;
+    assert!(rt; gate.is_late());
+    assert_eq!(rt; total, 4);
     Ok(())
 }

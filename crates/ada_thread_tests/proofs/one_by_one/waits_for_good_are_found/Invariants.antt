@@ -1,4 +1,4 @@
-use Rattle.ada_hall_tests.proofs.playing.waits_for_good_are_found.Given as goal
+use Rattle.ada_thread_tests.proofs.one_by_one.waits_for_good_are_found.Given as goal
 
 -- the board of the history that was just made, the script that was read, and the blank ledger
 abbrev pub ghosts-played-J-Naming : goal.ghosts-played-J-Naming

@@ -1,17 +1,17 @@
-//! Requests to a kernel, in few words.
+//! Requests to a kernel, in few words: what the tests of kernels, boards and halls ask.
+#![tactic(auto)]
 
 use ada_events::{
     Bounded, Choice, Entry, Families, Family, Master, Patience, Request, Tail, TaskNo, Tasks,
 };
-use ada_kernel::Kernel;
 
-/// The main program's body.
+/// The main program's body, as a master (9.4).
 pub const MAIN: Master = Master::Body(TaskNo(0));
 
 /// A single entry.
 pub const SINGLE: Family = Family { low: 0, high: 0 };
 
-/// A creation by a task, under a master, with these families.
+/// A creation by a task, under a master, with these families of entries, of which the first 16 are taken (9.3).
 pub fn create(by: u16, master: Master, families: &[Family]) -> Request {
     let mut list = Families::new();
     for family in families {
@@ -26,7 +26,7 @@ pub fn create(by: u16, master: Master, families: &[Family]) -> Request {
     }
 }
 
-/// The tasks `first` to `last`, of which there are at most 256.
+/// The tasks `first` to `last`, of which the first 256 are taken.
 pub fn tasks(first: u16, last: u16) -> Tasks {
     let mut list: Tasks = Bounded::new();
     for task in first..=last {
@@ -42,7 +42,7 @@ pub fn entry(family: u8) -> Entry {
     Entry { family, index: 0 }
 }
 
-/// A simple call.
+/// A simple call of an entry with index 0 (9.5).
 pub fn call(by: u16, callee: u16, family: u8) -> Request {
     Request::Call {
         by: TaskNo(by),
@@ -52,7 +52,7 @@ pub fn call(by: u16, callee: u16, family: u8) -> Request {
     }
 }
 
-/// A plain accept.
+/// A plain accept of an entry with index 0 (9.5).
 pub fn accept(by: u16, family: u8) -> Request {
     let mut choices = Bounded::new();
     choices.push(Choice {
@@ -67,28 +67,10 @@ pub fn accept(by: u16, family: u8) -> Request {
     }
 }
 
-/// The end of a task's activation.
+/// The end of a task's activation (9.3).
 pub fn up(by: u16) -> Request {
     Request::Elaborated {
         by: TaskNo(by),
         ok: true,
     }
-}
-
-/// Makes tasks 1 to `last`, each with one entry and under main, activates them in one request, and ends
-/// their activations; whether all was accepted.
-pub fn make_tasks(kernel: &mut Kernel, last: u16) -> bool {
-    let mut accepted = true;
-    for _ in 0..last {
-        accepted = kernel.step(create(0, MAIN, &[SINGLE])).is_ok() && accepted;
-    }
-    let activate = Request::Activate {
-        by: TaskNo(0),
-        tasks: tasks(1, last),
-    };
-    accepted = kernel.step(activate).is_ok() && accepted;
-    for task in 1..=last {
-        accepted = kernel.step(up(task)).is_ok() && accepted;
-    }
-    accepted
 }

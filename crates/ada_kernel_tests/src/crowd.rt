@@ -1,0 +1,23 @@
+//! Kernels with many tasks.
+
+use ada_events::{Request, TaskNo};
+use ada_kernel::Kernel;
+use ada_requests::{MAIN, SINGLE, create, tasks, up};
+
+/// Makes tasks 1 to `last`, each with one entry and under main, activates them in one request, and ends
+/// their activations; whether all was accepted.
+pub fn make_tasks(kernel: &mut Kernel, last: u16) -> bool {
+    let mut accepted = true;
+    for _ in 0..last {
+        accepted = kernel.step(create(0, MAIN, &[SINGLE])).is_ok() && accepted;
+    }
+    let activate = Request::Activate {
+        by: TaskNo(0),
+        tasks: tasks(1, last),
+    };
+    accepted = kernel.step(activate).is_ok() && accepted;
+    for task in 1..=last {
+        accepted = kernel.step(up(task)).is_ok() && accepted;
+    }
+    accepted
+}

@@ -1,0 +1,229 @@
+//! Whether what the lines of a script were answered is one legal order of them, by the kernel and the printer.
+
+use ada_events::{Board, Event, Refusal, TaskNo};
+use ada_hall::{Answer, Kept};
+use ada_kernel::Kernel;
+use ada_replay::shows::shown;
+use ada_script::{Line, Names, Script, Statement, Value, asked, write_event, write_refusal};
+use std::alloc::Global;
+use std::test::Fail;
+
+/// The speaker of a line of a text, from 1: what stands before its colon, or else the main program.
+fn speaker_of(text: &[u8], line: u32) -> &[u8] {
+    let words = text
+        .split(|byte| *byte == b'\n')
+        .nth((line as usize).saturating_sub(1));
+    match words {
+        Some(words) if words.contains(&b':') => words.split(|byte| *byte == b':').next(),
+        _ => None,
+    }
+    .unwrap_or(b"main")
+}
+
+/// Whether a board shows a value for a statement.
+fn is_on(
+    board: &Board,
+    kernel: &Kernel,
+    names: &Names,
+    statement: &Statement,
+    value: Value,
+) -> bool {
+    match (statement, value) {
+        (Statement::ShowCallable { task, .. }, Value::Truth(truth)) => {
+            let task = names.task(task);
+            task.0 < board.tasks && board.callable.get(usize::from(task.0)) == Some(&truth)
+        }
+        (Statement::ShowTerminated { task, .. }, Value::Truth(truth)) => {
+            let task = names.task(task);
+            task.0 < board.tasks && board.terminated.get(usize::from(task.0)) == Some(&truth)
+        }
+        (Statement::ShowCount { by, entry }, Value::Number(count)) => {
+            let slot = kernel.slot(names.task(by), names.entry(by, entry));
+            slot.is_some_and(|slot| {
+                slot < board.slots && board.counts.get(usize::from(slot)) == Some(&count)
+            })
+        }
+        _ => false,
+    }
+}
+
+/// Appends the lines of the events from one position to another.
+fn print_events(
+    events: &[Event],
+    first: u32,
+    last: u32,
+    names: &Names,
+    out: &mut Vec<u8>,
+) -> Result<(), Fail> {
+    for at in first..=last {
+        let Some(event) = events.get((at as usize).saturating_sub(1)) else {
+            return Err("an event".into());
+        };
+        write_event(at, event, names, out)?;
+    }
+    Ok(())
+}
+
+/// A kernel that plays the lines of a script in the order of their answers.
+#[derive(Drop)]
+struct Referee {
+    kernel: Kernel,
+    names: Names,
+    /// What the kernel showed before the first line, and after each.
+    boards: Vec<Board>,
+}
+
+impl Referee {
+    fn new(alloc: Global, script: &Script) -> Result<Referee, Fail> {
+        let kernel = Kernel::new(alloc)?;
+        let mut boards = Vec::new(alloc);
+        boards.push(kernel.board())?;
+        Ok(Referee {
+            kernel,
+            names: script.names()?,
+            boards,
+        })
+    }
+
+    /// Makes the request of a line, and appends what it prints.
+    fn say(&mut self, line: &Line, text: &mut Vec<u8>) -> Result<(), Fail> {
+        if line.statement.is_show() {
+            return Err("a request".into());
+        }
+        let request = asked(&line.statement, &self.names);
+        let made = TaskNo(self.kernel.tasks());
+        match self.kernel.step(request) {
+            Ok(at) => {
+                self.names.bind(&line.statement, at, made);
+                let journal = self.kernel.journal();
+                print_events(journal.as_slice(), at, journal.len(), &self.names, text)?;
+            }
+            Err(Refusal::OutOfMemory) => return Err("memory".into()),
+            Err(cause) => write_refusal(line.line, cause, text)?,
+        }
+        Ok(())
+    }
+
+    /// Whether the kernel answers a request as it was answered: both print the same.
+    fn agrees(
+        &mut self,
+        alloc: Global,
+        line: &Line,
+        answer: Answer,
+        events: &[Event],
+    ) -> Result<bool, Fail> {
+        let mut mine = Vec::new(alloc);
+        let mut theirs = Vec::new(alloc);
+        self.say(line, &mut mine)?;
+        match answer {
+            Answer::Group { first, last } => {
+                print_events(events, first, last, &self.names, &mut theirs)?;
+            }
+            Answer::Refused(cause) => write_refusal(line.line, cause, &mut theirs)?,
+            Answer::Shown(_) => return Ok(false),
+        }
+        Ok(mine.as_slice() == theirs.as_slice())
+    }
+
+    /// Whether a value was shown by one of the boards since so many lines were answered, or a refusal is the
+    /// kernel's own.
+    fn has_shown(&self, line: &Line, answer: Answer, since: usize) -> bool {
+        match answer {
+            Answer::Shown(value) => self.boards.iter().skip(since).any(|board| is_on(
+                board,
+                &self.kernel,
+                &self.names,
+                &line.statement,
+                value,
+            )),
+            Answer::Refused(cause) => {
+                shown(&self.kernel, &self.names, &line.statement) == Err(cause)
+            }
+            Answer::Group { .. } => false,
+        }
+    }
+
+    /// Whether a line may be answered so, where its speaker's last line was answered as the one before `since`.
+    fn judges(
+        &mut self,
+        alloc: Global,
+        line: &Line,
+        answer: Answer,
+        events: &[Event],
+        since: usize,
+    ) -> Result<bool, Fail> {
+        let fits = if line.statement.is_show() {
+            self.has_shown(line, answer, since)
+        } else {
+            self.agrees(alloc, line, answer, events)?
+        };
+        self.boards.push(self.kernel.board())?;
+        Ok(fits)
+    }
+}
+
+/// How many answers were given when the speaker of a line was answered last. None where the last answer of
+/// this speaker is that of a later line.
+fn last_of(
+    text: &[u8],
+    lines: &[Line],
+    before: &[Kept],
+    kept: &Kept,
+    number: u32,
+) -> Option<usize> {
+    let speaker = speaker_of(text, number);
+    let mut since = 0;
+    for at in 0..before.len() {
+        let other = before.get(at)?;
+        let line = lines.get(other.place as usize)?;
+        if speaker_of(text, line.line) == speaker {
+            if other.place >= kept.place {
+                return None;
+            }
+            since = at + 1;
+        }
+    }
+    Some(since)
+}
+
+/// Whether the answers are those of all lines of the script, each speaker's in their order, and each is the one
+/// that the kernel gives for the order of them all. A value that is shown is that of some moment since the
+/// speaker's line before.
+pub fn is_legal(
+    alloc: Global,
+    text: &[u8],
+    script: &Script,
+    answers: &[Kept],
+    events: &[Event],
+) -> Result<bool, Fail> {
+    let lines = script.lines();
+    let mut referee = Referee::new(alloc, script)?;
+    for at in 0..answers.len() {
+        let kept = &answers[at];
+        let Some(line) = lines.get(kept.place as usize) else {
+            return Ok(false);
+        };
+        let Some(since) = last_of(text, lines, &answers[..at], kept, line.line) else {
+            return Ok(false);
+        };
+        if !referee.judges(alloc, line, kept.answer, events, since)? {
+            return Ok(false);
+        }
+    }
+    Ok(answers.len() == lines.len() && referee.kernel.journal().as_slice() == events)
+}
+
+/// A kernel that has played the lines of a script in their order.
+pub fn replayed(alloc: Global, script: &Script) -> Result<Kernel, Fail> {
+    let mut referee = Referee::new(alloc, script)?;
+    let mut text = Vec::new(alloc);
+    for line in script.lines() {
+        referee.say(line, &mut text)?;
+    }
+    let Referee {
+        kernel,
+        names: _names,
+        boards: _boards,
+    } = referee;
+    Ok(kernel)
+}
