@@ -25,6 +25,7 @@ use Rattle.ada_events.specs.Lawful.{IsLawful, MayFollow}
 use Rattle.ada_laws.proofs.Accepting.{asker_exists}
 use Rattle.ada_laws.proofs.Framing.{IsBlockOf}
 use Rattle.ada_laws.proofs.Growing.{task_count-more}
+use Rattle.ada_laws.proofs.Parents.{same_truth}
 use Rattle.ada_laws.proofs.Rows.{forced-row}
 use Rattle.ada_laws.proofs.Searching.{event_at-cases, option_map_or-true}
 use Rattle.ada_laws.proofs.Stepping.{row-opens_none}
@@ -61,11 +62,6 @@ opener_exists (event ∷ before) p e o lawful at says =
       | inl now ↦ omega (arith, task_count-more event before, new_opener event before o lawful.1 (ap opening_in now.1 ∙ says))
       | inr was ↦ omega (arith, task_count-more event before, opener_exists before p e o lawful.0 was says)
     ]
-
-same_truth : (a b : Bool) → (a ≡ true → b ≡ true) → (b ≡ true → a ≡ true) → a ≡ b
-same_truth true b there back = sym (there refl)
-same_truth false true there back = back refl
-same_truth false false there back = refl
 
 combined : (e c l : Bool) → (e ≡ false → c ≡ l) → (e || c) ≡ (l || e)
 combined true c true same = refl

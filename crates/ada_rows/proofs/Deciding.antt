@@ -19,6 +19,7 @@ use Rattle.std.proofs.lemmas.Option.{same_Some}
 use Rattle.ada_laws.proofs.Saying.{held_in-call}
 use Rattle.ada_laws.proofs.Queueing.{open_call_suspends, is_open_at-call}
 use Rattle.ada_laws.proofs.CallLaws.{one_meeting_for_a_joined_call}
+use Rattle.ada_laws.proofs.Parents.{same_truth}
 use Rattle.ada_laws.proofs.Searching.{any_event-found, any_event-from, option_map_or-true, three_parts}
 use Rattle.ada_forcing.specs.declared.row.Row.TheVariants.{Halting}
 use Rattle.ada_forcing.specs.Rows.{step_at}
@@ -30,11 +31,6 @@ use Rattle.ada_records.proofs.Existing.{positive}
 use Rattle.ada_records.proofs.Unmade.{unmade}
 use Rattle.ada_rows.specs.Deciding.{is_met_by, is_to_halt_by, is_done_by, is_lost_by, is_queued_by}
 use Rattle.ada_rows.proofs.Pending.{held_there, pending_told}
-
-same_truth : (a b : Bool) → (a ≡ true → b ≡ true) → (b ≡ true → a ≡ true) → a ≡ b
-same_truth true b there back = sym (there refl)
-same_truth false true there back = back refl
-same_truth false false there back = refl
 
 positive_at : (n : ℕ) → n ≢ 0 → 0 < n
 positive_at zero apart = absurd (apart refl)
