@@ -64,24 +64,49 @@ fn print_events(
     Ok(())
 }
 
+/// What a kernel shows at one moment.
+#[derive(Drop)]
+struct Moment {
+    board: Board,
+    /// The numbers of the lines whose attribute it wouldn't show, each with the cause.
+    refused: Vec<(u32, Refusal)>,
+}
+
+impl Moment {
+    fn of(alloc: Global, kernel: &Kernel, names: &Names, lines: &[Line]) -> Result<Moment, Fail> {
+        let mut refused = Vec::new(alloc);
+        for line in lines {
+            let answer = shown(kernel, names, &line.statement);
+            if let (true, Err(cause)) = (line.statement.is_show(), answer) {
+                refused.push((line.line, cause))?;
+            }
+        }
+        Ok(Moment {
+            board: kernel.board(),
+            refused,
+        })
+    }
+}
+
 /// A kernel that plays the lines of a script in the order of their answers.
 #[derive(Drop)]
 struct Referee {
     kernel: Kernel,
     names: Names,
-    /// What the kernel showed before the first line, and after each.
-    boards: Vec<Board>,
+    /// The moment before the first line, and that after each.
+    moments: Vec<Moment>,
 }
 
 impl Referee {
     fn new(alloc: Global, script: &Script) -> Result<Referee, Fail> {
         let kernel = Kernel::new(alloc)?;
-        let mut boards = Vec::new(alloc);
-        boards.push(kernel.board())?;
+        let names = script.names()?;
+        let mut moments = Vec::new(alloc);
+        moments.push(Moment::of(alloc, &kernel, &names, script.lines())?)?;
         Ok(Referee {
             kernel,
-            names: script.names()?,
-            boards,
+            names,
+            moments,
         })
     }
 
@@ -125,20 +150,15 @@ impl Referee {
         Ok(mine.as_slice() == theirs.as_slice())
     }
 
-    /// Whether a value was shown by one of the boards since so many lines were answered, or a refusal is the
-    /// kernel's own.
+    /// Whether a value was shown, or the attribute refused, at a moment since so many lines were answered.
     fn has_shown(&self, line: &Line, answer: Answer, since: usize) -> bool {
+        let statement = &line.statement;
+        let mut moments = self.moments.iter().skip(since);
         match answer {
-            Answer::Shown(value) => self.boards.iter().skip(since).any(|board| is_on(
-                board,
-                &self.kernel,
-                &self.names,
-                &line.statement,
-                value,
-            )),
-            Answer::Refused(cause) => {
-                shown(&self.kernel, &self.names, &line.statement) == Err(cause)
+            Answer::Shown(value) => {
+                moments.any(|at| is_on(&at.board, &self.kernel, &self.names, statement, value))
             }
+            Answer::Refused(cause) => moments.any(|at| at.refused.contains(&(line.line, cause))),
             Answer::Group { .. } => false,
         }
     }
@@ -152,13 +172,18 @@ impl Referee {
         events: &[Event],
         since: usize,
     ) -> Result<bool, Fail> {
-        let fits = if line.statement.is_show() {
-            self.has_shown(line, answer, since)
+        if line.statement.is_show() {
+            Ok(self.has_shown(line, answer, since))
         } else {
-            self.agrees(alloc, line, answer, events)?
-        };
-        self.boards.push(self.kernel.board())?;
-        Ok(fits)
+            self.agrees(alloc, line, answer, events)
+        }
+    }
+
+    /// Keeps the moment after a line.
+    fn keep_moment(&mut self, alloc: Global, lines: &[Line]) -> Result<(), Fail> {
+        let moment = Moment::of(alloc, &self.kernel, &self.names, lines)?;
+        self.moments.push(moment)?;
+        Ok(())
     }
 }
 
@@ -187,8 +212,8 @@ fn last_of(
 }
 
 /// Whether the answers are those of all lines of the script, each speaker's in their order, and each is the one
-/// that the kernel gives for the order of them all. A value that is shown is that of some moment since the
-/// speaker's line before.
+/// that the kernel gives for the order of them all. A value that is shown, or the cause for which it is refused,
+/// is that of some moment since the speaker's line before.
 pub fn is_legal(
     alloc: Global,
     text: &[u8],
@@ -209,6 +234,7 @@ pub fn is_legal(
         if !referee.judges(alloc, line, kept.answer, events, since)? {
             return Ok(false);
         }
+        referee.keep_moment(alloc, lines)?;
     }
     Ok(answers.len() == lines.len() && referee.kernel.journal().as_slice() == events)
 }
@@ -223,7 +249,7 @@ pub fn replayed(alloc: Global, script: &Script) -> Result<Kernel, Fail> {
     let Referee {
         kernel,
         names: _names,
-        boards: _boards,
+        moments: _moments,
     } = referee;
     Ok(kernel)
 }
