@@ -25,11 +25,11 @@ use Rattle.ada_tables.specs.Tables.{State, declared, slots_before, slot_at, has_
 use Rattle.ada_counts.specs.Facing.{HoldFacts, HoldQueues}
 use Rattle.ada_counts.proofs.Entries.{numbered, call_names_entry}
 
-is_some : (o : Option ℕ) (n : ℕ) → o ≡ Some n → IsSome o
+pub is_some : (o : Option ℕ) (n : ℕ) → o ≡ Some n → IsSome o
 is_some None n is = absurd (none-some n is)
 is_some (Some m) n is = refl
 
-unwrapped : (o : Option ℕ) (n : ℕ) → o ≡ Some n → unwrap_or o 0 ≡ n
+pub unwrapped : (o : Option ℕ) (n : ℕ) → o ≡ Some n → unwrap_or o 0 ≡ n
 unwrapped o n is = rw is refl
 
 -- of the tables' facts

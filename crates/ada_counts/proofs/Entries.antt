@@ -85,7 +85,7 @@ pub families_stay : (event : Event) (before : List Event) (task : ℕ) → task 
 unfolding families_of creation_of
 families_stay event before task below = rw (ne_eqb task (task_count before) (λ same. omega (arith, same, below))) refl
 
-abbrev HasNumber : List Event → Call → Type 0
+abbrev pub HasNumber : List Event → Call → Type 0
 HasNumber journal c = (n : ℕ) × (number_within (families_of journal c.callee) c.entry ≡ Some n)
 
 number_stays : (event : Event) (before : List Event) (c : Call) → HasNumber before c → HasNumber (event ∷ before) c
@@ -100,7 +100,7 @@ asked_number journal (request.Call by callee entry patience) c accepted says =
     subst (HasNumber journal) same (has_number (families_of journal callee.0) entry (slice_get (families_of journal callee.0) entry.family) refl is.families_known is.in_range)
 asked_number journal _ c accepted says = absurd (none-some c says)
 
-new_number : (event : Event) (before : List Event) (c : Call) → MayFollow before event → call_in event ≡ Some c → HasNumber before c
+pub new_number : (event : Event) (before : List Event) (c : Call) → MayFollow before event → call_in event ≡ Some c → HasNumber before c
 new_number event before c (inl forces) says = absurd (none-some c.by (sym (forced-step before event forces).holds_none ∙ held_in-call event c says))
 new_number event before c (inr asked) says = asked_number before asked.request c asked.accepted (ap call_in (sym asked.becomes) ∙ says)
 

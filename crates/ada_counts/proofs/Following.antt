@@ -27,7 +27,7 @@ pub same_creation : (event : Event) (before : List Event) (task : ℕ) → creat
 unfolding creation_of
 same_creation event before task makes = rw makes (none_if (eqb task (task_count before)) (creation_of before task))
 
-same_facts : (event : Event) (before : List Event) (task : ℕ) → creation_in event ≡ None → record (facts_in before task) { nest = nest (event ∷ before) task; phase = phase_of (event ∷ before) task } ≡ facts_in (event ∷ before) task
+pub same_facts : (event : Event) (before : List Event) (task : ℕ) → creation_in event ≡ None → record (facts_in before task) { nest = nest (event ∷ before) task; phase = phase_of (event ∷ before) task } ≡ facts_in (event ∷ before) task
 unfolding families_of
 same_facts event before task makes = rw (same_creation event before task makes) refl
 

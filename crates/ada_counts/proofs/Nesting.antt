@@ -195,11 +195,11 @@ shrink event before task outer (e ∷ earlier) last nested =
             let parts = member_parts (event ∷ before) task (suc (length earlier)) (suc (length earlier)) e (is ∙ newest_is x is) in
             true≢false (sym left ∙ parts.3)
 
-slice_last : (members : List Member) (x : Member) → slice_get (members ++ x ∷ []) (length members) ≡ Some x
+pub slice_last : (members : List Member) (x : Member) → slice_get (members ++ x ∷ []) (length members) ≡ Some x
 slice_last [] x = refl
 slice_last (y ∷ rest) x = slice_last rest x
 
-innermost_last : (members : List Member) (x : Member) → innermost (members ++ x ∷ []) ≡ Some x
+pub innermost_last : (members : List Member) (x : Member) → innermost (members ++ x ∷ []) ≡ Some x
 innermost_last members x =
     let many : length (members ++ x ∷ []) - 1 ≡ length members = omega (arith, length-append members (x ∷ [])) in
     ap (slice_get (members ++ x ∷ [])) many ∙ slice_last members x

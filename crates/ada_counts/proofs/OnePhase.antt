@@ -36,7 +36,7 @@ use Rattle.ada_counts.proofs.KeptPhases.{others_keep_phases}
 use Rattle.ada_counts.proofs.Telling.{records_tell_phases}
 
 -- who made a call stays who made it
-caller_later : (event : Event) (before : List Event) (call caller : ℕ) → caller_of before call ≡ Some caller → caller_of (event ∷ before) call ≡ Some caller
+pub caller_later : (event : Event) (before : List Event) (call caller : ℕ) → caller_of before call ≡ Some caller → caller_of (event ∷ before) call ≡ Some caller
 caller_later event before call caller made = of_event (event_at before call) refl made
   where
     of_event : (o : Option Event) → event_at before call ≡ o → option_map (λ (c : Call). c.by) (option_and_then call_in o) ≡ Some caller → caller_of (event ∷ before) call ≡ Some caller
@@ -87,7 +87,7 @@ phase_followed event before old new task phase kept lawful stand known changes r
 pub live_in_tables : (old : State) (before : List Event) (task : ℕ) → StandFor old before → task < task_count before → is_terminated before task ≡ false → ends (task_at old.tasks task).phase ≡ false
 live_in_tables old before task stand known live = ap (λ (f : Facts). ends f.phase) (stand.tasks task known) ∙ ends_phase before task ∙ live
 
-held_opens_none : (e : Event) (task : ℕ) → held_in e ≡ Some task → opening_in e ≡ None
+pub held_opens_none : (e : Event) (task : ℕ) → held_in e ≡ Some task → opening_in e ≡ None
 unfolding held_in opening_in
 held_opens_none (Called by callee entry patience due) task holds = refl
 held_opens_none (Waiting by pick choices tail) task holds = refl

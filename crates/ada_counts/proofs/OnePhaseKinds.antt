@@ -36,19 +36,19 @@ called_at : (journal : List Event) (p : ℕ) (e : Event) (c : Call) → event_at
 called_at journal p e c at says = ap (option_and_then call_in) at ∙ says
 
 -- what isn't a call is in no nest and in no queue
-not_in_nest : (journal : List Event) (task p : ℕ) → call_at journal p ≡ None → Contains (nest journal task) (Rendezvous p) → ⊥
+pub not_in_nest : (journal : List Event) (task p : ℕ) → call_at journal p ≡ None → Contains (nest journal task) (Rendezvous p) → ⊥
 unfolding is_open_call
 not_in_nest journal task p none has =
     let (e, at, here) = option_map_or-true (is_open_at journal p) (event_at journal p) (nest_open journal task p has) in
     let (c, says, opened) = is_open_at-call journal p e at here in
     none-some c (sym none ∙ called_at journal p e c at says)
 
-not_in_queue : (journal : List Event) (task p : ℕ) (entry : Entry) → call_at journal p ≡ None → Contains (queue journal task entry) p → ⊥
+pub not_in_queue : (journal : List Event) (task p : ℕ) (entry : Entry) → call_at journal p ≡ None → Contains (queue journal task entry) p → ⊥
 not_in_queue journal task p entry none has =
     let queued = queue-found journal task entry p has in
     none-some queued.call (sym none ∙ called_at journal p queued.opened.stands.event queued.call queued.opened.stands.stands queued.opened.stands.says)
 
-filter_absent : (p : ℕ) (xs : List ℕ) → (Contains xs p → ⊥) → filter (λ q. not (eqb q p)) xs ≡ xs
+pub filter_absent : (p : ℕ) (xs : List ℕ) → (Contains xs p → ⊥) → filter (λ q. not (eqb q p)) xs ≡ xs
 filter_absent p [] absent = refl
 filter_absent p (x ∷ xs) absent =
     rw (ne_eqb x p (λ same. absent (subst (λ (n : ℕ). Contains (x ∷ xs) n) same (Contains-first x xs))))
@@ -71,18 +71,18 @@ releases_change_one_phase event before task position lawful frees leaves uncalle
     }
 
 -- what a completion says, and what it doesn't
-record OnlyCompletes (event : Event) : Type 0 where
-  makes : creation_in event ≡ None
-  opens : opening_in event ≡ None
-  meets : meeting_in event ≡ None
-  frees : released_in event ≡ None
-  calls : call_in event ≡ None
-  holds : held_in event ≡ None
-  starts : started_in event ≡ []
-  goes : gone_in event ≡ None
-  quits : quit_in event ≡ None
+pub record OnlyCompletes (event : Event) : Type 0 where
+  pub makes : creation_in event ≡ None
+  pub opens : opening_in event ≡ None
+  pub meets : meeting_in event ≡ None
+  pub frees : released_in event ≡ None
+  pub calls : call_in event ≡ None
+  pub holds : held_in event ≡ None
+  pub starts : started_in event ≡ []
+  pub goes : gone_in event ≡ None
+  pub quits : quit_in event ≡ None
 
-completes_only : (e : Event) (task : ℕ) → completed_in e ≡ Some task → OnlyCompletes e
+pub completes_only : (e : Event) (task : ℕ) → completed_in e ≡ Some task → OnlyCompletes e
 unfolding completed_in creation_in opening_in meeting_in released_in call_in held_in started_in gone_in quit_in
 completes_only (Completed by) task says = record { makes = refl; opens = refl; meets = refl; frees = refl; calls = refl; holds = refl; starts = refl; goes = refl; quits = refl }
 completes_only (Elaborated by false) task says = record { makes = refl; opens = refl; meets = refl; frees = refl; calls = refl; holds = refl; starts = refl; goes = refl; quits = refl }
@@ -104,7 +104,7 @@ all_kept : (q a : Bool) → (q ≡ true → a ≡ false) → (q && (true && not 
 all_kept true a lives = rw (lives refl) refl
 all_kept false a lives = refl
 
-completed_queue : (event : Event) (before : List Event) (task other : ℕ) (entry : Entry) → IsLawful (event ∷ before) → completed_in event ≡ Some task → is_suspended before task ≡ false → OnlyCompletes event → queue (event ∷ before) other entry ≡ queue before other entry
+pub completed_queue : (event : Event) (before : List Event) (task other : ℕ) (entry : Entry) → IsLawful (event ∷ before) → completed_in event ≡ Some task → is_suspended before task ≡ false → OnlyCompletes event → queue (event ∷ before) other entry ≡ queue before other entry
 completed_queue event before task other entry lawful completes free only =
     queue_more event before other entry (λ _. true)
     (λ p e at.
@@ -112,11 +112,11 @@ completed_queue event before task other entry lawful completes free only =
     ∙ rw (only.frees, only.meets) (all_kept (is_queued_at before p e) (ends_caller event before (call_in e)) (queued_stays event before task p e lawful completes free at)))
     ∙ rw (no_newest event before other entry only.calls, filter_all (queue before other entry)) (append-nil (queue before other entry))
 
-other_completed : (event : Event) (before : List Event) (task other : ℕ) → completed_in event ≡ Some task → other ≢ task → is_completed (event ∷ before) other ≡ is_completed before other
+pub other_completed : (event : Event) (before : List Event) (task other : ℕ) → completed_in event ≡ Some task → other ≢ task → is_completed (event ∷ before) other ≡ is_completed before other
 unfolding is_completed
 other_completed event before task other says differs = rw (says, ne_eqb other task differs) refl
 
-same_ends : (event : Event) (before : List Event) (other : ℕ) → OnlyCompletes event → is_terminated (event ∷ before) other ≡ is_terminated before other
+pub same_ends : (event : Event) (before : List Event) (other : ℕ) → OnlyCompletes event → is_terminated (event ∷ before) other ≡ is_terminated before other
 unfolding is_terminated
 same_ends event before other only = rw (only.goes, only.quits) refl
 

@@ -1,4 +1,9 @@
 pub mod Facing
 pub mod Holders
+pub mod Pending
 pub mod Telling
 pub mod Following
+pub mod Phasing
+pub mod Renesting
+pub mod Requeuing
+pub mod Noting

@@ -1,6 +1,11 @@
-//! What tables hold of dependents is what a lawful journal says of them, and what tables have to change with an
-//! event. Each law is the contract of a function that does nothing.
+//! Tables that follow a journal: what each kind of event changes in queues, nests and phases, and code that changes the
+//! same in tables which stand for the journal. What they hold of dependents follows by laws, each the contract of a
+//! function that does nothing.
 #![tactic(auto)]
 
+pub mod follow;
 pub mod laws;
+pub mod nests;
 pub mod phases;
+pub mod phasing;
+pub mod queues;

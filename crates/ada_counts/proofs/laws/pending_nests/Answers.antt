@@ -1,0 +1,8 @@
+use Rattle.ada_counts.proofs.PendingNests.{closed_blocks_are_innermost, waits_have_room}
+use Rattle.ada_counts.proofs.laws.pending_nests.Goals as goal
+
+pub returns-clause-blocks : goal.returns-clause-blocks
+returns-clause-blocks c = closed_blocks_are_innermost
+
+pub returns-clause-room : goal.returns-clause-room
+returns-clause-room c = waits_have_room

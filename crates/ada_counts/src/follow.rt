@@ -1,0 +1,87 @@
+//! Tables that follow a journal, whatever its next event.
+ghost use Rattle.std.specs.Prelude.{◌≡◌, ◌∷◌, None, IsSome, OnOk, OnErr, IfErr};
+ghost use Rattle.ada_events.specs.Lawful.{IsLawful};
+ghost use Rattle.ada_events.specs.Says.{creation_in};
+ghost use Rattle.ada_tables.specs.Standing.{StandFor};
+ghost use Rattle.ada_records.specs.Records.{AreRecords};
+ghost use Rattle.ada_counts.specs.Noting.{HaveAllQueues, HaveRoomFor, AreRecordsAfter, MakesTask};
+
+use crate::nests::follow_nests;
+use crate::phasing::follow_phases;
+use crate::queues::follow_queues;
+use ada_events::{Event, Families, FamilyList, Journal, Master, Refusal};
+use ada_records::Record;
+use ada_tables::Tables;
+
+/// Lets tables that stand for a journal follow an event that makes no task. There is a queue for each entry, and room for
+/// one more call where the event makes one; the records are those after the event.
+pub fn follow(tables: &mut Tables, records: &[Record], journal: &Journal, event: &Event)
+    requires lawful { IsLawful (event.now ∷ journal.now.events) }
+    requires makes { creation_in event.now ≡ None }
+    requires stand { StandFor tables.old journal.now.events }
+    requires slots { HaveAllQueues tables.old journal.now.events }
+    requires records { AreRecords records.now (event.now ∷ journal.now.events) }
+    requires room { HaveRoomFor tables.old event.now }
+    ensures stand { StandFor tables.new (event.now ∷ journal.now.events) }
+    ensures slots { HaveAllQueues tables.new (event.now ∷ journal.now.events) }
+{
+    follow_queues(tables, journal, event);
+    follow_nests(tables, journal, event);
+    follow_phases(tables, records, journal, event);
+}
+
+/// Lets tables that stand for a journal follow an event that makes a task (9.1). Fails with `OutOfMemory` alone, and then
+/// changes nothing.
+pub fn follow_creation(
+    tables: &mut Tables,
+    _journal: &Journal,
+    _event: &Event,
+    master: Master,
+    families: &FamilyList,
+) -> Result<(), Refusal>
+    requires lawful { IsLawful (_event.now ∷ _journal.now.events) }
+    requires makes { MakesTask _event.now master families.now }
+    requires stand { StandFor tables.old _journal.now.events }
+    requires slots { HaveAllQueues tables.old _journal.now.events }
+    ensures stand { OnOk result (StandFor tables.new (_event.now ∷ _journal.now.events)) }
+    ensures slots { OnOk result (HaveAllQueues tables.new (_event.now ∷ _journal.now.events)) }
+    ensures err { IfErr result (λ cause. cause ≡ Refusal.OutOfMemory) }
+    ensures unchanged { OnErr result (tables.new ≡ tables.old) }
+{
+    let declared = Families::from_slice(families.as_slice());
+    tables.add_task(master, &declared)?;
+    Ok(())
+}
+
+/// Lets tables that stand for a journal follow any event, before that is appended. There is a queue for each entry, and
+/// room for one more call where the event makes one. The records are those after the event, unless it makes a task. Fails
+/// with `OutOfMemory` alone, where the event makes a task, and then changes nothing.
+pub fn note(
+    tables: &mut Tables,
+    records: &[Record],
+    journal: &Journal,
+    event: &Event,
+) -> Result<(), Refusal>
+    requires lawful { IsLawful (event.now ∷ journal.now.events) }
+    requires stand { StandFor tables.old journal.now.events }
+    requires slots { HaveAllQueues tables.old journal.now.events }
+    requires records { AreRecordsAfter event.now journal.now.events records.now }
+    requires room { HaveRoomFor tables.old event.now }
+    ensures stand { OnOk result (StandFor tables.new (event.now ∷ journal.now.events)) }
+    ensures slots { OnOk result (HaveAllQueues tables.new (event.now ∷ journal.now.events)) }
+    ensures err { IfErr result (λ cause. cause ≡ Refusal.OutOfMemory) }
+    ensures unchanged { OnErr result (tables.new ≡ tables.old) }
+    ensures makes { OnErr result (IsSome (creation_in event.now)) }
+{
+    match event {
+        Event::Created {
+            master,
+            families,
+            ..
+        } => follow_creation(tables, journal, event, *master, families),
+        _ => {
+            follow(tables, records, journal, event);
+            Ok(())
+        }
+    }
+}

@@ -1,0 +1,94 @@
+//! Whose nest an event changes, and tables in which nests follow.
+ghost use Rattle.std.specs.Prelude.{◌≡◌, ◌∷◌};
+ghost use Rattle.std.specs.Option.{option_map_or};
+ghost use Rattle.ada_events.specs.Lawful.{IsLawful};
+ghost use Rattle.ada_events.specs.Says.{call_in, call_at};
+ghost use Rattle.ada_counts.specs.Facing.{HoldFacts};
+ghost use Rattle.ada_counts.specs.Phasing.{AreRenested};
+ghost use Rattle.ada_counts.specs.Renesting.{ChangesNests};
+
+use ada_events::{Event, Journal, Member, TaskNo};
+use ada_records::records::holder_at;
+use ada_tables::Tables;
+
+/// What an event changes in what tasks are within.
+#[derive(Clone, Copy, Debug, PartialEq, Eq)]
+pub enum NestChange {
+    Nothing,
+    /// A task comes into a block that it opened (9.4), or into a rendezvous (9.5).
+    Enters(TaskNo, Member),
+    /// A task leaves the innermost block that it is in (9.4).
+    LeavesBlock(TaskNo),
+    /// The rendezvous with the call at a position ends for the task called (9.5).
+    EndsRendezvous(TaskNo, u32),
+}
+
+// The task that a call calls; the main program where the event is no call.
+#[tactic(auto, unfolding(ada_events::specs::Says::call_in))]
+fn callee_in(event: &Event) -> TaskNo
+    ensures { result.0 ≡ option_map_or (λ call. call.callee) (call_in event.now) 0 }
+{
+    match event {
+        Event::Called { callee, .. } => *callee,
+        _ => TaskNo(0),
+    }
+}
+
+/// The task that the call at a position calls (9.5); the main program where no call stands there.
+pub fn callee_at(journal: &Journal, at: u32) -> TaskNo
+    ensures { result.0 ≡ option_map_or (λ call. call.callee) (call_at journal.now.events at) 0 }
+{
+    match journal.get(at) {
+        Some(event) => callee_in(event),
+        None => TaskNo(0),
+    }
+}
+
+/// What an event changes in what tasks are within: a block is entered when it is opened, and a rendezvous when it
+/// begins; they are left when the block is left, and when the call ends (9.4, 9.5).
+pub fn nest_change(journal: &Journal, event: &Event) -> NestChange
+    requires { IsLawful (event.now ∷ journal.now.events) }
+    ensures { ChangesNests event.now journal.now.events result }
+{
+    match event {
+        Event::Opened { by, .. } => NestChange::Enters(*by, Member::Block(journal.len() + 1)),
+        Event::Met { call, wait } => {
+            NestChange::Enters(holder_at(journal, *wait), Member::Rendezvous(*call))
+        }
+        Event::Ended { call, .. } => NestChange::EndsRendezvous(callee_at(journal, *call), *call),
+        Event::Failed { call } => NestChange::EndsRendezvous(callee_at(journal, *call), *call),
+        Event::Left { close } => NestChange::LeavesBlock(holder_at(journal, *close)),
+        Event::Created { .. } => NestChange::Nothing,
+        Event::Started { .. } => NestChange::Nothing,
+        Event::Elaborated { .. } => NestChange::Nothing,
+        Event::Called { .. } => NestChange::Nothing,
+        Event::Waiting { .. } => NestChange::Nothing,
+        Event::Paused { .. } => NestChange::Nothing,
+        Event::Closed { .. } => NestChange::Nothing,
+        Event::Completed { .. } => NestChange::Nothing,
+        Event::Aborted { .. } => NestChange::Nothing,
+        Event::Ticked { .. } => NestChange::Nothing,
+        Event::Halted { .. } => NestChange::Nothing,
+        Event::Cancelled { .. } => NestChange::Nothing,
+        Event::Passed { .. } => NestChange::Nothing,
+        Event::Woken { .. } => NestChange::Nothing,
+        Event::Activated { .. } => NestChange::Nothing,
+        Event::Gone { .. } => NestChange::Nothing,
+        Event::Quit { .. } => NestChange::Nothing,
+    }
+}
+
+/// Changes the nests of tables as an event does.
+pub fn follow_nests(tables: &mut Tables, journal: &Journal, event: &Event)
+    requires lawful { IsLawful (event.now ∷ journal.now.events) }
+    requires hold { HoldFacts tables.old.tasks journal.now.events }
+    ensures nests { AreRenested event.now journal.now.events tables.new.tasks }
+    ensures kept { tables.new ≡ record tables.old { tasks = tables.new.tasks } }
+{
+    match nest_change(journal, event) {
+        NestChange::Nothing => {}
+        NestChange::Enters(task, member) => tables.push_nest(task, member),
+        NestChange::LeavesBlock(task) => tables.pop_nest(task),
+        NestChange::EndsRendezvous(task, call) => tables.cut_nest(task, call),
+    }
+}

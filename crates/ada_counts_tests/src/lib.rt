@@ -1,0 +1,5 @@
+//! Tests of tables that follow a journal.
+#![tactic(auto)]
+
+#[cfg(test)]
+mod creation;
