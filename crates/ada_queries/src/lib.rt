@@ -1,0 +1,4 @@
+//! What a kernel is asked, told by what is kept of its journal, with no search.
+#![tactic(auto)]
+
+pub mod queries;
