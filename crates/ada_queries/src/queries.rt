@@ -20,7 +20,7 @@ pub fn tasks(state: &State<'_>) -> u16
 }
 
 // What is kept of a task that is there.
-fn known(state: &State<'_>, task: TaskNo) -> Option<Record>
+pub(crate) fn known(state: &State<'_>, task: TaskNo) -> Option<Record>
     ensures { IsKnown state.now task.0 result }
 {
     if task.0 < state.tables().tasks() {
