@@ -63,7 +63,7 @@ impl<'a> State<'a> {
     }
 
     /// The event at a position, from 1; none at 0 and past the end.
-    pub(crate) fn event(&self, at: u32) -> Option<&Event>
+    pub fn event(&self, at: u32) -> Option<&Event>
         ensures event { option_copied result ≡ event_at self.now at }
         ensures lawful { IsLawful self.now }
     {
@@ -71,7 +71,7 @@ impl<'a> State<'a> {
     }
 
     /// The event by which a task was made (9.1); none for the main program and for no task.
-    pub(crate) fn creation(&self, task: TaskNo) -> Option<&Event>
+    pub fn creation(&self, task: TaskNo) -> Option<&Event>
         ensures { option_and_then creation_in (option_copied result) ≡ creation_of self.now task.0 }
     {
         match self.made.get(task.0 as usize) {
@@ -81,21 +81,21 @@ impl<'a> State<'a> {
     }
 
     /// The moment, in milliseconds.
-    pub(crate) fn moment(&self) -> i64
+    pub fn moment(&self) -> i64
         ensures { result ≡ moment self.now }
     {
         self.moment
     }
 
     /// The tables.
-    pub(crate) fn tables(&self) -> &Tables
+    pub fn tables(&self) -> &Tables
         ensures stand { StandFor result.now self.now }
     {
         self.tables
     }
 
     /// What is kept of a task, or of none.
-    pub(crate) fn record(&self, task: TaskNo) -> Record
+    pub fn record(&self, task: TaskNo) -> Record
         ensures right { IsRecordOf self.now task.0 result }
         ensures lawful { IsLawful self.now }
     {
@@ -106,7 +106,7 @@ impl<'a> State<'a> {
     }
 
     /// Whether what an event at a position holds up is neither released, nor has its task ended.
-    pub(crate) fn is_pending(&self, at: u32, by: TaskNo, _event: &Event) -> bool
+    pub fn is_pending(&self, at: u32, by: TaskNo, _event: &Event) -> bool
         requires stands { event_at self.now at ≡ Some _event.now }
         requires holds { held_in _event.now ≡ Some by.0 }
         ensures pending { result ≡ is_pending self.now at by.0 }

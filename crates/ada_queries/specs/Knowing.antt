@@ -1,0 +1,11 @@
+-- What is kept of a task that is asked about.
+use Rattle.std.specs.Prelude.{◌≡◌, ℕ, true, false, Option, Some, None, List}
+use Rattle.ada_events.specs.declared.event.Event.{Event}
+use Rattle.ada_events.specs.Tasks.{has_task}
+use Rattle.ada_records.specs.declared.record.Record.{Record}
+use Rattle.ada_records.specs.Records.{IsRecordOf}
+
+-- a right record of the task, or none where there is no such task
+abbrev pub IsKnown : List Event → ℕ → Option Record → Type 0
+IsKnown journal task None = has_task journal task ≡ false
+IsKnown journal task (Some kept) = (has_task journal task ≡ true) × IsRecordOf journal task kept

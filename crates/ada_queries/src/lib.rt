@@ -1,0 +1,5 @@
+//! What a kernel is asked, told by what is kept of its journal, with no search.
+#![tactic(auto)]
+
+pub mod counts;
+pub mod queries;
