@@ -1,5 +1,5 @@
 //! The answers that are kept.
-ghost use Rattle.std.specs.Prelude.{◌≡◌, ◌<◌, None, [], ◌∷◌, ◌++◌, IsTrue, IfOk};
+ghost use Rattle.std.specs.Prelude.{◌≡◌, ◌==◌, ◌<◌, None, [], ◌∷◌, ◌++◌, IsTrue, IfOk, length};
 ghost use Rattle.ada_hall.specs.Answers.{answer_at, AreAll, AreApart};
 
 use crate::answer::{Answer, Kept};
@@ -60,7 +60,8 @@ impl Answers {
     /// Whether each place has its answer.
     #[tactic(auto, using(crate::proofs::Places::no_place_left))]
     pub fn is_full(&self) -> bool
-        ensures { IsTrue result → AreAll self.now.places self.now.kept }
+        ensures all { IsTrue result → AreAll self.now.places self.now.kept }
+        ensures as_many { result ≡ (length self.now.kept == self.now.places) }
     {
         self.kept.len() == self.places
     }

@@ -1,5 +1,5 @@
 //! The value under the lock.
-ghost use Rattle.std.specs.Prelude.{◌≡◌, ◌+◌, ◌<◌, ◌≤◌, false, Err, [], IsTrue, IfOk, IfErr, OnOk, OnErr, MatchOption, length, slice_get};
+ghost use Rattle.std.specs.Prelude.{◌≡◌, ◌==◌, ◌+◌, ◌<◌, ◌≤◌, false, Err, [], IsTrue, IfOk, IfErr, OnOk, OnErr, MatchOption, length, slice_get};
 ghost use Rattle.ada_events.specs.Attributes.{is_finished};
 ghost use Rattle.ada_events.specs.Lawful.{IsLawful, IsSettled};
 ghost use Rattle.ada_events.specs.Steps.{IsAccepted, IsRefused};
@@ -45,7 +45,7 @@ pub struct Hall<'s, J: Session> {
 }
 
 impl<'s, J: Session> Model for Hall<'s, J> {
-    ghost use Rattle.std.specs.Prelude.{◌≡◌};
+    ghost use Rattle.std.specs.Prelude.{◌≡◌, ◌==◌};
     ghost use Rattle.ada_hall.specs.Halls.{Held, held, IsHall};
 
     ghost Value = { Held };
@@ -258,7 +258,8 @@ impl<'s, J: Session> Hall<'s, J> {
 
     /// Whether each line of the script has its answer.
     pub fn is_answered(&self) -> bool
-        ensures { IsTrue result → AreAll (length J.script) self.now.answers }
+        ensures all { IsTrue result → AreAll (length J.script) self.now.answers }
+        ensures as_many { result ≡ (length self.now.answers == length J.script) }
     {
         let _script = self.script;
         self.answers.is_full()

@@ -1,5 +1,5 @@
 //! The texts of the answers that a hall gave.
-ghost use Rattle.std.specs.Prelude.{◌≡◌, ◌<◌, ◌^◌, ℕ, Some, List, IsTrue, IfErr, OnOk, length, reverse, slice_get};
+ghost use Rattle.std.specs.Prelude.{◌≡◌, ◌<◌, ◌^◌, ℕ, Some, List, IsFalse, IsTrue, IfErr, OnOk, length, reverse, slice_get};
 ghost use Rattle.ada_script.specs.Script.{scope_of};
 ghost use Rattle.ada_replay.specs.Play.{State};
 ghost use Rattle.ada_replay.specs.Ends.{IsShortage, IsWritten, IsCutShort};
@@ -112,7 +112,8 @@ pub fn write_answers<J: Session, W: Write>(
 /// Whether each answer was given where the one before it ended, the first at the beginning, and the last ended
 /// at so many events: then no event lies between them.
 pub fn are_joined(answers: &[Kept], events: u32) -> bool
-    ensures { IsTrue result → AreJoined answers.now 0 events }
+    ensures joined { IsTrue result → AreJoined answers.now 0 events }
+    ensures apart { IsFalse result → AreJoined answers.now 0 events → ⊥ }
 {
     let mut end = 0;
     for kept in answers {
