@@ -88,9 +88,9 @@ fn is_not_to_activate(state: &State, by: TaskNo, tasks: &[TaskNo]) -> bool
     lists_anothers(state, by, tasks) || has_double_task(tasks)
 }
 
-/// Whether it is an activation of a task that isn't the asking task's to activate, or that stands twice (9.3).
+// Whether it is an activation of a task that isn't the asking task's to activate, or that stands twice (9.3).
 #[tactic(auto, unfolding(ada_events::specs::Refusals::is_not_your_task))]
-pub fn is_not_your_task(state: &State, request: &Request) -> bool
+fn is_not_your_task(state: &State, request: &Request) -> bool
     requires { IsLawful state.now }
     ensures { result ≡ refusals.is_not_your_task state.now request.now }
 {
@@ -100,9 +100,9 @@ pub fn is_not_your_task(state: &State, request: &Request) -> bool
     }
 }
 
-/// Whether it is a wait without accept alternatives (9.7.1).
+// Whether it is a wait without accept alternatives (9.7.1).
 #[tactic(auto, unfolding(ada_events::specs::Refusals::has_no_accept))]
-pub fn has_no_accept(request: &Request) -> bool
+fn has_no_accept(request: &Request) -> bool
     ensures { result ≡ refusals.has_no_accept request.now }
 {
     match request {
@@ -138,9 +138,9 @@ fn lacks_some_family(state: &State, by: TaskNo, choices: &[Choice]) -> bool
         .any(|choice| lacks_family(state, by, choice.entry))
 }
 
-/// Whether it is a call of, or has a choice for, a family that isn't declared.
+// Whether it is a call of, or has a choice for, a family that isn't declared.
 #[tactic(auto, unfolding(ada_events::specs::Refusals::names_no_family))]
-pub fn names_no_family(state: &State, request: &Request) -> bool
+fn names_no_family(state: &State, request: &Request) -> bool
     ensures { result ≡ refusals.names_no_family state.now request.now }
 {
     match request {
@@ -176,9 +176,9 @@ fn has_open_outside(state: &State, by: TaskNo, choices: &[Choice]) -> bool
         .any(|choice| is_open_outside(state, by, *choice))
 }
 
-/// Whether the index of a call, or of an open choice, lies outside its family's range.
+// Whether the index of a call, or of an open choice, lies outside its family's range.
 #[tactic(auto, unfolding(ada_events::specs::Refusals::breaks_constraint))]
-pub fn breaks_constraint(state: &State, request: &Request) -> bool
+fn breaks_constraint(state: &State, request: &Request) -> bool
     ensures { result ≡ refusals.breaks_constraint state.now request.now }
 {
     match request {
@@ -190,7 +190,7 @@ pub fn breaks_constraint(state: &State, request: &Request) -> bool
 
 /// The first of the causes that have to do with activation and entries.
 #[tactic(auto, unfolding(ada_events::specs::Refusals::first_cause))]
-pub fn refused_entry(state: &State, request: &Request) -> Option<Refusal>
+pub(crate) fn refused_entry(state: &State, request: &Request) -> Option<Refusal>
     requires { IsLawful state.now }
     ensures { result ≡ refusals.first_cause (refusals.causes_by_entry state.now request.now) }
 {

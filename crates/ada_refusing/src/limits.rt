@@ -19,9 +19,9 @@ fn lists_main(tasks: &[TaskNo]) -> bool
     tasks.iter().any(|task| task.0 == 0)
 }
 
-/// Whether it is an abort of the main program.
+// Whether it is an abort of the main program.
 #[tactic(auto, unfolding(ada_events::specs::Refusals::aborts_main))]
-pub fn aborts_main(request: &Request) -> bool
+fn aborts_main(request: &Request) -> bool
     ensures { result ≡ refusals.aborts_main request.now }
 {
     match request {
@@ -52,9 +52,9 @@ fn has_open_too_late(now: i64, pauses: &[Pause]) -> bool
     pauses.iter().any(|pause| is_open_too_late(now, *pause))
 }
 
-/// Whether it is a tick to less than the moment.
+// Whether it is a tick to less than the moment.
 #[tactic(auto, unfolding(ada_events::specs::Limits::moves_back))]
-pub fn moves_back(state: &State, request: &Request) -> bool
+fn moves_back(state: &State, request: &Request) -> bool
     ensures { result ≡ limits.moves_back state.now request.now }
 {
     match request {
@@ -63,9 +63,9 @@ pub fn moves_back(state: &State, request: &Request) -> bool
     }
 }
 
-/// Whether it is a tick, or the due moment of a timed call, a delay or an open delay alternative, behind the last moment.
+// Whether it is a tick, or the due moment of a timed call, a delay or an open delay alternative, behind the last moment.
 #[tactic(auto, unfolding(ada_events::specs::Limits::is_too_late))]
-pub fn is_too_late(state: &State, request: &Request) -> bool
+fn is_too_late(state: &State, request: &Request) -> bool
     ensures { result ≡ limits.is_too_late state.now request.now }
 {
     match request {
@@ -90,9 +90,9 @@ fn task_count(state: &State) -> u16
     state.tables().tasks()
 }
 
-/// Whether it is a creation where the limit of tasks is reached.
+// Whether it is a creation where the limit of tasks is reached.
 #[tactic(auto, unfolding(ada_events::specs::Limits::makes_too_many_tasks))]
-pub fn makes_too_many_tasks(state: &State, request: &Request) -> bool
+fn makes_too_many_tasks(state: &State, request: &Request) -> bool
     ensures { result ≡ limits.makes_too_many_tasks state.now request.now }
 {
     match request {
@@ -108,9 +108,9 @@ fn slot_count(state: &State) -> u16
     state.tables().slots()
 }
 
-/// Whether it is a creation whose entries would pass the limit.
+// Whether it is a creation whose entries would pass the limit.
 #[tactic(auto, unfolding(ada_events::specs::Limits::makes_too_many_slots))]
-pub fn makes_too_many_slots(state: &State, request: &Request) -> bool
+fn makes_too_many_slots(state: &State, request: &Request) -> bool
     ensures { result ≡ limits.makes_too_many_slots state.now request.now }
 {
     match request {
@@ -122,9 +122,9 @@ pub fn makes_too_many_slots(state: &State, request: &Request) -> bool
     }
 }
 
-/// Whether the journal hasn't room for the most events that one request appends.
+// Whether the journal hasn't room for the most events that one request appends.
 #[tactic(auto, unfolding(ada_events::specs::Limits::is_full))]
-pub fn is_full(state: &State) -> bool
+fn is_full(state: &State) -> bool
     ensures { result ≡ limits.is_full state.now }
 {
     MOST_EVENTS < state.len() as usize + MOST_APPENDED
@@ -133,7 +133,7 @@ pub fn is_full(state: &State) -> bool
 /// The first of the causes that have to do with the main program, the moment and the limits. The request names tasks that
 /// exist.
 #[tactic(auto, unfolding(ada_events::specs::Refusals::first_cause))]
-pub fn refused_limit(state: &State, request: &Request) -> Option<Refusal>
+pub(crate) fn refused_limit(state: &State, request: &Request) -> Option<Refusal>
     requires { refusals.names_unknown_task state.now request.now ≡ false }
     ensures { result ≡ refusals.first_cause (refusals.causes_by_limit state.now request.now) }
 {

@@ -86,9 +86,9 @@ fn is_unknown_asker(count: u16, asker: Option<TaskNo>) -> bool
     }
 }
 
-/// Whether a task that the request names doesn't exist.
+// Whether a task that the request names doesn't exist.
 #[tactic(auto, unfolding(ada_events::specs::Refusals::names_unknown_task))]
-pub fn names_unknown_task(state: &State, request: &Request) -> bool
+fn names_unknown_task(state: &State, request: &Request) -> bool
     ensures unknown { result ≡ refusals.names_unknown_task state.now request.now }
     ensures lawful { IsLawful state.now }
 {
@@ -112,9 +112,9 @@ fn is_halted_asker(state: &State, asker: Option<TaskNo>) -> bool
     }
 }
 
-/// Whether the asking task isn't running.
+// Whether the asking task isn't running.
 #[tactic(auto, unfolding(ada_events::specs::Refusals::asker_not_running))]
-pub fn asker_not_running(state: &State, request: &Request) -> bool
+fn asker_not_running(state: &State, request: &Request) -> bool
     ensures { result ≡ refusals.asker_not_running state.now request.now }
 {
     is_halted_asker(state, asker(request))
@@ -126,9 +126,9 @@ fn is_elaborated(state: &State, task: TaskNo) -> bool
     state.record(task).stage.elaborated
 }
 
-/// Whether it is a wait, end or completion by a task that isn't elaborated (9.3).
+// Whether it is a wait, end or completion by a task that isn't elaborated (9.3).
 #[tactic(auto, unfolding(ada_events::specs::Refusals::is_during_activation))]
-pub fn is_during_activation(state: &State, request: &Request) -> bool
+fn is_during_activation(state: &State, request: &Request) -> bool
     ensures { result ≡ refusals.is_during_activation state.now request.now }
 {
     match request {
@@ -138,9 +138,9 @@ pub fn is_during_activation(state: &State, request: &Request) -> bool
     }
 }
 
-/// Whether it is the end of an activation by a task that is elaborated already (9.3).
+// Whether it is the end of an activation by a task that is elaborated already (9.3).
 #[tactic(auto, unfolding(ada_events::specs::Refusals::is_not_activating))]
-pub fn is_not_activating(state: &State, request: &Request) -> bool
+fn is_not_activating(state: &State, request: &Request) -> bool
     ensures { result ≡ refusals.is_not_activating state.now request.now }
 {
     match request {
@@ -170,9 +170,9 @@ fn is_reached(state: &State, by: TaskNo, master: Master) -> bool
     holds(state, by, master) || tables.depends_on(by, master)
 }
 
-/// Whether it is a creation under a master that is neither the task's frame nor reached from it (9.4).
+// Whether it is a creation under a master that is neither the task's frame nor reached from it (9.4).
 #[tactic(auto, unfolding(ada_events::specs::Refusals::is_not_your_master))]
-pub fn is_not_your_master(state: &State, request: &Request) -> bool
+fn is_not_your_master(state: &State, request: &Request) -> bool
     requires known { refusals.names_unknown_task state.now request.now ≡ false }
     requires runs { refusals.asker_not_running state.now request.now ≡ false }
     ensures { result ≡ refusals.is_not_your_master state.now request.now }
@@ -183,9 +183,9 @@ pub fn is_not_your_master(state: &State, request: &Request) -> bool
     }
 }
 
-/// Whether there is nothing to activate, to abort, or to delay for.
+// Whether there is nothing to activate, to abort, or to delay for.
 #[tactic(auto, unfolding(ada_events::specs::Refusals::has_empty_list))]
-pub fn has_empty_list(request: &Request) -> bool
+fn has_empty_list(request: &Request) -> bool
     ensures { result ≡ refusals.has_empty_list request.now }
 {
     match request {
@@ -200,7 +200,7 @@ pub fn has_empty_list(request: &Request) -> bool
 
 /// The first of the causes that have to do with the tasks that are named, and with empty lists.
 #[tactic(auto, unfolding(ada_events::specs::Refusals::first_cause))]
-pub fn refused_name(state: &State, request: &Request) -> Option<Refusal>
+pub(crate) fn refused_name(state: &State, request: &Request) -> Option<Refusal>
     ensures cause { result ≡ refusals.first_cause (refusals.causes_by_name state.now request.now) }
     ensures lawful { IsLawful state.now }
 {

@@ -19,7 +19,7 @@ use ada_rows::State;
 use ada_tables::{Layer, Layers};
 
 /// What a task is in, outermost first.
-pub fn nest<'a>(state: &'a State, task: TaskNo) -> &'a Layers
+pub(crate) fn nest<'a>(state: &'a State, task: TaskNo) -> &'a Layers
     requires { task.0 < task_count state.now }
     ensures { members result.now ≡ nests.nest state.now task.0 }
 {
@@ -141,9 +141,9 @@ fn nests_some_family(state: &State, nest: &Layers, choices: &[Choice]) -> bool
     choices.iter().any(|choice| has_rendezvous_for(state, choice.entry.family, nest))
 }
 
-/// Whether a choice, open or closed, is for the family of a rendezvous in the task's nest (9.5).
+// Whether a choice, open or closed, is for the family of a rendezvous in the task's nest (9.5).
 #[tactic(auto, unfolding(ada_events::specs::Refusals::nests_same_family))]
-pub fn nests_same_family(state: &State, request: &Request) -> bool
+fn nests_same_family(state: &State, request: &Request) -> bool
     requires { refusals.names_unknown_task state.now request.now ≡ false }
     ensures { result ≡ refusals.nests_same_family state.now request.now }
 {
@@ -155,9 +155,9 @@ pub fn nests_same_family(state: &State, request: &Request) -> bool
     }
 }
 
-/// Whether it is a wait with a terminate alternative, open or closed, within a rendezvous.
+// Whether it is a wait with a terminate alternative, open or closed, within a rendezvous.
 #[tactic(auto, unfolding(ada_events::specs::Refusals::terminates_in_accept))]
-pub fn terminates_in_accept(state: &State, request: &Request) -> bool
+fn terminates_in_accept(state: &State, request: &Request) -> bool
     requires { refusals.names_unknown_task state.now request.now ≡ false }
     ensures { result ≡ refusals.terminates_in_accept state.now request.now }
 {
@@ -171,9 +171,9 @@ pub fn terminates_in_accept(state: &State, request: &Request) -> bool
     }
 }
 
-/// Whether it is the end of an accept, where the innermost of the nest isn't a rendezvous.
+// Whether it is the end of an accept, where the innermost of the nest isn't a rendezvous.
 #[tactic(auto, unfolding(ada_events::specs::Refusals::is_not_in_accept))]
-pub fn is_not_in_accept(state: &State, request: &Request) -> bool
+fn is_not_in_accept(state: &State, request: &Request) -> bool
     requires { refusals.names_unknown_task state.now request.now ≡ false }
     ensures { result ≡ refusals.is_not_in_accept state.now request.now }
 {
@@ -183,9 +183,9 @@ pub fn is_not_in_accept(state: &State, request: &Request) -> bool
     }
 }
 
-/// Whether it is a close, where the innermost of the nest isn't a block.
+// Whether it is a close, where the innermost of the nest isn't a block.
 #[tactic(auto, unfolding(ada_events::specs::Refusals::has_no_block))]
-pub fn has_no_block(state: &State, request: &Request) -> bool
+fn has_no_block(state: &State, request: &Request) -> bool
     requires { refusals.names_unknown_task state.now request.now ≡ false }
     ensures { result ≡ refusals.has_no_block state.now request.now }
 {
@@ -195,9 +195,9 @@ pub fn has_no_block(state: &State, request: &Request) -> bool
     }
 }
 
-/// Whether it is a completion, or the end of an activation, within a block or a rendezvous.
+// Whether it is a completion, or the end of an activation, within a block or a rendezvous.
 #[tactic(auto, unfolding(ada_events::specs::Refusals::is_still_nested))]
-pub fn is_still_nested(state: &State, request: &Request) -> bool
+fn is_still_nested(state: &State, request: &Request) -> bool
     requires { refusals.names_unknown_task state.now request.now ≡ false }
     ensures { result ≡ refusals.is_still_nested state.now request.now }
 {
@@ -209,7 +209,7 @@ pub fn is_still_nested(state: &State, request: &Request) -> bool
 
 /// Whether it is an opening or a wait in a nest that has its most members.
 #[tactic(auto, unfolding(ada_events::specs::Limits::is_too_deep))]
-pub fn is_too_deep(state: &State, request: &Request) -> bool
+pub(crate) fn is_too_deep(state: &State, request: &Request) -> bool
     requires { refusals.names_unknown_task state.now request.now ≡ false }
     ensures { result ≡ limits.is_too_deep state.now request.now }
 {
@@ -221,7 +221,7 @@ pub fn is_too_deep(state: &State, request: &Request) -> bool
 
 /// The first of the causes that have to do with the asking task's nest. The request names tasks that exist.
 #[tactic(auto, unfolding(ada_events::specs::Refusals::first_cause))]
-pub fn refused_nest(state: &State, request: &Request) -> Option<Refusal>
+pub(crate) fn refused_nest(state: &State, request: &Request) -> Option<Refusal>
     requires { refusals.names_unknown_task state.now request.now ≡ false }
     ensures { result ≡ refusals.first_cause (refusals.causes_by_nest state.now request.now) }
 {
