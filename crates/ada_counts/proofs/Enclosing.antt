@@ -12,7 +12,7 @@ use Rattle.ada_events.specs.declared.names.Member.{Member}
 use Rattle.ada_events.specs.declared.names.Member.TheVariants.{Block, Rendezvous}
 use Rattle.ada_events.specs.Tasks.{task_count}
 use Rattle.ada_events.specs.Masters.{same_master, reaches, depends_on}
-use Rattle.ada_events.specs.Nests.{nest}
+use Rattle.ada_events.specs.Nests.{nest, innermost_block, frame}
 use Rattle.ada_events.specs.Lawful.{IsLawful}
 use Rattle.ada_tables.specs.Dependents.{has_block, up_to, holds, encloses, outside, parent_within}
 use Rattle.ada_counts.specs.Holders.{IsUnder, AreNested}
@@ -114,3 +114,26 @@ reaches_held journal task (BlockMaster inner) (Body u) lawful below held =
 reaches_held journal task (BlockMaster inner) (BlockMaster b) lawful below held =
     from_inner journal inner (Body (record { 0 = task })) (BlockMaster b) (nest journal task) lawful (nest_properly journal task lawful) held
     ∙ ap (λ (c : Bool). has_block b (up_to inner (nest journal task)) || c) (from_body journal (record { 0 = task }) (BlockMaster b) lawful below)
+
+from_innermost : (journal : List Event) (outer y : Master) (members : List Member) → IsLawful journal → AreNested journal outer members → reaches journal (innermost_block outer members) y ≡ (among members y || reaches journal outer y)
+unfolding innermost_block
+from_innermost journal outer (Body t) [] lawful nested = refl
+from_innermost journal outer (BlockMaster b) [] lawful nested = refl
+from_innermost journal outer y (Block q ∷ rest) lawful nested =
+    from_innermost journal (BlockMaster q) y rest lawful nested.1
+    ∙ ap (λ (b : Bool). among rest y || b) (from_block journal q outer y lawful nested.0)
+    ∙ first q rest y (reaches journal outer y)
+from_innermost journal outer y (Rendezvous call ∷ rest) lawful nested =
+    from_innermost journal outer y rest lawful nested
+    ∙ ap (λ (b : Bool). b || reaches journal outer y) (sym (skip call rest y))
+
+-- from a task's frame the way goes on by all masters that the task holds, and then by what it depends on
+pub frame_reaches_held : (journal : List Event) (task : ℕ) (y : Master) → IsLawful journal → task < task_count journal → reaches journal (frame journal task) y ≡ (holds task (nest journal task) y || depends_on journal task y)
+unfolding frame
+frame_reaches_held journal task (Body u) lawful below =
+    from_innermost journal (Body (record { 0 = task })) (Body u) (nest journal task) lawful (nest_properly journal task lawful)
+    ∙ from_body journal (record { 0 = task }) (Body u) lawful below
+    ∙ ap (λ (b : Bool). b || depends_on journal task (Body u)) (same_body task u.0)
+frame_reaches_held journal task (BlockMaster b) lawful below =
+    from_innermost journal (Body (record { 0 = task })) (BlockMaster b) (nest journal task) lawful (nest_properly journal task lawful)
+    ∙ ap (λ (c : Bool). has_block b (nest journal task) || c) (from_body journal (record { 0 = task }) (BlockMaster b) lawful below)

@@ -31,3 +31,4 @@ pub mod SlotOrder
 pub mod OutcomeLaws
 pub mod KeepingLaws
 pub mod Publishing
+pub mod CauseParts

@@ -1,5 +1,4 @@
 pub mod Asking
-pub mod CauseParts
 pub mod Doubles
 pub mod Dues
 pub mod Few

@@ -1,6 +1,6 @@
 //! A journal, and what is kept of it.
 
-ghost use Rattle.std.specs.Prelude.{◌≡◌, Some};
+ghost use Rattle.std.specs.Prelude.{◌≡◌, Some, length};
 ghost use Rattle.std.specs.Option.{option_and_then, option_copied};
 ghost use Rattle.ada_events.specs.Calls.{is_pending};
 ghost use Rattle.ada_events.specs.Lawful.{IsLawful};
@@ -62,6 +62,13 @@ impl<'a> State<'a> {
         }
     }
 
+    /// How many events there are.
+    pub fn len(&self) -> u32
+        ensures { result ≡ length self.now }
+    {
+        self.journal.len()
+    }
+
     /// The event at a position, from 1; none at 0 and past the end.
     pub fn event(&self, at: u32) -> Option<&Event>
         ensures event { option_copied result ≡ event_at self.now at }
@@ -90,6 +97,7 @@ impl<'a> State<'a> {
     /// The tables.
     pub fn tables(&self) -> &Tables
         ensures stand { StandFor result.now self.now }
+        ensures lawful { IsLawful self.now }
     {
         self.tables
     }

@@ -44,7 +44,8 @@ impl Layer {
         }
     }
 
-    fn member(self) -> Member
+    /// The member that it is.
+    pub fn member(self) -> Member
         ensures { result ≡ nests.member_of self }
     {
         match self {
@@ -208,6 +209,14 @@ impl Layers {
         ensures { result ≡ (length self.now == 0) }
     {
         self.layers.is_empty()
+    }
+
+    /// The members in their order, the outermost first, with the counts of the blocks.
+    pub fn as_slice(&self) -> &[Layer]
+        ensures value { result.now ≡ self.now }
+        ensures fits { length result.now ≤ MOST_MEMBERS }
+    {
+        self.layers.as_slice()
     }
 
     /// The member at a place, 0 for the outermost.

@@ -194,6 +194,7 @@ impl Tables {
     /// How many entries all tasks have together, at most 1,024.
     pub fn slots(&self) -> u16
         ensures value { result ≡ length self.now.queues }
+        ensures all { result ≡ slots_before (declared self.now.tasks) (length self.now.tasks) }
         ensures fits { result ≤ MOST_SLOTS }
     {
         self.queues.slots() as u16
@@ -214,6 +215,15 @@ impl Tables {
         ensures { result ≡ parent_of self.now.tasks master }
     {
         self.tasks.parent(master)
+    }
+
+    /// Whether a task that isn't terminated depends on a master (9.4).
+    pub fn depends_on(&self, task: TaskNo, master: Master) -> bool
+        requires known { task.0 < length self.now.tasks }
+        requires live { is_terminated (task_at self.now.tasks task.0).phase ≡ false }
+        ensures { result ≡ depends_on self.now.tasks task.0 master }
+    {
+        self.tasks.depends_on(task.0, master)
     }
 
     /// The families of entries that a task declares (9.5).

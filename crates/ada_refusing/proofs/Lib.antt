@@ -1,0 +1,4 @@
+pub mod Asking
+pub mod Declaring
+pub mod Doubling
+pub mod Layering
