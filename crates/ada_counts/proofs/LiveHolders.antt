@@ -85,7 +85,7 @@ cut_within : (b : ℕ) (test : Bool) (members rest : List Member) → has_block 
 cut_within b true members rest has further = absurd (false≢true has)
 cut_within b false members rest has further = further has
 
-within : (b inner : ℕ) (members : List Member) → has_block b (up_to inner members) ≡ true → has_block b members ≡ true
+pub within : (b inner : ℕ) (members : List Member) → has_block b (up_to inner members) ≡ true → has_block b members ≡ true
 within b inner [] has = absurd (false≢true has)
 within b inner (member ∷ rest) has =
     elim (or_cases (is_block b member) (has_block b (cond (is_block inner member) [] (up_to inner rest))) has) [

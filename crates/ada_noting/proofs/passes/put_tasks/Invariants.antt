@@ -1,0 +1,7 @@
+use Rattle.std.proofs.Common.{◌≡◌}
+use Rattle.ada_events.specs.Tasks.{task_count}
+use Rattle.ada_noting.specs.Keys.{Puts, OfFirst, AsKey, AsHeld, AsUnstarted}
+use Rattle.ada_noting.proofs.passes.put_tasks.Given as goal
+
+abbrev pub invariant-loop-number : goal.invariant-loop-number
+invariant-loop-number l = Puts l.fn.agenda l.agenda (OfFirst (AsKey l.row) l.number)
