@@ -179,7 +179,7 @@ of_body journal task holder lawful live depends = record {
   alone = λ other has. one_holder journal other holder (Body (record { 0 = holder })) has (eq-eqb holder holder refl);
 }
 
-of_master : (journal : List Event) (task : ℕ) (x : Master) → IsLawful journal → IsKnown journal x → is_terminated journal task ≡ false → depends_on journal task x ≡ true → IsHeld journal task x
+pub of_master : (journal : List Event) (task : ℕ) (x : Master) → IsLawful journal → IsKnown journal x → is_terminated journal task ≡ false → depends_on journal task x ≡ true → IsHeld journal task x
 of_master journal task (Body t) lawful known live depends = of_body journal task t.0 lawful live depends
 of_master journal task (BlockMaster b) lawful known live depends = of_block journal task b lawful known live depends
 

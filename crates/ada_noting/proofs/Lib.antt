@@ -1,1 +1,5 @@
+pub mod Ends
+pub mod Holding
+pub mod Additions
+pub mod Outwards
 pub mod Putting

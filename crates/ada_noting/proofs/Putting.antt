@@ -1,21 +1,23 @@
 -- Keys that are put into an agenda.
 use Rattle.std.proofs.Common.{◌≡◌, ℕ, ◌+◌, ◌<◌, ◌≤◌, true, false, List, length, sym, refl, ap, ◌∙◌, subst, arith, inl, inr, ◌⊎◌}
-use Rattle.std.proofs.lemmas.Bool.{cases_lt, both_ways, true≢false}
+use Rattle.std.proofs.lemmas.Bool.{cases_lt, eq-eqb}
 use Rattle.ada_events.specs.declared.event.Event.{Event}
-use Rattle.ada_events.specs.declared.limits.TheConstants.{MOST_TASKS}
+use Rattle.ada_events.specs.Search.{is_some_and, event_at}
+use Rattle.ada_events.specs.Says.{Call, call_in}
 use Rattle.ada_events.specs.Tasks.{task_count}
 use Rattle.ada_events.specs.Phases.{has_start}
 use Rattle.ada_events.specs.Lawful.{IsLawful}
 use Rattle.ada_laws.specs.Suspension.{IsSuspendedAt}
-use Rattle.ada_laws.proofs.LimitLaws.{tasks_are_few}
+use Rattle.ada_laws.specs.Calls.{IsCallAt}
 use Rattle.ada_forcing.specs.declared.row.Row.{Row}
-use Rattle.ada_forcing.specs.declared.row.Row.TheVariants.{Going}
+use Rattle.ada_forcing.specs.declared.row.Row.TheVariants.{Failing, Going}
 use Rattle.ada_records.specs.Records.{IsHeldAt}
 use Rattle.ada_touching.specs.Keeping.{has_key, Grows}
 use Rattle.ada_touching.proofs.Noting.{grows_same, grows_on, held_there}
-use Rattle.ada_noting.specs.Keys.{Puts, OfFirst, AsKey, AsHeld, AsUnstarted}
+use Rattle.ada_noting.specs.Keys.{Puts, Both, OfFirst, AsKey, AsHeld, AsUnstarted, AsCaller, calls}
 use Rattle.ada_noting.specs.Keys.AsKey.{itself}
 use Rattle.ada_noting.specs.Keys.AsHeld.{held}
+use Rattle.ada_noting.specs.Keys.AsCaller.{fails}
 use Rattle.ada_noting.specs.Keys.AsUnstarted.{goes}
 
 pub puts_none : (old : List (List ℕ)) (Key : ℕ → Row → ℕ → Type 0) → Puts old old (OfFirst Key 0)
@@ -26,6 +28,16 @@ pub still_puts : (old mid new : List (List ℕ)) (Key : Row → ℕ → Type 0) 
 still_puts old mid new Key puts grows = record {
   grows = grows_on old mid new puts.grows grows;
   here = λ row key of. grows.kept row key (puts.here row key of);
+}
+
+pub both_put : (old mid new : List (List ℕ)) (One Other : Row → ℕ → Type 0) → Puts old mid One → Puts mid new Other → Puts old new (Both One Other)
+both_put old mid new One Other one other = record {
+  grows = grows_on old mid new one.grows other.grows;
+  here = λ row key of.
+      elim of [
+        | inl first ↦ other.grows.kept row key (one.here row key first)
+        | inr second ↦ other.here row key second
+      ];
 }
 
 pub later_puts : (old mid new : List (List ℕ)) (Key : Row → ℕ → Type 0) → Grows old mid → Puts mid new Key → Puts old new Key
@@ -53,17 +65,11 @@ puts_all old new Key n many puts enough = record {
   here = λ row key first. puts.here row key (record { task = first.task; among = omega (arith, first.among, enough); of = first.of });
 }
 
-has_task : (new : List (List ℕ)) (at : Row) (task : ℕ) (row : Row) (key : ℕ) → has_key new at task ≡ true → AsKey at task row key → has_key new row key ≡ true
-has_task new at task row key here itself = here
+has_this : (new : List (List ℕ)) (at : Row) (task : ℕ) (row : Row) (key : ℕ) → has_key new at task ≡ true → AsKey at task row key → has_key new row key ≡ true
+has_this new at task row key here itself = here
 
-pub task_put : (old new : List (List ℕ)) (at : Row) (task : ℕ) → Grows old new → has_key new at task ≡ true → Puts old new (AsKey at task)
-task_put old new at task grows here = record { grows = grows; here = λ row key of. has_task new at task row key here of }
-
--- a task's number finds room in a row
-pub task_fits : (journal : List Event) (task : ℕ) → IsLawful journal → task < task_count journal → task < 69632
-task_fits journal task lawful known =
-    let few : task_count journal ≤ MOST_TASKS = tasks_are_few journal lawful in
-    omega (arith, known, few)
+pub key_put : (old new : List (List ℕ)) (at : Row) (task : ℕ) → Grows old new → has_key new at task ≡ true → Puts old new (AsKey at task)
+key_put old new at task grows here = record { grows = grows; here = λ row key of. has_this new at task row key here of }
 
 has_held : (journal : List Event) (new : List (List ℕ)) (at : Row) (task p : ℕ) (row : Row) (key : ℕ) → IsLawful journal → IsHeldAt journal task p
     → (0 < p → has_key new at p ≡ true) → AsHeld journal at task row key → has_key new row key ≡ true
@@ -82,3 +88,21 @@ has_unstarted journal new task row key here (goes never) = here never
 pub unstarted_put : (journal : List Event) (old new : List (List ℕ)) (task : ℕ) → Grows old new
     → (has_start journal task ≡ false → has_key new Going task ≡ true) → Puts old new (AsUnstarted journal task)
 unstarted_put journal old new task grows here = record { grows = grows; here = λ row key of. has_unstarted journal new task row key here of }
+
+-- a call to the callee at a position
+is_called : (journal : List Event) (callee p : ℕ) (call : Call) → IsCallAt journal call p → call.callee ≡ callee
+    → is_some_and (event_at journal p) (calls callee) ≡ true
+is_called journal callee p call at to = rw (at.stands, at.says) (eq-eqb call.callee callee to)
+
+has_caller : (journal : List Event) (new : List (List ℕ)) (callee task p : ℕ) (row : Row) (key : ℕ) → IsLawful journal → IsHeldAt journal task p
+    → (is_some_and (event_at journal p) (calls callee) ≡ true → 0 < p → has_key new Failing p ≡ true) → AsCaller journal callee task row key
+    → has_key new row key ≡ true
+has_caller journal new callee task p row key lawful is here (fails call q at suspended to) =
+    let there = held_there journal task p q lawful is suspended in
+    ap (has_key new Failing) there.1
+    ∙ here (ap (λ n. is_some_and (event_at journal n) (calls callee)) (sym there.1) ∙ is_called journal callee q call at to) there.0
+
+pub caller_put : (journal : List Event) (old new : List (List ℕ)) (callee task p : ℕ) → IsLawful journal → IsHeldAt journal task p → Grows old new
+    → (is_some_and (event_at journal p) (calls callee) ≡ true → 0 < p → has_key new Failing p ≡ true) → Puts old new (AsCaller journal callee task)
+caller_put journal old new callee task p lawful is grows here =
+    record { grows = grows; here = λ row key of. has_caller journal new callee task p row key lawful is here of }

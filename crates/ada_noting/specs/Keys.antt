@@ -1,21 +1,25 @@
 -- Keys that are put into an agenda together, and who holds what a task was made under.
-use Rattle.std.specs.Prelude.{◌≡◌, ℕ, ◌<◌, true, false, Option, Some, List}
+use Rattle.std.specs.Prelude.{◌≡◌, ◌⊎◌, ℕ, ℤ, ◌<◌, ◌==◌, ◌&&◌, Bool, true, false, Option, Some, None, List, int_le, slice_get}
 use Rattle.std.specs.Option.{option_map, option_and_then}
 use Rattle.ada_events.specs.declared.event.Event.{Event}
 use Rattle.ada_events.specs.declared.names.Master.{Master}
 use Rattle.ada_events.specs.declared.names.Master.TheVariants.{Body, Block}
-use Rattle.ada_events.specs.Says.{Opening, Creation, Call, opening_at}
+use Rattle.ada_events.specs.declared.names.TaskNo.{TaskNo}
+use Rattle.ada_events.specs.declared.names.Member.{Member}
+use Rattle.ada_events.specs.declared.names.Member.TheVariants.{Block as BlockMember}
+use Rattle.ada_events.specs.Search.{is_some_and, event_at}
+use Rattle.ada_events.specs.Says.{Opening, Creation, Call, call_in, opening_at}
 use Rattle.ada_events.specs.Tasks.{task_count, creation_of}
 use Rattle.ada_events.specs.Masters.{depends_on}
-use Rattle.ada_events.specs.Phases.{has_start}
+use Rattle.ada_events.specs.Phases.{has_start, is_terminated}
 use Rattle.ada_events.specs.Nests.{nest}
 use Rattle.ada_laws.specs.Calls.{IsCallAt}
 use Rattle.ada_laws.specs.Suspension.{IsSuspendedAt}
 use Rattle.ada_forcing.specs.declared.row.Row.{Row}
-use Rattle.ada_forcing.specs.declared.row.Row.TheVariants.{Failing, Going, Leaving}
+use Rattle.ada_forcing.specs.declared.row.Row.TheVariants.{Failing, Activating, Going, QuittingBlock, Leaving}
 use Rattle.ada_tables.specs.Dependents.{holds}
 use Rattle.ada_touching.specs.Keeping.{has_key, Grows}
-use Rattle.ada_touching.specs.Kinds.{quitting_row, quitting_key, IsLeaving}
+use Rattle.ada_touching.specs.Kinds.{quitting_row, quitting_key, due_in, due_row, IsActivationOf}
 
 -- the later sets keep all that the earlier ones do, and each of these keys
 pub record Puts (old new : List (List ℕ)) (Key : Row → ℕ → Type 0) : Type 0 where
@@ -28,9 +32,13 @@ pub record OfFirst (Key : ℕ → Row → ℕ → Type 0) (many : ℕ) (row : Ro
   pub among : task < many
   pub of : Key task row key
 
--- a task's number, in that row
-pub data AsKey (at : Row) (task : ℕ) : Row → ℕ → Type 0 where
-  itself : AsKey at task at task
+-- these keys and those
+abbrev pub Both : (Row → ℕ → Type 0) → (Row → ℕ → Type 0) → Row → ℕ → Type 0
+Both One Other row key = One row key ⊎ Other row key
+
+-- that key, in that row
+pub data AsKey (at : Row) (k : ℕ) : Row → ℕ → Type 0 where
+  itself : AsKey at k at k
 
 -- the position at which a task is suspended, in that row
 pub data AsHeld (journal : List Event) (at : Row) (task : ℕ) : Row → ℕ → Type 0 where
@@ -45,6 +53,19 @@ pub data AsCaller (journal : List Event) (callee task : ℕ) : Row → ℕ → T
   fails : (call : Call) (p : ℕ) → IsCallAt journal call p → IsSuspendedAt journal task p → call.callee ≡ callee
       → AsCaller journal callee task Failing p
 
+-- the moment comes for which a task is suspended, in the row of what happens then
+pub data AsDue (journal : List Event) (now : ℤ) (task : ℕ) : Row → ℕ → Type 0 where
+  comes : (event : Event) (p : ℕ) (due : ℤ) → event_at journal p ≡ Some event → IsSuspendedAt journal task p → due_in event ≡ Some due
+      → int_le due now ≡ true → AsDue journal now task (due_row event) p
+
+-- a block that a member of a nest is, in the row in which blocks quit
+pub data AsMember (member : Option Member) : Row → ℕ → Type 0 where
+  block : (p : ℕ) → member ≡ Some (BlockMember p) → AsMember member QuittingBlock p
+
+-- the member at a place of a nest
+abbrev pub AsBlock : List Member → ℕ → Row → ℕ → Type 0
+AsBlock members place = AsMember (slice_get members place)
+
 -- the quitting of each master that a task holds, its going, and the leaving of the block that it closes (9.4)
 pub data AsHolder (journal : List Event) (task : ℕ) : Row → ℕ → Type 0 where
   quits : (m : Master) → holds task (nest journal task) m ≡ true → AsHolder journal task (quitting_row m) (quitting_key m)
@@ -53,8 +74,16 @@ pub data AsHolder (journal : List Event) (task : ℕ) : Row → ℕ → Type 0 w
 
 -- of each master on which a task depends the quitting, the going of its task, and the leaving (9.4)
 pub data AsDependent (journal : List Event) (task : ℕ) : Row → ℕ → Type 0 where
-  through : (holder : ℕ) (m : Master) (row : Row) (key : ℕ) → depends_on journal task m ≡ true
+  through : (holder : ℕ) (m : Master) (row : Row) (key : ℕ) → is_terminated journal task ≡ false → depends_on journal task m ≡ true
       → holds holder (nest journal holder) m ≡ true → AsHolder journal holder row key → AsDependent journal task row key
+
+-- the start that names a task, at which its maker is suspended (9.3)
+pub data AsActivation (journal : List Event) (task : TaskNo) : Row → ℕ → Type 0 where
+  activates : (p : ℕ) → IsActivationOf journal task p → AsActivation journal task Activating p
+
+-- of the callee of the call at a position what its masters may force (9.4, 9.5)
+pub data AsCalleeAt (journal : List Event) (at : ℕ) : Row → ℕ → Type 0 where
+  called : (call : Call) (row : Row) (key : ℕ) → IsCallAt journal call at → AsDependent journal call.callee row key → AsCalleeAt journal at row key
 
 -- the task that holds a master: the body's, or the one that opened the block
 abbrev pub holder_of : List Event → Master → Option ℕ
@@ -64,3 +93,7 @@ holder_of journal (Block p) = option_map (λ (o : Opening). o.by) (opening_at jo
 -- the task that holds what a task was made under; none for the main program
 abbrev pub holder_above : List Event → ℕ → Option ℕ
 holder_above journal task = option_and_then (λ (c : Creation). holder_of journal c.master) (creation_of journal task)
+
+-- the event is a call to the task
+abbrev pub calls : ℕ → Event → Bool
+calls callee event = is_some_and (call_in event) (λ (c : Call). c.callee == callee)

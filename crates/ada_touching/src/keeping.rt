@@ -67,8 +67,8 @@ fn put_masters(agenda: &mut Agenda, masters: &[Master])
     }
 }
 
-// The key of an event in the rows that go by positions.
-fn own_key(journal: &Journal, _event: &Event) -> usize
+/// The key of an event that comes next, in the rows that go by positions.
+pub fn own_key(journal: &Journal, _event: &Event) -> usize
     requires lawful { IsLawful (_event.now ∷ journal.now.events) }
     ensures own { result ≡ length journal.now.events + 1 }
     ensures fits { result < 69632 }

@@ -1,6 +1,6 @@
-use Rattle.std.proofs.Common.{◌∙◌, ◌<◌, ◌≤◌, ap, sym, subst}
+use Rattle.std.proofs.Common.{◌∙◌, ◌≤◌, subst}
 use Rattle.ada_events.specs.Tasks.{task_count}
-use Rattle.ada_noting.specs.Keys.{AsKey, AsHeld, AsUnstarted}
+use Rattle.ada_noting.specs.Keys.{AsKey, AsHeld, AsUnstarted, AsCaller, AsDue, AsHolder}
 use Rattle.ada_noting.proofs.Putting.{puts_none, puts_more, puts_all}
 use Rattle.ada_noting.proofs.passes.put_all_unstarted.Goals as goal
 
@@ -9,9 +9,6 @@ loop-number-init c = puts_none c.args.agenda.now (AsUnstarted c.args.state.now)
 
 pub put_unstarted-requires-clause-many : goal.put_unstarted-requires-clause-many
 put_unstarted-requires-clause-many c = c.loop-number.invariant.grows.many ∙ c.requires.many
-
-pub put_unstarted-requires-clause-known : goal.put_unstarted-requires-clause-known
-put_unstarted-requires-clause-known c = subst (λ n. c.loop-number.number < n) (c.tasks-number-end.ensures.value ∙ c.tables.ensures.stand.many) c.loop-number-test.true
 
 pub loop-number-preserved : goal.loop-number-preserved
 loop-number-preserved c =
