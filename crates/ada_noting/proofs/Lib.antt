@@ -1,3 +1,4 @@
+pub mod Callees
 pub mod Ends
 pub mod Holding
 pub mod Additions

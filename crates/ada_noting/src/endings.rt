@@ -11,6 +11,7 @@ ghost use Rattle.ada_touching.specs.Keeping.{IsAgendaOf};
 ghost use Rattle.ada_touching.specs.Kinds.{OfCompletion};
 ghost use Rattle.ada_noting.specs.Keys.{Puts, AsActivation, AsCalleeAt};
 
+use crate::calls::put_callee;
 use crate::masters::{put_all_holders, put_dependent, put_holder};
 use crate::passes::{put_all_callers, put_all_held, put_all_unstarted, put_held, put_key};
 use ada_agenda::Agenda;
@@ -84,6 +85,19 @@ pub fn note_failed_activation(agenda: &mut Agenda, state: &State, _event: &Event
     ensures { IsAgendaOf agenda.new (_event.now ∷ state.now) }
 {
     put_completion(agenda, state, task);
+}
+
+/// Notes that an abnormal task is halted (9.10): what a completion may force, that dependents of blocks quit that the task
+/// is within, and what the masters may force on which the callee of its call depends, may be forced.
+pub fn note_halt(agenda: &mut Agenda, state: &State, _event: &Event, task: TaskNo)
+    requires lawful { IsLawful (_event.now ∷ state.now) }
+    requires stands { IsAgendaOf agenda.old state.now }
+    requires halts { _event.now ≡ HaltedEvent task }
+    ensures { IsAgendaOf agenda.new (_event.now ∷ state.now) }
+{
+    put_completion(agenda, state, task);
+    put_holder(agenda, state, task);
+    put_callee(agenda, state, state.record(task).doing.at);
 }
 
 /// Notes that a task terminates by itself (9.4): that calls to it fail, that the activation ends that names it, and what

@@ -2,6 +2,7 @@
 //! newly force is put in, and at times a little more, but never too little.
 #![tactic(auto)]
 
+pub mod calls;
 pub mod endings;
 pub mod kinds;
 mod masters;
