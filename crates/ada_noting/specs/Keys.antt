@@ -1,5 +1,5 @@
 -- Keys that are put into an agenda together, and who holds what a task was made under.
-use Rattle.std.specs.Prelude.{◌≡◌, ◌⊎◌, ℕ, ℤ, ◌<◌, ◌==◌, ◌&&◌, Bool, true, false, Option, Some, None, List, int_le, slice_get}
+use Rattle.std.specs.Prelude.{◌≡◌, ◌⊎◌, ℕ, ◌<◌, ◌==◌, ◌&&◌, Bool, true, false, Option, Some, None, List, slice_get}
 use Rattle.std.specs.Option.{option_map, option_and_then}
 use Rattle.ada_events.specs.declared.event.Event.{Event}
 use Rattle.ada_events.specs.declared.names.Master.{Master}
@@ -8,7 +8,8 @@ use Rattle.ada_events.specs.declared.names.TaskNo.{TaskNo}
 use Rattle.ada_events.specs.declared.names.Member.{Member}
 use Rattle.ada_events.specs.declared.names.Member.TheVariants.{Block as BlockMember}
 use Rattle.ada_events.specs.Search.{is_some_and, event_at}
-use Rattle.ada_events.specs.Says.{Opening, Creation, Call, call_in, opening_at}
+use Rattle.ada_events.specs.Says.{Opening, Creation, Call, call_in, moment_in, opening_at}
+use Rattle.ada_events.specs.Waits.{is_due}
 use Rattle.ada_events.specs.Tasks.{task_count, creation_of}
 use Rattle.ada_events.specs.Masters.{depends_on}
 use Rattle.ada_events.specs.Phases.{has_start, is_terminated}
@@ -36,6 +37,10 @@ pub record OfFirst (Key : ℕ → Row → ℕ → Type 0) (many : ℕ) (row : Ro
 abbrev pub Both : (Row → ℕ → Type 0) → (Row → ℕ → Type 0) → Row → ℕ → Type 0
 Both One Other row key = One row key ⊎ Other row key
 
+-- these keys, where that is so
+pub data When (so : Bool) (Key : Row → ℕ → Type 0) (row : Row) (key : ℕ) : Type 0 where
+  holds_so : so ≡ true → Key row key → When so Key row key
+
 -- that key, in that row
 pub data AsKey (at : Row) (k : ℕ) : Row → ℕ → Type 0 where
   itself : AsKey at k at k
@@ -53,10 +58,18 @@ pub data AsCaller (journal : List Event) (callee task : ℕ) : Row → ℕ → T
   fails : (call : Call) (p : ℕ) → IsCallAt journal call p → IsSuspendedAt journal task p → call.callee ≡ callee
       → AsCaller journal callee task Failing p
 
+-- the moment that is waited for at an event has come by a tick (9.6)
+abbrev pub is_due_by : Event → Event → Bool
+is_due_by tick event = is_some_and (moment_in tick) (λ now. is_due now (due_in event))
+
 -- the moment comes for which a task is suspended, in the row of what happens then
-pub data AsDue (journal : List Event) (now : ℤ) (task : ℕ) : Row → ℕ → Type 0 where
-  comes : (event : Event) (p : ℕ) (due : ℤ) → event_at journal p ≡ Some event → IsSuspendedAt journal task p → due_in event ≡ Some due
-      → int_le due now ≡ true → AsDue journal now task (due_row event) p
+pub data AsDue (journal : List Event) (tick : Event) (task : ℕ) : Row → ℕ → Type 0 where
+  comes : (event : Event) (p : ℕ) → event_at journal p ≡ Some event → IsSuspendedAt journal task p → is_due_by tick event ≡ true
+      → AsDue journal tick task (due_row event) p
+
+-- the moment comes that is waited for at a position
+pub data AsDueAt (journal : List Event) (tick : Event) (at : ℕ) : Row → ℕ → Type 0 where
+  comes_at : (event : Event) → event_at journal at ≡ Some event → is_due_by tick event ≡ true → AsDueAt journal tick at (due_row event) at
 
 -- a block that a member of a nest is, in the row in which blocks quit
 pub data AsMember (member : Option Member) : Row → ℕ → Type 0 where

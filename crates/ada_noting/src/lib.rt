@@ -6,4 +6,5 @@ pub mod calls;
 pub mod endings;
 pub mod kinds;
 mod masters;
+pub mod moments;
 mod passes;

@@ -77,7 +77,7 @@ pub(crate) fn put_all_unstarted(agenda: &mut Agenda, state: &State)
 }
 
 // Puts a position into a row where that is so, unless it is 0, which is none.
-fn put_at_if(agenda: &mut Agenda, row: Row, at: u32, so: bool)
+pub(crate) fn put_at_if(agenda: &mut Agenda, row: Row, at: u32, so: bool)
     requires many { length agenda.old ≡ 11 }
     requires fits { 0 < at → at < 69632 }
     ensures grows { Grows agenda.old agenda.new }
