@@ -85,7 +85,7 @@ cut_within : (b : ℕ) (test : Bool) (members rest : List Member) → has_block 
 cut_within b true members rest has further = absurd (false≢true has)
 cut_within b false members rest has further = further has
 
-within : (b inner : ℕ) (members : List Member) → has_block b (up_to inner members) ≡ true → has_block b members ≡ true
+pub within : (b inner : ℕ) (members : List Member) → has_block b (up_to inner members) ≡ true → has_block b members ≡ true
 within b inner [] has = absurd (false≢true has)
 within b inner (member ∷ rest) has =
     elim (or_cases (is_block b member) (has_block b (cond (is_block inner member) [] (up_to inner rest))) has) [
@@ -179,7 +179,7 @@ of_body journal task holder lawful live depends = record {
   alone = λ other has. one_holder journal other holder (Body (record { 0 = holder })) has (eq-eqb holder holder refl);
 }
 
-of_master : (journal : List Event) (task : ℕ) (x : Master) → IsLawful journal → IsKnown journal x → is_terminated journal task ≡ false → depends_on journal task x ≡ true → IsHeld journal task x
+pub of_master : (journal : List Event) (task : ℕ) (x : Master) → IsLawful journal → IsKnown journal x → is_terminated journal task ≡ false → depends_on journal task x ≡ true → IsHeld journal task x
 of_master journal task (Body t) lawful known live depends = of_body journal task t.0 lawful live depends
 of_master journal task (BlockMaster b) lawful known live depends = of_block journal task b lawful known live depends
 

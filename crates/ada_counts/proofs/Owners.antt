@@ -19,7 +19,7 @@ use Rattle.ada_laws.proofs.Framing.{IsBlockOf}
 use Rattle.ada_tables.specs.Dependents.{is_block, has_block, holds}
 use Rattle.ada_counts.proofs.Nesting.{block_at, member_parts}
 
-contains_block : (members : List Member) (b : ℕ) → has_block b members ≡ true → Contains members (Block b)
+pub contains_block : (members : List Member) (b : ℕ) → has_block b members ≡ true → Contains members (Block b)
 contains_block [] b has = absurd (false≢true has)
 contains_block (Block q ∷ rest) b has =
     elim (or_cases (eqb q b) (has_block b rest) has) [

@@ -69,6 +69,13 @@ impl<'a> State<'a> {
         self.journal.len()
     }
 
+    /// The journal.
+    pub fn journal(&self) -> &Journal
+        ensures { result.now.events ≡ self.now }
+    {
+        self.journal
+    }
+
     /// The event at a position, from 1; none at 0 and past the end.
     pub fn event(&self, at: u32) -> Option<&Event>
         ensures event { option_copied result ≡ event_at self.now at }

@@ -158,7 +158,7 @@ of_call (Called by task entry patience due) before callee row key calls added =
 of_call _ before callee row key calls added = absurd (none-some calls.call calls.says)
 
 -- where a task is suspended, if it is
-held_there : (before : List Event) (task at p : ℕ) → IsLawful before → IsHeldAt before task at → IsSuspendedAt before task p → (0 < at) × (p ≡ at)
+pub held_there : (before : List Event) (task at p : ℕ) → IsLawful before → IsHeldAt before task at → IsSuspendedAt before task p → (0 < at) × (p ≡ at)
 held_there before task at p lawful held suspended =
     elim (cases_lt 0 at) [
       | inl some ↦ (some, suspended_once before task p at lawful suspended (held.held some))
@@ -193,7 +193,7 @@ of_end (Failed failed) before call row key ends added = subst (λ (n : ℕ). OfE
 of_end _ before call row key ends added = absurd (none-some call ends)
 
 -- the caller of a call
-caller_is : (before : List Event) (p caller : ℕ) (c : Call) → IsCalledBy before p caller → IsCallAt before c p → c.by ≡ caller
+pub caller_is : (before : List Event) (p caller : ℕ) (c : Call) → IsCalledBy before p caller → IsCallAt before c p → c.by ≡ caller
 caller_is before p caller c of at =
     let one = same_event before p at.event of.stands.event at.stands of.stands.stands in
     ap (λ (c : Call). c.by) (same_Some c of.call (sym at.says ∙ (ap call_in one ∙ of.stands.says))) ∙ of.by

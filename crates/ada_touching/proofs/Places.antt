@@ -120,7 +120,7 @@ asked_closing journal (request.Close by) c accepted says =
     (innermost_within journal by.0 (innermost (nest journal by.0)) refl (is_accepted journal (request.Close by) accepted).in_block))
 asked_closing journal _ c accepted says = absurd (none-some c says)
 
-closing_open : (e : Event) (before : List Event) (c : Closing) → MayFollow before e → closing_in e ≡ Some c → IsOpenBlock before c.by c.block
+pub closing_open : (e : Event) (before : List Event) (c : Closing) → MayFollow before e → closing_in e ≡ Some c → IsOpenBlock before c.by c.block
 closing_open e before c (inl forces) says = absurd (none-some c.by (sym (forced-step before e forces).holds_none ∙ held_in-closing e c says))
 closing_open e before c (inr asked) says = asked_closing before asked.request c asked.accepted (ap closing_in (sym asked.becomes) ∙ says)
 

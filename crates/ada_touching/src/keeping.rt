@@ -19,9 +19,9 @@ use ada_agenda::Agenda;
 use ada_events::{Event, Journal, Master, TaskNo};
 use ada_forcing::Row;
 
-// Puts a key into a row.
+/// Puts a key, below 69,632, into a row.
 #[tactic(auto, using(crate::proofs::Noting::rank_below, crate::proofs::Noting::put_grows))]
-fn put(agenda: &mut Agenda, row: Row, key: usize)
+pub fn put(agenda: &mut Agenda, row: Row, key: usize)
     requires many { length agenda.old ≡ 11 }
     requires key { key < 69632 }
     ensures grows { Grows agenda.old agenda.new }
@@ -30,9 +30,9 @@ fn put(agenda: &mut Agenda, row: Row, key: usize)
     agenda.insert(row.rank(), key);
 }
 
-// Puts a position into a row, unless it is 0, which is none.
+/// Puts a position, below 69,632, into a row, unless it is 0, which is none.
 #[tactic(auto, using(crate::proofs::Noting::grows_same))]
-fn put_at(agenda: &mut Agenda, row: Row, at: u32)
+pub fn put_at(agenda: &mut Agenda, row: Row, at: u32)
     requires many { length agenda.old ≡ 11 }
     requires fits { 0 < at → at < 69632 }
     ensures grows { Grows agenda.old agenda.new }
@@ -67,8 +67,8 @@ fn put_masters(agenda: &mut Agenda, masters: &[Master])
     }
 }
 
-// The key of an event in the rows that go by positions.
-fn own_key(journal: &Journal, _event: &Event) -> usize
+/// The key of an event that comes next, in the rows that go by positions.
+pub fn own_key(journal: &Journal, _event: &Event) -> usize
     requires lawful { IsLawful (_event.now ∷ journal.now.events) }
     ensures own { result ≡ length journal.now.events + 1 }
     ensures fits { result < 69632 }

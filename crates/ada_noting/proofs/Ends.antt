@@ -1,0 +1,184 @@
+-- What the end of a task adds to an agenda.
+use Rattle.std.proofs.Common.{◌≡◌, ◌⊎◌, ℕ, ◌<◌, true, false, List, Option, Some, None, ◌∷◌, get_or, sym, refl, ap, ◌∙◌, subst, arith, inl, inr}
+use Rattle.std.specs.Option.{option_map}
+use Rattle.std.proofs.lemmas.Bool.{true≢false, eq-eqb, false_from_ne_true}
+use Rattle.std.proofs.lemmas.Option.{none-some, same_Some}
+use Rattle.ada_events.specs.declared.event.Event.{Event}
+use Rattle.ada_events.specs.declared.event.Event.TheVariants.{Completed, Elaborated, Halted, Gone, Quit}
+use Rattle.ada_events.specs.declared.names.TaskNo.{TaskNo}
+use Rattle.ada_events.specs.declared.names.Master.{Master}
+use Rattle.ada_events.specs.declared.names.Master.TheVariants.{Body, Block}
+use Rattle.ada_events.specs.Says.{Creation, gone_in}
+use Rattle.ada_events.specs.Tasks.{task_count, creation_of}
+use Rattle.ada_events.specs.Masters.{depends_on}
+use Rattle.ada_events.specs.Phases.{is_terminated}
+use Rattle.ada_events.specs.Nests.{nest}
+use Rattle.ada_events.specs.Lawful.{IsLawful}
+use Rattle.ada_laws.specs.Suspension.{IsSuspendedAt}
+use Rattle.ada_laws.proofs.CallLaws.{open_calls_suspend}
+use Rattle.ada_laws.proofs.Suspending.{suspended_exists}
+use Rattle.ada_laws.proofs.Depending.{depends_exists, depends_reaches, depends_after}
+use Rattle.ada_laws.proofs.Reaching.{reaches_known}
+use Rattle.ada_laws.proofs.DependentLaws.{going}
+use Rattle.ada_forcing.specs.declared.row.Row.{Row}
+use Rattle.ada_forcing.specs.declared.row.Row.TheVariants.{Failing, Activating, Going, QuittingBody, QuittingBlock, Leaving}
+use Rattle.ada_tables.specs.Dependents.{holds}
+use Rattle.ada_touching.specs.Keeping.{has_key, IsAgendaOf, Grows}
+use Rattle.ada_touching.specs.Kinds.{quitting_row, quitting_key, IsOpenCallTo, IsActivationOf, OfCompletion, OfTermination, OfQuit, Adds}
+use Rattle.ada_touching.specs.Kinds.OfCompletion.{goes as task_goes, quits as body_quits, fails as call_fails, activates as start_ends, abandons as task_abandons}
+use Rattle.ada_touching.specs.Kinds.OfTermination.{fails as end_fails, activates as end_activates, goes as end_goes, quits as end_quits, leaves as end_leaves}
+use Rattle.ada_touching.specs.Kinds.OfQuit.{ends, abandons as quit_abandons}
+use Rattle.ada_touching.proofs.Acting.{created_exists}
+use Rattle.ada_touching.proofs.Noting.{grows_same}
+use Rattle.ada_counts.specs.Holders.{IsHeld}
+use Rattle.ada_counts.proofs.LiveHolders.{of_master}
+use Rattle.ada_counts.proofs.Owners.{has_contained}
+use Rattle.ada_rows.proofs.Orphans.{gone_stays}
+use Rattle.ada_noting.specs.Keys.{Puts, Both, OfFirst, AsKey, AsHeld, AsUnstarted, AsCaller, AsHolder, AsDependent, AsActivation}
+use Rattle.ada_noting.specs.Keys.AsKey.{itself}
+use Rattle.ada_noting.specs.Keys.AsHeld.{held}
+use Rattle.ada_noting.specs.Keys.AsUnstarted.{goes}
+use Rattle.ada_noting.specs.Keys.AsCaller.{fails}
+use Rattle.ada_noting.specs.Keys.AsHolder.{quits, goes as holder_goes, leaves}
+use Rattle.ada_noting.specs.Keys.AsDependent.{through}
+use Rattle.ada_noting.specs.Keys.AsActivation.{activates}
+use Rattle.ada_noting.proofs.Additions.{noted, fails_held}
+
+-- a master on which a live task depends is held
+pub dependent_held : (before : List Event) (t : ℕ) (m : Master) → IsLawful before → is_terminated before t ≡ false → depends_on before t m ≡ true
+    → IsHeld before t m
+dependent_held before t m lawful live depends =
+    of_master before t m lawful
+    (reaches_known before lawful (Body (record { 0 = t })) m (depends_exists before t m depends) (depends_reaches before (record { 0 = t }) m depends))
+    live depends
+
+-- a start that names a task, at its maker
+activation_key : (before : List Event) (new : List (List ℕ)) (task : TaskNo) (by : ℕ) (row : Row) (key : ℕ)
+    → option_map (λ (c : Creation). c.by) (creation_of before task.0) ≡ Some by
+    → ((row : Row) (key : ℕ) → AsHeld before Activating by row key → has_key new row key ≡ true) → AsActivation before task row key → has_key new row key ≡ true
+activation_key before new task by row key made here (activates p active) =
+    let same : active.creation.by ≡ by =
+    same_Some active.creation.by by (sym (ap (option_map (λ (c : Creation). c.by)) active.made) ∙ made) in
+    here Activating p (held p (subst (λ n. IsSuspendedAt before n p) same active.suspended))
+
+pub activation_put : (before : List Event) (old new : List (List ℕ)) (task : TaskNo) (by : ℕ)
+    → option_map (λ (c : Creation). c.by) (creation_of before task.0) ≡ Some by
+    → Puts old new (AsHeld before Activating by) → Puts old new (AsActivation before task)
+activation_put before old new task by made puts =
+    record { grows = puts.grows; here = λ row key of. activation_key before new task by row key made puts.here of }
+
+no_activation_key : (before : List Event) (new : List (List ℕ)) (task : TaskNo) (row : Row) (key : ℕ)
+    → option_map (λ (c : Creation). c.by) (creation_of before task.0) ≡ None → AsActivation before task row key → has_key new row key ≡ true
+no_activation_key before new task row key none (activates p active) =
+    absurd (none-some active.creation.by (sym none ∙ ap (option_map (λ (c : Creation). c.by)) active.made))
+
+pub no_activation : (before : List Event) (old : List (List ℕ)) (task : TaskNo)
+    → option_map (λ (c : Creation). c.by) (creation_of before task.0) ≡ None → Puts old old (AsActivation before task)
+no_activation before old task none = record { grows = grows_same old; here = λ row key of. no_activation_key before old task row key none of }
+
+-- an open call to a task, at its caller
+caller_key : (before : List Event) (task p : ℕ) → IsLawful before → IsOpenCallTo before task p → OfFirst (AsCaller before task) (task_count before) Failing p
+caller_key before task p lawful of =
+    let suspended = open_calls_suspend before of.call p of.opened in
+    record { task = of.call.by; among = suspended_exists before of.call.by p lawful suspended; of = fails of.call p of.opened.stands suspended of.to }
+
+-- all that was put for a completion
+abbrev pub CompletionKeys : List Event → TaskNo → Row → ℕ → Type 0
+CompletionKeys before task =
+    Both (Both (Both (Both (AsKey Going task.0) (AsKey QuittingBody task.0)) (OfFirst (AsCaller before task.0) (task_count before))) (AsActivation before task))
+    (OfFirst (AsUnstarted before) (task_count before))
+
+completion_key : (before : List Event) (task : TaskNo) (row : Row) (key : ℕ) → IsLawful before → OfCompletion before task row key → CompletionKeys before task row key
+completion_key before task row key lawful task_goes = inl (inl (inl (inl itself)))
+completion_key before task row key lawful body_quits = inl (inl (inl (inr itself)))
+completion_key before task row key lawful (call_fails p of) = inl (inl (inr (caller_key before task.0 p lawful of)))
+completion_key before task row key lawful (start_ends p active) = inl (inr (activates p active))
+completion_key before task row key lawful (task_abandons u of) =
+    inr (record { task = u; among = created_exists before u of.creation of.made; of = goes of.never })
+
+pub completion_put : (before : List Event) (old new : List (List ℕ)) (task : TaskNo) → IsLawful before → Puts old new (CompletionKeys before task)
+    → Puts old new (OfCompletion before task)
+completion_put before old new task lawful puts =
+    record { grows = puts.grows; here = λ row key of. puts.here row key (completion_key before task row key lawful of) }
+
+pub completion_noted : (event : Event) (before : List Event) (old new : List (List ℕ)) (task : TaskNo) → IsLawful (event ∷ before) → IsAgendaOf old before
+    → event ≡ Completed task → Puts old new (OfCompletion before task) → IsAgendaOf new (event ∷ before)
+completion_noted event before old new task lawful agenda is puts =
+    noted event before old new (OfCompletion before task) lawful agenda puts (λ row key added. subst (λ (e : Event). Adds before e row key) is added)
+
+pub failure_noted : (event : Event) (before : List Event) (old new : List (List ℕ)) (task : TaskNo) → IsLawful (event ∷ before) → IsAgendaOf old before
+    → event ≡ Elaborated task false → Puts old new (OfCompletion before task) → IsAgendaOf new (event ∷ before)
+failure_noted event before old new task lawful agenda is puts =
+    noted event before old new (OfCompletion before task) lawful agenda puts (λ row key added. subst (λ (e : Event). Adds before e row key) is added)
+
+-- who goes isn't terminated yet
+gone_here : (event : Event) (task : TaskNo) → event ≡ Gone task → gone_in event ≡ Some task.0
+unfolding gone_in
+gone_here event task is = rw is refl
+
+goer_live : (event : Event) (before : List Event) (task : TaskNo) → IsLawful (event ∷ before) → event ≡ Gone task → is_terminated before task.0 ≡ false
+goer_live event before task lawful is =
+    false_from_ne_true (is_terminated before task.0) (λ ended.
+    true≢false (sym (going event before task.0 lawful.1 (gone_here event task is)) ∙ sym (gone_stays before task.0 ended)))
+
+-- all that was put for a termination
+abbrev pub TerminationKeys : List Event → TaskNo → Row → ℕ → Type 0
+TerminationKeys before task =
+    Both (Both (OfFirst (AsCaller before task.0) (task_count before)) (AsActivation before task)) (AsDependent before task.0)
+
+termination_key : (before : List Event) (task : TaskNo) (row : Row) (key : ℕ) → IsLawful before → is_terminated before task.0 ≡ false
+    → OfTermination before task row key → TerminationKeys before task row key
+termination_key before task row key lawful live (end_fails p of) = inl (inl (caller_key before task.0 p lawful of))
+termination_key before task row key lawful live (end_activates p active) = inl (inr (activates p active))
+termination_key before task row key lawful live (end_goes t depends) =
+    inr (through t.0 (Body t) Going t.0 live depends (eq-eqb t.0 t.0 refl) holder_goes)
+termination_key before task row key lawful live (end_quits m depends) =
+    let by = dependent_held before task.0 m lawful live depends in
+    inr (through by.holder m (quitting_row m) (quitting_key m) live depends by.held (quits m by.held))
+termination_key before task row key lawful live (end_leaves block p depends leaving) =
+    let (k, below, is) = leaving.within in
+    inr (through leaving.closing.by (Block block) Leaving p live depends (has_contained (nest before leaving.closing.by) block k below is) (leaves p leaving.suspended))
+
+pub termination_noted : (event : Event) (before : List Event) (old new : List (List ℕ)) (task : TaskNo) → IsLawful (event ∷ before) → IsAgendaOf old before
+    → event ≡ Gone task → Puts old new (TerminationKeys before task) → IsAgendaOf new (event ∷ before)
+termination_noted event before old new task lawful agenda is puts =
+    noted event before old new (TerminationKeys before task) lawful agenda puts (λ row key added.
+    termination_key before task row key lawful.0 (goer_live event before task lawful is) (subst (λ (e : Event). Adds before e row key) is added))
+
+-- all that was put where many terminate together
+abbrev pub QuitKeys : List Event → Row → ℕ → Type 0
+QuitKeys before =
+    Both (Both (OfFirst (AsHeld before Failing) (task_count before)) (OfFirst (AsHeld before Activating) (task_count before)))
+    (OfFirst (AsHolder before) (task_count before))
+
+ended_key : (before : List Event) (t : TaskNo) (row : Row) (key : ℕ) → IsLawful before → is_terminated before t.0 ≡ false → OfTermination before t row key
+    → QuitKeys before row key
+ended_key before t row key lawful live (end_fails p of) = inl (inl (fails_held before Failing t.0 p lawful of))
+ended_key before t row key lawful live (end_activates p active) =
+    inl (inr (record { task = active.creation.by; among = suspended_exists before active.creation.by p lawful active.suspended; of = held p active.suspended }))
+ended_key before t row key lawful live (end_goes u depends) =
+    let known : t.0 < task_count before = depends_exists before t.0 (Body u) depends in
+    let later : u.0 < t.0 = depends_after before t.0 u lawful depends in
+    inr (record { task = u.0; among = omega (arith, known, later); of = holder_goes })
+ended_key before t row key lawful live (end_quits m depends) =
+    let by = dependent_held before t.0 m lawful live depends in
+    let known : t.0 < task_count before = depends_exists before t.0 m depends in
+    let later : by.holder < t.0 = by.before in
+    inr (record { task = by.holder; among = omega (arith, known, later); of = quits m by.held })
+ended_key before t row key lawful live (end_leaves block p depends leaving) =
+    inr (record {
+      task = leaving.closing.by;
+      among = suspended_exists before leaving.closing.by p lawful leaving.suspended;
+      of = leaves p leaving.suspended;
+    })
+
+quit_key : (before : List Event) (master : Master) (row : Row) (key : ℕ) → IsLawful before → OfQuit before master row key → QuitKeys before row key
+quit_key before master row key lawful (ends t r k depends live of) = ended_key before t r k lawful live of
+quit_key before master row key lawful (quit_abandons t u depends live of) =
+    inr (record { task = u; among = created_exists before u of.creation of.made; of = holder_goes })
+
+pub quit_noted : (event : Event) (before : List Event) (old new : List (List ℕ)) (master : Master) → IsLawful (event ∷ before) → IsAgendaOf old before
+    → event ≡ Quit master → Puts old new (QuitKeys before) → IsAgendaOf new (event ∷ before)
+quit_noted event before old new master lawful agenda is puts =
+    noted event before old new (QuitKeys before) lawful agenda puts (λ row key added.
+    quit_key before master row key lawful.0 (subst (λ (e : Event). Adds before e row key) is added))

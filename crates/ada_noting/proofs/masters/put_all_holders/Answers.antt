@@ -1,0 +1,24 @@
+use Rattle.std.proofs.Common.{◌∙◌, ◌<◌, ◌≤◌, subst}
+use Rattle.ada_events.specs.Tasks.{task_count}
+use Rattle.ada_noting.specs.Keys.{AsKey, AsHeld, AsUnstarted, AsCaller, AsDue, AsHolder}
+use Rattle.ada_noting.proofs.Putting.{puts_none, puts_more, puts_all}
+use Rattle.ada_noting.proofs.masters.put_all_holders.Goals as goal
+
+pub loop-number-init : goal.loop-number-init
+loop-number-init c = puts_none c.args.agenda.now (AsHolder c.args.state.now)
+
+pub put_holder-requires-clause-many : goal.put_holder-requires-clause-many
+put_holder-requires-clause-many c = c.loop-number.invariant.grows.many ∙ c.requires.many
+
+pub loop-number-preserved : goal.loop-number-preserved
+loop-number-preserved c =
+    puts_more c.args.agenda.now c.loop-number.agenda c.put_holder.new.agenda (AsHolder c.args.state.now) c.loop-number.number c.loop-number.invariant c.put_holder.ensures
+
+pub returns : goal.returns
+returns c =
+    puts_all c.args.agenda.now c.loop-number.agenda (AsHolder c.args.state.now) c.loop-number.number (task_count c.args.state.now) c.loop-number.invariant
+    (subst (λ n. n ≤ c.loop-number.number) (c.tasks-number-end.ensures.value ∙ c.tables.ensures.stand.many) c.loop-number-test.false)
+
+pub put_holder-requires-clause-known : goal.put_holder-requires-clause-known
+put_holder-requires-clause-known c =
+    subst (λ n. c.loop-number.number < n) (c.tasks-number-end.ensures.value ∙ c.tables.ensures.stand.many) c.loop-number-test.true

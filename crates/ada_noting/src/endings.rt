@@ -1,0 +1,127 @@
+//! What the end of a task adds to an agenda: a completion, a halt, a termination.
+
+ghost use Rattle.std.specs.Prelude.{◌≡◌, ◌<◌, true, false, ◌∷◌, length};
+ghost use Rattle.std.specs.Option.{option_map};
+ghost use Rattle.ada_events.specs.Lawful.{IsLawful};
+ghost use Rattle.ada_events.specs.Says.{Creation, creation_in};
+ghost use Rattle.ada_events.specs.Tasks.{creation_of};
+ghost use Rattle.ada_events.specs.declared.names.TaskNo.{TaskNo as Number};
+ghost use Rattle.ada_events.specs.declared.event.Event.TheVariants.{Completed as CompletedEvent, Elaborated as ElaboratedEvent, Halted as HaltedEvent, Gone as GoneEvent, Quit as QuitEvent};
+ghost use Rattle.ada_touching.specs.Keeping.{IsAgendaOf};
+ghost use Rattle.ada_touching.specs.Kinds.{OfCompletion};
+ghost use Rattle.ada_noting.specs.Keys.{Puts, AsActivation, AsCalleeAt};
+
+use crate::calls::put_callee;
+use crate::masters::{put_all_holders, put_dependent, put_holder};
+use crate::passes::{put_all_callers, put_all_held, put_all_unstarted, put_held, put_key};
+use ada_agenda::Agenda;
+use ada_events::{Event, Master, TaskNo};
+use ada_forcing::Row;
+use ada_rows::State;
+
+// The task that made another, by the other's creation.
+#[tactic(auto, unfolding(ada_events::specs::Says::creation_in))]
+fn maker_in(event: &Event) -> Option<TaskNo>
+    ensures { option_map (λ (t : Number). t.0) result ≡ option_map (λ (c : Creation). c.by) (creation_in event.now) }
+{
+    match event {
+        Event::Created { by, .. } => Some(*by),
+        _ => None,
+    }
+}
+
+// The task that made another; none for the main program and for no task.
+fn maker(state: &State, task: TaskNo) -> Option<TaskNo>
+    ensures { option_map (λ (t : Number). t.0) result ≡ option_map (λ (c : Creation). c.by) (creation_of state.now task.0) }
+{
+    match state.creation(task) {
+        Some(event) => maker_in(event),
+        None => None,
+    }
+}
+
+// Puts the start that names a task, at which its maker is suspended, into the row of activations that end.
+fn put_activation(agenda: &mut Agenda, state: &State, task: TaskNo)
+    requires lawful { IsLawful state.now }
+    requires many { length agenda.old ≡ 11 }
+    ensures { Puts agenda.old agenda.new (AsActivation state.now task) }
+{
+    match maker(state, task) {
+        Some(by) => put_held(agenda, state, Row::Activating, by),
+        None => (),
+    }
+}
+
+// Puts all that the completion of a task may force.
+fn put_completion(agenda: &mut Agenda, state: &State, task: TaskNo)
+    requires lawful { IsLawful state.now }
+    requires many { length agenda.old ≡ 11 }
+    ensures { Puts agenda.old agenda.new (OfCompletion state.now task) }
+{
+    put_key(agenda, Row::Going, task.0 as usize);
+    put_key(agenda, Row::QuittingBody, task.0 as usize);
+    put_all_callers(agenda, state, task);
+    put_activation(agenda, state, task);
+    put_all_unstarted(agenda, state);
+}
+
+/// Notes that a task completes (9.4): that it goes, that dependents of its body quit, that calls to it fail, that the
+/// activation ends that names it, and that tasks go that were never started, may be forced.
+pub fn note_completion(agenda: &mut Agenda, state: &State, _event: &Event, task: TaskNo)
+    requires lawful { IsLawful (_event.now ∷ state.now) }
+    requires stands { IsAgendaOf agenda.old state.now }
+    requires completes { _event.now ≡ CompletedEvent task }
+    ensures { IsAgendaOf agenda.new (_event.now ∷ state.now) }
+{
+    put_completion(agenda, state, task);
+}
+
+/// Notes that a task's activation ends by an exception (9.3), which completes it: what a completion may force may be
+/// forced.
+pub fn note_failed_activation(agenda: &mut Agenda, state: &State, _event: &Event, task: TaskNo)
+    requires lawful { IsLawful (_event.now ∷ state.now) }
+    requires stands { IsAgendaOf agenda.old state.now }
+    requires raises { _event.now ≡ ElaboratedEvent task false }
+    ensures { IsAgendaOf agenda.new (_event.now ∷ state.now) }
+{
+    put_completion(agenda, state, task);
+}
+
+/// Notes that an abnormal task is halted (9.10): what a completion may force, that dependents of blocks quit that the task
+/// is within, and what the masters may force on which the callee of its call depends, may be forced.
+pub fn note_halt(agenda: &mut Agenda, state: &State, _event: &Event, task: TaskNo)
+    requires lawful { IsLawful (_event.now ∷ state.now) }
+    requires stands { IsAgendaOf agenda.old state.now }
+    requires halts { _event.now ≡ HaltedEvent task }
+    ensures { IsAgendaOf agenda.new (_event.now ∷ state.now) }
+{
+    put_completion(agenda, state, task);
+    put_holder(agenda, state, task);
+    put_callee(agenda, state, state.record(task).doing.at);
+}
+
+/// Notes that a task terminates by itself (9.4): that calls to it fail, that the activation ends that names it, and what
+/// the masters may force on which it depends, may be forced.
+pub fn note_termination(agenda: &mut Agenda, state: &State, _event: &Event, task: TaskNo)
+    requires lawful { IsLawful (_event.now ∷ state.now) }
+    requires stands { IsAgendaOf agenda.old state.now }
+    requires goes { _event.now ≡ GoneEvent task }
+    ensures { IsAgendaOf agenda.new (_event.now ∷ state.now) }
+{
+    put_all_callers(agenda, state, task);
+    put_activation(agenda, state, task);
+    put_dependent(agenda, state, task);
+}
+
+/// Notes that all that depend on a master terminate together (9.4): that a call fails, that an activation ends, and what
+/// masters may force may be forced.
+pub fn note_quit(agenda: &mut Agenda, state: &State, _event: &Event, _master: Master)
+    requires lawful { IsLawful (_event.now ∷ state.now) }
+    requires stands { IsAgendaOf agenda.old state.now }
+    requires quits { _event.now ≡ QuitEvent _master }
+    ensures { IsAgendaOf agenda.new (_event.now ∷ state.now) }
+{
+    put_all_held(agenda, state, Row::Failing);
+    put_all_held(agenda, state, Row::Activating);
+    put_all_holders(agenda, state);
+}

@@ -1,0 +1,56 @@
+//! What an event adds to an agenda, by kind of event.
+
+ghost use Rattle.std.specs.Prelude.{◌≡◌, true, false, ◌∷◌, length};
+ghost use Rattle.ada_events.specs.Lawful.{IsLawful};
+ghost use Rattle.ada_events.specs.Nests.{nest};
+ghost use Rattle.ada_events.specs.Tasks.{task_count};
+ghost use Rattle.ada_events.specs.declared.event.Event.TheVariants.{Closed as ClosedEvent, Aborted as AbortedEvent};
+ghost use Rattle.ada_touching.specs.Keeping.{IsAgendaOf};
+ghost use Rattle.ada_touching.specs.Additions.{adds_nothing};
+
+use crate::passes::{put_all_held, put_all_unstarted, put_key, put_tasks};
+use ada_agenda::Agenda;
+use ada_events::{Event, TaskNo};
+use ada_forcing::Row;
+use ada_rows::State;
+use ada_touching::keeping::own_key;
+
+/// Notes an event that can newly force nothing: an opening, the beginning of a rendezvous, the passing of a wait, the end
+/// of a delay or of an activation, or the leaving of a block (9.3 to 9.7).
+#[tactic(auto, using(crate::proofs::Additions::nothing_noted))]
+pub fn note_nothing(_agenda: &mut Agenda, _state: &State, _event: &Event)
+    requires lawful { IsLawful (_event.now ∷ _state.now) }
+    requires stands { IsAgendaOf _agenda.old _state.now }
+    requires nothing { adds_nothing _event.now ≡ true }
+    ensures { IsAgendaOf _agenda.new (_event.now ∷ _state.now) }
+{}
+
+/// Notes that a task closes a block (9.4): that it leaves the block, that the block's dependents quit, and that tasks go
+/// that were never started, may be forced.
+pub fn note_close(agenda: &mut Agenda, state: &State, event: &Event, _by: TaskNo, block: u32)
+    requires lawful { IsLawful (event.now ∷ state.now) }
+    requires stands { IsAgendaOf agenda.old state.now }
+    requires closes { event.now ≡ ClosedEvent _by block }
+    ensures { IsAgendaOf agenda.new (event.now ∷ state.now) }
+{
+    put_key(agenda, Row::Leaving, own_key(state.journal(), event));
+    put_key(agenda, Row::QuittingBlock, block as usize);
+    put_all_unstarted(agenda, state);
+}
+
+/// Notes that tasks are aborted (9.10): that a task is halted, and that a call fails, may be forced.
+pub fn note_abort(
+    agenda: &mut Agenda,
+    state: &State,
+    _event: &Event,
+    _by: TaskNo,
+    _tasks: &[TaskNo],
+)
+    requires lawful { IsLawful (_event.now ∷ state.now) }
+    requires stands { IsAgendaOf agenda.old state.now }
+    requires aborts { _event.now ≡ AbortedEvent _by _tasks.now }
+    ensures { IsAgendaOf agenda.new (_event.now ∷ state.now) }
+{
+    put_tasks(agenda, state, Row::Halting);
+    put_all_held(agenda, state, Row::Failing);
+}

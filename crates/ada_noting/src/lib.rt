@@ -1,0 +1,10 @@
+//! Keeps an agenda up with its journal through events of every kind, by what is kept of the journal: what an event can
+//! newly force is put in, and at times a little more, but never too little.
+#![tactic(auto)]
+
+pub mod calls;
+pub mod endings;
+pub mod kinds;
+mod masters;
+pub mod moments;
+mod passes;

@@ -1,0 +1,143 @@
+//! Masters that are put into an agenda: those that a task holds, and those on which it depends (9.4).
+
+ghost use Rattle.std.specs.Prelude.{◌≡◌, ◌<◌, ℕ, false, Some, length};
+ghost use Rattle.std.specs.Option.{option_map};
+ghost use Rattle.ada_events.specs.Lawful.{IsLawful};
+ghost use Rattle.ada_events.specs.Nests.{nest};
+ghost use Rattle.ada_events.specs.Phases.{is_terminated};
+ghost use Rattle.ada_events.specs.Says.{Opening, opening_at};
+ghost use Rattle.ada_events.specs.Tasks.{task_count};
+ghost use Rattle.ada_events.specs.declared.names.TaskNo.{TaskNo as Number};
+ghost use Rattle.ada_events.specs.declared.names.Member.TheVariants.{Block as BlockMember};
+ghost use Rattle.ada_noting.specs.Keys as keys;
+ghost use Rattle.ada_noting.specs.Keys.{Puts, OfFirst, AsMember, AsBlock, AsHolder, AsDependent};
+
+use crate::passes::{put_held, put_key};
+use ada_agenda::Agenda;
+use ada_events::{Event, Master, Member, TaskNo};
+use ada_forcing::Row;
+use ada_rows::State;
+
+// The task that opened a block.
+#[tactic(auto, unfolding(ada_events::specs::Says::opening_in))]
+fn opener(state: &State, block: u32) -> Option<TaskNo>
+    ensures { option_map (λ (t : Number). t.0) result ≡ option_map (λ (o : Opening). o.by) (opening_at state.now block) }
+{
+    match state.event(block) {
+        Some(Event::Opened { by, .. }) => Some(*by),
+        _ => None,
+    }
+}
+
+// The task that holds a master.
+fn holder_of(state: &State, master: Master) -> Option<TaskNo>
+    ensures { option_map (λ (t : Number). t.0) result ≡ keys.holder_of state.now master }
+{
+    match master {
+        Master::Body(task) => Some(task),
+        Master::Block(block) => opener(state, block),
+    }
+}
+
+// The task that holds what a task was made under; none for the main program.
+fn holder_above(state: &State, task: TaskNo) -> Option<TaskNo>
+    requires { task.0 < task_count state.now }
+    ensures { option_map (λ (t : Number). t.0) result ≡ keys.holder_above state.now task.0 }
+{
+    match state.tables().master(task) {
+        Some(master) => holder_of(state, master),
+        None => None,
+    }
+}
+
+// Puts a member that is a block into the row in which blocks quit.
+#[tactic(auto, using(crate::proofs::Holding::member_put, crate::proofs::Holding::rendezvous_put))]
+fn put_member(agenda: &mut Agenda, member: Member)
+    requires many { length agenda.old ≡ 11 }
+    requires fits { (p : ℕ) → member ≡ BlockMember p → p < 69632 }
+    ensures { Puts agenda.old agenda.new (AsMember (Some member)) }
+{
+    match member {
+        Member::Block(position) => put_key(agenda, Row::QuittingBlock, position as usize),
+        Member::Rendezvous(_) => (),
+    }
+}
+
+// Puts the member, where there is one, so.
+#[tactic(auto, using(crate::proofs::Holding::none_put))]
+fn put_layer(agenda: &mut Agenda, member: Option<Member>)
+    requires many { length agenda.old ≡ 11 }
+    requires fits { (p : ℕ) → member ≡ Some (BlockMember p) → p < 69632 }
+    ensures { Puts agenda.old agenda.new (AsMember member) }
+{
+    if let Some(member) = member {
+        put_member(agenda, member);
+    }
+}
+
+// Puts the blocks that a task is within into the row in which blocks quit.
+fn put_blocks(agenda: &mut Agenda, state: &State, task: TaskNo)
+    requires lawful { IsLawful state.now }
+    requires many { length agenda.old ≡ 11 }
+    requires known { task.0 < task_count state.now }
+    ensures { Puts agenda.old agenda.new (OfFirst (AsBlock (nest state.now task.0)) (length (nest state.now task.0))) }
+{
+    let layers = state.tables().nest(task);
+    for place in 0..layers.len() {
+        put_layer(agenda, layers.get(place));
+    }
+}
+
+/// Puts what the masters that a task holds may force: that the dependents of each quit, that the task goes, and that it
+/// leaves the block at whose close it is suspended.
+pub(crate) fn put_holder(agenda: &mut Agenda, state: &State, task: TaskNo)
+    requires lawful { IsLawful state.now }
+    requires many { length agenda.old ≡ 11 }
+    requires known { task.0 < task_count state.now }
+    ensures { Puts agenda.old agenda.new (AsHolder state.now task.0) }
+{
+    put_key(agenda, Row::Going, task.0 as usize);
+    put_key(agenda, Row::QuittingBody, task.0 as usize);
+    put_held(agenda, state, Row::Leaving, task);
+    put_blocks(agenda, state, task);
+}
+
+// Puts what the masters may force on which a task depends that isn't terminated.
+fn put_outward(agenda: &mut Agenda, state: &State, task: TaskNo)
+    requires lawful { IsLawful state.now }
+    requires many { length agenda.old ≡ 11 }
+    requires known { task.0 < task_count state.now }
+    requires live { is_terminated state.now task.0 ≡ false }
+    ensures { Puts agenda.old agenda.new (AsDependent state.now task.0) }
+{
+    let mut inner = task;
+    while let Some(holder) = holder_above(state, inner) {
+        put_holder(agenda, state, holder);
+        inner = holder;
+    }
+}
+
+/// Puts what the masters may force on which a task depends, unless it is terminated.
+pub(crate) fn put_dependent(agenda: &mut Agenda, state: &State, task: TaskNo)
+    requires lawful { IsLawful state.now }
+    requires many { length agenda.old ≡ 11 }
+    ensures { Puts agenda.old agenda.new (AsDependent state.now task.0) }
+{
+    if task.0 >= state.tables().tasks() {
+        return;
+    }
+    if !state.record(task).stage.terminated {
+        put_outward(agenda, state, task);
+    }
+}
+
+/// Puts what the masters may force that any tasks hold.
+pub(crate) fn put_all_holders(agenda: &mut Agenda, state: &State)
+    requires lawful { IsLawful state.now }
+    requires many { length agenda.old ≡ 11 }
+    ensures { Puts agenda.old agenda.new (OfFirst (AsHolder state.now) (task_count state.now)) }
+{
+    for number in 0..state.tables().tasks() {
+        put_holder(agenda, state, TaskNo(number));
+    }
+}

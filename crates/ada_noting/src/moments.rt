@@ -1,0 +1,115 @@
+//! What a tick adds to an agenda: what is due by it.
+
+ghost use Rattle.std.specs.Prelude.{◌≡◌, ◌<◌, ◌∷◌, Some, length};
+ghost use Rattle.ada_events.specs.Lawful.{IsLawful};
+ghost use Rattle.ada_events.specs.Search.{event_at};
+ghost use Rattle.ada_events.specs.Tasks.{task_count};
+ghost use Rattle.ada_events.specs.declared.event.Event.TheVariants.{Ticked as TickedEvent};
+ghost use Rattle.ada_touching.specs.Keeping.{IsAgendaOf};
+ghost use Rattle.ada_touching.specs.Kinds as kinds;
+ghost use Rattle.ada_noting.specs.Keys as keys;
+ghost use Rattle.ada_noting.specs.Keys.{Puts, OfFirst, AsDue, AsDueAt};
+
+use crate::passes::put_at_if;
+use ada_agenda::Agenda;
+use ada_events::{Event, EventTail, TaskNo};
+use ada_forcing::Row;
+use ada_rows::State;
+use ada_waits::waits::{is_due, least_due};
+
+// The least moment of a wait's delay alternatives.
+fn tail_due(tail: &EventTail) -> Option<i64>
+    ensures { result ≡ kinds.tail_due tail.now }
+{
+    match tail {
+        EventTail::Delays(dues) => least_due(dues.get().as_slice()),
+        _ => None,
+    }
+}
+
+// The moment that is waited for at an event.
+fn due_in(event: &Event) -> Option<i64>
+    ensures { result ≡ kinds.due_in event.now }
+{
+    match event {
+        Event::Called { due, .. } => *due,
+        Event::Paused { due, .. } => Some(*due),
+        Event::Waiting { tail, .. } => tail_due(tail),
+        _ => None,
+    }
+}
+
+// The row of what happens at an event when that moment comes.
+fn due_row(event: &Event) -> Row
+    ensures { result ≡ kinds.due_row event.now }
+{
+    match event {
+        Event::Called { .. } => Row::Cancelling,
+        Event::Paused { .. } => Row::Waking,
+        _ => Row::Passing,
+    }
+}
+
+// Whether the moment that is waited for at an event has come by a tick.
+#[tactic(auto, unfolding(ada_events::specs::Says::moment_in))]
+fn is_due_by(tick: &Event, event: &Event) -> bool
+    ensures { result ≡ keys.is_due_by tick.now event.now }
+{
+    match tick {
+        Event::Ticked { now } => is_due(*now, due_in(event)),
+        _ => false,
+    }
+}
+
+// Puts the position of an event into the row of what happens where its moment comes.
+fn put_due_event(agenda: &mut Agenda, _state: &State, tick: &Event, at: u32, event: &Event)
+    requires lawful { IsLawful _state.now }
+    requires many { length agenda.old ≡ 11 }
+    requires stands { event_at _state.now at ≡ Some event.now }
+    ensures { Puts agenda.old agenda.new (AsDueAt _state.now tick.now at) }
+{
+    put_at_if(agenda, due_row(event), at, is_due_by(tick, event));
+}
+
+// Puts a position into the row of what happens there where its moment comes.
+fn put_due_at(agenda: &mut Agenda, state: &State, tick: &Event, at: u32)
+    requires lawful { IsLawful state.now }
+    requires many { length agenda.old ≡ 11 }
+    ensures { Puts agenda.old agenda.new (AsDueAt state.now tick.now at) }
+{
+    match state.event(at) {
+        Some(event) => put_due_event(agenda, state, tick, at, event),
+        None => (),
+    }
+}
+
+// Puts the position at which a task is suspended, if it is, into the row of what happens there where its moment comes.
+fn put_due(agenda: &mut Agenda, state: &State, tick: &Event, task: TaskNo)
+    requires lawful { IsLawful state.now }
+    requires many { length agenda.old ≡ 11 }
+    ensures { Puts agenda.old agenda.new (AsDue state.now tick.now task.0) }
+{
+    put_due_at(agenda, state, tick, state.record(task).doing.at);
+}
+
+// Puts all that is due.
+fn put_all_due(agenda: &mut Agenda, state: &State, tick: &Event)
+    requires lawful { IsLawful state.now }
+    requires many { length agenda.old ≡ 11 }
+    ensures { Puts agenda.old agenda.new (OfFirst (AsDue state.now tick.now) (task_count state.now)) }
+{
+    for number in 0..state.tables().tasks() {
+        put_due(agenda, state, tick, TaskNo(number));
+    }
+}
+
+/// Notes that the moment moves, in milliseconds (9.6): that timed calls are cancelled, that waits pass and that delays end
+/// may be forced.
+pub fn note_tick(agenda: &mut Agenda, state: &State, event: &Event, _now: i64)
+    requires lawful { IsLawful (event.now ∷ state.now) }
+    requires stands { IsAgendaOf agenda.old state.now }
+    requires ticks { event.now ≡ TickedEvent _now }
+    ensures { IsAgendaOf agenda.new (event.now ∷ state.now) }
+{
+    put_all_due(agenda, state, event);
+}

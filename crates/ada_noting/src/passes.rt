@@ -1,0 +1,132 @@
+//! Passes over all tasks that put keys into an agenda.
+
+ghost use Rattle.std.specs.Prelude.{◌≡◌, ◌<◌, ◌&&◌, true, length};
+ghost use Rattle.ada_events.specs.Lawful.{IsLawful};
+ghost use Rattle.ada_events.specs.Search.{is_some_and, event_at};
+ghost use Rattle.ada_events.specs.Tasks.{task_count};
+ghost use Rattle.ada_touching.specs.Keeping.{Grows, has_key};
+ghost use Rattle.ada_noting.specs.Keys.{Puts, OfFirst, AsKey, AsHeld, AsUnstarted, AsCaller, calls};
+
+use ada_agenda::Agenda;
+use ada_events::{Event, TaskNo};
+use ada_forcing::Row;
+use ada_rows::State;
+use ada_touching::keeping::{put, put_at};
+
+// Puts a key into a row.
+#[tactic(auto, using(crate::proofs::Putting::key_put))]
+pub(crate) fn put_key(agenda: &mut Agenda, row: Row, key: usize)
+    requires many { length agenda.old ≡ 11 }
+    requires fits { key < 69632 }
+    ensures { Puts agenda.old agenda.new (AsKey row key) }
+{
+    put(agenda, row, key);
+}
+
+/// Puts the numbers of all tasks into a row.
+pub(crate) fn put_tasks(agenda: &mut Agenda, state: &State, row: Row)
+    requires lawful { IsLawful state.now }
+    requires many { length agenda.old ≡ 11 }
+    ensures { Puts agenda.old agenda.new (OfFirst (AsKey row) (task_count state.now)) }
+{
+    for number in 0..state.tables().tasks() {
+        put_key(agenda, row, number as usize);
+    }
+}
+
+// Puts the position at which a task is suspended, if it is, into a row.
+pub(crate) fn put_held(agenda: &mut Agenda, state: &State, row: Row, task: TaskNo)
+    requires lawful { IsLawful state.now }
+    requires many { length agenda.old ≡ 11 }
+    ensures { Puts agenda.old agenda.new (AsHeld state.now row task.0) }
+{
+    put_at(agenda, row, state.record(task).doing.at);
+}
+
+/// Puts the positions at which tasks are suspended into a row.
+pub(crate) fn put_all_held(agenda: &mut Agenda, state: &State, row: Row)
+    requires lawful { IsLawful state.now }
+    requires many { length agenda.old ≡ 11 }
+    ensures { Puts agenda.old agenda.new (OfFirst (AsHeld state.now row) (task_count state.now)) }
+{
+    for number in 0..state.tables().tasks() {
+        put_held(agenda, state, row, TaskNo(number));
+    }
+}
+
+// Puts a task that was never started into the row of those that go.
+fn put_unstarted(agenda: &mut Agenda, state: &State, task: TaskNo)
+    requires lawful { IsLawful state.now }
+    requires many { length agenda.old ≡ 11 }
+    ensures { Puts agenda.old agenda.new (AsUnstarted state.now task.0) }
+{
+    if !state.record(task).stage.named {
+        put(agenda, Row::Going, task.0 as usize);
+    }
+}
+
+/// Puts the tasks that were never started into the row of those that go.
+pub(crate) fn put_all_unstarted(agenda: &mut Agenda, state: &State)
+    requires lawful { IsLawful state.now }
+    requires many { length agenda.old ≡ 11 }
+    ensures { Puts agenda.old agenda.new (OfFirst (AsUnstarted state.now) (task_count state.now)) }
+{
+    for number in 0..state.tables().tasks() {
+        put_unstarted(agenda, state, TaskNo(number));
+    }
+}
+
+// Puts a position into a row where that is so, unless it is 0, which is none.
+pub(crate) fn put_at_if(agenda: &mut Agenda, row: Row, at: u32, so: bool)
+    requires many { length agenda.old ≡ 11 }
+    requires fits { 0 < at → at < 69632 }
+    ensures grows { Grows agenda.old agenda.new }
+    ensures here { so ≡ true → 0 < at → has_key agenda.new row at ≡ true }
+{
+    if so {
+        put_at(agenda, row, at);
+    }
+}
+
+// Whether the event is a call to the task.
+#[tactic(auto, unfolding(ada_events::specs::Says::call_in))]
+fn is_call_to(event: &Event, callee: TaskNo) -> bool
+    ensures { result ≡ calls callee.0 event.now }
+{
+    match event {
+        Event::Called { callee: called, .. } => called.0 == callee.0,
+        _ => false,
+    }
+}
+
+// Whether a call to the task stands at the position.
+fn calls_at(state: &State, at: u32, callee: TaskNo) -> bool
+    ensures { result ≡ is_some_and (event_at state.now at) (calls callee.0) }
+{
+    match state.event(at) {
+        Some(event) => is_call_to(event, callee),
+        None => false,
+    }
+}
+
+// Puts the call to the callee at which a task is suspended, if it is, into the row of those that fail.
+fn put_caller(agenda: &mut Agenda, state: &State, callee: TaskNo, task: TaskNo)
+    requires lawful { IsLawful state.now }
+    requires many { length agenda.old ≡ 11 }
+    ensures { Puts agenda.old agenda.new (AsCaller state.now callee.0 task.0) }
+{
+    let at = state.record(task).doing.at;
+    let calls = calls_at(state, at, callee);
+    put_at_if(agenda, Row::Failing, at, calls);
+}
+
+/// Puts the calls to a task at which tasks are suspended into the row of those that fail.
+pub(crate) fn put_all_callers(agenda: &mut Agenda, state: &State, callee: TaskNo)
+    requires lawful { IsLawful state.now }
+    requires many { length agenda.old ≡ 11 }
+    ensures { Puts agenda.old agenda.new (OfFirst (AsCaller state.now callee.0) (task_count state.now)) }
+{
+    for number in 0..state.tables().tasks() {
+        put_caller(agenda, state, callee, TaskNo(number));
+    }
+}
