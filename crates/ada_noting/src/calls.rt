@@ -8,6 +8,7 @@ ghost use Rattle.ada_events.specs.declared.event.Event.TheVariants.{Cancelled as
 ghost use Rattle.ada_events.specs.declared.names.TaskNo.{TaskNo as Number};
 ghost use Rattle.ada_touching.specs.Keeping.{IsAgendaOf};
 ghost use Rattle.ada_events.specs.Termination as ending;
+ghost use Rattle.ada_forcing.specs.Newly.{IsCallOf};
 ghost use Rattle.ada_noting.specs.Keys.{Puts, When, AsDependent, AsCalleeAt};
 
 use crate::masters::put_dependent;
@@ -16,7 +17,7 @@ use ada_agenda::Agenda;
 use ada_events::{Choice, Event, EventTail, TaskNo};
 use ada_forcing::Row;
 use ada_rows::State;
-use ada_touching::keeping::own_key;
+use ada_touching::keeping::{self, own_key};
 
 // The task that an event calls.
 #[tactic(auto, unfolding(ada_events::specs::Says::call_in))]
@@ -103,4 +104,16 @@ pub fn note_wait(
     put_key(agenda, Row::Taking, own);
     put_key(agenda, Row::Passing, own);
     put_dependent_if(agenda, state, by, is_open_terminate(tail));
+}
+
+/// Notes that an entry of a task is called (9.5): that the call fails or is cancelled, and that the wait takes it at which
+/// the callee is suspended, may be forced.
+pub fn note_call(agenda: &mut Agenda, state: &State, event: &Event, callee: TaskNo)
+    requires lawful { IsLawful (event.now ∷ state.now) }
+    requires stands { IsAgendaOf agenda.old state.now }
+    requires calls { IsCallOf event.now callee.0 }
+    ensures { IsAgendaOf agenda.new (event.now ∷ state.now) }
+{
+    let at = state.record(callee).doing.at;
+    keeping::note_call(agenda, state.journal(), event, callee, at);
 }
