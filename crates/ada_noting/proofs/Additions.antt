@@ -1,37 +1,31 @@
 -- Agendas that are kept up with their journal, by kind of event.
-use Rattle.std.proofs.Common.{◌≡◌, ◌⊎◌, ℕ, ◌+◌, ◌<◌, true, false, not, List, Some, ◌∷◌, length, sym, refl, ap, ◌∙◌, subst, arith, inl, inr}
-use Rattle.std.proofs.lemmas.Bool.{true≢false, or_cases, and_parts, ltb-true, false_from_ne_true, eq-eqb}
+use Rattle.std.proofs.Common.{◌≡◌, ℕ, ◌+◌, ◌<◌, true, not, List, Some, ◌∷◌, length, sym, refl, ◌∙◌, subst, inl, inr}
+use Rattle.std.proofs.lemmas.Bool.{true≢false, or_cases, and_parts, ltb-true}
 use Rattle.ada_events.specs.declared.event.Event.{Event}
-use Rattle.ada_events.specs.declared.event.Event.TheVariants.{Closed, Aborted, Quit}
+use Rattle.ada_events.specs.declared.event.Event.TheVariants.{Closed, Aborted}
 use Rattle.ada_events.specs.declared.names.TaskNo.{TaskNo}
-use Rattle.ada_events.specs.declared.names.Master.{Master}
-use Rattle.ada_events.specs.declared.names.Master.TheVariants.{Body, Block}
 use Rattle.ada_events.specs.Says.{closing_in}
 use Rattle.ada_events.specs.Tasks.{task_count}
-use Rattle.ada_events.specs.Masters.{depends_on}
 use Rattle.ada_events.specs.Tasks.{has_task}
 use Rattle.ada_events.specs.Phases.{is_abnormal, is_terminated}
-use Rattle.ada_events.specs.Nests.{nest}
 use Rattle.ada_events.specs.Lawful.{IsLawful}
-use Rattle.ada_laws.specs.Suspension.{IsSuspendedAt}
 use Rattle.ada_laws.proofs.CallLaws.{open_calls_suspend}
 use Rattle.ada_laws.proofs.Suspending.{suspended_exists}
 use Rattle.ada_forcing.specs.declared.row.Row.{Row}
-use Rattle.ada_forcing.specs.declared.row.Row.TheVariants.{Halting, Failing, Activating, Going, QuittingBody, QuittingBlock, Leaving}
+use Rattle.ada_forcing.specs.declared.row.Row.TheVariants.{Halting, Failing, QuittingBlock, Leaving}
 use Rattle.ada_touching.specs.Additions.{adds_nothing}
-use Rattle.ada_touching.specs.Keeping.{has_key, IsAgendaOf, Grows}
-use Rattle.ada_touching.specs.Kinds.{itself as own, IsUnstartedIn, IsOpenCallTo, IsHit, OfClose, OfAbort, OfTermination, OfQuit, Adds}
+use Rattle.ada_touching.specs.Keeping.{has_key, IsAgendaOf}
+use Rattle.ada_touching.specs.Kinds.{itself as own, IsOpenCallTo, IsHit, OfClose, OfAbort, Adds}
 use Rattle.ada_touching.specs.Kinds.OfClose.{leaves as close_leaves, quits as close_quits, abandons as close_abandons}
 use Rattle.ada_touching.specs.Kinds.OfAbort.{halts as abort_halts, fails as abort_fails}
 use Rattle.ada_touching.proofs.Acting.{created_exists}
 use Rattle.ada_touching.proofs.Adding.{agendas_stay}
 use Rattle.ada_touching.proofs.Noting.{grown, own_is}
 use Rattle.ada_touching.proofs.Places.{closing_open}
-use Rattle.ada_noting.specs.Keys.{Puts, Both, OfFirst, AsKey, AsHeld, AsUnstarted, AsHolder}
+use Rattle.ada_noting.specs.Keys.{Puts, Both, OfFirst, AsKey, AsHeld, AsUnstarted}
 use Rattle.ada_noting.specs.Keys.AsKey.{itself}
 use Rattle.ada_noting.specs.Keys.AsHeld.{held}
 use Rattle.ada_noting.specs.Keys.AsUnstarted.{goes}
-use Rattle.ada_noting.proofs.Putting.{both_put}
 use Rattle.ada_noting.proofs.Holding.{block_fits}
 
 -- an agenda into which all was put that the event adds

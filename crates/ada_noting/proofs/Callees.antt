@@ -1,5 +1,5 @@
 -- What masters may force on which the callee of a call depends.
-use Rattle.std.proofs.Common.{◌≡◌, ◌⊎◌, ℕ, ◌<◌, ◌&&◌, not, true, false, List, Option, Some, None, ◌∷◌, get_or, sym, refl, ap, ◌∙◌, subst, arith, inl, inr}
+use Rattle.std.proofs.Common.{◌≡◌, ℕ, ◌&&◌, not, true, false, List, Some, None, ◌∷◌, sym, ap, ◌∙◌, subst, inl, inr}
 use Rattle.std.specs.Option.{option_map, option_and_then}
 use Rattle.std.proofs.lemmas.Bool.{true≢false, false_from_ne_true, and_parts, not-true}
 use Rattle.std.proofs.lemmas.Option.{none-some, same_Some}
@@ -7,7 +7,7 @@ use Rattle.ada_events.specs.declared.event.Event.{Event}
 use Rattle.ada_events.specs.declared.event.Event.TheVariants.{Halted, Cancelled}
 use Rattle.ada_events.specs.declared.names.TaskNo.{TaskNo}
 use Rattle.ada_events.specs.declared.names.Master.{Master}
-use Rattle.ada_events.specs.declared.names.Master.TheVariants.{Body, Block}
+use Rattle.ada_events.specs.declared.names.Master.TheVariants.{Block}
 use Rattle.ada_events.specs.Says.{Call, call_in, call_at}
 use Rattle.ada_events.specs.Masters.{depends_on}
 use Rattle.ada_events.specs.Phases.{is_terminated, has_ended}
@@ -15,11 +15,10 @@ use Rattle.ada_events.specs.Termination.{is_at_open_terminate, is_ready_to_quit,
 use Rattle.ada_events.specs.Nests.{nest}
 use Rattle.ada_events.specs.Lawful.{IsLawful}
 use Rattle.ada_laws.specs.Calls.{IsCallAt}
-use Rattle.ada_laws.specs.Suspension.{IsSuspendedAt}
 use Rattle.ada_laws.proofs.Growing.{is_terminated-more, has_ended-terminated}
 use Rattle.ada_forcing.specs.declared.row.Row.{Row}
 use Rattle.ada_records.specs.Records.{IsHeldAt}
-use Rattle.ada_touching.specs.Keeping.{has_key, IsAgendaOf, Grows}
+use Rattle.ada_touching.specs.Keeping.{has_key, IsAgendaOf}
 use Rattle.ada_touching.specs.Kinds.{quitting_row, quitting_key, OfCompletion, OfHalt, OfCancellation, Adds}
 use Rattle.ada_touching.specs.Kinds.OfHalt.{completes, quits_block, empties}
 use Rattle.ada_touching.specs.Kinds.OfCancellation.{quits as quits_with}

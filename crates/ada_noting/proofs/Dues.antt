@@ -1,5 +1,5 @@
 -- What is due by a tick.
-use Rattle.std.proofs.Common.{◌≡◌, ℕ, zero, suc, ℤ, ◌<◌, ◌≤◌, true, List, Option, Some, None, ◌∷◌, length, sym, refl, ap, ◌∙◌, subst, arith}
+use Rattle.std.proofs.Common.{◌≡◌, ℕ, zero, suc, ℤ, ◌<◌, ◌≤◌, true, List, Some, None, ◌∷◌, length, sym, ap, ◌∙◌, subst, arith}
 use Rattle.std.specs.Prelude.{int_le}
 use Rattle.std.proofs.lemmas.Option.{none-some, same_Some}
 use Rattle.ada_events.specs.declared.event.Event.{Event}
@@ -10,7 +10,6 @@ use Rattle.ada_events.specs.Says.{moment_in}
 use Rattle.ada_events.specs.Tasks.{task_count}
 use Rattle.ada_events.specs.Waits.{is_due}
 use Rattle.ada_events.specs.Lawful.{IsLawful}
-use Rattle.ada_laws.specs.Suspension.{IsSuspendedAt}
 use Rattle.ada_laws.proofs.LimitLaws.{events_are_few}
 use Rattle.ada_laws.proofs.Searching.{event_at-within}
 use Rattle.ada_laws.proofs.Suspending.{suspended_exists}
@@ -18,7 +17,7 @@ use Rattle.ada_forcing.specs.declared.row.Row.{Row}
 use Rattle.ada_records.specs.Records.{IsHeldAt}
 use Rattle.ada_records.proofs.Existing.{positive}
 use Rattle.ada_touching.specs.Keeping.{has_key, IsAgendaOf, Grows}
-use Rattle.ada_touching.specs.Kinds.{due_in, due_row, ComesDue, OfTick, Adds}
+use Rattle.ada_touching.specs.Kinds.{due_in, due_row, OfTick, Adds}
 use Rattle.ada_touching.specs.Kinds.OfTick.{comes_due}
 use Rattle.ada_touching.proofs.Noting.{grows_same, held_there}
 use Rattle.ada_noting.specs.Keys.{Puts, OfFirst, AsDue, AsDueAt, is_due_by}

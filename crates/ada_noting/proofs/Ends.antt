@@ -1,10 +1,10 @@
 -- What the end of a task adds to an agenda.
-use Rattle.std.proofs.Common.{◌≡◌, ◌⊎◌, ℕ, ◌<◌, true, false, List, Option, Some, None, ◌∷◌, get_or, sym, refl, ap, ◌∙◌, subst, arith, inl, inr}
+use Rattle.std.proofs.Common.{◌≡◌, ℕ, ◌<◌, true, false, List, Some, None, ◌∷◌, sym, refl, ap, ◌∙◌, subst, arith, inl, inr}
 use Rattle.std.specs.Option.{option_map}
 use Rattle.std.proofs.lemmas.Bool.{true≢false, eq-eqb, false_from_ne_true}
 use Rattle.std.proofs.lemmas.Option.{none-some, same_Some}
 use Rattle.ada_events.specs.declared.event.Event.{Event}
-use Rattle.ada_events.specs.declared.event.Event.TheVariants.{Completed, Elaborated, Halted, Gone, Quit}
+use Rattle.ada_events.specs.declared.event.Event.TheVariants.{Completed, Elaborated, Gone, Quit}
 use Rattle.ada_events.specs.declared.names.TaskNo.{TaskNo}
 use Rattle.ada_events.specs.declared.names.Master.{Master}
 use Rattle.ada_events.specs.declared.names.Master.TheVariants.{Body, Block}
@@ -21,10 +21,10 @@ use Rattle.ada_laws.proofs.Depending.{depends_exists, depends_reaches, depends_a
 use Rattle.ada_laws.proofs.Reaching.{reaches_known}
 use Rattle.ada_laws.proofs.DependentLaws.{going}
 use Rattle.ada_forcing.specs.declared.row.Row.{Row}
-use Rattle.ada_forcing.specs.declared.row.Row.TheVariants.{Failing, Activating, Going, QuittingBody, QuittingBlock, Leaving}
-use Rattle.ada_tables.specs.Dependents.{holds}
-use Rattle.ada_touching.specs.Keeping.{has_key, IsAgendaOf, Grows}
-use Rattle.ada_touching.specs.Kinds.{quitting_row, quitting_key, IsOpenCallTo, IsActivationOf, OfCompletion, OfTermination, OfQuit, Adds}
+use Rattle.ada_forcing.specs.declared.row.Row.TheVariants.{Failing, Activating, Going, QuittingBody, Leaving}
+use Rattle.ada_touching.specs.Keeping.{has_key, IsAgendaOf}
+use Rattle.ada_touching.specs.Kinds.{quitting_row, quitting_key, IsOpenCallTo, OfElaboration, OfCompletion, OfTermination, OfQuit, Adds}
+use Rattle.ada_touching.specs.Kinds.OfElaboration.{activates as task_up}
 use Rattle.ada_touching.specs.Kinds.OfCompletion.{goes as task_goes, quits as body_quits, fails as call_fails, activates as start_ends, abandons as task_abandons}
 use Rattle.ada_touching.specs.Kinds.OfTermination.{fails as end_fails, activates as end_activates, goes as end_goes, quits as end_quits, leaves as end_leaves}
 use Rattle.ada_touching.specs.Kinds.OfQuit.{ends, abandons as quit_abandons}
@@ -182,3 +182,13 @@ pub quit_noted : (event : Event) (before : List Event) (old new : List (List ℕ
 quit_noted event before old new master lawful agenda is puts =
     noted event before old new (QuitKeys before) lawful agenda puts (λ row key added.
     quit_key before master row key lawful.0 (subst (λ (e : Event). Adds before e row key) is added))
+
+-- the end of an activation without an exception
+up_key : (before : List Event) (task : TaskNo) (row : Row) (key : ℕ) → OfElaboration before task row key → AsActivation before task row key
+up_key before task row key (task_up p active) = activates p active
+
+pub up_noted : (event : Event) (before : List Event) (old new : List (List ℕ)) (task : TaskNo) → IsLawful (event ∷ before) → IsAgendaOf old before
+    → event ≡ Elaborated task true → Puts old new (AsActivation before task) → IsAgendaOf new (event ∷ before)
+up_noted event before old new task lawful agenda is puts =
+    noted event before old new (AsActivation before task) lawful agenda puts (λ row key added.
+    up_key before task row key (subst (λ (e : Event). Adds before e row key) is added))

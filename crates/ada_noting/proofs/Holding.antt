@@ -1,7 +1,6 @@
 -- What the masters that a task holds may force, in an agenda.
-use Rattle.std.proofs.Common.{◌≡◌, ℕ, ◌+◌, ◌<◌, ◌≤◌, true, false, List, Option, Some, None, Bool, length, get_or, sym, refl, ap, ◌∙◌, subst, arith, inl, inr, ◌⊎◌}
+use Rattle.std.proofs.Common.{◌≡◌, ℕ, ◌+◌, ◌<◌, ◌≤◌, true, false, List, Option, Some, None, Bool, length, sym, ap, ◌∙◌, arith, inl, inr}
 use Rattle.std.specs.Prelude.{slice_get}
-use Rattle.std.specs.List.{Contains}
 use Rattle.std.proofs.lemmas.Bool.{eqb-true, false≢true}
 use Rattle.std.proofs.lemmas.Option.{none-some, same_Some, slice_get-get_or, get_or_from_slice_get, slice_get_cases}
 use Rattle.ada_events.specs.declared.event.Event.{Event}
@@ -12,14 +11,13 @@ use Rattle.ada_events.specs.declared.names.Member.{Member}
 use Rattle.ada_events.specs.declared.names.Member.TheVariants.{Block as BlockMember, Rendezvous}
 use Rattle.ada_events.specs.Nests.{nest}
 use Rattle.ada_events.specs.Lawful.{IsLawful}
-use Rattle.ada_laws.specs.Suspension.{IsSuspendedAt}
 use Rattle.ada_laws.proofs.Searching.{event_at-within}
 use Rattle.ada_laws.proofs.LimitLaws.{events_are_few}
 use Rattle.ada_laws.proofs.Framing.{IsBlockOf}
 use Rattle.ada_forcing.specs.declared.row.Row.{Row}
 use Rattle.ada_forcing.specs.declared.row.Row.TheVariants.{Going, QuittingBody, QuittingBlock, Leaving}
 use Rattle.ada_tables.specs.Dependents.{has_block, holds}
-use Rattle.ada_touching.specs.Keeping.{has_key, Grows}
+use Rattle.ada_touching.specs.Keeping.{has_key}
 use Rattle.ada_touching.specs.Kinds.{quitting_row, quitting_key}
 use Rattle.ada_touching.proofs.Noting.{grows_same}
 use Rattle.ada_counts.proofs.Owners.{block_in_nest, contains_block, has_contained}

@@ -5,3 +5,4 @@ pub mod Holding
 pub mod Additions
 pub mod Outwards
 pub mod Putting
+pub mod Waits

@@ -1,6 +1,6 @@
 -- The way outwards from a task, from holder to holder of what each was made under.
-use Rattle.std.proofs.Common.{◌≡◌, ◌⊎◌, ℕ, ◌<◌, ◌≤◌, ◌||◌, true, false, Option, List, Some, None, sym, refl, ap, ◌∙◌, subst, arith, inl, inr}
-use Rattle.std.specs.Option.{option_map, option_and_then, option_map_or}
+use Rattle.std.proofs.Common.{◌≡◌, ◌⊎◌, ℕ, ◌<◌, ◌≤◌, true, false, List, Some, None, sym, refl, ap, ◌∙◌, subst, arith, inl, inr}
+use Rattle.std.specs.Option.{option_map, option_and_then}
 use Rattle.std.proofs.lemmas.Bool.{or_cases, eqb-true, false≢true}
 use Rattle.std.proofs.lemmas.Option.{none-some, same_Some}
 use Rattle.ada_events.specs.declared.event.Event.{Event}
@@ -22,7 +22,6 @@ use Rattle.ada_forcing.specs.declared.row.Row.{Row}
 use Rattle.ada_tables.specs.Dependents.{holds, encloses}
 use Rattle.ada_touching.specs.Keeping.{has_key, Grows}
 use Rattle.ada_touching.proofs.Noting.{grows_same, grows_on}
-use Rattle.ada_counts.specs.Holders.{IsHeld}
 use Rattle.ada_counts.proofs.LiveHolders.{within, masters_are_held}
 use Rattle.ada_counts.proofs.Enclosing.{reaches_held}
 use Rattle.ada_counts.proofs.Owners.{block_in_nest, one_holder}

@@ -1,13 +1,11 @@
 -- Keys that are put into an agenda.
-use Rattle.std.proofs.Common.{◌≡◌, ℕ, ◌+◌, ◌<◌, ◌≤◌, true, false, List, length, sym, refl, ap, ◌∙◌, subst, arith, inl, inr, ◌⊎◌}
+use Rattle.std.proofs.Common.{◌≡◌, ℕ, ◌+◌, ◌<◌, ◌≤◌, true, false, List, sym, ap, ◌∙◌, subst, arith, inl, inr}
 use Rattle.std.proofs.lemmas.Bool.{cases_lt, eq-eqb}
 use Rattle.ada_events.specs.declared.event.Event.{Event}
 use Rattle.ada_events.specs.Search.{is_some_and, event_at}
-use Rattle.ada_events.specs.Says.{Call, call_in}
-use Rattle.ada_events.specs.Tasks.{task_count}
+use Rattle.ada_events.specs.Says.{Call}
 use Rattle.ada_events.specs.Phases.{has_start}
 use Rattle.ada_events.specs.Lawful.{IsLawful}
-use Rattle.ada_laws.specs.Suspension.{IsSuspendedAt}
 use Rattle.ada_laws.specs.Calls.{IsCallAt}
 use Rattle.ada_forcing.specs.declared.row.Row.{Row}
 use Rattle.ada_forcing.specs.declared.row.Row.TheVariants.{Failing, Going}

@@ -1,5 +1,5 @@
 -- Keys that are put into an agenda together, and who holds what a task was made under.
-use Rattle.std.specs.Prelude.{◌≡◌, ◌⊎◌, ℕ, ◌<◌, ◌==◌, ◌&&◌, Bool, true, false, Option, Some, None, List, slice_get}
+use Rattle.std.specs.Prelude.{◌≡◌, ◌⊎◌, ℕ, ◌<◌, ◌==◌, Bool, true, false, Option, Some, List, slice_get}
 use Rattle.std.specs.Option.{option_map, option_and_then}
 use Rattle.ada_events.specs.declared.event.Event.{Event}
 use Rattle.ada_events.specs.declared.names.Master.{Master}
@@ -10,7 +10,7 @@ use Rattle.ada_events.specs.declared.names.Member.TheVariants.{Block as BlockMem
 use Rattle.ada_events.specs.Search.{is_some_and, event_at}
 use Rattle.ada_events.specs.Says.{Opening, Creation, Call, call_in, moment_in, opening_at}
 use Rattle.ada_events.specs.Waits.{is_due}
-use Rattle.ada_events.specs.Tasks.{task_count, creation_of}
+use Rattle.ada_events.specs.Tasks.{creation_of}
 use Rattle.ada_events.specs.Masters.{depends_on}
 use Rattle.ada_events.specs.Phases.{has_start, is_terminated}
 use Rattle.ada_events.specs.Nests.{nest}

@@ -4,15 +4,20 @@ ghost use Rattle.std.specs.Prelude.{◌≡◌, ◌<◌, true, false, ◌∷◌, 
 ghost use Rattle.std.specs.Option.{option_map};
 ghost use Rattle.ada_events.specs.Lawful.{IsLawful};
 ghost use Rattle.ada_events.specs.Says.{Call, call_in, call_at};
-ghost use Rattle.ada_events.specs.declared.event.Event.TheVariants.{Cancelled as CancelledEvent};
+ghost use Rattle.ada_events.specs.declared.event.Event.TheVariants.{Cancelled as CancelledEvent, Waiting as WaitingEvent};
 ghost use Rattle.ada_events.specs.declared.names.TaskNo.{TaskNo as Number};
 ghost use Rattle.ada_touching.specs.Keeping.{IsAgendaOf};
-ghost use Rattle.ada_noting.specs.Keys.{Puts, AsCalleeAt};
+ghost use Rattle.ada_events.specs.Termination as ending;
+ghost use Rattle.ada_forcing.specs.Newly.{IsCallOf};
+ghost use Rattle.ada_noting.specs.Keys.{Puts, When, AsDependent, AsCalleeAt};
 
 use crate::masters::put_dependent;
+use crate::passes::put_key;
 use ada_agenda::Agenda;
-use ada_events::{Event, TaskNo};
+use ada_events::{Choice, Event, EventTail, TaskNo};
+use ada_forcing::Row;
 use ada_rows::State;
+use ada_touching::keeping::{self, own_key};
 
 // The task that an event calls.
 #[tactic(auto, unfolding(ada_events::specs::Says::call_in))]
@@ -55,4 +60,60 @@ pub fn note_cancellation(agenda: &mut Agenda, state: &State, _event: &Event, cal
     ensures { IsAgendaOf agenda.new (_event.now ∷ state.now) }
 {
     put_callee(agenda, state, call);
+}
+
+// Whether a wait has an open terminate alternative (9.7.1).
+fn is_open_terminate(tail: &EventTail) -> bool
+    ensures { result ≡ ending.is_open_terminate tail.now }
+{
+    match tail {
+        EventTail::Terminate(guard) => *guard,
+        _ => false,
+    }
+}
+
+// Puts what the masters may force on which a task depends, where that is so.
+#[tactic(auto, using(crate::proofs::Waits::so_put, crate::proofs::Waits::not_put))]
+fn put_dependent_if(agenda: &mut Agenda, state: &State, task: TaskNo, so: bool)
+    requires lawful { IsLawful state.now }
+    requires many { length agenda.old ≡ 11 }
+    ensures { Puts agenda.old agenda.new (When so (AsDependent state.now task.0)) }
+{
+    if so {
+        put_dependent(agenda, state, task);
+    }
+}
+
+/// Notes that a task waits selectively (9.7.1): that it takes a call or passes, and with an open terminate alternative what
+/// the masters may force on which the task depends, may be forced.
+pub fn note_wait(
+    agenda: &mut Agenda,
+    state: &State,
+    event: &Event,
+    by: TaskNo,
+    _pick: u32,
+    _choices: &[Choice],
+    tail: &EventTail,
+)
+    requires lawful { IsLawful (event.now ∷ state.now) }
+    requires stands { IsAgendaOf agenda.old state.now }
+    requires waits { event.now ≡ WaitingEvent by _pick _choices.now tail.now }
+    ensures { IsAgendaOf agenda.new (event.now ∷ state.now) }
+{
+    let own = own_key(state.journal(), event);
+    put_key(agenda, Row::Taking, own);
+    put_key(agenda, Row::Passing, own);
+    put_dependent_if(agenda, state, by, is_open_terminate(tail));
+}
+
+/// Notes that an entry of a task is called (9.5): that the call fails or is cancelled, and that the wait takes it at which
+/// the callee is suspended, may be forced.
+pub fn note_call(agenda: &mut Agenda, state: &State, event: &Event, callee: TaskNo)
+    requires lawful { IsLawful (event.now ∷ state.now) }
+    requires stands { IsAgendaOf agenda.old state.now }
+    requires calls { IsCallOf event.now callee.0 }
+    ensures { IsAgendaOf agenda.new (event.now ∷ state.now) }
+{
+    let at = state.record(callee).doing.at;
+    keeping::note_call(agenda, state.journal(), event, callee, at);
 }

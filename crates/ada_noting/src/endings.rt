@@ -125,3 +125,13 @@ pub fn note_quit(agenda: &mut Agenda, state: &State, _event: &Event, _master: Ma
     put_all_held(agenda, state, Row::Activating);
     put_all_holders(agenda, state);
 }
+
+/// Notes that a task ends its activation without an exception (9.3): that the activation ends that names it may be forced.
+pub fn note_elaboration(agenda: &mut Agenda, state: &State, _event: &Event, task: TaskNo)
+    requires lawful { IsLawful (_event.now ∷ state.now) }
+    requires stands { IsAgendaOf agenda.old state.now }
+    requires comes_up { _event.now ≡ ElaboratedEvent task true }
+    ensures { IsAgendaOf agenda.new (_event.now ∷ state.now) }
+{
+    put_activation(agenda, state, task);
+}

@@ -1,4 +1,4 @@
-use Rattle.std.proofs.Common.{◌≡◌, ◌∙◌, ◌<◌, ap, sym, true}
+use Rattle.std.proofs.Common.{◌∙◌, ap, sym}
 use Rattle.ada_touching.specs.Keeping.{has_key}
 use Rattle.ada_noting.proofs.Dues.{due_put, position_fits}
 use Rattle.ada_noting.proofs.moments.put_due_event.Goals as goal

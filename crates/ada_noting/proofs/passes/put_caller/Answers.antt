@@ -1,4 +1,4 @@
-use Rattle.std.proofs.Common.{◌∙◌, sym}
+use Rattle.std.proofs.Common.{◌∙◌}
 use Rattle.ada_touching.proofs.Noting.{held_fits}
 use Rattle.ada_noting.proofs.Putting.{caller_put}
 use Rattle.ada_noting.proofs.passes.put_caller.Goals as goal

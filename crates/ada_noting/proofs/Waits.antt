@@ -1,0 +1,71 @@
+-- What a wait adds to an agenda.
+use Rattle.std.proofs.Common.{◌≡◌, ℕ, ◌+◌, Bool, true, false, List, Some, ◌∷◌, length, sym, refl, ◌∙◌, subst, inl, inr}
+use Rattle.std.proofs.lemmas.Bool.{true≢false, false_from_ne_true}
+use Rattle.ada_events.specs.declared.event.Event.{Event}
+use Rattle.ada_events.specs.declared.event.Event.TheVariants.{Waiting}
+use Rattle.ada_events.specs.declared.event.EventTail.{EventTail}
+use Rattle.ada_events.specs.declared.names.TaskNo.{TaskNo}
+use Rattle.ada_events.specs.declared.names.Choice.{Choice}
+use Rattle.ada_events.specs.Says.{held_in}
+use Rattle.ada_events.specs.Phases.{is_terminated}
+use Rattle.ada_events.specs.Termination.{is_open_terminate}
+use Rattle.ada_events.specs.Lawful.{IsLawful}
+use Rattle.ada_laws.proofs.Growing.{has_ended-terminated}
+use Rattle.ada_forcing.specs.declared.row.Row.{Row}
+use Rattle.ada_forcing.specs.declared.row.Row.TheVariants.{Taking, Passing}
+use Rattle.ada_records.proofs.Holding.{holder_ran}
+use Rattle.ada_touching.specs.Keeping.{has_key, IsAgendaOf}
+use Rattle.ada_touching.specs.Kinds.{itself as own, quitting_row, quitting_key, OfWait, Adds}
+use Rattle.ada_touching.specs.Kinds.OfWait.{takes, passes, quits as wait_quits}
+use Rattle.ada_touching.proofs.Noting.{grows_same, own_is}
+use Rattle.ada_noting.specs.Keys.{Puts, Both, When, AsKey, AsDependent}
+use Rattle.ada_noting.specs.Keys.AsKey.{itself}
+use Rattle.ada_noting.specs.Keys.AsHolder.{quits}
+use Rattle.ada_noting.specs.Keys.AsDependent.{through}
+use Rattle.ada_noting.specs.Keys.When.{holds_so}
+use Rattle.ada_noting.proofs.Additions.{noted}
+use Rattle.ada_noting.proofs.Ends.{dependent_held}
+
+so_key : (so : Bool) (Key : Row → ℕ → Type 0) (row : Row) (key : ℕ) → When so Key row key → Key row key
+so_key so Key row key (holds_so is of) = of
+
+pub so_put : (old new : List (List ℕ)) (so : Bool) (Key : Row → ℕ → Type 0) → Puts old new Key → Puts old new (When so Key)
+so_put old new so Key puts = record { grows = puts.grows; here = λ row key of. puts.here row key (so_key so Key row key of) }
+
+not_key : (new : List (List ℕ)) (so : Bool) (Key : Row → ℕ → Type 0) (row : Row) (key : ℕ) → so ≡ false → When so Key row key → has_key new row key ≡ true
+not_key new so Key row key not_so (holds_so is of) = absurd (true≢false (sym is ∙ not_so))
+
+pub not_put : (old : List (List ℕ)) (so : Bool) (Key : Row → ℕ → Type 0) → so ≡ false → Puts old old (When so Key)
+not_put old so Key not_so = record { grows = grows_same old; here = λ row key of. not_key old so Key row key not_so of }
+
+-- who waits isn't terminated
+waiter_held : (event : Event) (by : TaskNo) (pick : ℕ) (choices : List Choice) (tail : EventTail) → event ≡ Waiting by pick choices tail
+    → held_in event ≡ Some by.0
+unfolding held_in
+waiter_held event by pick choices tail is = rw is refl
+
+waiter_live : (event : Event) (before : List Event) (task : ℕ) → IsLawful (event ∷ before) → held_in event ≡ Some task → is_terminated before task ≡ false
+waiter_live event before task lawful holds =
+    let ran = holder_ran event before task lawful holds in
+    false_from_ne_true (is_terminated before task) (λ ended. true≢false (sym (has_ended-terminated before task ended) ∙ ran.1))
+
+-- all that was put for a wait
+abbrev pub WaitKeys : List Event → ℕ → ℕ → Bool → Row → ℕ → Type 0
+WaitKeys before by at so = Both (Both (AsKey Taking at) (AsKey Passing at)) (When so (AsDependent before by))
+
+wait_key : (before : List Event) (by at : ℕ) (tail : EventTail) (so : Bool) (row : Row) (key : ℕ) → IsLawful before → is_terminated before by ≡ false
+    → at ≡ own before
+    → so ≡ is_open_terminate tail → OfWait before by tail row key → WaitKeys before by at so row key
+wait_key before by at tail so row key lawful live same is takes = inl (inl (rw same itself))
+wait_key before by at tail so row key lawful live same is passes = inl (inr (rw same itself))
+wait_key before by at tail so row key lawful live same is (wait_quits m opened depends) =
+    let up = dependent_held before by m lawful live depends in
+    inr (holds_so (is ∙ opened) (through up.holder m (quitting_row m) (quitting_key m) live depends up.held (quits m up.held)))
+
+pub wait_noted : (event : Event) (before : List Event) (old new : List (List ℕ)) (by : TaskNo) (pick : ℕ) (choices : List Choice) (tail : EventTail)
+    (at : ℕ) (so : Bool) → IsLawful (event ∷ before) → IsAgendaOf old before → event ≡ Waiting by pick choices tail → at ≡ length before + 1
+    → so ≡ is_open_terminate tail → Puts old new (WaitKeys before by.0 at so) → IsAgendaOf new (event ∷ before)
+wait_noted event before old new by pick choices tail at so lawful agenda is same opened puts =
+    noted event before old new (WaitKeys before by.0 at so) lawful agenda puts (λ row key added.
+    wait_key before by.0 at tail so row key lawful.0 (waiter_live event before by.0 lawful (waiter_held event by pick choices tail is)) (own_is before at same)
+    opened (subst (λ (e : Event). Adds before e row key) is added))
