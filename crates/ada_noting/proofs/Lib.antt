@@ -1,4 +1,5 @@
 pub mod Callees
+pub mod Callers
 pub mod Dues
 pub mod Ends
 pub mod Holding

@@ -17,7 +17,7 @@ use Rattle.ada_events.specs.Nests.{nest}
 use Rattle.ada_laws.specs.Calls.{IsCallAt}
 use Rattle.ada_laws.specs.Suspension.{IsSuspendedAt}
 use Rattle.ada_forcing.specs.declared.row.Row.{Row}
-use Rattle.ada_forcing.specs.declared.row.Row.TheVariants.{Failing, Activating, Going, QuittingBlock, Leaving}
+use Rattle.ada_forcing.specs.declared.row.Row.TheVariants.{Halting, Failing, Activating, Going, QuittingBlock, Leaving}
 use Rattle.ada_tables.specs.Dependents.{holds}
 use Rattle.ada_touching.specs.Keeping.{has_key, Grows}
 use Rattle.ada_touching.specs.Kinds.{quitting_row, quitting_key, due_in, due_row, IsActivationOf}
@@ -97,6 +97,10 @@ pub data AsActivation (journal : List Event) (task : TaskNo) : Row → ℕ → T
 -- of the callee of the call at a position what its masters may force (9.4, 9.5)
 pub data AsCalleeAt (journal : List Event) (at : ℕ) : Row → ℕ → Type 0 where
   called : (call : Call) (row : Row) (key : ℕ) → IsCallAt journal call at → AsDependent journal call.callee row key → AsCalleeAt journal at row key
+
+-- who made the call at a position, as a task that is halted (9.10)
+pub data AsCallerAt (journal : List Event) (at : ℕ) : Row → ℕ → Type 0 where
+  made : (call : Call) → IsCallAt journal call at → AsCallerAt journal at Halting call.by
 
 -- the task that holds a master: the body's, or the one that opened the block
 abbrev pub holder_of : List Event → Master → Option ℕ

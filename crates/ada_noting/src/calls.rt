@@ -4,12 +4,12 @@ ghost use Rattle.std.specs.Prelude.{◌≡◌, ◌<◌, true, false, ◌∷◌, 
 ghost use Rattle.std.specs.Option.{option_map};
 ghost use Rattle.ada_events.specs.Lawful.{IsLawful};
 ghost use Rattle.ada_events.specs.Says.{Call, call_in, call_at};
-ghost use Rattle.ada_events.specs.declared.event.Event.TheVariants.{Cancelled as CancelledEvent, Waiting as WaitingEvent};
+ghost use Rattle.ada_events.specs.declared.event.Event.TheVariants.{Cancelled as CancelledEvent, Ended as EndedEvent, Failed as FailedEvent, Waiting as WaitingEvent};
 ghost use Rattle.ada_events.specs.declared.names.TaskNo.{TaskNo as Number};
 ghost use Rattle.ada_touching.specs.Keeping.{IsAgendaOf};
 ghost use Rattle.ada_events.specs.Termination as ending;
 ghost use Rattle.ada_forcing.specs.Newly.{IsCallOf};
-ghost use Rattle.ada_noting.specs.Keys.{Puts, When, AsDependent, AsCalleeAt};
+ghost use Rattle.ada_noting.specs.Keys.{Puts, When, AsDependent, AsCalleeAt, AsCallerAt};
 
 use crate::masters::put_dependent;
 use crate::passes::put_key;
@@ -60,6 +60,65 @@ pub fn note_cancellation(agenda: &mut Agenda, state: &State, _event: &Event, cal
     ensures { IsAgendaOf agenda.new (_event.now ∷ state.now) }
 {
     put_callee(agenda, state, call);
+}
+
+// The task that makes a call.
+#[tactic(auto, unfolding(ada_events::specs::Says::call_in))]
+fn caller_in(event: &Event) -> Option<TaskNo>
+    ensures { option_map (λ (t : Number). t.0) result ≡ option_map (λ (c : Call). c.by) (call_in event.now) }
+{
+    match event {
+        Event::Called { by, .. } => Some(*by),
+        _ => None,
+    }
+}
+
+// The task that made the call at a position.
+fn caller_at(state: &State, at: u32) -> Option<TaskNo>
+    ensures { option_map (λ (t : Number). t.0) result ≡ option_map (λ (c : Call). c.by) (call_at state.now at) }
+{
+    match state.event(at) {
+        Some(event) => caller_in(event),
+        None => None,
+    }
+}
+
+// Puts who made the call at a position into the row of tasks that are halted.
+fn put_caller(agenda: &mut Agenda, state: &State, at: u32)
+    requires many { length agenda.old ≡ 11 }
+    ensures { Puts agenda.old agenda.new (AsCallerAt state.now at) }
+{
+    match caller_at(state, at) {
+        Some(by) => put_key(agenda, Row::Halting, by.0 as usize),
+        None => (),
+    }
+}
+
+/// Notes that a rendezvous ends (9.5): that its caller is halted may be forced (9.10).
+pub fn note_end(
+    agenda: &mut Agenda,
+    state: &State,
+    _event: &Event,
+    _by: TaskNo,
+    call: u32,
+    _raised: bool,
+)
+    requires lawful { IsLawful (_event.now ∷ state.now) }
+    requires stands { IsAgendaOf agenda.old state.now }
+    requires ends { _event.now ≡ EndedEvent _by call _raised }
+    ensures { IsAgendaOf agenda.new (_event.now ∷ state.now) }
+{
+    put_caller(agenda, state, call);
+}
+
+/// Notes that a call fails (9.5): that its caller is halted may be forced (9.10).
+pub fn note_failure(agenda: &mut Agenda, state: &State, _event: &Event, call: u32)
+    requires lawful { IsLawful (_event.now ∷ state.now) }
+    requires stands { IsAgendaOf agenda.old state.now }
+    requires fails { _event.now ≡ FailedEvent call }
+    ensures { IsAgendaOf agenda.new (_event.now ∷ state.now) }
+{
+    put_caller(agenda, state, call);
 }
 
 // Whether a wait has an open terminate alternative (9.7.1).

@@ -7,4 +7,7 @@ pub mod endings;
 pub mod kinds;
 mod masters;
 pub mod moments;
+pub mod noting;
 mod passes;
+
+pub use noting::note;
