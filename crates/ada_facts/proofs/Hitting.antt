@@ -15,13 +15,12 @@ use Rattle.ada_events.specs.Nests.{nest}
 use Rattle.ada_events.specs.Lawful.{IsLawful}
 use Rattle.ada_laws.proofs.Searching.{option_map-some}
 use Rattle.ada_laws.proofs.Parents.{tasks_depend_by_parents}
-use Rattle.ada_records.specs.Records.{is_hit}
+use Rattle.ada_records.specs.Records.{TellsOfLive, is_hit}
 use Rattle.ada_counts.specs.Holders.{IsHeld}
 use Rattle.ada_tables.specs.Dependents.{holds}
 use Rattle.ada_counts.proofs.Enclosing.{reaches_held}
 use Rattle.ada_counts.proofs.LiveHolders.{masters_are_held}
 use Rattle.ada_counts.proofs.Owners.{block_in_nest}
-use Rattle.ada_facts.specs.Facts.{TellsOfLive}
 use Rattle.ada_facts.specs.Hitting.{hits_bodies}
 
 any_same : (one other : TaskNo → Bool) (tasks : List TaskNo) → ((t : TaskNo) → one t ≡ other t) → list_any one tasks ≡ list_any other tasks

@@ -4,8 +4,7 @@ ghost use Rattle.std.specs.Prelude.{◌≡◌, ℕ, true, length};
 ghost use Rattle.ada_events.specs.Outcomes as outcomes;
 ghost use Rattle.ada_events.specs.Tasks.{task_count};
 ghost use Rattle.ada_events.specs.declared.event.Event.TheVariants.{Met as MetEvent};
-ghost use Rattle.ada_records.specs.Records.{is_touched, touches_many};
-ghost use Rattle.ada_facts.specs.Facts.{TellsOfLive, AreFacts};
+ghost use Rattle.ada_records.specs.Records.{TellsOfLive, AreFacts, is_touched, touches_many};
 
 use crate::touched::{Flags, dependents, hit};
 use ada_events::Event;
@@ -43,7 +42,8 @@ impl Facts {
 
 // The number of the choice by which the wait takes the call, where the event begins a rendezvous.
 fn choice(state: &State, event: &Event) -> u8
-    ensures { (call wait : ℕ) → event.now ≡ MetEvent call wait → result ≡ outcomes.choice_met state.now wait }
+    ensures { (call wait : ℕ) → event.now ≡ MetEvent call wait
+        → result ≡ outcomes.choice_met state.now wait }
 {
     match event {
         Event::Met { wait, .. } => state.choice_met(*wait),
@@ -54,7 +54,8 @@ fn choice(state: &State, event: &Event) -> u8
 // Whom the event touches, where it may touch many.
 fn touched(state: &State, event: &Event) -> Flags
     ensures listed { touches_many event.now ≡ true → length result ≡ task_count state.now }
-    ensures tells { touches_many event.now ≡ true → TellsOfLive state.now result (is_touched state.now event.now) }
+    ensures tells { touches_many event.now ≡ true
+        → TellsOfLive state.now result (is_touched state.now event.now) }
 {
     match event {
         Event::Quit { master } => dependents(state, *master),

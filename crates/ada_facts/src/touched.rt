@@ -9,9 +9,8 @@ ghost use Rattle.ada_events.specs.Nests.{nest};
 ghost use Rattle.ada_events.specs.Phases.{is_terminated};
 ghost use Rattle.ada_events.specs.Says.{Opening, opening_at};
 ghost use Rattle.ada_events.specs.Tasks.{task_count};
-ghost use Rattle.ada_records.specs.Records as records;
 ghost use Rattle.ada_tables.specs.Dependents.{holds};
-ghost use Rattle.ada_facts.specs.Facts.{TellsOfLive};
+ghost use Rattle.ada_records.specs.Records as records;
 ghost use Rattle.ada_facts.specs.Hitting.{AreNamed, hits_bodies};
 
 use ada_events::limits::MOST_TASKS;
@@ -24,7 +23,8 @@ pub(crate) type Flags = Bounded<bool, MOST_TASKS>;
 // Whether a task that isn't terminated depends on a master (9.4).
 fn is_dependent(state: &State, task: TaskNo, master: Master) -> bool
     requires { task.0 < task_count state.now }
-    ensures { is_terminated state.now task.0 ≡ false → result ≡ masters.depends_on state.now task.0 master }
+    ensures { is_terminated state.now task.0 ≡ false
+        → result ≡ masters.depends_on state.now task.0 master }
 {
     if state.record(task).stage.terminated {
         return false;
@@ -35,7 +35,8 @@ fn is_dependent(state: &State, task: TaskNo, master: Master) -> bool
 /// Who depends on a master (9.4).
 pub(crate) fn dependents(state: &State, master: Master) -> Flags
     ensures all { length result ≡ task_count state.now }
-    ensures tells { TellsOfLive state.now result (λ task. masters.depends_on state.now task master) }
+    ensures tells { records.TellsOfLive state.now result
+        (λ task. masters.depends_on state.now task master) }
 {
     let mut flags = Flags::new();
     for number in 0..state.tables().tasks() {
@@ -68,7 +69,8 @@ fn flag_of(flags: &[bool], task: TaskNo) -> bool
 // The task that opened a block.
 #[tactic(auto, unfolding(ada_events::specs::Says::opening_in))]
 fn opener(state: &State, block: u32) -> Option<TaskNo>
-    ensures { option_map (λ (t : Number). t.0) result ≡ option_map (λ (o : Opening). o.by) (opening_at state.now block) }
+    ensures { option_map (λ (t : Number). t.0) result
+        ≡ option_map (λ (o : Opening). o.by) (opening_at state.now block) }
 {
     match state.event(block) {
         Some(Event::Opened { by, .. }) => Some(*by),
@@ -78,7 +80,8 @@ fn opener(state: &State, block: u32) -> Option<TaskNo>
 
 // The flag of the task that holds a master: of the body's task, or of the one that opened the block.
 fn flag_of_holder(state: &State, master: Master, flags: &[bool]) -> bool
-    ensures { (task : ℕ) → holds task (nest state.now task) master ≡ true → result ≡ slice_index_or flags.now task false }
+    ensures { (task : ℕ) → holds task (nest state.now task) master ≡ true
+        → result ≡ slice_index_or flags.now task false }
 {
     match master {
         Master::Body(task) => flag_of(flags, task),
@@ -94,8 +97,9 @@ fn flag_of_holder(state: &State, master: Master, flags: &[bool]) -> bool
 fn hits_holder(state: &State, task: TaskNo, _tasks: &[TaskNo], hit: &[bool]) -> bool
     requires known { task.0 < task_count state.now }
     requires before { length hit.now ≡ task.0 }
-    requires tells { TellsOfLive state.now hit.now (records.is_hit state.now _tasks.now) }
-    ensures { is_terminated state.now task.0 ≡ false → result ≡ hits_bodies state.now _tasks.now task.0 }
+    requires tells { records.TellsOfLive state.now hit.now (records.is_hit state.now _tasks.now) }
+    ensures { is_terminated state.now task.0 ≡ false
+        → result ≡ hits_bodies state.now _tasks.now task.0 }
 {
     match state.tables().master(task) {
         Some(master) => flag_of_holder(state, master, hit),
@@ -110,8 +114,9 @@ fn is_hit(state: &State, task: TaskNo, _tasks: &[TaskNo], named: &[bool], hit: &
     requires few { task.0 < MOST_TASKS }
     requires named { AreNamed named.now _tasks.now }
     requires before { length hit.now ≡ task.0 }
-    requires tells { TellsOfLive state.now hit.now (records.is_hit state.now _tasks.now) }
-    ensures { is_terminated state.now task.0 ≡ false → result ≡ records.is_hit state.now _tasks.now task.0 }
+    requires tells { records.TellsOfLive state.now hit.now (records.is_hit state.now _tasks.now) }
+    ensures { is_terminated state.now task.0 ≡ false
+        → result ≡ records.is_hit state.now _tasks.now task.0 }
 {
     flag_of(named, task) || hits_holder(state, task, _tasks, hit)
 }
@@ -120,7 +125,7 @@ fn is_hit(state: &State, task: TaskNo, _tasks: &[TaskNo], named: &[bool], hit: &
 /// the tasks are gone through by their numbers.
 pub(crate) fn hit(state: &State, tasks: &[TaskNo]) -> Flags
     ensures all { length result ≡ task_count state.now }
-    ensures tells { TellsOfLive state.now result (records.is_hit state.now tasks.now) }
+    ensures tells { records.TellsOfLive state.now result (records.is_hit state.now tasks.now) }
 {
     let named = named(tasks);
     let mut flags = Flags::new();

@@ -69,7 +69,8 @@ impl<'a> State<'a> {
     fn taken_choice(&self, task: TaskNo, choices: &[Choice], pick: u32) -> Option<u8>
         requires few { length choices.now ≤ MOST_CHOICES }
         requires declared { AreOfTask self.now task.0 choices.now }
-        ensures { result ≡ waits.picked pick (waits.numbers_from (waits.is_selectable self.now task.0) 0 choices.now) }
+        ensures { result ≡ waits.picked pick
+            (waits.numbers_from (waits.is_selectable self.now task.0) 0 choices.now) }
     {
         picked(pick, self.selectable(task, choices).as_slice())
     }

@@ -1,6 +1,5 @@
 use Rattle.std.proofs.Common.{◌≡◌, length}
-use Rattle.ada_records.specs.Records.{is_hit}
-use Rattle.ada_facts.specs.Facts.{TellsOfLive}
+use Rattle.ada_records.specs.Records.{TellsOfLive, is_hit}
 use Rattle.ada_facts.proofs.touched.hit.Given as goal
 
 abbrev pub invariant-loop-number : goal.invariant-loop-number
