@@ -4,9 +4,10 @@ use Rattle.std.specs.Prelude.{bit_and, bit_or, ◌==◌}
 use Rattle.std.specs.Int.{bit_at, bit_not, trailing_zeros}
 use Rattle.std.proofs.lemmas.Bool.{cases_eq, cases_lt, ne_eqb, eqb-true, true≢false, cases_Bool}
 use Rattle.std.proofs.lemmas.Nat.{and_le_l}
+use Rattle.std.proofs.lemmas.List.Sums.{sum_by-set}
 use Rattle.std.proofs.lemmas.List.{length-set, get_or-set_same, get_or-set_other}
 use Rattle.std.proofs.lemmas.Nat.Bits.{bit_at-zero, bit_at_set_same, bit_at_set_other, bit_at_clear_same, bit_at_clear_other, bit_at-trailing_zeros}
-use Rattle.ada_agenda.specs.Bits.{has, with_bit, without_bit, AreHeads}
+use Rattle.ada_agenda.specs.Bits.{has, with_bit, without_bit, word_sum, AreHeads}
 
 pub set_here : (words : List ℕ) (n : ℕ) → n < 64 * length words → has (with_bit words n) n ≡ true
 unfolding has
@@ -38,6 +39,33 @@ clear_others words n k within differs =
           rw (same, get_or-set_same words (n / 64) (bit_and (get_or words (n / 64) 0) (bit_not w64 (1 * 2 ^ (n % 64) % 2 ^ 64))) 0 (omega arith), bit_at_clear_other w64 (get_or words (n / 64) 0) (n % 64) (omega arith) (k % 64) (omega arith) apart) refl
       | inr other ↦ rw (get_or-set_other words (n / 64) (k / 64) (bit_and (get_or words (n / 64) 0) (bit_not w64 (1 * 2 ^ (n % 64) % 2 ^ 64))) 0 other) refl
     ]
+
+-- clearing a bit that is set lessens its word
+word_less : (words : List ℕ) (n : ℕ) → n < 64 * length words → has words n ≡ true → bit_and (get_or words (n / 64) 0) (bit_not w64 (1 * 2 ^ (n % 64) % 2 ^ 64)) < get_or words (n / 64) 0
+unfolding has
+word_less words n within stands = below (and_le_l w (bit_not w64 (1 * 2 ^ (n % 64) % 2 ^ 64))) apart
+  where
+    w : ℕ
+    w = get_or words (n / 64) 0
+
+    x : ℕ
+    x = bit_and w (bit_not w64 (1 * 2 ^ (n % 64) % 2 ^ 64))
+
+    cleared : (bit_at x (n % 64) == 1) ≡ false
+    cleared = rw (bit_at_clear_same w64 w (n % 64) (omega arith)) refl
+
+    apart : x ≢ w
+    apart same = true≢false (sym stands ∙ ap (λ v. bit_at v (n % 64) == 1) (sym same) ∙ cleared)
+
+    below : x ≤ w → x ≢ w → x < w
+    below most other = elim (cases_lt x w) [
+      | inl less ↦ less
+      | inr past ↦ absurd (other (omega (arith, most, past)))
+    ]
+
+pub clear_less : (words : List ℕ) (n : ℕ) → n < 64 * length words → has words n ≡ true → word_sum (without_bit words n) < word_sum words
+clear_less words n within stands =
+    omega (arith, sum_by-set (λ (word : ℕ). word) words (n / 64) (bit_and (get_or words (n / 64) 0) (bit_not w64 (1 * 2 ^ (n % 64) % 2 ^ 64))) 0 (omega arith), word_less words n within stands)
 
 -- the least number of a word
 pub least_is : (words : List ℕ) (word : ℕ) → 0 < get_or words word 0 → get_or words word 0 < 2 ^ 64 → (trailing_zeros w64 (get_or words word 0) < 64) × (has words (word * 64 + trailing_zeros w64 (get_or words word 0)) ≡ true) × ((k : ℕ) → k < word * 64 + trailing_zeros w64 (get_or words word 0) → 64 * word ≤ k → has words k ≡ false)

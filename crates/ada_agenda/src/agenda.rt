@@ -1,7 +1,7 @@
 //! Sets of numbers in rows, of which the first comes first.
 
 ghost use Rattle.std.specs.Prelude.{◌≡◌, ◌≢◌, ◌<◌, ◌≤◌, ◌⊎◌, ℕ, true, false, length, IfOk, IfSome, IfNone};
-ghost use Rattle.ada_agenda.specs.Rows.{keeps};
+ghost use Rattle.ada_agenda.specs.Rows.{keeps, weight};
 
 use crate::Numbers;
 use std::alloc::{AllocError, Global};
@@ -54,12 +54,15 @@ impl Agenda {
         ensures rows { length self.new ≡ length self.old }
         ensures here { keeps self.new row number ≡ false }
         ensures others { (r k : ℕ) → (r ≢ row) ⊎ (k ≢ number) → keeps self.new r k ≡ keeps self.old r k }
+        ensures fewer { keeps self.old row number ≡ true → weight self.new < weight self.old }
     {
         self.rows[row].remove(number);
     }
 
-    /// The first row that has a number, and its least.
+    /// The first row that has a number, and its least, below 69,632.
     pub fn first(&self) -> Option<(usize, usize)>
+        ensures row { IfSome result (λ key. key.0 < length self.now) }
+        ensures within { IfSome result (λ key. key.1 < 69632) }
         ensures here { IfSome result (λ key. keeps self.now key.0 key.1 ≡ true) }
         ensures rows { IfSome result (λ key. (r k : ℕ) → r < key.0 → keeps self.now r k ≡ false) }
         ensures least { IfSome result (λ key. (k : ℕ) → k < key.1 → keeps self.now key.0 k ≡ false) }

@@ -1,7 +1,7 @@
 //! Three levels of bits: the least number of all is found by one word of each.
 
 ghost use Rattle.std.specs.Prelude.{◌≡◌, ◌≢◌, ℕ, ◌<◌, ◌*◌, true, false, length, slice_index};
-ghost use Rattle.ada_agenda.specs.Bits.{has, without_bit, AreHeads, AreLevels};
+ghost use Rattle.ada_agenda.specs.Bits.{has, without_bit, word_sum, AreHeads, AreLevels};
 
 use crate::bits::{insert, least_in, remove};
 
@@ -40,6 +40,7 @@ pub fn take(low: &mut [u64], mid: &mut [u64], top: &mut [u64], number: usize)
     ensures levels { AreLevels low.new mid.new top.new }
     ensures here { has low.new number ≡ false }
     ensures others { (k : ℕ) → k ≢ number → has low.new k ≡ has low.old k }
+    ensures fewer { has low.old number ≡ true → word_sum low.new < word_sum low.old }
 {
     remove(low, number);
     if low[number / 64] == 0 {
@@ -51,6 +52,7 @@ pub fn take(low: &mut [u64], mid: &mut [u64], top: &mut [u64], number: usize)
 pub fn first(low: &[u64], mid: &[u64], top: &[u64]) -> usize
     requires levels { AreLevels low.now mid.now top.now }
     requires some { 0 < slice_index top.now 0 }
+    ensures within { result < 69632 }
     ensures here { has low.now result ≡ true }
     ensures least { (k : ℕ) → k < result → has low.now k ≡ false }
 {

@@ -1,7 +1,7 @@
 //! A set of small numbers.
 
 ghost use Rattle.std.specs.Prelude.{◌≡◌, ◌≢◌, ◌<◌, ℕ, true, false, length, slice_index_or, IfOk, IfSome, IfNone};
-ghost use Rattle.ada_agenda.specs.Bits.{has};
+ghost use Rattle.ada_agenda.specs.Bits.{has, word_sum};
 
 use crate::levels::{first, put, take};
 use std::alloc::{AllocError, Global};
@@ -68,12 +68,14 @@ impl Numbers {
         requires { number < 69632 }
         ensures here { has self.new number ≡ false }
         ensures others { (k : ℕ) → k ≢ number → has self.new k ≡ has self.old k }
+        ensures fewer { has self.old number ≡ true → word_sum self.new < word_sum self.old }
     {
         take(&mut self.low, &mut self.mid, &mut self.top, number);
     }
 
     /// The least number of the set.
     pub fn least(&self) -> Option<usize>
+        ensures within { IfSome result (λ n. n < 69632) }
         ensures here { IfSome result (λ n. has self.now n ≡ true) }
         ensures least { IfSome result (λ n. (k : ℕ) → k < n → has self.now k ≡ false) }
         ensures none { IfNone result ((k : ℕ) → has self.now k ≡ false) }

@@ -18,17 +18,17 @@ struct Search;
 impl Answerer for Search {
     ghost stands = { λ _ _. Unit {0} };
 
-    ghost is_ready = { λ _ _ _. Unit {0} };
-
     fn refusal(&self, journal: &Journal, request: &Request) -> Option<Refusal> {
         refusal(journal.as_slice(), request)
     }
 
-    fn ask(&mut self, journal: &Journal, request: &Request) -> Result<Event, Refusal> {
+    fn ask(&self, journal: &Journal, request: &Request) -> Result<Event, Refusal> {
         asked_event(journal.allocator(), journal.as_slice(), request)
     }
 
-    fn note(&mut self, _journal: &Journal, _event: &Event) {}
+    fn note(&mut self, _journal: &Journal, _event: &Event) -> Result<(), Refusal> {
+        Ok(())
+    }
 
     fn advance(&mut self, journal: &mut Journal) -> bool {
         match forced(journal.as_slice()) {

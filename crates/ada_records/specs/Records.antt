@@ -84,9 +84,10 @@ pub record AreRecords (records : List Record) (journal : List Event) : Type 0 wh
   pub many : length records ≡ task_count journal
   pub each : (task : ℕ) → task < length records → IsRecordOf journal task (record_at records task)
 
--- what a flag of each task says
-abbrev pub Tells : List Bool → (ℕ → Bool) → Type 0
-Tells flags test = (task : ℕ) → task < length flags → slice_index_or flags task false ≡ test task
+-- what a flag of each task that isn't terminated says
+abbrev pub TellsOfLive : List Event → List Bool → (ℕ → Bool) → Type 0
+TellsOfLive journal flags test =
+    (task : ℕ) → task < length flags → is_terminated journal task ≡ false → slice_index_or flags task false ≡ test task
 
 -- the task is hit by an abort of these tasks (9.10): it is one of them, or depends on the body of one
 abbrev pub is_hit : List Event → List TaskNo → ℕ → Bool
@@ -171,11 +172,11 @@ touches_many (Aborted by tasks) = true
 touches_many _ = false
 
 -- what is known of an event beside what it says: of a rendezvous the choice by which the wait takes the call, and
--- whom an event touches that may touch many
-pub record AreFacts (journal : List Event) (event : Event) (records : List Record) (choice : ℕ) (touched : List Bool) : Type 0 where
+-- whom of the tasks that aren't terminated an event touches that may touch many
+pub record AreFacts (journal : List Event) (event : Event) (choice : ℕ) (touched : List Bool) : Type 0 where
   pub chosen : (call wait : ℕ) → event ≡ Met call wait → choice ≡ choice_met journal wait
-  pub listed : touches_many event ≡ true → length touched ≡ length records
-  pub tells : touches_many event ≡ true → Tells touched (is_touched journal event)
+  pub listed : touches_many event ≡ true → length touched ≡ task_count journal
+  pub tells : touches_many event ≡ true → TellsOfLive journal touched (is_touched journal event)
 
 -- there is room for one more record where the event makes a task
 abbrev pub MakesRoom : Event → ℕ → ℕ → Type 0

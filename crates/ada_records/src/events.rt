@@ -23,7 +23,7 @@ pub fn note(
 )
     requires lawful { IsLawful (event.now ∷ journal.now.events) }
     requires stand { AreRecords records.old.items journal.now.events }
-    requires facts { AreFacts journal.now.events event.now records.old.items choice touched.now }
+    requires facts { AreFacts journal.now.events event.now choice touched.now }
     requires room { length journal.now.events + 1 < 2 ^ 32 }
     requires place { MakesRoom event.now (vec_len records.old) (vec_capacity records.old) }
     ensures { AreRecords records.new.items (event.now ∷ journal.now.events) }

@@ -6,3 +6,4 @@ pub mod Leaving
 pub mod Orphans
 pub mod Pending
 pub mod Quitting
+pub mod Strangers

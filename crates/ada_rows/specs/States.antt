@@ -1,5 +1,5 @@
 -- What is kept of a journal.
-use Rattle.std.specs.Prelude.{◌≡◌, ℕ, ◌<◌, true, ℤ, List, length, slice_index_or}
+use Rattle.std.specs.Prelude.{◌≡◌, ℕ, ◌<◌, ◌≤◌, true, ℤ, List, length, slice_index_or}
 use Rattle.std.specs.Option.{option_and_then}
 use Rattle.ada_events.specs.declared.event.Event.{Event}
 use Rattle.ada_events.specs.declared.names.Master.{Master}
@@ -14,10 +14,11 @@ use Rattle.ada_tables.specs.Dependents.{holds}
 use Rattle.ada_tables.specs.Tables.{State}
 use Rattle.ada_tables.specs.Standing.{StandFor}
 
--- the position of each task's creation (9.1) is kept, and 0 for the main program, which has none
+-- the position of each task's creation (9.1) is kept, and 0 for the main program, which has none; none lies past the end
 pub record AreMade (made : List ℕ) (journal : List Event) : Type 0 where
   pub many : length made ≡ task_count journal
   pub each : (task : ℕ) → task < length made → option_and_then creation_in (event_at journal (slice_index_or made task 0)) ≡ creation_of journal task
+  pub past : (task : ℕ) → task < length made → slice_index_or made task 0 ≤ length journal
 
 -- the journal is lawful, and records, tables, the positions of creations and the moment are right
 pub record IsKept (journal : List Event) (records : List Record) (tables : State) (made : List ℕ) (now : ℤ) : Type 0 where

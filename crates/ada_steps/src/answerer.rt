@@ -1,6 +1,6 @@
 //! What answers for a journal.
 
-ghost use Rattle.std.specs.Prelude.{◌≡◌, ◌<◌, ◌≤◌, ◌+◌, ◌∷◌, None, Some, true, false, IfOk, IfErr};
+ghost use Rattle.std.specs.Prelude.{◌≡◌, ◌<◌, ◌≤◌, ◌+◌, ◌∷◌, None, Some, true, false, IfOk, IfErr, OnOk, OnErr};
 ghost use Rattle.ada_events.specs.declared.event.Event.{Event as EventValue};
 ghost use Rattle.ada_events.specs.Asks.{asked_event};
 ghost use Rattle.ada_events.specs.Forced.{forced};
@@ -18,9 +18,6 @@ pub trait Answerer {
     /// Whether it stands for a journal.
     ghost stands: { Self → List EventOf → Type 0 };
 
-    /// Whether it has room for what one more event adds to it.
-    ghost is_ready: { Self → List EventOf → EventOf → Type 0 };
-
     /// The first cause for which a request is refused, if there is one.
     fn refusal(&self, journal: &Journal, request: &Request) -> Option<Refusal>
         requires stands { stands self.now journal.now.events }
@@ -28,24 +25,23 @@ pub trait Answerer {
         requires settled { IsSettled journal.now.events }
         ensures { result ≡ refusal_of journal.now.events request.now };
 
-    /// Makes room for the event of a request that isn't refused, and gives that event. Fails with `OutOfMemory`
-    /// alone.
-    fn ask(&mut self, journal: &Journal, request: &Request) -> Result<Event, Refusal>
-        requires stands { stands self.old journal.now.events }
+    /// The event that a request becomes which isn't refused. Fails with `OutOfMemory` alone.
+    fn ask(&self, journal: &Journal, request: &Request) -> Result<Event, Refusal>
+        requires stands { stands self.now journal.now.events }
         requires lawful { IsLawful journal.now.events }
         requires settled { IsSettled journal.now.events }
         requires unrefused { refusal_of journal.now.events request.now ≡ None }
         ensures ok { IfOk result (λ event. event ≡ asked_event journal.now.events request.now) }
-        ensures ready { IfOk result (λ event. is_ready self.new journal.now.events event) }
-        ensures err { IfErr result (λ cause. cause ≡ Refusal.OutOfMemory) }
-        ensures stands { stands self.new journal.now.events };
+        ensures err { IfErr result (λ cause. cause ≡ Refusal.OutOfMemory) };
 
-    /// Takes note of an event that is to be appended, and for which there is room.
-    fn note(&mut self, journal: &Journal, event: &Event)
+    /// Takes note of an event that is to be appended. Fails with `OutOfMemory` alone, and then the event is not to be
+    /// appended.
+    fn note(&mut self, journal: &Journal, event: &Event) -> Result<(), Refusal>
         requires stands { stands self.old journal.now.events }
-        requires ready { is_ready self.old journal.now.events event.now }
         requires lawful { IsLawful (event.now ∷ journal.now.events) }
-        ensures { stands self.new (event.now ∷ journal.now.events) };
+        ensures ok { OnOk result (stands self.new (event.now ∷ journal.now.events)) }
+        ensures err { IfErr result (λ cause. cause ≡ Refusal.OutOfMemory) }
+        ensures unchanged { OnErr result (stands self.new journal.now.events) };
 
     /// Appends the step that the journal forces, for which there is room in it, and says whether there was one.
     fn advance(&mut self, journal: &mut Journal) -> bool

@@ -44,7 +44,7 @@ fn accept<A: Answerer>(
     journal.reserve(ROOM)?;
     let at = journal.len() + 1;
     let event = answerer.ask(journal, request)?;
-    answerer.note(journal, &event);
+    answerer.note(journal, &event)?;
     journal.push_reserved(event);
     settle(answerer, journal);
     Ok(at)
