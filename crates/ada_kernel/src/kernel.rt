@@ -13,7 +13,7 @@ ghost use Rattle.ada_laws.specs.Laws.{KeepsTheLaws};
 
 use ada_events::{Board, Entry, Journal, Outcome, Refusal, Request, TaskNo};
 use ada_index::Index;
-use ada_queries::board::board;
+use ada_queries::boards::board;
 use ada_queries::counts::count;
 use ada_queries::queries;
 use ada_queries::slots::slot;
