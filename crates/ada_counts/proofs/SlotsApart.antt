@@ -117,7 +117,7 @@ no_entries : entries_in [] ≡ 0
 unfolding entries_in
 no_entries = refl
 
-main_families : families_of [] 0 ≡ []
+pub main_families : families_of [] 0 ≡ []
 unfolding families_of creation_of
 main_families = refl
 
@@ -137,14 +137,14 @@ pub same_slots : (event : Event) (before : List Event) → creation_in event ≡
 unfolding slot_count
 same_slots event before makes = rw makes (omega arith)
 
-same_tasks : (event : Event) (before : List Event) → creation_in event ≡ None → task_count (event ∷ before) ≡ task_count before
+pub same_tasks : (event : Event) (before : List Event) → creation_in event ≡ None → task_count (event ∷ before) ≡ task_count before
 unfolding task_count
 same_tasks event before makes = rw makes (omega arith)
 
-abbrev HaveFamilies : List Facts → List Event → Type 0
+abbrev pub HaveFamilies : List Facts → List Event → Type 0
 HaveFamilies tasks journal = (t : ℕ) → t < task_count journal → (t < length tasks) × ((task_at tasks t).families ≡ families_of journal t)
 
-slots_counted : (tasks : List Facts) (journal : List Event) → HaveFamilies tasks journal → slots_before (declared tasks) (task_count journal) ≡ slot_count journal
+pub slots_counted : (tasks : List Facts) (journal : List Event) → HaveFamilies tasks journal → slots_before (declared tasks) (task_count journal) ≡ slot_count journal
 unfolding slot_count task_count
 slots_counted tasks [] have =
     let main = have 0 (omega arith) in

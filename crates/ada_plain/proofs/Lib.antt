@@ -1,6 +1,5 @@
 pub mod Asking
 pub mod Doubles
-pub mod Dues
 pub mod Few
 pub mod Filling
 pub mod Latest

@@ -1,4 +1,3 @@
 pub mod Frames
-pub mod Late
 pub mod Makings
 pub mod Places

@@ -1,5 +1,5 @@
 -- COUNT of an entry, by what tables hold of its task.
-use Rattle.std.proofs.Common.{◌≡◌, ℕ, ◌<◌, Bool, true, false, not, Option, Some, None, IsSome, is_none, List, [], ◌∷◌, map, length, refl, sym, ap, ◌∙◌, subst}
+use Rattle.std.proofs.Common.{◌≡◌, ℕ, ◌<◌, Bool, true, false, not, Option, Some, None, is_none, List, [], ◌∷◌, length, refl, sym, ap, ◌∙◌, subst}
 use Rattle.std.specs.Prelude.{slice_get, Result, Ok, Err}
 use Rattle.std.proofs.lemmas.Bool.{lt-ltb}
 use Rattle.std.proofs.lemmas.List.{length-map}
@@ -9,7 +9,7 @@ use Rattle.ada_events.specs.declared.names.Family.{Family}
 use Rattle.ada_events.specs.declared.refusal.Refusal.{Refusal}
 use Rattle.ada_events.specs.declared.refusal.Refusal.TheVariants.{UnknownTask, NotRunning, NoSuchFamily, ConstraintError}
 use Rattle.ada_events.specs.Attributes.{count_refusal, own_count}
-use Rattle.ada_events.specs.Calls.{queue, count_of}
+use Rattle.ada_events.specs.Calls.{count_of}
 use Rattle.ada_events.specs.Entries.{is_in_range}
 use Rattle.ada_events.specs.Phases.{is_running}
 use Rattle.ada_events.specs.Refusals.{cause, first_cause, lacks_family, is_outside}

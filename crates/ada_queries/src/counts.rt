@@ -25,8 +25,8 @@ pub fn count(state: &State<'_>, by: TaskNo, entry: Entry) -> Result<u16, Refusal
     running_count(state, by, entry)
 }
 
-// The family of that number among those that a task declares.
-fn family(state: &State<'_>, task: TaskNo, number: u8) -> Option<Family>
+/// The family of that number among those that a task declares.
+pub(crate) fn family(state: &State<'_>, task: TaskNo, number: u8) -> Option<Family>
     requires { task.0 < task_count state.now }
     ensures { result ≡ slice_get (families_of state.now task.0) number }
 {
@@ -34,8 +34,8 @@ fn family(state: &State<'_>, task: TaskNo, number: u8) -> Option<Family>
     families.as_slice().get(usize::from(number)).copied()
 }
 
-// Whether the index of an entry lies in the range of its family.
-fn is_within(family: Family, entry: Entry) -> bool
+/// Whether the index of an entry lies in the range of its family.
+pub(crate) fn is_within(family: Family, entry: Entry) -> bool
     ensures { result ≡ is_in_range family entry.index }
 {
     family.contains(entry.index)

@@ -14,7 +14,6 @@ ghost use Rattle.ada_events.specs.Refusals as refusals;
 ghost use Rattle.ada_events.specs.Tasks.{task_count};
 ghost use Rattle.ada_tables.specs.Dependents.{holds};
 
-use crate::nests::nest;
 use ada_events::{Master, Refusal, Request, Tail, TaskNo};
 use ada_rows::State;
 
@@ -156,7 +155,7 @@ fn holds(state: &State, by: TaskNo, master: Master) -> bool
 {
     match master {
         Master::Body(task) => task.0 == by.0,
-        Master::Block(block) => nest(state, by).has_block(block),
+        Master::Block(block) => state.nest(by).has_block(block),
     }
 }
 

@@ -18,29 +18,12 @@ use ada_events::{Choice, Event, Member, Refusal, Request, Tail, TaskNo};
 use ada_rows::State;
 use ada_tables::{Layer, Layers};
 
-/// What a task is in, outermost first.
-pub(crate) fn nest<'a>(state: &'a State, task: TaskNo) -> &'a Layers
-    requires { task.0 < task_count state.now }
-    ensures { members result.now ≡ nests.nest state.now task.0 }
-{
-    state.tables().nest(task)
-}
-
 // How many members a task's nest has.
 fn depth(state: &State, task: TaskNo) -> usize
     requires { task.0 < task_count state.now }
     ensures { result ≡ length (nests.nest state.now task.0) }
 {
-    nest(state, task).len()
-}
-
-// The innermost member of a task's nest.
-fn innermost(state: &State, task: TaskNo) -> Option<Member>
-    requires { task.0 < task_count state.now }
-    ensures { result ≡ nests.innermost (nests.nest state.now task.0) }
-{
-    let members = nest(state, task);
-    members.get(members.len().saturating_sub(1))
+    state.nest(task).len()
 }
 
 fn is_rendezvous(member: Member) -> bool
@@ -149,7 +132,7 @@ fn nests_same_family(state: &State, request: &Request) -> bool
 {
     match request {
         Request::Wait { by, choices, .. } => {
-            nests_some_family(state, nest(state, *by), choices.as_slice())
+            nests_some_family(state, state.nest(*by), choices.as_slice())
         }
         _ => false,
     }
@@ -166,7 +149,7 @@ fn terminates_in_accept(state: &State, request: &Request) -> bool
             by,
             tail: Tail::Terminate(_),
             ..
-        } => has_rendezvous(nest(state, *by)),
+        } => has_rendezvous(state.nest(*by)),
         _ => false,
     }
 }
@@ -178,7 +161,7 @@ fn is_not_in_accept(state: &State, request: &Request) -> bool
     ensures { result ≡ refusals.is_not_in_accept state.now request.now }
 {
     match request {
-        Request::End { by, .. } => !is_innermost_rendezvous(innermost(state, *by), false),
+        Request::End { by, .. } => !is_innermost_rendezvous(state.innermost(*by), false),
         _ => false,
     }
 }
@@ -190,7 +173,7 @@ fn has_no_block(state: &State, request: &Request) -> bool
     ensures { result ≡ refusals.has_no_block state.now request.now }
 {
     match request {
-        Request::Close { by } => is_innermost_rendezvous(innermost(state, *by), true),
+        Request::Close { by } => is_innermost_rendezvous(state.innermost(*by), true),
         _ => false,
     }
 }

@@ -4,6 +4,7 @@
 pub mod calls;
 pub mod endings;
 pub mod holds;
+pub mod nests;
 pub mod rows;
 pub mod state;
 pub mod waits;

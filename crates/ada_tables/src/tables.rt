@@ -111,8 +111,9 @@ impl Tables {
         Ok(TaskNo(number))
     }
 
-    // The slot of an entry that a task has.
-    fn slot(&self, task: TaskNo, entry: Entry) -> u16
+    /// The slot of an entry that a task has, below 1,024: entries are numbered from 0 in order of task, family
+    /// and index (9.5).
+    pub fn slot(&self, task: TaskNo, entry: Entry) -> u16
         requires { HasEntry self.now.tasks task.0 entry }
         ensures value { result ≡ slot_at self.now.tasks task.0 entry }
         ensures known { result < length self.now.queues }
@@ -180,7 +181,16 @@ impl Tables {
         ensures value { result ≡ length (queue_at self.now.queues (slot_at self.now.tasks task.0 entry)) }
         ensures fits { result ≤ MOST_TASKS }
     {
-        self.queues.queue_len(self.slot(task, entry))
+        self.queue_len_at(self.slot(task, entry))
+    }
+
+    /// How many calls wait at the entry of a slot, at most 256: the attribute COUNT (9.9).
+    pub fn queue_len_at(&self, slot: u16) -> u16
+        requires { slot < length self.now.queues }
+        ensures value { result ≡ length (queue_at self.now.queues slot) }
+        ensures fits { result ≤ MOST_TASKS }
+    {
+        self.queues.queue_len(slot)
     }
 
     /// How many tasks there are, the main program counted, at most 256.

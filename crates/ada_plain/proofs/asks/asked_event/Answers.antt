@@ -1,6 +1,6 @@
 use Rattle.std.proofs.Common.{w64, reverse, ◌∙◌}
 use Rattle.std.proofs.lemmas.Int.{to_z-of_z}
-use Rattle.ada_plain.proofs.Dues.{wait_asked}
+use Rattle.ada_waits.proofs.Dues.{wait_asked}
 use Rattle.ada_plain.proofs.asks.asked_event.Goals as goal
 
 pub returns-in_ok-asked_tail-in-Wait-clause-ok : goal.returns-in_ok-asked_tail-in-Wait-clause-ok

@@ -16,7 +16,7 @@ use Rattle.ada_events.specs.declared.names.Pause.{Pause}
 use Rattle.ada_events.specs.Asks.{pause_due, asked_tail, asked_event}
 use Rattle.ada_events.specs.Limits.{is_too_late}
 use Rattle.ada_events.specs.Tasks.{moment}
-use Rattle.ada_plain.specs.Late.{is_late_tail}
+use Rattle.ada_waits.specs.Late.{is_late_tail}
 
 pub all_dues : (now given : ℤ) (pauses : List Pause) (dues : List (Option ℤ)) (i : ℕ) → given ≡ now → (is_late_tail given (Delays pauses) ≡ false → dues ≡ map (pause_due given) (take i pauses)) → length pauses ≤ i → is_late_tail now (Delays pauses) ≡ false → dues ≡ map (pause_due now) pauses
 all_dues now given pauses dues i same so_far past in_time =
