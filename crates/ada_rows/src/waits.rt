@@ -1,7 +1,10 @@
 //! The rows of selective waits (9.7.1): what takes a call, and what ends otherwise.
 
 ghost use Rattle.std.specs.Prelude.{◌≡◌, ◌≤◌, Some, length, slice_get};
-ghost use Rattle.std.specs.Option.{option_and_then, option_map};
+ghost use Rattle.std.specs.Option.{option_and_then, option_map, unwrap_or};
+ghost use Rattle.ada_events.specs.Lawful.{IsLawful};
+ghost use Rattle.ada_events.specs.Outcomes as outcomes;
+ghost use Rattle.ada_events.specs.Says.{wait_in};
 ghost use Rattle.ada_events.specs.Search.{event_at};
 ghost use Rattle.ada_events.specs.Waits as waits;
 ghost use Rattle.ada_events.specs.declared.event.Event.TheVariants as step;
@@ -62,6 +65,16 @@ impl<'a> State<'a> {
         }
     }
 
+    // The number of the choice by which a wait with these choices takes a call.
+    fn taken_choice(&self, task: TaskNo, choices: &[Choice], pick: u32) -> Option<u8>
+        requires few { length choices.now ≤ MOST_CHOICES }
+        requires declared { AreOfTask self.now task.0 choices.now }
+        ensures { result ≡ waits.picked pick
+            (waits.numbers_from (waits.is_selectable self.now task.0) 0 choices.now) }
+    {
+        picked(pick, self.selectable(task, choices).as_slice())
+    }
+
     // The call that a wait with these choices takes.
     fn taken_call(&self, task: TaskNo, choices: &[Choice], pick: u32) -> Option<u32>
         requires few { length choices.now ≤ MOST_CHOICES }
@@ -69,7 +82,7 @@ impl<'a> State<'a> {
         ensures { result ≡ option_and_then (waits.front_of self.now task.0) (option_and_then (slice_get choices.now)
             (waits.picked pick (waits.numbers_from (waits.is_selectable self.now task.0) 0 choices.now))) }
     {
-        match picked(pick, self.selectable(task, choices).as_slice()) {
+        match self.taken_choice(task, choices, pick) {
             Some(number) => self.front_of_number(task, choices, number),
             None => None,
         }
@@ -107,6 +120,36 @@ impl<'a> State<'a> {
         match self.event(at) {
             Some(event) => self.meeting(at, event),
             None => None,
+        }
+    }
+
+    // The number of the choice by which the event takes a call, where it is a wait that takes one.
+    #[tactic(auto, unfolding(ada_events::specs::Waits::taken_choice, ada_events::specs::Says::wait_in))]
+    fn choice_of(&self, _at: u32, event: &Event) -> Option<u8>
+        requires stands { event_at self.now _at ≡ Some event.now }
+        requires lawful { IsLawful self.now }
+        ensures { result ≡ option_and_then (waits.taken_choice self.now) (wait_in event.now) }
+    {
+        match event {
+            Event::Waiting {
+                by,
+                pick,
+                choices,
+                ..
+            } => self.taken_choice(*by, choices.as_slice(), *pick),
+            _ => None,
+        }
+    }
+
+    /// The number of the choice by which the wait at the position takes a call (9.7.1), counted over all of its choices
+    /// from 0; 0 where it takes none.
+    #[tactic(auto, unfolding(ada_events::specs::Outcomes::choice_met))]
+    pub fn choice_met(&self, wait: u32) -> u8
+        ensures { result ≡ outcomes.choice_met self.now wait }
+    {
+        match self.event(wait) {
+            Some(event) => self.choice_of(wait, event).unwrap_or(0),
+            None => 0,
         }
     }
 

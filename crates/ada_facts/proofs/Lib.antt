@@ -1,0 +1,2 @@
+pub mod Flagging
+pub mod Hitting

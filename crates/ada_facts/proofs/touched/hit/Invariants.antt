@@ -1,0 +1,6 @@
+use Rattle.std.proofs.Common.{◌≡◌, length}
+use Rattle.ada_records.specs.Records.{TellsOfLive, is_hit}
+use Rattle.ada_facts.proofs.touched.hit.Given as goal
+
+abbrev pub invariant-loop-number : goal.invariant-loop-number
+invariant-loop-number l = (length l.flags ≡ l.number) × TellsOfLive l.state l.flags (is_hit l.state l.tasks)

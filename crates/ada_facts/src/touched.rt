@@ -1,0 +1,137 @@
+//! Whom the quitting of a master's dependents and an abort touch: a flag for each task.
+
+ghost use Rattle.std.specs.Prelude.{◌≡◌, ℕ, ◌<◌, false, true, length, slice_index_or};
+ghost use Rattle.std.specs.Option.{option_map};
+ghost use Rattle.ada_events.specs.declared.limits.TheConstants.{MOST_TASKS};
+ghost use Rattle.ada_events.specs.declared.names.TaskNo.{TaskNo as Number};
+ghost use Rattle.ada_events.specs.Masters as masters;
+ghost use Rattle.ada_events.specs.Nests.{nest};
+ghost use Rattle.ada_events.specs.Phases.{is_terminated};
+ghost use Rattle.ada_events.specs.Says.{Opening, opening_at};
+ghost use Rattle.ada_events.specs.Tasks.{task_count};
+ghost use Rattle.ada_tables.specs.Dependents.{holds};
+ghost use Rattle.ada_records.specs.Records as records;
+ghost use Rattle.ada_facts.specs.Hitting.{AreNamed, hits_bodies};
+
+use ada_events::limits::MOST_TASKS;
+use ada_events::{Bounded, Event, Master, TaskNo};
+use ada_rows::State;
+
+/// A flag for each task.
+pub(crate) type Flags = Bounded<bool, MOST_TASKS>;
+
+// Whether a task that isn't terminated depends on a master (9.4).
+fn is_dependent(state: &State, task: TaskNo, master: Master) -> bool
+    requires { task.0 < task_count state.now }
+    ensures { is_terminated state.now task.0 ≡ false
+        → result ≡ masters.depends_on state.now task.0 master }
+{
+    if state.record(task).stage.terminated {
+        return false;
+    }
+    state.tables().depends_on(task, master)
+}
+
+/// Who depends on a master (9.4).
+pub(crate) fn dependents(state: &State, master: Master) -> Flags
+    ensures all { length result ≡ task_count state.now }
+    ensures tells { records.TellsOfLive state.now result
+        (λ task. masters.depends_on state.now task master) }
+{
+    let mut flags = Flags::new();
+    for number in 0..state.tables().tasks() {
+        flags.push(is_dependent(state, TaskNo(number), master));
+    }
+    flags
+}
+
+// Which tasks a list names.
+fn named(tasks: &[TaskNo]) -> [bool; MOST_TASKS]
+    ensures { AreNamed result tasks.now }
+{
+    let mut flags = [false; MOST_TASKS];
+    for task in tasks {
+        let place = usize::from(task.0);
+        if place < MOST_TASKS {
+            flags[place] = true;
+        }
+    }
+    flags
+}
+
+// The flag of a task; false where there is none.
+fn flag_of(flags: &[bool], task: TaskNo) -> bool
+    ensures { result ≡ slice_index_or flags.now task.0 false }
+{
+    flags.get(usize::from(task.0)).copied().unwrap_or(false)
+}
+
+// The task that opened a block.
+#[tactic(auto, unfolding(ada_events::specs::Says::opening_in))]
+fn opener(state: &State, block: u32) -> Option<TaskNo>
+    ensures { option_map (λ (t : Number). t.0) result
+        ≡ option_map (λ (o : Opening). o.by) (opening_at state.now block) }
+{
+    match state.event(block) {
+        Some(Event::Opened { by, .. }) => Some(*by),
+        _ => None,
+    }
+}
+
+// The flag of the task that holds a master: of the body's task, or of the one that opened the block.
+fn flag_of_holder(state: &State, master: Master, flags: &[bool]) -> bool
+    ensures { (task : ℕ) → holds task (nest state.now task) master ≡ true
+        → result ≡ slice_index_or flags.now task false }
+{
+    match master {
+        Master::Body(task) => flag_of(flags, task),
+        Master::Block(block) => match opener(state, block) {
+            Some(task) => flag_of(flags, task),
+            None => false,
+        },
+    }
+}
+
+// Whether an abort of these tasks hits the task that holds what a task was made under. The flags say whom it hits of
+// the tasks that were made before.
+fn hits_holder(state: &State, task: TaskNo, _tasks: &[TaskNo], hit: &[bool]) -> bool
+    requires known { task.0 < task_count state.now }
+    requires before { length hit.now ≡ task.0 }
+    requires tells { records.TellsOfLive state.now hit.now (records.is_hit state.now _tasks.now) }
+    ensures { is_terminated state.now task.0 ≡ false
+        → result ≡ hits_bodies state.now _tasks.now task.0 }
+{
+    match state.tables().master(task) {
+        Some(master) => flag_of_holder(state, master, hit),
+        None => false,
+    }
+}
+
+// Whether an abort of these tasks hits a task (9.10): it names that, or hits the task that holds what it was made under.
+// The flags say whom it names, and whom it hits of the tasks that were made before.
+fn is_hit(state: &State, task: TaskNo, _tasks: &[TaskNo], named: &[bool], hit: &[bool]) -> bool
+    requires known { task.0 < task_count state.now }
+    requires few { task.0 < MOST_TASKS }
+    requires named { AreNamed named.now _tasks.now }
+    requires before { length hit.now ≡ task.0 }
+    requires tells { records.TellsOfLive state.now hit.now (records.is_hit state.now _tasks.now) }
+    ensures { is_terminated state.now task.0 ≡ false
+        → result ≡ records.is_hit state.now _tasks.now task.0 }
+{
+    flag_of(named, task) || hits_holder(state, task, _tasks, hit)
+}
+
+/// Whom an abort of these tasks hits (9.10). The task that holds what another was made under was made before that, so
+/// the tasks are gone through by their numbers.
+pub(crate) fn hit(state: &State, tasks: &[TaskNo]) -> Flags
+    ensures all { length result ≡ task_count state.now }
+    ensures tells { records.TellsOfLive state.now result (records.is_hit state.now tasks.now) }
+{
+    let named = named(tasks);
+    let mut flags = Flags::new();
+    for number in 0..state.tables().tasks() {
+        let hit = is_hit(state, TaskNo(number), tasks, &named, flags.as_slice());
+        flags.push(hit);
+    }
+    flags
+}

@@ -1,0 +1,69 @@
+-- The first key of an agenda, and keys that are dropped from it.
+use Rattle.std.proofs.Common.{◌≡◌, ◌≢◌, ◌⊎◌, ℕ, ◌<◌, Bool, true, false, Option, Some, None, List, [], ◌∷◌, length, get_or, sym, refl, ap, ◌∙◌, subst, inl, inr, arith}
+use Rattle.std.proofs.lemmas.Bool.{cases_eq}
+use Rattle.std.proofs.lemmas.Option.{none-some}
+use Rattle.ada_events.specs.declared.event.Event.{Event}
+use Rattle.ada_events.specs.Forced.{forced}
+use Rattle.ada_forcing.specs.declared.row.Row.{Row}
+use Rattle.ada_forcing.specs.declared.row.Row.TheVariants.{Halting, Failing, Taking, Cancelling, Passing, Waking, Activating, Going, QuittingBody, QuittingBlock, Leaving}
+use Rattle.ada_forcing.specs.Rows.{rank, step_at}
+use Rattle.ada_forcing.proofs.Keys.{forced_first, forced_nothing, agenda_less}
+use Rattle.ada_agenda.specs.Rows.{keeps}
+use Rattle.ada_touching.specs.Keeping.{has_key, IsAgendaOf}
+use Rattle.ada_index.specs.Indexes.{IsStepOfRank}
+
+abbrev all_rows : List Row
+all_rows = Halting ∷ Failing ∷ Taking ∷ Cancelling ∷ Passing ∷ Waking ∷ Activating ∷ Going ∷ QuittingBody ∷ QuittingBlock ∷ Leaving ∷ []
+
+ranked : (row : Row) → get_or all_rows (rank row) Halting ≡ row
+ranked Halting = refl
+ranked Failing = refl
+ranked Taking = refl
+ranked Cancelling = refl
+ranked Passing = refl
+ranked Waking = refl
+ranked Activating = refl
+ranked Going = refl
+ranked QuittingBody = refl
+ranked QuittingBlock = refl
+ranked Leaving = refl
+
+-- each row has a rank of its own
+pub one_rank : (a b : Row) → rank a ≡ rank b → a ≡ b
+one_rank a b same = sym (ranked a) ∙ ap (λ r. get_or all_rows r Halting) same ∙ ranked b
+
+-- the step at the first key is forced
+pub first_is_forced : (rows : List (List ℕ)) (journal : List Event) (place key : ℕ) (found : Option Event) (step : Event) → IsAgendaOf rows journal
+    → keeps rows place key ≡ true → ((r k : ℕ) → r < place → keeps rows r k ≡ false) → ((k : ℕ) → k < key → keeps rows place k ≡ false)
+    → IsStepOfRank journal place key found → found ≡ Some step → Some step ≡ forced journal
+first_is_forced rows journal place key found step agenda here lower least given is =
+    sym (forced_first journal (has_key rows) given.row key step agenda.covers
+    (record {
+      here = ap (λ r. keeps rows r key) given.ranked ∙ here;
+      rows = λ other k less. lower (rank other) k (subst (λ r. rank other < r) given.ranked less);
+      keys = λ k less. ap (λ r. keeps rows r k) given.ranked ∙ least k less;
+    })
+    (sym given.gives ∙ is))
+
+-- where there is no key, nothing is forced
+pub none_is_forced : (rows : List (List ℕ)) (journal : List Event) → IsAgendaOf rows journal → ((r k : ℕ) → keeps rows r k ≡ false) → None ≡ forced journal
+none_is_forced rows journal agenda empty = sym (forced_nothing journal (has_key rows) agenda.covers (λ row key. empty (rank row) key))
+
+-- a key that gives no step is dropped
+pub key_dropped : (old new : List (List ℕ)) (journal : List Event) (place key : ℕ) (found : Option Event) → IsAgendaOf old journal
+    → IsStepOfRank journal place key found → found ≡ None → length new ≡ length old
+    → ((r k : ℕ) → (r ≢ place) ⊎ (k ≢ key) → keeps new r k ≡ keeps old r k) → IsAgendaOf new journal
+key_dropped old new journal place key found agenda given none many others = record {
+  many = many ∙ agenda.many;
+  covers = agenda_less journal (has_key old) (has_key new) agenda.covers (λ row k step was gives.
+      elim (cases_eq (rank row) place) [
+        | inr apart ↦ others (rank row) k (inl apart) ∙ was
+        | inl same ↦
+            elim (cases_eq k key) [
+              | inr other ↦ others (rank row) k (inr other) ∙ was
+              | inl here ↦
+                  let one : given.row ≡ row = one_rank given.row row (given.ranked ∙ sym same) in
+                  absurd (none-some step (sym none ∙ given.gives ∙ ap (λ r. step_at journal r key) one ∙ ap (step_at journal row) (sym here) ∙ gives))
+            ]
+      ]);
+}

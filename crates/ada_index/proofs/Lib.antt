@@ -1,0 +1,4 @@
+pub mod Beginning
+pub mod Creations
+pub mod Keys
+pub mod Steps

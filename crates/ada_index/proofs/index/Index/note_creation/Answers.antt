@@ -1,0 +1,32 @@
+use Rattle.std.proofs.Common.{arith, ◌∙◌, ◌+◌, ◌∷◌, ◌++◌, [], ap, sym, subst}
+use Rattle.ada_laws.proofs.LimitLaws.{events_are_few}
+use Rattle.ada_records.proofs.EventKinds.{makes_some}
+use Rattle.ada_rows.specs.States.{AreMade}
+use Rattle.ada_index.proofs.Creations.{made_more, creation_made, moment_kept}
+use Rattle.ada_index.proofs.index.Index.note_creation.Goals as goal
+
+pub note_created-requires-clause-makes : goal.note_created-requires-clause-makes
+note_created-requires-clause-makes c = makes_some c.args.event.now _ _ _ _ c.requires.makes.is
+
+pub overflow_add-len : goal.overflow_add-len
+overflow_add-len c = record { fits = omega (arith, c.len.ensures, events_are_few c.args.journal.now.events c.requires.lawful.0) }
+
+pub note_creation-requires-clause-creates : goal.note_creation-requires-clause-creates
+note_creation-requires-clause-creates c = makes_some c.args.event.now _ _ _ _ c.requires.makes.is
+
+pub returns-clause-ok : goal.returns-clause-ok
+returns-clause-ok c =
+    let (creation, makes) = creation_made c.args.event.now c.args.master c.args.families.now c.requires.makes in record {
+      kept = record {
+        lawful = c.requires.lawful;
+        recorded = c.note_created.ensures;
+        tabled = c.in_ok-follow_creation.ensures.stand;
+        created =
+            subst (λ made. AreMade made (c.args.event.now ∷ c.args.journal.now.events))
+            (sym (c.push_reserved.ensures.items ∙ ap (λ made. made ++ (c.len.result + 1) ∷ []) c.in_ok-reserve-2.ensures.items))
+            (made_more c.args.self.now.made.items c.args.event.now c.args.journal.now.events creation (c.len.result + 1) c.requires.stands.kept.created makes (ap (λ n. n + 1) c.len.ensures));
+        timed = c.requires.stands.kept.timed ∙ sym (moment_kept c.args.event.now c.args.journal.now.events c.args.master c.args.families.now c.requires.makes);
+      };
+      slots = c.in_ok-follow_creation.ensures.slots;
+      agenda = c.note_creation.ensures;
+    }

@@ -1,0 +1,22 @@
+use Rattle.std.proofs.Common.{arith, ◌∙◌, ◌∷◌, subst, w64}
+use Rattle.std.proofs.lemmas.Int.{to_z-of_z}
+use Rattle.ada_laws.proofs.LimitLaws.{events_are_few}
+use Rattle.ada_touching.specs.Keeping.{IsAgendaOf}
+use Rattle.ada_index.proofs.Creations.{made_same}
+use Rattle.ada_index.proofs.index.Index.note_in_room.Goals as goal
+
+pub note-requires-2-clause-room : goal.note-requires-2-clause-room
+note-requires-2-clause-room c = omega (arith, events_are_few c.args.journal.now.events c.requires.lawful.0)
+
+pub returns : goal.returns
+returns c = record {
+  kept = record {
+    lawful = c.requires.lawful;
+    recorded = c.note-2.ensures;
+    tabled = c.follow.ensures.stand;
+    created = made_same c.args.self.now.made.items c.args.event.now c.args.journal.now.events c.requires.stands.kept.created c.requires.makes;
+    timed = to_z-of_z w64 c.moment_after-self.result (record { sfits = c.moment_after-self.type_inv }) ∙ c.moment_after-self.ensures;
+  };
+  slots = c.follow.ensures.slots;
+  agenda = subst (λ journal. IsAgendaOf c.note.new.agenda (c.args.event.now ∷ journal)) c.new-state.ensures c.note.ensures;
+}

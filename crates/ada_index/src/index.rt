@@ -1,0 +1,81 @@
+//! What is kept of a journal.
+
+ghost use Rattle.std.specs.Prelude.{◌≡◌, [], IfOk, IfErr};
+ghost use Rattle.ada_events.specs.Forced.{forced};
+ghost use Rattle.ada_index.specs.Indexes.{IsIndexOf};
+
+use crate::stepping::next_step;
+use ada_agenda::Agenda;
+use ada_events::{Event, Journal, Refusal};
+use ada_records::Record;
+use ada_rows::State;
+use ada_tables::Tables;
+use std::alloc::Global;
+
+/// How many rows the forced steps have.
+const ROWS: usize = 11;
+
+/// What is kept of a journal beside the journal: a record of each task, the tables, the positions of the creations
+/// of all tasks, the moment in milliseconds, and the agenda of where a step may be forced.
+#[derive(Drop)]
+pub struct Index {
+    pub(crate) records: Vec<Record>,
+    pub(crate) tables: Tables,
+    pub(crate) made: Vec<u32>,
+    pub(crate) moment: i64,
+    pub(crate) agenda: Agenda,
+}
+
+impl Index {
+    /// What is kept of the empty journal, in memory of `alloc`. Fails with `OutOfMemory` alone.
+    pub fn new(alloc: Global) -> Result<Self, Refusal>
+        ensures ok { IfOk result (λ index. IsIndexOf index []) }
+        ensures err { IfErr result (λ cause. cause ≡ Refusal.OutOfMemory) }
+    {
+        let mut records = Vec::new(alloc);
+        records.reserve(1)?;
+        records.push_reserved(Record::of_main());
+        let mut made = Vec::new(alloc);
+        made.reserve(1)?;
+        made.push_reserved(0);
+        let tables = Tables::new(alloc)?;
+        let agenda = Agenda::new(alloc, ROWS)?;
+        Ok(Index {
+            records,
+            tables,
+            made,
+            moment: 0,
+            agenda,
+        })
+    }
+
+    /// The journal with what is kept of it.
+    pub fn state<'a>(&'a self, journal: &'a Journal) -> State<'a>
+        requires { IsIndexOf self.now journal.now.events }
+        ensures { result ≡ journal.now.events }
+    {
+        State::new(
+            journal,
+            &self.records,
+            &self.tables,
+            &self.made,
+            self.moment,
+        )
+    }
+
+    // The step that the journal forces, if there is one.
+    pub(crate) fn next_step(&mut self, journal: &Journal) -> Option<Event>
+        requires { IsIndexOf self.old journal.now.events }
+        ensures step { result ≡ forced journal.now.events }
+        ensures stands { IsIndexOf self.new journal.now.events }
+    {
+        let state = State::new(
+            journal,
+            &self.records,
+            &self.tables,
+            &self.made,
+            self.moment,
+        );
+        next_step(&mut self.agenda, &state)
+    }
+}

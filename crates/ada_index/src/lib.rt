@@ -1,0 +1,9 @@
+//! What is kept of a journal, and how a kernel answers by it: no request makes it search the journal.
+#![tactic(auto)]
+
+mod answering;
+pub mod index;
+mod noting;
+mod stepping;
+
+pub use index::Index;
