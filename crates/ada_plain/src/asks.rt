@@ -1,24 +1,13 @@
 //! The event that a request becomes when it is accepted.
 ghost use Rattle.std.specs.Prelude.{◌≡◌, ◌<◌, ◌^◌, false, length, reverse, IfOk, IfErr};
 ghost use Rattle.ada_events.specs.Asks as asks;
-ghost use Rattle.ada_events.specs.Nests as nests;
 ghost use Rattle.ada_events.specs.Limits as limits;
 
 use crate::nests::{frame, innermost};
 use crate::tasks::moment;
-use ada_events::{ChoiceList, Event, FamilyList, Member, Refusal, Request, TaskList, TaskNo};
-use ada_waits::{asked_tail, call_due, due_after};
+use ada_events::{ChoiceList, Event, FamilyList, Refusal, Request, TaskList, TaskNo};
+use ada_waits::{asked_tail, call_due, due_after, member_position};
 use std::alloc::Global;
-
-fn innermost_position(events: &[Event], task: TaskNo) -> u32
-    requires { length events.now < 2 ^ 32 }
-    ensures { result ≡ asks.member_position (nests.innermost (nests.nest (reverse events.now) task.0)) }
-{
-    match innermost(events, task) {
-        Some(Member::Block(position)) | Some(Member::Rendezvous(position)) => position,
-        None => 0,
-    }
-}
 
 /// The event that a request becomes when it is accepted: the same, with each duration replaced by the
 /// moment at which it is over.
@@ -78,12 +67,12 @@ pub fn asked_event(alloc: Global, events: &[Event], request: &Request) -> Result
         }),
         Request::End { by, raised } => Ok(Event::Ended {
             by: *by,
-            call: innermost_position(events, *by),
+            call: member_position(innermost(events, *by)),
             raised: *raised,
         }),
         Request::Close { by } => Ok(Event::Closed {
             by: *by,
-            block: innermost_position(events, *by),
+            block: member_position(innermost(events, *by)),
         }),
         Request::Complete { by } => Ok(Event::Completed { by: *by }),
         Request::Abort { by, tasks } => Ok(Event::Aborted {

@@ -1,4 +1,5 @@
-//! The moments that a request asks for: durations counted from the current moment (9.6, 9.7.1, 9.7.3).
+//! Parts of the event that a request becomes: the moments at which its durations are over (9.6, 9.7.1, 9.7.3), and
+//! the position by which the end of a rendezvous and a close name the member that they leave.
 ghost use Rattle.std.specs.Prelude.{◌≡◌, ◌≤◌, ◌&&◌, false, length, map, IfOk, IfErr};
 ghost use Rattle.std.specs.List.{list_any};
 ghost use Rattle.ada_events.specs.Asks as asks;
@@ -7,7 +8,7 @@ ghost use Rattle.ada_events.specs.declared.names.Pause.{Pause as PauseValue};
 ghost use Rattle.ada_events.specs.declared.limits.TheConstants.{MOST_DELAYS};
 ghost use Rattle.ada_waits.specs.Late.{is_late_tail, is_late_call};
 
-use ada_events::{DueList, Dues, EventTail, Patience, Pause, Refusal, Tail};
+use ada_events::{DueList, Dues, EventTail, Member, Patience, Pause, Refusal, Tail};
 use std::alloc::Global;
 
 /// The moment at which a duration in ticks from `now` on is over, where it isn't behind the last moment
@@ -71,5 +72,15 @@ pub fn call_due(now: i64, patience: Patience) -> Option<i64>
     match patience {
         Patience::Timed(duration) => Some(due_after(now, duration)),
         _ => None,
+    }
+}
+
+/// The position that a member of a nest goes by; 0, which is no position, where there is none.
+pub fn member_position(member: Option<Member>) -> u32
+    ensures { result ≡ asks.member_position member }
+{
+    match member {
+        Some(Member::Block(position)) | Some(Member::Rendezvous(position)) => position,
+        None => 0,
     }
 }
