@@ -115,7 +115,7 @@ nothing_due : (before : List Event) (now : ℤ) (bound : Option ℤ) (row : Row)
 nothing_due before now bound row key is early (comes_due r p due) =
     let same = same_Some due.suspended.event due.event (sym due.suspended.stands ∙ due.stands) in
     let until : IsSuspendedUntil before due.task due.due =
-        record { position = p; suspended = due.suspended; waits = ap due_in same ∙ due.waits } in
+    record { position = p; suspended = due.suspended; waits = ap due_in same ∙ due.waits } in
     true≢false (sym (comes_later bound due.due now (is.reaches due.task due.due until due.was) due.comes) ∙ early)
 
 pub early_tick_noted : (event : Event) (before : List Event) (old : List (List ℕ)) (now : ℤ) (bound : Option ℤ) → IsLawful (event ∷ before)

@@ -7,7 +7,7 @@ pub mod endings;
 pub mod kinds;
 mod masters;
 pub mod moments;
-pub mod next_due;
+mod next_due;
 pub mod noting;
 mod passes;
 

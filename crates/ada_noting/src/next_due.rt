@@ -38,15 +38,15 @@ impl NextDue {
         NextDue(None)
     }
 
-    /// Whether there is such a moment, and it has come at `now`, in milliseconds.
-    pub fn is_reached_by(self, now: i64) -> bool
+    // Whether there is such a moment, and it has come at `now`.
+    pub(crate) fn is_reached_by(self, now: i64) -> bool
         ensures { result ≡ waits.is_due now self }
     {
         is_due(now, self.0)
     }
 
-    /// The earlier of this moment and another, where there are two.
-    pub fn with(self, due: Option<i64>) -> Self
+    // The earlier of this moment and another, where there are two.
+    pub(crate) fn with(self, due: Option<i64>) -> Self
         ensures { result ≡ waits.earlier self due }
     {
         NextDue(earlier(self.0, due))
@@ -65,7 +65,7 @@ fn due_after(state: &State, now: i64, task: TaskNo) -> Option<i64>
 }
 
 // The least moment after `now` for which a task is suspended.
-fn next_after(state: &State, now: i64) -> NextDue
+fn least_after(state: &State, now: i64) -> NextDue
     requires lawful { IsLawful state.now }
     ensures { IsBoundOfFirst state.now now (task_count state.now) result }
 {
@@ -77,27 +77,28 @@ fn next_after(state: &State, now: i64) -> NextDue
 }
 
 // Keeps the bound up with a tick (9.6).
-fn next_ticked(next: NextDue, state: &State, _event: &Event, now: i64) -> NextDue
+fn next_after_tick(next: NextDue, state: &State, _event: &Event, now: i64) -> NextDue
     requires lawful { IsLawful (_event.now ∷ state.now) }
     requires bound { IsDueBound state.now next }
     requires ticks { _event.now ≡ TickedEvent now }
     ensures { IsDueBound (_event.now ∷ state.now) result }
 {
     if next.is_reached_by(now) {
-        next_after(state, now)
+        least_after(state, now)
     } else {
         next
     }
 }
 
-/// Keeps the bound up with an event that is to be appended. Only a tick that reaches it looks at the tasks.
-pub fn next_due(next: NextDue, state: &State, event: &Event) -> NextDue
+// Keeps the bound up with an event that is to be appended. Only a tick that reaches it looks at the tasks, and any other
+// event at no more than its own moments.
+pub(crate) fn next_after_event(next: NextDue, state: &State, event: &Event) -> NextDue
     requires lawful { IsLawful (event.now ∷ state.now) }
     requires bound { IsDueBound state.now next }
     ensures { IsDueBound (event.now ∷ state.now) result }
 {
     match event {
-        Event::Ticked { now } => next_ticked(next, state, event, *now),
+        Event::Ticked { now } => next_after_tick(next, state, event, *now),
         _ => next.with(due_in(event)),
     }
 }

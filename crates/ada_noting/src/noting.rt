@@ -12,7 +12,7 @@ use crate::endings::{
 };
 use crate::kinds::{note_abort, note_close, note_nothing};
 use crate::moments::note_tick;
-use crate::next_due::{NextDue, next_due};
+use crate::next_due::{NextDue, next_after_event};
 use ada_agenda::Agenda;
 use ada_events::Event;
 use ada_rows::State;
@@ -73,5 +73,5 @@ pub fn note(agenda: &mut Agenda, next: &mut NextDue, state: &State, event: &Even
     ensures bound { IsDueBound (event.now ∷ state.now) next.new }
 {
     note_keys(agenda, *next, state, event);
-    *next = next_due(*next, state, event);
+    *next = next_after_event(*next, state, event);
 }

@@ -2,7 +2,7 @@ use Rattle.std.proofs.Common.{◌∙◌, ◌∷◌, sym, ap, subst}
 use Rattle.ada_events.specs.Waits.{earlier}
 use Rattle.ada_noting.specs.Bounds.{IsDueBound}
 use Rattle.ada_noting.proofs.Bounds.{bound_noted}
-use Rattle.ada_noting.proofs.next_due.next_due.Goals as goal
+use Rattle.ada_noting.proofs.next_due.next_after_event.Goals as goal
 
 pub returns-in_default : goal.returns-in_default
 returns-in_default c =

@@ -1,7 +1,7 @@
 use Rattle.std.proofs.Common.{◌+◌, sym, subst}
 use Rattle.ada_noting.specs.Bounds.{IsBoundOfFirst}
 use Rattle.ada_noting.proofs.Bounds.{first_more}
-use Rattle.ada_noting.proofs.next_due.next_after.Goals as goal
+use Rattle.ada_noting.proofs.next_due.least_after.Goals as goal
 
 pub loop-number-preserved : goal.loop-number-preserved
 loop-number-preserved c =
