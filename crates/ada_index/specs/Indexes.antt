@@ -10,7 +10,8 @@ use Rattle.ada_touching.specs.Keeping.{IsAgendaOf}
 use Rattle.ada_index.specs.declared.index.Index.{Index}
 
 -- the journal is lawful, and all that is kept of it is right: records, tables with a queue for each entry, positions of
--- creations, moment, an agenda that misses no step, and the next moment for which a task is suspended
+-- creations, moment, an agenda that misses no step, and a bound of the moments for which tasks are
+-- suspended
 pub record IsIndexOf (index : Index) (journal : List Event) : Type 0 where
   pub kept : IsKept journal index.records.items index.tables index.made.items index.moment
   pub slots : HaveAllQueues index.tables journal

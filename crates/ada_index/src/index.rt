@@ -43,13 +43,14 @@ impl Index {
         made.push_reserved(0);
         let tables = Tables::new(alloc)?;
         let agenda = Agenda::new(alloc, ROWS)?;
+        let next_due = NextDue::new();
         Ok(Index {
             records,
             tables,
             made,
             moment: 0,
             agenda,
-            next_due: NextDue::new(),
+            next_due,
         })
     }
 

@@ -1,7 +1,7 @@
 -- The next moment for which a task is suspended.
-use Rattle.std.proofs.Common.{◌≡◌, ℕ, ◌+◌, ℤ, ◌<◌, ◌≤◌, ◌≤ℤ◌, Bool, true, false, ◌⊎◌, Option, Some, None, List, [], ◌∷◌, length, suc, refl, sym, ap, ◌∙◌, subst, arith, inl, inr}
+use Rattle.std.proofs.Common.{◌≡◌, ℕ, ◌+◌, ℤ, ◌≤◌, ◌≤ℤ◌, Bool, true, false, ◌⊎◌, Option, Some, None, List, [], ◌∷◌, refl, sym, ap, ◌∙◌, subst, arith, inl, inr}
 use Rattle.std.specs.Prelude.{int_le, int_lt, if◌then◌else◌}
-use Rattle.std.proofs.lemmas.Bool.{true≢false, cases_lt, cases_Bool, false_from_ne_true}
+use Rattle.std.proofs.lemmas.Bool.{true≢false, cases_lt}
 use Rattle.std.proofs.lemmas.Int.{ints}
 use Rattle.std.proofs.lemmas.Option.{none-some, same_Some}
 use Rattle.ada_events.specs.declared.event.Event.{Event}
@@ -12,12 +12,12 @@ use Rattle.ada_events.specs.Tasks.{task_count, moment}
 use Rattle.ada_events.specs.Waits.{is_due, earlier}
 use Rattle.ada_events.specs.Lawful.{IsLawful}
 use Rattle.ada_laws.proofs.LastingLaws.{moments_never_go_back}
-use Rattle.ada_laws.proofs.Searching.{event_at-cases, event_at-newest, event_at-older}
+use Rattle.ada_laws.proofs.Searching.{event_at-newest, event_at-older}
 use Rattle.ada_laws.proofs.Suspending.{suspended_cases, suspended_exists}
 use Rattle.ada_forcing.specs.declared.row.Row.{Row}
 use Rattle.ada_records.specs.Records.{IsHeldAt}
-use Rattle.ada_touching.specs.Keeping.{has_key, IsAgendaOf}
-use Rattle.ada_touching.specs.Kinds.{due_in, ComesDue, OfTick, Adds}
+use Rattle.ada_touching.specs.Keeping.{IsAgendaOf}
+use Rattle.ada_touching.specs.Kinds.{due_in, OfTick, Adds}
 use Rattle.ada_touching.specs.Kinds.OfTick.{comes_due}
 use Rattle.ada_touching.proofs.Noting.{grown, grows_same, held_there}
 use Rattle.ada_noting.specs.Bounds.{IsSuspendedUntil, IsDueBound, IsBoundOfFirst, IsDueAfter}

@@ -1,4 +1,4 @@
-use Rattle.std.proofs.Common.{◌∙◌, sym, ap, subst, w64}
+use Rattle.std.proofs.Common.{◌∙◌, sym, ap, w64}
 use Rattle.std.specs.Option.{option_copied}
 use Rattle.std.proofs.lemmas.Int.{to_z-of_z}
 use Rattle.ada_events.specs.Waits.{is_due}
