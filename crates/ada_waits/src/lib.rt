@@ -2,8 +2,8 @@
 //! and the moments and positions that the event of a request says.
 #![tactic(auto)]
 
-pub mod asking;
+pub mod asks;
 pub mod waits;
 
-pub use asking::{asked_tail, call_due, due_after, member_position};
+pub use asks::{asked_tail, call_due, due_after, member_position};
 pub use waits::{ChoiceNumbers, DelayNumbers, is_due, picked, push_if, way_of};

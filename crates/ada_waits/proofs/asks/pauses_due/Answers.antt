@@ -1,7 +1,7 @@
 use Rattle.std.proofs.Common.{w64}
 use Rattle.std.proofs.lemmas.Int.{to_z-of_z}
 use Rattle.ada_waits.proofs.Dues.{all_dues}
-use Rattle.ada_waits.proofs.asking.pauses_due.Goals as goal
+use Rattle.ada_waits.proofs.asks.pauses_due.Goals as goal
 
 pub returns : goal.returns
 returns c =

@@ -4,7 +4,7 @@ use Rattle.std.specs.List.{list_any}
 use Rattle.ada_events.specs.declared.names.Pause.{Pause}
 use Rattle.ada_events.specs.Asks.{due_after, pause_due}
 use Rattle.ada_events.specs.declared.limits.TheConstants.{LAST_MOMENT}
-use Rattle.ada_waits.proofs.asking.pauses_due.Given as goal
+use Rattle.ada_waits.proofs.asks.pauses_due.Given as goal
 
 abbrev pub invariant-loop-pause : goal.invariant-loop-pause
 invariant-loop-pause l =

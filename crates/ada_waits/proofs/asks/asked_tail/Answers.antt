@@ -1,7 +1,7 @@
 use Rattle.std.proofs.Common.{w64, ◌∙◌}
 use Rattle.std.proofs.lemmas.Int.{to_z-of_z}
 use Rattle.ada_waits.proofs.Dues.{delays_due}
-use Rattle.ada_waits.proofs.asking.asked_tail.Goals as goal
+use Rattle.ada_waits.proofs.asks.asked_tail.Goals as goal
 
 pub returns-in_ok-new-in-Delays-clause-ok : goal.returns-in_ok-new-in-Delays-clause-ok
 returns-in_ok-new-in-Delays-clause-ok c =
