@@ -7,6 +7,7 @@ ghost use Rattle.ada_index.specs.Indexes.{IsIndexOf};
 use crate::stepping::next_step;
 use ada_agenda::Agenda;
 use ada_events::{Event, Journal, Refusal};
+use ada_noting::NextDue;
 use ada_records::Record;
 use ada_rows::State;
 use ada_tables::Tables;
@@ -16,7 +17,8 @@ use std::alloc::Global;
 const ROWS: usize = 11;
 
 /// What is kept of a journal beside the journal: a record of each task, the tables, the positions of the creations
-/// of all tasks, the moment in milliseconds, and the agenda of where a step may be forced.
+/// of all tasks, the moment in milliseconds, the agenda of where a step may be forced, and the next moment for which a
+/// task is suspended.
 #[derive(Drop)]
 pub struct Index {
     pub(crate) records: Vec<Record>,
@@ -24,6 +26,7 @@ pub struct Index {
     pub(crate) made: Vec<u32>,
     pub(crate) moment: i64,
     pub(crate) agenda: Agenda,
+    pub(crate) next_due: NextDue,
 }
 
 impl Index {
@@ -40,12 +43,14 @@ impl Index {
         made.push_reserved(0);
         let tables = Tables::new(alloc)?;
         let agenda = Agenda::new(alloc, ROWS)?;
+        let next_due = NextDue::new();
         Ok(Index {
             records,
             tables,
             made,
             moment: 0,
             agenda,
+            next_due,
         })
     }
 

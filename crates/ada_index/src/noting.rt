@@ -46,7 +46,7 @@ impl Index {
             self.moment,
         );
         let facts = Facts::of(&state, event);
-        note_keys(&mut self.agenda, &state, event);
+        note_keys(&mut self.agenda, &mut self.next_due, &state, event);
         note_records(
             &mut self.records,
             journal,

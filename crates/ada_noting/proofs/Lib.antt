@@ -1,3 +1,4 @@
+pub mod Bounds
 pub mod Callees
 pub mod Callers
 pub mod Dues

@@ -7,7 +7,9 @@ pub mod endings;
 pub mod kinds;
 mod masters;
 pub mod moments;
+mod next_due;
 pub mod noting;
 mod passes;
 
+pub use next_due::NextDue;
 pub use noting::note;

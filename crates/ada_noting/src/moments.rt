@@ -1,4 +1,4 @@
-//! What a tick adds to an agenda: what is due by it.
+//! What a tick adds to an agenda: what is due by it, where it reaches the next due moment.
 
 ghost use Rattle.std.specs.Prelude.{◌≡◌, ◌<◌, ◌∷◌, Some, length};
 ghost use Rattle.ada_events.specs.Lawful.{IsLawful};
@@ -7,9 +7,11 @@ ghost use Rattle.ada_events.specs.Tasks.{task_count};
 ghost use Rattle.ada_events.specs.declared.event.Event.TheVariants.{Ticked as TickedEvent};
 ghost use Rattle.ada_touching.specs.Keeping.{IsAgendaOf};
 ghost use Rattle.ada_touching.specs.Kinds as kinds;
+ghost use Rattle.ada_noting.specs.Bounds.{IsDueBound};
 ghost use Rattle.ada_noting.specs.Keys as keys;
 ghost use Rattle.ada_noting.specs.Keys.{Puts, OfFirst, AsDue, AsDueAt};
 
+use crate::next_due::NextDue;
 use crate::passes::put_at_if;
 use ada_agenda::Agenda;
 use ada_events::{Event, EventTail, TaskNo};
@@ -28,7 +30,7 @@ fn tail_due(tail: &EventTail) -> Option<i64>
 }
 
 // The moment that is waited for at an event.
-fn due_in(event: &Event) -> Option<i64>
+pub(crate) fn due_in(event: &Event) -> Option<i64>
     ensures { result ≡ kinds.due_in event.now }
 {
     match event {
@@ -104,12 +106,15 @@ fn put_all_due(agenda: &mut Agenda, state: &State, tick: &Event)
 }
 
 /// Notes that the moment moves, in milliseconds (9.6): that timed calls are cancelled, that waits pass and that delays end
-/// may be forced.
-pub fn note_tick(agenda: &mut Agenda, state: &State, event: &Event, _now: i64)
+/// may be forced. A tick that doesn't reach the next due moment adds nothing.
+pub fn note_tick(agenda: &mut Agenda, next: NextDue, state: &State, event: &Event, now: i64)
     requires lawful { IsLawful (event.now ∷ state.now) }
     requires stands { IsAgendaOf agenda.old state.now }
-    requires ticks { event.now ≡ TickedEvent _now }
+    requires bound { IsDueBound state.now next }
+    requires ticks { event.now ≡ TickedEvent now }
     ensures { IsAgendaOf agenda.new (event.now ∷ state.now) }
 {
-    put_all_due(agenda, state, event);
+    if next.is_reached_by(now) {
+        put_all_due(agenda, state, event);
+    }
 }

@@ -2,6 +2,7 @@
 
 ghost use Rattle.std.specs.Prelude.{◌∷◌};
 ghost use Rattle.ada_events.specs.Lawful.{IsLawful};
+ghost use Rattle.ada_noting.specs.Bounds.{IsDueBound};
 ghost use Rattle.ada_touching.specs.Keeping.{IsAgendaOf};
 
 use crate::calls::{note_call, note_cancellation, note_end, note_failure, note_wait};
@@ -11,17 +12,18 @@ use crate::endings::{
 };
 use crate::kinds::{note_abort, note_close, note_nothing};
 use crate::moments::note_tick;
+use crate::next_due::{NextDue, next_after_event};
 use ada_agenda::Agenda;
 use ada_events::Event;
 use ada_rows::State;
 use ada_touching::keeping::{note_creation, note_delay, note_start};
 
-/// Keeps an agenda of a journal up with the event that is to be appended. Of the journal only kept positions are read, and
-/// no memory is taken.
+// Keeps an agenda of a journal up with the event that is to be appended.
 #[tactic(auto, unfolding(ada_events::specs::Says::creation_in, ada_events::specs::Says::start_in, ada_events::specs::Says::delay_in))]
-pub fn note(agenda: &mut Agenda, state: &State, event: &Event)
+fn note_keys(agenda: &mut Agenda, next: NextDue, state: &State, event: &Event)
     requires lawful { IsLawful (event.now ∷ state.now) }
     requires stands { IsAgendaOf agenda.old state.now }
+    requires bound { IsDueBound state.now next }
     ensures { IsAgendaOf agenda.new (event.now ∷ state.now) }
 {
     match event {
@@ -46,7 +48,7 @@ pub fn note(agenda: &mut Agenda, state: &State, event: &Event)
         Event::Closed { by, block } => note_close(agenda, state, event, *by, *block),
         Event::Completed { by } => note_completion(agenda, state, event, *by),
         Event::Aborted { by, tasks } => note_abort(agenda, state, event, *by, tasks.as_slice()),
-        Event::Ticked { now } => note_tick(agenda, state, event, *now),
+        Event::Ticked { now } => note_tick(agenda, next, state, event, *now),
         Event::Halted { task } => note_halt(agenda, state, event, *task),
         Event::Failed { call } => note_failure(agenda, state, event, *call),
         Event::Cancelled { call } => note_cancellation(agenda, state, event, *call),
@@ -59,4 +61,17 @@ pub fn note(agenda: &mut Agenda, state: &State, event: &Event)
         Event::Activated { .. } => note_nothing(agenda, state, event),
         Event::Left { .. } => note_nothing(agenda, state, event),
     }
+}
+
+/// Keeps an agenda of a journal and the bound of what is due up with the event that is to be appended. Of the journal only
+/// kept positions are read, and no memory is taken.
+pub fn note(agenda: &mut Agenda, next: &mut NextDue, state: &State, event: &Event)
+    requires lawful { IsLawful (event.now ∷ state.now) }
+    requires stands { IsAgendaOf agenda.old state.now }
+    requires bound { IsDueBound state.now next.old }
+    ensures stands { IsAgendaOf agenda.new (event.now ∷ state.now) }
+    ensures bound { IsDueBound (event.now ∷ state.now) next.new }
+{
+    note_keys(agenda, *next, state, event);
+    *next = next_after_event(*next, state, event);
 }

@@ -70,7 +70,7 @@ pub fn is_due_exactly(moment: Option<i64>, due: Option<i64>) -> bool
 
 /// The earlier of two moments, where there are two.
 #[tactic(auto, unfolding(ada_events::specs::Waits::earlier))]
-fn earlier(a: Option<i64>, b: Option<i64>) -> Option<i64>
+pub fn earlier(a: Option<i64>, b: Option<i64>) -> Option<i64>
     ensures { result ≡ waits.earlier a b }
 {
     match (a, b) {

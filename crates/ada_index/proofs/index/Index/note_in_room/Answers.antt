@@ -1,6 +1,7 @@
 use Rattle.std.proofs.Common.{arith, ◌∙◌, ◌∷◌, subst, w64}
 use Rattle.std.proofs.lemmas.Int.{to_z-of_z}
 use Rattle.ada_laws.proofs.LimitLaws.{events_are_few}
+use Rattle.ada_noting.specs.Bounds.{IsDueBound}
 use Rattle.ada_touching.specs.Keeping.{IsAgendaOf}
 use Rattle.ada_index.proofs.Creations.{made_same}
 use Rattle.ada_index.proofs.index.Index.note_in_room.Goals as goal
@@ -18,5 +19,6 @@ returns c = record {
     timed = to_z-of_z w64 c.moment_after-self.result (record { sfits = c.moment_after-self.type_inv }) ∙ c.moment_after-self.ensures;
   };
   slots = c.follow.ensures.slots;
-  agenda = subst (λ journal. IsAgendaOf c.note.new.agenda (c.args.event.now ∷ journal)) c.new-state.ensures c.note.ensures;
+  agenda = subst (λ journal. IsAgendaOf c.note.new.agenda (c.args.event.now ∷ journal)) c.new-state.ensures c.note.ensures.stands;
+  due = subst (λ journal. IsDueBound (c.args.event.now ∷ journal) c.note.new.next) c.new-state.ensures c.note.ensures.bound;
 }

@@ -1,6 +1,6 @@
 use Rattle.std.proofs.Common.{ap, refl}
 use Rattle.ada_events.specs.Says.{call_in}
-use Rattle.ada_noting.proofs.noting.note.Goals as goal
+use Rattle.ada_noting.proofs.noting.note_keys.Goals as goal
 
 pub note_call-requires-clause-calls : goal.note_call-requires-clause-calls
 unfolding call_in
