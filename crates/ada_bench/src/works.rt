@@ -43,9 +43,10 @@ impl Work {
     /// How many rendezvous, earlier events, tasks or ticks there are, where nothing else is asked for.
     pub fn usual_size(self) -> usize {
         match self {
-            Work::PingPong | Work::Tick => 100,
-            Work::Late => 1000,
-            Work::Abort | Work::Quit | Work::Call => 4,
+            Work::PingPong | Work::Tick => 1000,
+            Work::Late => 60_000,
+            Work::Abort | Work::Call => 255,
+            Work::Quit => 60,
         }
     }
 
