@@ -1,9 +1,9 @@
 -- Sets of numbers in rows.
-use Rattle.std.proofs.Common.{◌≡◌, ℕ, zero, suc, ◌-◌, ◌<◌, ◌≤◌, false, List, [], ◌∷◌, ◌++◌, length, get_or, refl, ap, ◌∙◌, arith, inl, inr}
-use Rattle.std.proofs.lemmas.Bool.{cases_lt}
+use Rattle.std.proofs.Common.{◌≡◌, ℕ, zero, suc, ◌-◌, ◌<◌, ◌≤◌, true, false, List, [], ◌∷◌, ◌++◌, length, get_or, refl, sym, ap, ◌∙◌, arith, inl, inr}
+use Rattle.std.proofs.lemmas.Bool.{cases_lt, true≢false, false_from_ne_true}
 use Rattle.std.proofs.lemmas.List.{get_or_past, get_or_append_left, get_or-append_right}
 use Rattle.ada_agenda.specs.Bits.{has}
-use Rattle.ada_agenda.specs.Rows.{keeps}
+use Rattle.ada_agenda.specs.Rows.{keeps, AreFilled}
 use Rattle.ada_agenda.proofs.ThreeLevels.{none_held}
 
 -- there is nothing beyond the last row
@@ -30,3 +30,27 @@ none_with rows words none empty r k = elim (cases_lt r (length rows)) [
       let last : get_or (rows ++ words ∷ []) r [] ≡ get_or (words ∷ []) (r - length rows) [] = get_or-append_right rows (words ∷ []) (length rows) r [] refl beyond in
       ap (λ ws. has ws k) last ∙ one_row words empty (r - length rows) k
 ]
+
+abbrev no_bit : List ℕ
+no_bit = 0 ∷ []
+
+-- a word that is 0 alone holds no number
+no_bits : (words : List ℕ) (r : ℕ) → length words ≡ 1 → get_or words 0 0 ≡ 0 → has words r ≡ false
+no_bits words r one zeroth = none_held words r (λ w. elim (cases_lt w 1) [
+  | inl first ↦ let is : w ≡ 0 = omega (arith, first) in ap (λ i. get_or words i 0) is ∙ zeroth
+  | inr past ↦ get_or_past words w 0 (omega (arith, past, one))
+])
+
+-- no row has a number yet
+pub none_filled : (rows : List (List ℕ)) (many : ℕ) → length rows ≡ many → many ≤ 64 → ((r k : ℕ) → keeps rows r k ≡ false) → AreFilled rows no_bit
+none_filled rows many count few none = record {
+  one = refl;
+  few = omega (arith, count, few);
+  told = λ r k kept. absurd (true≢false (sym kept ∙ none r k));
+  known = λ r bit. absurd (true≢false (sym bit ∙ no_bits no_bit r refl refl));
+}
+
+-- where no row has a bit, none has a number
+pub none_kept : (rows : List (List ℕ)) (filled : List ℕ) → AreFilled rows filled → get_or filled 0 0 ≡ 0 → (r k : ℕ) → keeps rows r k ≡ false
+none_kept rows filled tied none r k =
+    false_from_ne_true (keeps rows r k) (λ kept. true≢false (sym (tied.told r k kept) ∙ no_bits filled r tied.one none))

@@ -13,7 +13,8 @@ use ada_tables::{Layer, Layers};
 // The block that a member is, else this master.
 #[tactic(auto, unfolding(ada_events::specs::Nests::innermost_block))]
 fn with_layer(outer: Master, layer: Layer) -> Master
-    ensures { (rest : List MemberValue) → nests.innermost_block result rest ≡ nests.innermost_block outer (member_of layer ∷ rest) }
+    ensures { (rest : List MemberValue) →
+        nests.innermost_block result rest ≡ nests.innermost_block outer (member_of layer ∷ rest) }
 {
     match layer {
         Layer::Block { opening, .. } => Master::Block(opening),

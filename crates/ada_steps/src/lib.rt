@@ -1,5 +1,5 @@
 //! How a kernel answers a request: it refuses it, or appends its event and the steps that the journal then
-//! forces. What answers for the journal, by a search or by tables, is a type parameter.
+//! forces. What answers for the journal, by a search or by an index of it, is a type parameter.
 #![tactic(auto)]
 
 pub mod answerer;

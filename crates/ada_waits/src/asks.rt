@@ -1,5 +1,5 @@
-//! Parts of the event that a request becomes: the moments at which its durations are over (9.6, 9.7.1, 9.7.3), and
-//! the position by which the end of a rendezvous and a close name the member that they leave.
+//! Parts of the event that a request becomes: the moments at which its durations are over (9.6, 9.7.1,
+//! 9.7.3), and the position by which the end of a rendezvous and a close name the member that they leave.
 ghost use Rattle.std.specs.Prelude.{◌≡◌, ◌≤◌, ◌&&◌, false, length, map, IfOk, IfErr};
 ghost use Rattle.std.specs.List.{list_any};
 ghost use Rattle.ada_events.specs.Asks as asks;
@@ -11,8 +11,8 @@ ghost use Rattle.ada_waits.specs.Late.{is_late_tail, is_late_call};
 use ada_events::{DueList, Dues, EventTail, Member, Patience, Pause, Refusal, Tail};
 use std::alloc::Global;
 
-/// The moment at which a duration in ticks from `now` on is over, where it isn't behind the last moment
-/// (9.6). A negative duration counts as 0.
+/// The moment at which a duration from `now` on is over, both in milliseconds, where it isn't behind
+/// the last moment (9.6). A negative duration counts as 0.
 #[tactic(auto, unfolding(ada_events::specs::Asks::due_after))]
 pub fn due_after(now: i64, duration: i64) -> i64
     ensures { limits.ends_too_late now duration ≡ false → result ≡ asks.due_after now duration }
@@ -22,7 +22,8 @@ pub fn due_after(now: i64, duration: i64) -> i64
 
 // The moment at which a delay alternative is due (9.7.1). A closed one has none.
 fn pause_due(now: i64, pause: Pause) -> Option<i64>
-    ensures { (pause.guard && limits.ends_too_late now pause.duration) ≡ false → result ≡ asks.pause_due now pause }
+    ensures { (pause.guard && limits.ends_too_late now pause.duration) ≡ false
+        → result ≡ asks.pause_due now pause }
 {
     if pause.guard {
         Some(due_after(now, pause.duration))
@@ -34,7 +35,8 @@ fn pause_due(now: i64, pause: Pause) -> Option<i64>
 // The moments at which delay alternatives are due.
 fn pauses_due(now: i64, pauses: &[Pause]) -> Dues
     requires { length pauses.now ≤ MOST_DELAYS }
-    ensures { list_any (λ (d : PauseValue). d.guard && limits.ends_too_late now d.duration) pauses.now ≡ false → result ≡ map (asks.pause_due now) pauses.now }
+    ensures { list_any (λ (d : PauseValue). d.guard && limits.ends_too_late now d.duration)
+        pauses.now ≡ false → result ≡ map (asks.pause_due now) pauses.now }
 {
     let mut dues = Dues::new();
     for pause in pauses {
@@ -50,7 +52,8 @@ fn pauses_due(now: i64, pauses: &[Pause]) -> Dues
 ///
 /// [`Refusal::OutOfMemory`].
 pub fn asked_tail(alloc: Global, now: i64, tail: &Tail) -> Result<EventTail, Refusal>
-    ensures ok { is_late_tail now tail.now ≡ false → IfOk result (λ made. made ≡ asks.asked_tail now tail.now) }
+    ensures ok { is_late_tail now tail.now ≡ false
+        → IfOk result (λ made. made ≡ asks.asked_tail now tail.now) }
     ensures err { IfErr result (λ cause. cause ≡ Refusal.OutOfMemory) }
 {
     match tail {

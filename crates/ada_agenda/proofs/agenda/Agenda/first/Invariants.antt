@@ -1,6 +1,10 @@
-use Rattle.std.proofs.Common.{◌≡◌, ◌<◌, ℕ, false}
-use Rattle.ada_agenda.specs.Rows.{keeps}
+use Rattle.std.proofs.Common.{◌≡◌}
+use Rattle.ada_agenda.specs.Bits.{word_sum}
+use Rattle.ada_agenda.specs.Rows.{AreFilled}
 use Rattle.ada_agenda.proofs.agenda.Agenda.first.Given as goal
 
-abbrev pub invariant-loop-row : goal.invariant-loop-row
-invariant-loop-row l = (r k : ℕ) → r < l.row → keeps l.self r k ≡ false
+abbrev pub invariant-loop-self : goal.invariant-loop-self
+invariant-loop-self l = (l.self-inside.rows ≡ l.initial.self-inside.rows) × AreFilled l.self-inside.rows.items l.self-inside.filled
+
+abbrev pub decreases-loop-self : goal.decreases-loop-self
+decreases-loop-self l = word_sum l.self-inside.filled
