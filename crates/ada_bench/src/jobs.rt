@@ -76,8 +76,8 @@ impl Job<HostRuntime> for Floor<'_> {
 
 /// Requests that can be made again and again.
 pub trait Plan {
-    /// Makes the requests of a kernel that come before those that are measured.
-    fn prepare(&self, alloc: Global, kernel: &mut Kernel) -> Result<(), AllocError>;
+    /// The requests that come before those that are measured.
+    fn before(&self, alloc: Global) -> Result<Vec<Request>, AllocError>;
 
     /// The requests that are measured.
     fn measured(&self, alloc: Global) -> Result<Vec<Request>, AllocError>;
@@ -92,7 +92,7 @@ pub struct Stepping<'a, P> {
 impl<P: Plan> Job<HostRuntime> for Stepping<'_, P> {
     fn turn(&mut self, rt: &HostRuntime) -> anyhow::Result<Duration> {
         let mut kernel = Kernel::new(rt.alloc())?;
-        self.plan.prepare(rt.alloc(), &mut kernel)?;
+        step_all(&mut kernel, self.plan.before(rt.alloc())?);
         let requests = self.plan.measured(rt.alloc())?;
         let start = Instant::now(rt)?;
         step_all(&mut kernel, requests);

@@ -37,8 +37,8 @@ impl Scripted {
 }
 
 impl Plan for Scripted {
-    fn prepare(&self, _alloc: Global, _kernel: &mut Kernel) -> Result<(), AllocError> {
-        Ok(())
+    fn before(&self, alloc: Global) -> Result<Vec<Request>, AllocError> {
+        Ok(Vec::new(alloc))
     }
 
     fn measured(&self, alloc: Global) -> Result<Vec<Request>, AllocError> {

@@ -1,8 +1,7 @@
 //! The kernel beneath Ada tasks: it takes requests, appends what they lead to, and refuses the rest.
 //!
 //! Whenever it is at rest, its journal is lawful and settled under the rules of sections 9.3 to 9.7,
-//! 9.9, 9.10 and 11.5 of the Ada 83 manual, ANSI/MIL-STD-1815A. It answers by an index of its journal, which no
-//! request and no query searches.
+//! 9.9, 9.10 and 11.5 of the Ada 83 manual, ANSI/MIL-STD-1815A.
 #![tactic(auto)]
 
 pub mod kernel;

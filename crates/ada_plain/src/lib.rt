@@ -1,8 +1,7 @@
 //! The plain program: each definition of the kernel's rules computed by a search over the journal.
 //!
 //! It is written to be right and to be read. Each function's contract says that its result is the
-//! definition's, of the events in the order in which they came. Tests hold the kernel against it; no crate of the
-//! program stands on it.
+//! definition's, of the events in the order in which they came.
 #![tactic(auto)]
 
 pub mod asks;
