@@ -65,9 +65,9 @@ fn beginnings(alloc: Global, script: &Script) -> Result<(Names, Kernel, Answers)
     ensures err { IfErr result (λ cause. cause ≡ Refusal.OutOfMemory) }
 {
     let names = script.names().map_err(|_| Refusal::OutOfMemory)?;
-    let kernel = Kernel::new(alloc)?;
     let room = Answers::new(alloc, script.lines().len());
     let answers = room.map_err(|_| Refusal::OutOfMemory)?;
+    let kernel = Kernel::new(alloc)?;
     Ok((names, kernel, answers))
 }
 

@@ -1,5 +1,5 @@
-//! The kernel, on the plain program's searches over the journal.
-ghost use Rattle.std.specs.Prelude.{◌≡◌, ◌<◌, ◌^◌, [], length, reverse, IfOk, IfErr};
+//! The kernel, on what is kept of its journal: no request and no query searches the journal.
+ghost use Rattle.std.specs.Prelude.{◌≡◌, [], IfOk, IfErr};
 ghost use Rattle.std.specs.Bool.{then_some};
 ghost use Rattle.ada_events.specs.Lawful.{IsLawful, IsSettled};
 ghost use Rattle.ada_events.specs.Steps.{IsAccepted, IsRefused};
@@ -11,27 +11,35 @@ ghost use Rattle.ada_events.specs.Slots.{slot_of};
 ghost use Rattle.ada_events.specs.Boards.{board_of};
 ghost use Rattle.ada_laws.specs.Laws.{KeepsTheLaws};
 
-use ada_events::{Board, Entry, Event, Journal, Outcome, Refusal, Request, TaskNo};
-use ada_plain::PlainKernel;
-use ada_plain::attributes::{self, known_callable, known_outcome, known_running, known_terminated};
-use ada_plain::boards::{board, tasks_in};
-use ada_plain::slots::slot;
+use ada_events::{Board, Entry, Journal, Outcome, Refusal, Request, TaskNo};
+use ada_index::Index;
+use ada_queries::boards::board;
+use ada_queries::counts::count;
+use ada_queries::queries;
+use ada_queries::slots::slot;
+use ada_rows::State;
+use ada_steps::step;
 use std::alloc::Global;
 use std::marker::Model;
 
 /// A kernel. Contracts see it as its journal, the newest event first.
 #[derive(Drop)]
 pub struct Kernel {
-    plain: PlainKernel,
+    journal: Journal,
+    index: Index,
 }
 
 impl Model for Kernel {
     ghost use Rattle.std.specs.Prelude.{List};
     ghost use Rattle.ada_events.specs.declared.event.Event.{Event};
+    ghost use Rattle.ada_events.specs.Lawful.{IsLawful, IsSettled};
+    ghost use Rattle.ada_index.specs.Indexes.{IsIndexOf};
 
     ghost Value = { List Event };
 
-    ghost view = { λ k. k.plain };
+    ghost view = { λ k. k.journal.events };
+
+    ghost invariant = { λ k. IsLawful k.journal.events × IsSettled k.journal.events × IsIndexOf k.index k.journal.events };
 }
 
 impl Kernel {
@@ -41,8 +49,9 @@ impl Kernel {
         ensures ok { IfOk result (λ kernel. kernel ≡ []) }
         ensures err { IfErr result (λ cause. cause ≡ Refusal.OutOfMemory) }
     {
-        let plain = PlainKernel::new(alloc)?;
-        Ok(Kernel { plain })
+        let index = Index::new(alloc)?;
+        let journal = Journal::new(alloc);
+        Ok(Kernel { journal, index })
     }
 
     /// Answers a request. Accepted, its event is appended and then exactly the steps that it forces, in
@@ -55,7 +64,7 @@ impl Kernel {
         ensures lawful { IsLawful self.new }
         ensures settled { IsSettled self.new }
     {
-        self.plain.step(request)
+        step(&mut self.index, &mut self.journal, &request)
     }
 
     /// The journal: every event so far, lawful and settled. It keeps the six laws.
@@ -66,44 +75,42 @@ impl Kernel {
         ensures settled { IsSettled self.now }
         ensures laws { KeepsTheLaws self.now }
     {
-        self.plain.journal()
+        &self.journal
     }
 
-    // The events in the order of their arrival.
-    fn events(&self) -> &[Event]
-        ensures events { reverse result.now ≡ self.now }
-        ensures short { length result.now < 2 ^ 32 }
-        ensures lawful { IsLawful self.now }
+    // The journal with what is kept of it.
+    fn state(&self) -> State<'_>
+        ensures { result ≡ self.now }
     {
-        self.plain.journal().as_slice()
+        self.index.state(&self.journal)
     }
 
     /// How many tasks there are, the main program counted: 1 to 256.
     pub fn tasks(&self) -> u16
         ensures { result ≡ task_count self.now }
     {
-        tasks_in(self.events())
+        queries::tasks(&self.state())
     }
 
     /// The outcome of a task; none where there is no such task.
     pub fn outcome(&self, task: TaskNo) -> Option<Outcome>
         ensures { result ≡ then_some (has_task self.now task.0) (outcome_of self.now task.0) }
     {
-        known_outcome(self.events(), task)
+        queries::outcome(&self.state(), task)
     }
 
     /// The attribute CALLABLE of a task (9.9); none where there is no such task.
     pub fn callable(&self, task: TaskNo) -> Option<bool>
         ensures { result ≡ then_some (has_task self.now task.0) (is_callable self.now task.0) }
     {
-        known_callable(self.events(), task)
+        queries::callable(&self.state(), task)
     }
 
     /// The attribute TERMINATED of a task (9.9); none where there is no such task.
     pub fn terminated(&self, task: TaskNo) -> Option<bool>
         ensures { result ≡ then_some (has_task self.now task.0) (is_terminated self.now task.0) }
     {
-        known_terminated(self.events(), task)
+        queries::terminated(&self.state(), task)
     }
 
     /// Whether a task is running: started, not ended, and not suspended. None where there is no such
@@ -111,7 +118,7 @@ impl Kernel {
     pub fn running(&self, task: TaskNo) -> Option<bool>
         ensures { result ≡ then_some (has_task self.now task.0) (is_running self.now task.0) }
     {
-        known_running(self.events(), task)
+        queries::running(&self.state(), task)
     }
 
     /// The attribute COUNT of an entry of the asking task's own (9.9), at most 256. Refused for the first
@@ -119,7 +126,7 @@ impl Kernel {
     pub fn count(&self, by: TaskNo, entry: Entry) -> Result<u16, Refusal>
         ensures { result ≡ own_count self.now by.0 entry }
     {
-        attributes::own_count(self.events(), by, entry)
+        count(&self.state(), by, entry)
     }
 
     /// The slot of an entry, below 1,024: all entries of all tasks are numbered from 0 in order of task,
@@ -127,20 +134,20 @@ impl Kernel {
     pub fn slot(&self, task: TaskNo, entry: Entry) -> Option<u16>
         ensures { result ≡ slot_of self.now task.0 entry }
     {
-        slot(self.events(), task, entry)
+        slot(&self.state(), task, entry)
     }
 
     /// The attributes of all tasks and entries.
     pub fn board(&self) -> Board
         ensures { result ≡ board_of self.now }
     {
-        board(self.events())
+        board(&self.state())
     }
 
     /// Whether the main program is terminated.
     pub fn finished(&self) -> bool
         ensures { result ≡ is_finished self.now }
     {
-        attributes::is_finished(self.events())
+        queries::finished(&self.state())
     }
 }

@@ -3,7 +3,7 @@ use Rattle.ada_events.specs.declared.event.Event.{Event}
 use Rattle.ada_events.specs.Lawful.{IsLawful, IsSettled}
 use Rattle.ada_laws.proofs.GroupLaws.{empty_is_settled}
 use Rattle.ada_index.specs.Indexes.{IsIndexOf}
-use Rattle.ada_indexed.proofs.indexed.IndexedKernel.new.Goals as goal
+use Rattle.ada_kernel.proofs.kernel.Kernel.new.Goals as goal
 
 pub invariant_of-result : goal.invariant_of-result
 invariant_of-result c =
