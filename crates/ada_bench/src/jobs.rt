@@ -76,8 +76,8 @@ impl Job<HostRuntime> for Floor<'_> {
 
 /// Requests that can be made again and again.
 pub trait Plan {
-    /// The requests that come before those that are measured.
-    fn before(&self, alloc: Global) -> Result<Vec<Request>, AllocError>;
+    /// Makes the requests of a kernel that come before those that are measured.
+    fn prepare(&self, alloc: Global, kernel: &mut Kernel) -> Result<(), AllocError>;
 
     /// The requests that are measured.
     fn measured(&self, alloc: Global) -> Result<Vec<Request>, AllocError>;
@@ -92,12 +92,21 @@ pub struct Stepping<'a, P> {
 impl<P: Plan> Job<HostRuntime> for Stepping<'_, P> {
     fn turn(&mut self, rt: &HostRuntime) -> anyhow::Result<Duration> {
         let mut kernel = Kernel::new(rt.alloc())?;
-        step_all(&mut kernel, self.plan.before(rt.alloc())?);
-        let requests = self.plan.measured(rt.alloc())?;
-        let start = Instant::now(rt)?;
-        step_all(&mut kernel, requests);
-        Ok(start.elapsed(rt)?)
+        time_steps(rt, self.plan, &mut kernel)
     }
+}
+
+/// How long a kernel takes for the requests of a plan that are measured, behind the others.
+fn time_steps<P: Plan>(
+    rt: &HostRuntime,
+    plan: &P,
+    kernel: &mut Kernel,
+) -> anyhow::Result<Duration> {
+    plan.prepare(rt.alloc(), kernel)?;
+    let requests = plan.measured(rt.alloc())?;
+    let start = Instant::now(rt)?;
+    step_all(kernel, requests);
+    Ok(start.elapsed(rt)?)
 }
 
 /// Makes requests of a kernel, one after another.

@@ -1,38 +1,49 @@
 //! Measures how long the parts of adatask take, each beside a floor that is measured in the same run: the
 //! same bytes read and cut into words, the same events made and kept, and the same text made and written,
-//! by plain loops.
+//! by plain loops; the same numbers read from a table; and journals made and dropped.
 #![tactic(auto)]
 
 mod floors;
 mod jobs;
 mod kernels;
+mod queries;
 mod scripted;
 mod scripts;
 mod sink;
 mod workloads;
+mod works;
 
-use kernels::Work;
+use queries::Query;
 use scripts::Kind;
 use std::env;
-use workloads::{measure_script, measure_work, try_script, try_work};
+use workloads::{
+    measure_making, measure_query, measure_script, measure_work, try_query, try_script, try_work,
+};
+use works::Work;
 
 /// The lines of the longest script.
 const LINES: usize = 4096;
 
-/// How often a rendezvous is repeated beside other tasks.
-const ROUNDS: usize = 100;
+/// How often a question is asked, and how many kernels are made, where nothing else is asked for.
+const TIMES: u64 = 1000;
 
-/// Without a word, prints the names of what can be measured. With such a name, and for a script perhaps
-/// a number of lines, measures it and prints the table. With `small`, tries all on little input, and
-/// prints how much each came to.
+/// How many idle tasks there are, where there are any.
+const IDLE: u16 = 250;
+
+/// The name of the making of kernels.
+const MAKING: &str = "kernels";
+
+/// Without a word, prints the names of what can be measured. With such a name, and perhaps a number of
+/// lines, rounds, tasks, events or times, measures it and prints the table. With `small`, tries all on
+/// little input, and prints how much each came to.
 fn main(rt: HostRuntime) -> anyhow::Result<()> {
     let words: Vec<String> = env::args(&rt)?.collect(rt.alloc())?;
     match words.get(1) {
         None => print_names(&rt),
         Some(word) if word.as_str() == "small" => try_all(&rt),
         Some(word) => {
-            let lines = words.get(2).and_then(|lines| lines.as_str().parse().ok());
-            measure_named(&rt, word.as_str(), lines.unwrap_or(LINES))
+            let size = words.get(2).and_then(|size| size.as_str().parse().ok());
+            measure_named(&rt, word.as_str(), size)
         }
     }
 }
@@ -44,6 +55,10 @@ fn print_names(rt: &HostRuntime) -> anyhow::Result<()> {
     for work in Work::ALL {
         println!(rt; "{}", work.name())?;
     }
+    for query in Query::ALL {
+        println!(rt; "{}", query.name())?;
+    }
+    println!(rt; "{}", MAKING)?;
     Ok(())
 }
 
@@ -52,22 +67,37 @@ fn try_all(rt: &HostRuntime) -> anyhow::Result<()> {
         try_script(rt, kind, 20)?;
     }
     for work in Work::ALL {
-        try_work(rt, work, 2, 3)?;
+        try_work(rt, work, 3)?;
+    }
+    for query in Query::ALL {
+        try_query(rt, query, 3)?;
     }
     Ok(())
 }
 
-fn measure_named(rt: &HostRuntime, name: &str, lines: usize) -> anyhow::Result<()> {
+/// Measures what has that name, of a size that is given or usual.
+fn measure_named(rt: &HostRuntime, name: &str, size: Option<usize>) -> anyhow::Result<()> {
     for kind in Kind::ALL {
         if kind.name() == name {
-            measure_script(rt, kind, lines)?;
+            measure_script(rt, kind, size.unwrap_or(LINES))?;
         }
     }
     for work in Work::ALL {
         if work.name() == name {
-            measure_work(rt, work, ROUNDS, 0)?;
-            measure_work(rt, work, ROUNDS, 250)?;
+            let size = size.unwrap_or(work.usual_size());
+            measure_work(rt, work, size, 0)?;
+            measure_work(rt, work, size, IDLE)?;
         }
+    }
+    let times = size.map_or(TIMES, |size| size as u64);
+    for query in Query::ALL {
+        if query.name() == name {
+            measure_query(rt, query, times, 0)?;
+            measure_query(rt, query, times, IDLE)?;
+        }
+    }
+    if name == MAKING {
+        measure_making(rt, times)?;
     }
     Ok(())
 }

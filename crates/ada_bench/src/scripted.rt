@@ -37,8 +37,8 @@ impl Scripted {
 }
 
 impl Plan for Scripted {
-    fn before(&self, alloc: Global) -> Result<Vec<Request>, AllocError> {
-        Ok(Vec::new(alloc))
+    fn prepare(&self, _alloc: Global, _kernel: &mut Kernel) -> Result<(), AllocError> {
+        Ok(())
     }
 
     fn measured(&self, alloc: Global) -> Result<Vec<Request>, AllocError> {

@@ -7,6 +7,8 @@ mod crowd;
 #[cfg(test)]
 mod dice;
 #[cfg(test)]
+mod filling;
+#[cfg(test)]
 mod journals;
 #[cfg(test)]
 mod kinds;

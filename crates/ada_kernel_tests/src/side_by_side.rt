@@ -24,10 +24,9 @@ pub struct Both {
 impl Both {
     /// Both kernels with an empty journal.
     pub fn new(alloc: Global) -> Result<Self, Refusal> {
-        Ok(Both {
-            kernel: Kernel::new(alloc)?,
-            plain: PlainKernel::new(alloc)?,
-        })
+        let plain = PlainKernel::new(alloc)?;
+        let kernel = Kernel::new(alloc)?;
+        Ok(Both { kernel, plain })
     }
 
     /// The plain kernel, whose answers are those that are wanted.

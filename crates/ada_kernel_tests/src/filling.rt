@@ -1,0 +1,171 @@
+//! Kernels that are filled to the end of their journal, and the longest chain of rendezvous.
+
+use crate::crowd::make_tasks;
+use ada_events::limits::{MOST_APPENDED, MOST_EVENTS};
+use ada_events::{Event, Outcome, Refusal, Request, TaskNo};
+use ada_kernel::Kernel;
+use ada_requests::{accept, call, tasks};
+use std::process::Abort;
+use std::test::Fail;
+
+/// The last position at which a request is accepted: behind fewer events, the most that one request
+/// appends have room.
+const LAST_ACCEPTED: u32 = (MOST_EVENTS - MOST_APPENDED + 1) as u32;
+
+/// A kernel after so many ticks, of which each was accepted.
+fn ticked<R: Abort + AllocGlobal>(rt: &R, ticks: u32) -> Result<Kernel, Fail> {
+    let mut kernel = Kernel::new(rt.alloc())?;
+    for tick in 1..=ticks {
+        let now = i64::from(tick);
+        assert_eq!(rt; kernel.step(Request::Tick { now }), Ok(tick));
+    }
+    Ok(kernel)
+}
+
+#[test]
+fn as_many_ticks_as_there_may_be(rt: HostRuntime) -> Result<(), Fail> {
+    assert_eq!(rt; LAST_ACCEPTED, 64_768);
+    let mut kernel = ticked(&rt, LAST_ACCEPTED)?;
+    let late = Request::Tick { now: 64_769 };
+    assert_eq!(rt; kernel.step(late), Err(Refusal::JournalFull));
+    assert_eq!(rt;
+        kernel.step(Request::Open { by: TaskNo(0) }),
+        Err(Refusal::JournalFull)
+    );
+    let early = Request::Tick { now: 64_767 };
+    assert_eq!(rt; kernel.step(early), Err(Refusal::MomentBack));
+    assert_eq!(rt; kernel.journal().len(), LAST_ACCEPTED);
+    assert_eq!(rt; kernel.board().events, LAST_ACCEPTED);
+    Ok(())
+}
+
+/// The events before the first rendezvous: two tasks made, their activation begun, ended by each, and
+/// ended.
+const BEFORE: u32 = 6;
+
+/// The events of a rendezvous: a call, a wait, their meeting, and its end.
+const EACH: u32 = 4;
+
+/// A kernel after so many rendezvous between tasks 2 and 1, each at the positions that are due.
+fn after_rendezvous<R: Abort + AllocGlobal>(rt: &R, rounds: u32) -> Result<Kernel, Fail> {
+    let mut kernel = Kernel::new(rt.alloc())?;
+    assert!(rt; make_tasks(&mut kernel, 2));
+    for round in 0..rounds {
+        let behind = round.wrapping_mul(EACH).wrapping_add(BEFORE);
+        assert_eq!(rt; kernel.step(call(2, 1, 0)), Ok(behind.wrapping_add(1)));
+        assert_eq!(rt; kernel.step(accept(1, 0)), Ok(behind.wrapping_add(2)));
+        assert_eq!(rt; kernel.step(end(1)), Ok(behind.wrapping_add(4)));
+    }
+    Ok(kernel)
+}
+
+/// The plain end of a rendezvous (9.5).
+fn end(by: u16) -> Request {
+    Request::End {
+        by: TaskNo(by),
+        raised: false,
+    }
+}
+
+// The last call is accepted at position 64,767 and its wait at 64,768; they meet, and don't end.
+#[test]
+fn as_many_rendezvous_as_there_may_be(rt: HostRuntime) -> Result<(), Fail> {
+    let mut kernel = after_rendezvous(&rt, (LAST_ACCEPTED - BEFORE) / EACH)?;
+    assert_eq!(rt; kernel.step(call(2, 1, 0)), Ok(64_767));
+    assert_eq!(rt; kernel.step(accept(1, 0)), Ok(LAST_ACCEPTED));
+    assert_eq!(rt; kernel.step(end(1)), Err(Refusal::JournalFull));
+    assert_eq!(rt; kernel.step(call(0, 1, 0)), Err(Refusal::JournalFull));
+    assert_eq!(rt; kernel.step(call(2, 1, 0)), Err(Refusal::NotRunning));
+    let met = Event::Met {
+        call: 64_767,
+        wait: 64_768,
+    };
+    assert!(rt; kernel.journal().get(64_769) == Some(&met));
+    assert_eq!(rt; kernel.journal().len(), 64_769);
+    let accepted = Outcome::Accepted {
+        call: 64_767,
+        choice: 0,
+    };
+    assert_eq!(rt; kernel.outcome(TaskNo(1)), Some(accepted));
+    assert_eq!(rt; kernel.outcome(TaskNo(2)), Some(Outcome::Held));
+    Ok(())
+}
+
+/// A chain of so many rendezvous: main calls task 1, which accepts and calls task 2, and so on to the
+/// last. Before it each task has two events, its making and the end of its activation, and two are of
+/// them all.
+fn chained<R: Abort + AllocGlobal>(rt: &R, last: u16) -> Result<Kernel, Fail> {
+    let mut kernel = Kernel::new(rt.alloc())?;
+    assert!(rt; make_tasks(&mut kernel, last));
+    for callee in 1..=last {
+        assert!(rt; kernel.step(call(callee - 1, callee, 0)).is_ok());
+        assert!(rt; kernel.step(accept(callee, 0)).is_ok());
+    }
+    Ok(kernel)
+}
+
+// Each rendezvous has three events, its call first. The last task aborts all and completes at once; then
+// the first call fails, and with each further call its caller completes. At last all terminate.
+fn chain_is_aborted<R: Abort + AllocGlobal>(rt: &R, last: u16) -> Result<Kernel, Fail> {
+    let mut kernel = chained(rt, last)?;
+    let length = u32::from(last);
+    let calls = 2 * length + 3;
+    let abort = 5 * length + 3;
+    let all = Request::Abort {
+        by: TaskNo(last),
+        tasks: tasks(1, last),
+    };
+    assert_eq!(rt; kernel.step(all), Ok(abort));
+    assert_event(
+        rt,
+        &kernel,
+        abort + 1,
+        &Event::Halted { task: TaskNo(last) },
+    );
+    assert_event(rt, &kernel, abort + 2, &Event::Failed { call: calls });
+    for task in 1..last {
+        let place = u32::from(task);
+        let failed = Event::Failed {
+            call: calls + 3 * place,
+        };
+        assert_event(rt, &kernel, abort + 1 + 2 * place, &failed);
+        assert_event(
+            rt,
+            &kernel,
+            abort + 2 + 2 * place,
+            &Event::Halted { task: TaskNo(task) },
+        );
+    }
+    for task in 1..=last {
+        let at = abort + 2 * length + u32::from(task);
+        assert_event(rt, &kernel, at, &Event::Gone { task: TaskNo(task) });
+    }
+    assert_eq!(rt; kernel.journal().len(), abort + 3 * length);
+    Ok(kernel)
+}
+
+fn assert_event<R: Abort>(rt: &R, kernel: &Kernel, at: u32, event: &Event) {
+    assert!(rt; kernel.journal().get(at) == Some(event), "at {at}");
+}
+
+#[test]
+fn the_longest_chain_of_rendezvous_is_aborted(rt: HostRuntime) -> Result<(), Fail> {
+    let kernel = chain_is_aborted(&rt, 255)?;
+    let board = kernel.board();
+    assert_eq!(rt; board.tasks, 256);
+    assert_eq!(rt; board.slots, 255);
+    assert_eq!(rt; board.events, 2043);
+    assert!(rt; board.callable[0]);
+    assert!(rt; !board.terminated[0]);
+    assert!(rt; board.callable.iter().skip(1).all(|callable| !*callable));
+    assert!(rt;
+        board
+            .terminated
+            .iter()
+            .skip(1)
+            .all(|terminated| *terminated)
+    );
+    assert!(rt; board.counts.iter().all(|count| *count == 0));
+    assert_eq!(rt; kernel.outcome(TaskNo(0)), Some(Outcome::TaskingError));
+    Ok(())
+}
