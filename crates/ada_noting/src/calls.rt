@@ -22,7 +22,8 @@ use ada_touching::keeping::{self, own_key};
 // The task that an event calls.
 #[tactic(auto, unfolding(ada_events::specs::Says::call_in))]
 fn callee_in(event: &Event) -> Option<TaskNo>
-    ensures { option_map (λ (t : Number). t.0) result ≡ option_map (λ (c : Call). c.callee) (call_in event.now) }
+    ensures { option_map (λ (t : Number). t.0) result
+        ≡ option_map (λ (c : Call). c.callee) (call_in event.now) }
 {
     match event {
         Event::Called { callee, .. } => Some(*callee),
@@ -32,7 +33,8 @@ fn callee_in(event: &Event) -> Option<TaskNo>
 
 // The task that the call at a position calls.
 fn callee_at(state: &State, at: u32) -> Option<TaskNo>
-    ensures { option_map (λ (t : Number). t.0) result ≡ option_map (λ (c : Call). c.callee) (call_at state.now at) }
+    ensures { option_map (λ (t : Number). t.0) result
+        ≡ option_map (λ (c : Call). c.callee) (call_at state.now at) }
 {
     match state.event(at) {
         Some(event) => callee_in(event),
@@ -65,7 +67,8 @@ pub fn note_cancellation(agenda: &mut Agenda, state: &State, _event: &Event, cal
 // The task that makes a call.
 #[tactic(auto, unfolding(ada_events::specs::Says::call_in))]
 fn caller_in(event: &Event) -> Option<TaskNo>
-    ensures { option_map (λ (t : Number). t.0) result ≡ option_map (λ (c : Call). c.by) (call_in event.now) }
+    ensures { option_map (λ (t : Number). t.0) result
+        ≡ option_map (λ (c : Call). c.by) (call_in event.now) }
 {
     match event {
         Event::Called { by, .. } => Some(*by),
@@ -75,7 +78,8 @@ fn caller_in(event: &Event) -> Option<TaskNo>
 
 // The task that made the call at a position.
 fn caller_at(state: &State, at: u32) -> Option<TaskNo>
-    ensures { option_map (λ (t : Number). t.0) result ≡ option_map (λ (c : Call). c.by) (call_at state.now at) }
+    ensures { option_map (λ (t : Number). t.0) result
+        ≡ option_map (λ (c : Call). c.by) (call_at state.now at) }
 {
     match state.event(at) {
         Some(event) => caller_in(event),

@@ -22,7 +22,8 @@ use ada_rows::State;
 // The task that made another, by the other's creation.
 #[tactic(auto, unfolding(ada_events::specs::Says::creation_in))]
 fn maker_in(event: &Event) -> Option<TaskNo>
-    ensures { option_map (λ (t : Number). t.0) result ≡ option_map (λ (c : Creation). c.by) (creation_in event.now) }
+    ensures { option_map (λ (t : Number). t.0) result
+        ≡ option_map (λ (c : Creation). c.by) (creation_in event.now) }
 {
     match event {
         Event::Created { by, .. } => Some(*by),
@@ -32,7 +33,8 @@ fn maker_in(event: &Event) -> Option<TaskNo>
 
 // The task that made another; none for the main program and for no task.
 fn maker(state: &State, task: TaskNo) -> Option<TaskNo>
-    ensures { option_map (λ (t : Number). t.0) result ≡ option_map (λ (c : Creation). c.by) (creation_of state.now task.0) }
+    ensures { option_map (λ (t : Number). t.0) result
+        ≡ option_map (λ (c : Creation). c.by) (creation_of state.now task.0) }
 {
     match state.creation(task) {
         Some(event) => maker_in(event),

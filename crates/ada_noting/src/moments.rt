@@ -98,7 +98,8 @@ fn put_due(agenda: &mut Agenda, state: &State, tick: &Event, task: TaskNo)
 fn put_all_due(agenda: &mut Agenda, state: &State, tick: &Event)
     requires lawful { IsLawful state.now }
     requires many { length agenda.old ≡ 11 }
-    ensures { Puts agenda.old agenda.new (OfFirst (AsDue state.now tick.now) (task_count state.now)) }
+    ensures { Puts agenda.old agenda.new
+        (OfFirst (AsDue state.now tick.now) (task_count state.now)) }
 {
     for number in 0..state.tables().tasks() {
         put_due(agenda, state, tick, TaskNo(number));

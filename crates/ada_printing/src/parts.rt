@@ -130,7 +130,8 @@ fn put_listed(out: &mut Vec<u8>, task: TaskNo, names: &Names) -> Result<(), Allo
 
 /// Appends tasks, each behind a space.
 pub fn put_tasks(out: &mut Vec<u8>, tasks: &TaskList, names: &Names) -> Result<(), AllocError>
-    ensures text { OnOk result (out.new.items ≡ out.old.items ++ flat_map (listed_text names.now) tasks.now) }
+    ensures text { OnOk result (out.new.items ≡ out.old.items
+        ++ flat_map (listed_text names.now) tasks.now) }
     ensures starts { KeepsStarts out.old.items out.new.items }
 {
     for task in tasks.as_slice() {
@@ -158,7 +159,8 @@ fn put_bounds(
     family: Family,
     families: &[Name],
 ) -> Result<(), AllocError>
-    ensures text { OnOk result (out.new.items ≡ out.old.items ++ family_bounds_text families.now place family) }
+    ensures text { OnOk result (out.new.items ≡ out.old.items
+        ++ family_bounds_text families.now place family) }
     ensures starts { KeepsStarts out.old.items out.new.items }
 {
     put(out, b" ")?;
@@ -172,7 +174,8 @@ pub fn put_families(
     families: &FamilyList,
     declared: &[Name],
 ) -> Result<(), AllocError>
-    ensures text { OnOk result (out.new.items ≡ out.old.items ++ families_text declared.now families.now) }
+    ensures text { OnOk result (out.new.items ≡ out.old.items
+        ++ families_text declared.now families.now) }
     ensures starts { KeepsStarts out.old.items out.new.items }
 {
     if families.as_slice().is_empty() {
@@ -229,7 +232,8 @@ pub fn put_choices(
     choices: &ChoiceList,
     names: &Names,
 ) -> Result<(), AllocError>
-    ensures text { OnOk result (out.new.items ≡ out.old.items ++ flat_map (choice_text names.now by) choices.now) }
+    ensures text { OnOk result (out.new.items ≡ out.old.items
+        ++ flat_map (choice_text names.now by) choices.now) }
     ensures starts { KeepsStarts out.old.items out.new.items }
 {
     for choice in choices.as_slice() {

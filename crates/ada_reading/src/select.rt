@@ -182,7 +182,8 @@ fn read_choices(
     by: &Name,
     words: &mut Words,
 ) -> Result<(Alternatives, Stored<Tail>), Fault>
-    ensures { GivesInMemory result words.new (choices_at names.now by.now MOST_CHOICES [] words.old) }
+    ensures { GivesInMemory result words.new
+        (choices_at names.now by.now MOST_CHOICES [] words.old) }
 {
     let mut choices = Alternatives::new(alloc);
     'alternatives: loop {

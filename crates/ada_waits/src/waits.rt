@@ -156,7 +156,9 @@ pub fn way_of(now: i64, choices: &[Choice], pick: u32, tail: &EventTail) -> Opti
 
 fn delayed_way(now: i64, choices: &[Choice], pick: u32, dues: &[Option<i64>]) -> Option<Way>
     requires { length dues.now ≤ MOST_DELAYS }
-    ensures { result ≡ (if waits.has_open_delay dues.now then option_map Delay (waits.taken_delay now pick dues.now) else waits.without_choice choices.now) }
+    ensures { result ≡ (if waits.has_open_delay dues.now
+        then option_map Delay (waits.taken_delay now pick dues.now)
+        else waits.without_choice choices.now) }
 {
     if has_open_delay(dues) {
         delay_way(taken_delay(now, pick, dues))
