@@ -4,7 +4,8 @@ ghost use Rattle.std.specs.Prelude.{◌≡◌, ◌<◌, true, false, ◌∷◌, 
 ghost use Rattle.std.specs.Option.{option_map};
 ghost use Rattle.ada_events.specs.Lawful.{IsLawful};
 ghost use Rattle.ada_events.specs.Says.{Call, call_in, call_at};
-ghost use Rattle.ada_events.specs.declared.event.Event.TheVariants.{Cancelled as CancelledEvent, Ended as EndedEvent, Failed as FailedEvent, Waiting as WaitingEvent};
+ghost use Rattle.ada_events.specs.declared.event.Event.TheVariants.{Cancelled as CancelledEvent, Ended as EndedEvent, Failed as FailedEvent};
+ghost use Rattle.ada_events.specs.declared.event.Event.TheVariants.{Waiting as WaitingEvent};
 ghost use Rattle.ada_events.specs.declared.names.TaskNo.{TaskNo as Number};
 ghost use Rattle.ada_touching.specs.Keeping.{IsAgendaOf};
 ghost use Rattle.ada_events.specs.Termination as ending;
@@ -147,8 +148,8 @@ fn put_dependent_if(agenda: &mut Agenda, state: &State, task: TaskNo, so: bool)
     }
 }
 
-/// Notes that a task waits selectively (9.7.1): that it takes a call or passes, and with an open terminate alternative what
-/// the masters may force on which the task depends, may be forced.
+/// Notes that a task waits selectively (9.7.1): that it takes a call or passes, and with an open terminate alternative
+/// what the masters may force on which the task depends, may be forced.
 pub fn note_wait(
     agenda: &mut Agenda,
     state: &State,
@@ -169,8 +170,8 @@ pub fn note_wait(
     put_dependent_if(agenda, state, by, is_open_terminate(tail));
 }
 
-/// Notes that an entry of a task is called (9.5): that the call fails or is cancelled, and that the wait takes it at which
-/// the callee is suspended, may be forced.
+/// Notes that an entry of a task is called (9.5): that the call fails or is cancelled, and that the wait takes it at
+/// which the callee is suspended, may be forced.
 pub fn note_call(agenda: &mut Agenda, state: &State, event: &Event, callee: TaskNo)
     requires lawful { IsLawful (event.now ∷ state.now) }
     requires stands { IsAgendaOf agenda.old state.now }

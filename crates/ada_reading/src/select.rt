@@ -1,7 +1,8 @@
 //! Reading selective waits.
 
 ghost use Rattle.std.specs.Prelude.{◌≡◌, ◌⊎◌, [], Ok, Err, IfOk, IfErr};
-ghost use Rattle.ada_reading.specs.Reading.{Gives, GivesInMemory, passed_over, kind_of, branch_at, tail_of, link_at, pause_at, next_pause_at, pauses_at, choice_at, tail_from, choices_at, alternatives_at};
+ghost use Rattle.ada_reading.specs.Reading.{Gives, GivesInMemory, passed_over, kind_of, branch_at, tail_of, link_at, pause_at, next_pause_at, pauses_at};
+ghost use Rattle.ada_reading.specs.Reading.{choice_at, tail_from, choices_at, alternatives_at};
 ghost use Rattle.ada_events.specs.declared.limits.TheConstants.{MOST_CHOICES};
 
 use crate::cursor::Words;

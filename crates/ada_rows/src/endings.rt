@@ -57,8 +57,8 @@ impl<'a> State<'a> {
         }
     }
 
-    // Whether all that depend on a master are to terminate together (9.4): it is complete, some of them live, and each is
-    // terminated or ready to.
+    // Whether all that depend on a master are to terminate together (9.4): it is complete, some of them live, and each
+    // is terminated or ready to.
     fn is_to_quit(&self, master: Master, complete: bool) -> bool
         requires held { IsHeldBySome self.now master }
         requires complete { complete ≡ ending.is_complete self.now master }
@@ -103,8 +103,8 @@ impl<'a> State<'a> {
         }
     }
 
-    // Whether the block that the task of this record is within is complete (9.4): the task has ended, or is suspended at a
-    // close of the block.
+    // Whether the block that the task of this record is within is complete (9.4): the task has ended, or is suspended
+    // at a close of the block.
     fn is_complete_block(&self, block: u32, _by: TaskNo, kept: &Record, _event: &Event) -> bool
         requires lawful { IsLawful self.now }
         requires right { IsRecordOf self.now _by.0 kept.now }

@@ -180,8 +180,8 @@ impl<'a> State<'a> {
         }
     }
 
-    /// The way in which the wait at the position ends otherwise than by a call, if it does (9.7.1): by its else part, by
-    /// a delay alternative whose moment has come, or by PROGRAM_ERROR where no alternative is open.
+    /// The way in which the wait at the position ends otherwise than by a call, if it does (9.7.1): by its else part,
+    /// by a delay alternative whose moment has come, or by PROGRAM_ERROR where no alternative is open.
     #[tactic(auto, unfolding(ada_forcing::specs::Rows::step_at))]
     pub fn passes(&self, at: u32) -> Option<Way>
         ensures { step_at self.now row.Passing at ≡ option_map (step.Passed at) result }

@@ -1,5 +1,5 @@
-//! What a selective wait says by itself (9.7.1): the alternative that its pick takes, its delay alternatives, and the way
-//! in which it ends while no call is to be taken.
+//! What a selective wait says by itself (9.7.1): the alternative that its pick takes, its delay alternatives, and the
+//! way in which it ends while no call is to be taken.
 ghost use Rattle.std.specs.Prelude.{◌≡◌, ◌<◌, ◌≤◌, ◌++◌, if◌then◌else◌, ◌∷◌, [], length};
 ghost use Rattle.std.specs.Option.{option_map};
 ghost use Rattle.ada_events.specs.declared.event.Way.TheVariants.{Delay};
