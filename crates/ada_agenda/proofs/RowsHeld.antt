@@ -23,11 +23,13 @@ one_row words empty zero k = empty k
 one_row words empty (suc r) k = none_beyond (words ∷ []) (suc r) k (omega arith)
 
 -- one more row with nothing in it
-pub none_with : (rows : List (List ℕ)) (words : List ℕ) → ((r k : ℕ) → keeps rows r k ≡ false) → ((k : ℕ) → has words k ≡ false) → (r k : ℕ) → keeps (rows ++ words ∷ []) r k ≡ false
+pub none_with : (rows : List (List ℕ)) (words : List ℕ) → ((r k : ℕ) → keeps rows r k ≡ false) → ((k : ℕ) → has words k ≡ false) → (r k : ℕ)
+    → keeps (rows ++ words ∷ []) r k ≡ false
 none_with rows words none empty r k = elim (cases_lt r (length rows)) [
   | inl within ↦ ap (λ ws. has ws k) (get_or_append_left rows (words ∷ []) [] r within) ∙ none r k
   | inr beyond ↦
-      let last : get_or (rows ++ words ∷ []) r [] ≡ get_or (words ∷ []) (r - length rows) [] = get_or-append_right rows (words ∷ []) (length rows) r [] refl beyond in
+      let last : get_or (rows ++ words ∷ []) r [] ≡ get_or (words ∷ []) (r - length rows) [] = get_or-append_right rows (words ∷ []) (length rows) r []
+      refl beyond in
       ap (λ ws. has ws k) last ∙ one_row words empty (r - length rows) k
 ]
 

@@ -15,7 +15,8 @@ length-with_bit words n = length-set words (n / 64) (bit_or (get_or words (n / 6
 pub length-without_bit : (words : List ℕ) (n : ℕ) → length (without_bit words n) ≡ length words
 length-without_bit words n = length-set words (n / 64) (bit_and (get_or words (n / 64) 0) (2 ^ 64 - 1 - 1 * 2 ^ (n % 64) % 2 ^ 64))
 
-pub levels_put : (low mid top : List ℕ) (n : ℕ) → AreLevels low mid top → n < 69632 → AreLevels (with_bit low n) (with_bit mid (n / 64)) (with_bit top (n / 64 / 64))
+pub levels_put : (low mid top : List ℕ) (n : ℕ) → AreLevels low mid top → n < 69632
+    → AreLevels (with_bit low n) (with_bit mid (n / 64)) (with_bit top (n / 64 / 64))
 levels_put low mid top n levels within =
     let below : n < 64 * length low = omega (arith, levels.words) in
     let middle : n / 64 < 64 * length mid = omega (arith, levels.heads) in
@@ -34,7 +35,8 @@ levels_put low mid top n levels within =
     }
 
 -- a number is taken out of a word that keeps others
-pub levels_kept : (low mid top : List ℕ) (n : ℕ) → AreLevels low mid top → n < 69632 → (get_or (without_bit low n) (n / 64) 0 == 0) ≡ false → AreLevels (without_bit low n) mid top
+pub levels_kept : (low mid top : List ℕ) (n : ℕ) → AreLevels low mid top → n < 69632 → (get_or (without_bit low n) (n / 64) 0 == 0) ≡ false
+    → AreLevels (without_bit low n) mid top
 levels_kept low mid top n levels within some = record {
   words = length-without_bit low n ∙ levels.words;
   heads = levels.heads;
@@ -45,7 +47,9 @@ levels_kept low mid top n levels within some = record {
 }
 
 -- a number is taken out of a word that it empties, and the word's bit above
-pub levels_emptied : (low mid top top' : List ℕ) (n : ℕ) → AreLevels low mid top → n < 69632 → get_or (without_bit low n) (n / 64) 0 ≡ 0 → AreHeads (without_bit mid (n / 64)) top' → length top' ≡ length top → ((k : ℕ) → has top' k ≡ true → has top k ≡ true) → AreLevels (without_bit low n) (without_bit mid (n / 64)) top'
+pub levels_emptied : (low mid top top' : List ℕ) (n : ℕ) → AreLevels low mid top → n < 69632 → get_or (without_bit low n) (n / 64) 0 ≡ 0
+    → AreHeads (without_bit mid (n / 64)) top' → length top' ≡ length top → ((k : ℕ) → has top' k ≡ true → has top k ≡ true)
+    → AreLevels (without_bit low n) (without_bit mid (n / 64)) top'
 levels_emptied low mid top top' n levels within empty heads many tops = record {
   words = length-without_bit low n ∙ levels.words;
   heads = length-without_bit mid (n / 64) ∙ levels.heads;
@@ -67,16 +71,20 @@ none_stands low mid top k levels none stands within =
 -- words that are all 0 hold no number
 pub none_held : (words : List ℕ) (k : ℕ) → ((w : ℕ) → get_or words w 0 ≡ 0) → has words k ≡ false
 unfolding has
-none_held words k zeros = ne_eqb _ 1 (λ one. let none : bit_at (get_or words (k / 64) 0) (k % 64) ≡ 0 = ap (λ x. bit_at x (k % 64)) (zeros (k / 64)) ∙ bit_at-zero (k % 64) in omega arith)
+none_held words k zeros =
+    ne_eqb _ 1 (λ one. let none : bit_at (get_or words (k / 64) 0) (k % 64) ≡ 0 = ap (λ x. bit_at x (k % 64)) (zeros (k / 64))
+    ∙ bit_at-zero (k % 64) in omega arith)
 
-heads_none : (low high : List ℕ) → ((w : ℕ) → get_or low w 0 ≡ 0) → ((w : ℕ) → get_or high w 0 ≡ 0) → length low ≤ 64 * length high → length low ≤ 65536 → AreHeads low high
+heads_none : (low high : List ℕ) → ((w : ℕ) → get_or low w 0 ≡ 0) → ((w : ℕ) → get_or high w 0 ≡ 0) → length low ≤ 64 * length high → length low ≤ 65536
+    → AreHeads low high
 heads_none low high lows highs room few = record {
   room = room;
   heads = λ w below. rw (lows w) (none_held high w highs);
   few = few;
 }
 
-pub levels_none : (low mid top : List ℕ) → ((w : ℕ) → get_or low w 0 ≡ 0) → ((w : ℕ) → get_or mid w 0 ≡ 0) → ((w : ℕ) → get_or top w 0 ≡ 0) → length low ≡ 1088 → length mid ≡ 17 → length top ≡ 1 → AreLevels low mid top
+pub levels_none : (low mid top : List ℕ) → ((w : ℕ) → get_or low w 0 ≡ 0) → ((w : ℕ) → get_or mid w 0 ≡ 0) → ((w : ℕ) → get_or top w 0 ≡ 0) → length low ≡ 1088
+    → length mid ≡ 17 → length top ≡ 1 → AreLevels low mid top
 levels_none low mid top lows mids tops words heads one = record {
   words = words;
   heads = heads;

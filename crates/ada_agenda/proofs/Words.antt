@@ -1,5 +1,6 @@
 -- One level of bits.
-use Rattle.std.proofs.Common.{◌≡◌, ◌≢◌, ℕ, ◌+◌, ◌-◌, ◌*◌, ◌/◌, ◌%◌, ◌^◌, ◌<◌, ◌≤◌, true, false, List, length, get_or, sym, refl, ap, ◌∙◌, arith, inl, inr, eq-eqb, w64}
+use Rattle.std.proofs.Common.{◌≡◌, ◌≢◌, ℕ, ◌+◌, ◌-◌, ◌*◌, ◌/◌, ◌%◌, ◌^◌, ◌<◌, ◌≤◌, true, false, List, length, get_or, sym, refl, ap, ◌∙◌, arith, inl, inr}
+use Rattle.std.proofs.Common.{eq-eqb, w64}
 use Rattle.std.specs.Prelude.{bit_and, bit_or, ◌==◌}
 use Rattle.std.specs.Int.{bit_at, bit_not, trailing_zeros}
 use Rattle.std.proofs.lemmas.Bool.{cases_eq, cases_lt, ne_eqb, eqb-true, true≢false, cases_Bool}
@@ -21,14 +22,23 @@ set_others words n k within differs =
     elim (cases_eq (k / 64) (n / 64)) [
       | inl same ↦
           let apart : k % 64 ≢ n % 64 = λ e. differs (omega arith) in
-          rw (same, get_or-set_same words (n / 64) (bit_or (get_or words (n / 64) 0) (1 * 2 ^ (n % 64) % 2 ^ 64)) 0 (omega arith), bit_at_set_other w64 (get_or words (n / 64) 0) (n % 64) (omega arith) (k % 64) apart) refl
+          rw (
+            same,
+            get_or-set_same words (n / 64) (bit_or (get_or words (n / 64) 0) (1 * 2 ^ (n % 64) % 2 ^ 64)) 0 (omega arith),
+            bit_at_set_other w64
+                (get_or words (n / 64) 0) (n % 64) (omega arith) (k % 64) apart,
+          ) refl
       | inr other ↦ rw (get_or-set_other words (n / 64) (k / 64) (bit_or (get_or words (n / 64) 0) (1 * 2 ^ (n % 64) % 2 ^ 64)) 0 other) refl
     ]
 
 pub clear_here : (words : List ℕ) (n : ℕ) → n < 64 * length words → has (without_bit words n) n ≡ false
 unfolding has
 clear_here words n within =
-    rw (get_or-set_same words (n / 64) (bit_and (get_or words (n / 64) 0) (bit_not w64 (1 * 2 ^ (n % 64) % 2 ^ 64))) 0 (omega arith), bit_at_clear_same w64 (get_or words (n / 64) 0) (n % 64) (omega arith)) refl
+    rw (
+      get_or-set_same words (n / 64) (bit_and (get_or words (n / 64) 0) (bit_not w64 (1 * 2 ^ (n % 64) % 2 ^ 64))) 0 (omega arith),
+      bit_at_clear_same w64
+          (get_or words (n / 64) 0) (n % 64) (omega arith),
+    ) refl
 
 pub clear_others : (words : List ℕ) (n k : ℕ) → n < 64 * length words → k ≢ n → has (without_bit words n) k ≡ has words k
 unfolding has
@@ -36,12 +46,17 @@ clear_others words n k within differs =
     elim (cases_eq (k / 64) (n / 64)) [
       | inl same ↦
           let apart : k % 64 ≢ n % 64 = λ e. differs (omega arith) in
-          rw (same, get_or-set_same words (n / 64) (bit_and (get_or words (n / 64) 0) (bit_not w64 (1 * 2 ^ (n % 64) % 2 ^ 64))) 0 (omega arith), bit_at_clear_other w64 (get_or words (n / 64) 0) (n % 64) (omega arith) (k % 64) (omega arith) apart) refl
+          rw (
+            same,
+            get_or-set_same words (n / 64) (bit_and (get_or words (n / 64) 0) (bit_not w64 (1 * 2 ^ (n % 64) % 2 ^ 64))) 0 (omega arith),
+            bit_at_clear_other w64 (get_or words (n / 64) 0) (n % 64) (omega arith) (k % 64) (omega arith) apart,
+          ) refl
       | inr other ↦ rw (get_or-set_other words (n / 64) (k / 64) (bit_and (get_or words (n / 64) 0) (bit_not w64 (1 * 2 ^ (n % 64) % 2 ^ 64))) 0 other) refl
     ]
 
 -- clearing a bit that is set lessens its word
-word_less : (words : List ℕ) (n : ℕ) → n < 64 * length words → has words n ≡ true → bit_and (get_or words (n / 64) 0) (bit_not w64 (1 * 2 ^ (n % 64) % 2 ^ 64)) < get_or words (n / 64) 0
+word_less : (words : List ℕ) (n : ℕ) → n < 64 * length words → has words n ≡ true
+    → bit_and (get_or words (n / 64) 0) (bit_not w64 (1 * 2 ^ (n % 64) % 2 ^ 64)) < get_or words (n / 64) 0
 unfolding has
 word_less words n within stands = below (and_le_l w (bit_not w64 (1 * 2 ^ (n % 64) % 2 ^ 64))) apart
   where
@@ -65,10 +80,16 @@ word_less words n within stands = below (and_le_l w (bit_not w64 (1 * 2 ^ (n % 6
 
 pub clear_less : (words : List ℕ) (n : ℕ) → n < 64 * length words → has words n ≡ true → word_sum (without_bit words n) < word_sum words
 clear_less words n within stands =
-    omega (arith, sum_by-set (λ (word : ℕ). word) words (n / 64) (bit_and (get_or words (n / 64) 0) (bit_not w64 (1 * 2 ^ (n % 64) % 2 ^ 64))) 0 (omega arith), word_less words n within stands)
+    omega (
+      arith,
+      sum_by-set (λ (word : ℕ). word) words (n / 64) (bit_and (get_or words (n / 64) 0) (bit_not w64 (1 * 2 ^ (n % 64) % 2 ^ 64))) 0 (omega arith),
+      word_less words n within stands,
+    )
 
 -- the least number of a word
-pub least_is : (words : List ℕ) (word : ℕ) → 0 < get_or words word 0 → get_or words word 0 < 2 ^ 64 → (trailing_zeros w64 (get_or words word 0) < 64) × (has words (word * 64 + trailing_zeros w64 (get_or words word 0)) ≡ true) × ((k : ℕ) → k < word * 64 + trailing_zeros w64 (get_or words word 0) → 64 * word ≤ k → has words k ≡ false)
+pub least_is : (words : List ℕ) (word : ℕ) → 0 < get_or words word 0 → get_or words word 0 < 2 ^ 64 → (trailing_zeros w64 (get_or words word 0) < 64)
+    × (has words (word * 64 + trailing_zeros w64 (get_or words word 0)) ≡ true)
+    × ((k : ℕ) → k < word * 64 + trailing_zeros w64 (get_or words word 0) → 64 * word ≤ k → has words k ≡ false)
 unfolding has
 least_is words word some fits =
     let z = trailing_zeros w64 (get_or words word 0) in
@@ -97,7 +118,12 @@ heads_put low high n tied within =
     let word = bit_or (get_or low (n / 64) 0) (1 * 2 ^ (n % 64) % 2 ^ 64) in
     let above : n / 64 < 64 * length high = omega (arith, tied.room) in
     record {
-      room = omega (arith, length-set low (n / 64) word, length-set high (n / 64 / 64) (bit_or (get_or high (n / 64 / 64) 0) (1 * 2 ^ (n / 64 % 64) % 2 ^ 64)), tied.room);
+      room = omega (
+        arith,
+        length-set low (n / 64) word,
+        length-set high (n / 64 / 64) (bit_or (get_or high (n / 64 / 64) 0) (1 * 2 ^ (n / 64 % 64) % 2 ^ 64)),
+        tied.room,
+      );
       heads = λ w below.
           elim (cases_eq w (n / 64)) [
             | inl same ↦ rw (same, set_here high (n / 64) above, word_some (with_bit low n) n (set_here low n within)) refl
@@ -109,12 +135,19 @@ heads_put low high n tied within =
     }
 
 -- a number is taken out of a word that it empties
-pub heads_emptied : (low high : List ℕ) (n : ℕ) → AreHeads low high → n < 64 * length low → get_or (without_bit low n) (n / 64) 0 ≡ 0 → AreHeads (without_bit low n) (without_bit high (n / 64))
+pub heads_emptied : (low high : List ℕ) (n : ℕ) → AreHeads low high → n < 64 * length low → get_or (without_bit low n) (n / 64) 0 ≡ 0
+    → AreHeads (without_bit low n) (without_bit high (n / 64))
 heads_emptied low high n tied within empty =
     let word = bit_and (get_or low (n / 64) 0) (2 ^ 64 - 1 - 1 * 2 ^ (n % 64) % 2 ^ 64) in
     let above : n / 64 < 64 * length high = omega (arith, tied.room) in
     record {
-      room = omega (arith, length-set low (n / 64) word, length-set high (n / 64 / 64) (bit_and (get_or high (n / 64 / 64) 0) (2 ^ 64 - 1 - 1 * 2 ^ (n / 64 % 64) % 2 ^ 64)), tied.room);
+      room = omega (
+        arith,
+        length-set low (n / 64) word,
+        length-set high (n / 64 / 64)
+            (bit_and (get_or high (n / 64 / 64) 0) (2 ^ 64 - 1 - 1 * 2 ^ (n / 64 % 64) % 2 ^ 64)),
+        tied.room,
+      );
       heads = λ w below.
           elim (cases_eq w (n / 64)) [
             | inl same ↦ rw (same, clear_here high (n / 64) above, empty) refl
@@ -126,7 +159,8 @@ heads_emptied low high n tied within empty =
     }
 
 -- a number is taken out of a word that keeps others
-pub heads_kept : (low high : List ℕ) (n : ℕ) → AreHeads low high → n < 64 * length low → (get_or (without_bit low n) (n / 64) 0 == 0) ≡ false → AreHeads (without_bit low n) high
+pub heads_kept : (low high : List ℕ) (n : ℕ) → AreHeads low high → n < 64 * length low → (get_or (without_bit low n) (n / 64) 0 == 0) ≡ false
+    → AreHeads (without_bit low n) high
 heads_kept low high n tied within some =
     let word = bit_and (get_or low (n / 64) 0) (2 ^ 64 - 1 - 1 * 2 ^ (n % 64) % 2 ^ 64) in
     let place : n / 64 < length low = omega arith in
@@ -149,7 +183,8 @@ heads_kept low high n tied within some =
     }
 
 -- the least of the upper level is the first word with a number, and its least is the least of all
-pub least_of_all : (low high : List ℕ) (m n : ℕ) → AreHeads low high → ((w : ℕ) → w < m → has high w ≡ false) → n < 64 * m + 64 → ((k : ℕ) → k < n → 64 * m ≤ k → has low k ≡ false) → n < 64 * length low → (k : ℕ) → k < n → has low k ≡ false
+pub least_of_all : (low high : List ℕ) (m n : ℕ) → AreHeads low high → ((w : ℕ) → w < m → has high w ≡ false) → n < 64 * m + 64
+    → ((k : ℕ) → k < n → 64 * m ≤ k → has low k ≡ false) → n < 64 * length low → (k : ℕ) → k < n → has low k ≡ false
 least_of_all low high m n tied none near least within k less =
     elim (cases_Bool (has low k)) [
       | inr absent ↦ absent

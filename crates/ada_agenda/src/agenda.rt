@@ -51,7 +51,8 @@ impl Agenda {
         requires number { number < 69632 }
         ensures rows { length self.new ≡ length self.old }
         ensures here { keeps self.new row number ≡ true }
-        ensures others { (r k : ℕ) → (r ≢ row) ⊎ (k ≢ number) → keeps self.new r k ≡ keeps self.old r k }
+        ensures others { (r k : ℕ) → (r ≢ row) ⊎ (k ≢ number)
+            → keeps self.new r k ≡ keeps self.old r k }
     {
         self.rows[row].insert(number);
         bits::insert(&mut self.filled, row);
@@ -63,7 +64,8 @@ impl Agenda {
         requires number { number < 69632 }
         ensures rows { length self.new ≡ length self.old }
         ensures here { keeps self.new row number ≡ false }
-        ensures others { (r k : ℕ) → (r ≢ row) ⊎ (k ≢ number) → keeps self.new r k ≡ keeps self.old r k }
+        ensures others { (r k : ℕ) → (r ≢ row) ⊎ (k ≢ number)
+            → keeps self.new r k ≡ keeps self.old r k }
         ensures fewer { keeps self.old row number ≡ true → weight self.new < weight self.old }
     {
         self.rows[row].remove(number);
@@ -76,7 +78,8 @@ impl Agenda {
         ensures within { IfSome result (λ key. key.1 < 69632) }
         ensures here { IfSome result (λ key. keeps self.new key.0 key.1 ≡ true) }
         ensures rows { IfSome result (λ key. (r k : ℕ) → r < key.0 → keeps self.new r k ≡ false) }
-        ensures least { IfSome result (λ key. (k : ℕ) → k < key.1 → keeps self.new key.0 k ≡ false) }
+        ensures least { IfSome result (λ key. (k : ℕ) → k < key.1
+            → keeps self.new key.0 k ≡ false) }
         ensures none { IfNone result ((r k : ℕ) → keeps self.new r k ≡ false) }
     {
         while self.filled[0] != 0 {

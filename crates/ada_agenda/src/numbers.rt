@@ -15,7 +15,8 @@ const HEADS: usize = 17;
 /// So many words of no bit.
 fn zeros(alloc: Global, count: usize) -> Result<Vec<u64>, AllocError>
     ensures many { IfOk result (λ words. length words.items ≡ count) }
-    ensures zeros { IfOk result (λ words. (w : ℕ) → w < count → slice_index_or words.items w 0 ≡ 0) }
+    ensures zeros { IfOk result (λ words. (w : ℕ) → w < count
+        → slice_index_or words.items w 0 ≡ 0) }
 {
     vec![in alloc; 0u64; count]
 }

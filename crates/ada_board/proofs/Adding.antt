@@ -1,5 +1,6 @@
 -- The exchange that adds a board keeps the rule of a history.
-use Rattle.std.proofs.Common.{◌≡◌, ℕ, ◌+◌, ◌<◌, ◌==◌, Bool, true, false, List, [], ◌∷◌, ◌++◌, length, MatchBool, refl, ap, sym, ◌∙◌, subst, arith, inl, length-append, None}
+use Rattle.std.proofs.Common.{◌≡◌, ℕ, ◌+◌, ◌<◌, ◌==◌, Bool, true, false, List, [], ◌∷◌, ◌++◌, length, MatchBool, refl, ap, sym, ◌∙◌, subst, arith, inl}
+use Rattle.std.proofs.Common.{length-append, None}
 use Rattle.std.proofs.lemmas.List.{append-nil}
 use Rattle.std.proofs.lemmas.Bool.Decides.{nat_tests}
 use mathlib.Core.List.{IsPrefix}
@@ -21,7 +22,8 @@ moved xs ys n = Unit {0}
 
 pub adds_goes : (log v : List Board) (e : Board) (old : ℕ) → length v ≡ old → AreTrue (v ++ e ∷ []) → AreTrue log → IsPrefix v log
     → (b : Bool) → (length log == old) ≡ b
-    → Goes IsKept shown moved 0 (v, (no_nib, None)) (λ n. either (n == old) (old + 1) n) (Adds (step 0 old (old + 1) e) (v, (no_nib, None))) ((length log, true) ∷ (0, true) ∷ []) log
+    → Goes IsKept shown moved 0 (v, (no_nib, None)) (λ n. either (n == old) (old + 1) n) (Adds (step 0 old (old + 1) e) (v, (no_nib, None)))
+    ((length log, true) ∷ (0, true) ∷ []) log
 adds_goes log v e old len may kept pre true is =
     let here : length log ≡ old = grind (arith, nat_tests) in
     let same : v ≡ log = prefix_whole v log pre (omega arith) in
@@ -52,7 +54,8 @@ adds_goes log v e old len may kept pre false is =
 pub adds_moves : (v : List Board) (e : Board) (old : ℕ) → length v ≡ old → AreTrue (v ++ e ∷ [])
     → Moves IsKept shown moved 0 (v, (no_nib, None)) (λ n. either (n == old) (old + 1) n) (Adds (step 0 old (old + 1) e) (v, (no_nib, None)))
 adds_moves v e old len may cs log kept pre away =
-    let P : List Cell → Type 0 = λ c. (0 < length c) × ((cell c 0).1 ≡ true) × Goes IsKept shown moved 0 (v, (no_nib, None)) (λ n. either (n == old) (old + 1) n) (Adds (step 0 old (old + 1) e) (v, (no_nib, None))) c log in
+    let P : List Cell → Type 0 = λ c. (0 < length c) × ((cell c 0).1 ≡ true)
+    × Goes IsKept shown moved 0 (v, (no_nib, None)) (λ n. either (n == old) (old + 1) n) (Adds (step 0 old (old + 1) e) (v, (no_nib, None))) c log in
     subst P (sym kept.words) (omega arith, refl, adds_goes log v e old len may kept.true_list pre (length log == old) refl)
 
 -- what an exchange tells that found what it expected
@@ -71,6 +74,7 @@ next_edition number board asked boards before now counted from same (is, kept) =
       true_list = kept;
     }
 
-pub few_boards : (number : ℕ) (board : Board) (boards whole : List Board) → number ≡ length boards → boards ≡ whole → AreTrue (whole ++ board ∷ []) → number < 65537
+pub few_boards : (number : ℕ) (board : Board) (boards whole : List Board) → number ≡ length boards → boards ≡ whole → AreTrue (whole ++ board ∷ [])
+    → number < 65537
 few_boards number board boards whole counted same kept =
     omega (arith, true_boards_are_few (whole ++ board ∷ []) kept, length-append whole (board ∷ []), ap length same, counted)

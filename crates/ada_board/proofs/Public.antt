@@ -25,7 +25,8 @@ joined book published seen rule = record {
 }
 
 -- a step that lengthens the published list, or leaves it
-pub follows : (book : Book) (place : ℕ) (seen : List Board) (before after : Known) → after.book ≡ book → AreTrue after.boards → IsPrefix before.boards after.boards
+pub follows : (book : Book) (place : ℕ) (seen : List Board) (before after : Known) → after.book ≡ book → AreTrue after.boards
+    → IsPrefix before.boards after.boards
     → (all : List (List Board)) → IsPublic book before all → get_elem? all place ≡ some seen
     → (now : List Board) × IsPublic book after (set all place now) × Follows book seen before after now
 follows book place seen before after named kept grows all rule at = (

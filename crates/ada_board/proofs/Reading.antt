@@ -13,7 +13,8 @@ use Rattle.ada_board.proofs.Beginnings.{prefix_trans}
 
 -- what begins a list begins each list that it begins
 all_later : (xs ys : List Board) (told : List (List Board)) → IsPrefix xs ys → All (λ boards. IsPrefix boards xs) told → All (λ boards. IsPrefix boards ys) told
-all_later xs ys told later = All-weaker (λ boards. IsPrefix boards xs) (λ boards. IsPrefix boards ys) (λ boards first. prefix_trans boards xs ys first later) told
+all_later xs ys told later =
+    All-weaker (λ boards. IsPrefix boards xs) (λ boards. IsPrefix boards ys) (λ boards first. prefix_trans boards xs ys first later) told
 
 pub learnt : (book : Book) (known after : Known) (mark seen : List Board) (told : List (List Board)) → IsReader book known seen told
     → after.book ≡ book → IsPrefix known.boards after.boards → IsPrefix mark after.boards → IsReader book after seen (mark ∷ told)

@@ -16,7 +16,8 @@ may_offer old new request at published offered board true_of settled accepted no
     subst P (sym (ap (λ o. published ++ o ++ board ∷ []) none ∙ (ap (λ l. l ++ board ∷ []) (append-nil published) ∙ ap (λ b. published ++ b ∷ []) is)))
     (published_next old new request at published true_of settled accepted)
 
-pub now_published : (old new : List Event) (request : Request) (at : ℕ) (published offered after : List Board) (board : Board) → AreTrueOf old published → IsSettled old
+pub now_published : (old new : List Event) (request : Request) (at : ℕ) (published offered after : List Board) (board : Board) → AreTrueOf old published
+    → IsSettled old
     → IsAccepted old request at new → offered ≡ [] → board ≡ board_of new → after ≡ published ++ (offered ++ board ∷ []) → AreTrueOf new after
 now_published old new request at published offered after board true_of settled accepted none is whole =
     let P : List Board → Type 0 = λ l. AreTrueOf new l in

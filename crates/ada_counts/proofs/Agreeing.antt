@@ -28,7 +28,8 @@ ends_live false true false r = refl
 ends_live false false q true = refl
 ends_live false false q false = refl
 
-quits_live : (c s q r : Bool) → is_quittable (if c then Completed else (if s then (if q then Quittable else Held) else (if r then Active else Unstarted))) ≡ (not c && s && q)
+quits_live : (c s q r : Bool) → is_quittable (if c then Completed else (if s then (if q then Quittable else Held) else (if r then Active else Unstarted)))
+    ≡ (not c && s && q)
 quits_live true s q r = refl
 quits_live false true true r = refl
 quits_live false true false r = refl
@@ -46,9 +47,11 @@ ends_phase journal task =
     (ends_live (is_completed journal task) (is_suspended journal task) (is_at_open_terminate journal task) (is_running journal task))
 
 -- who is at an open terminate alternative and hasn't ended is suspended
-pub terminate_suspends : (journal : List Event) (task : ℕ) → is_at_open_terminate journal task ≡ true → has_ended journal task ≡ false → is_suspended journal task ≡ true
+pub terminate_suspends : (journal : List Event) (task : ℕ) → is_at_open_terminate journal task ≡ true → has_ended journal task ≡ false
+    → is_suspended journal task ≡ true
 terminate_suspends journal task at live =
-    let (p, e, stands, passes) = any_event-found (λ p e. option_map_or (λ (w : Wait). eqb w.by task && is_open_terminate w.tail) (wait_in e) false && not (is_released journal p)) journal at in
+    let (p, e, stands, passes) = any_event-found (λ p e. option_map_or (λ (w : Wait). eqb w.by task && is_open_terminate w.tail) (wait_in e) false
+    && not (is_released journal p)) journal at in
     let both = and_parts (option_map_or (λ (w : Wait). eqb w.by task && is_open_terminate w.tail) (wait_in e) false) (not (is_released journal p)) passes in
     let (w, says, mine) = option_map_or-true (λ (w : Wait). eqb w.by task && is_open_terminate w.tail) (wait_in e) both.0 in
     let by : w.by ≡ task = eqb-true w.by task (and_parts (eqb w.by task) (is_open_terminate w.tail) mine).0 in
@@ -75,7 +78,8 @@ quits_as true p live = absurd (cc)
 quits_as false p live = refl
 
 -- a live task's phase says whether it is suspended at an open terminate alternative
-pub quits_phase : (journal : List Event) (task : ℕ) → is_terminated journal task ≡ false → is_quittable (phase_of journal task) ≡ (is_at_open_terminate journal task && not (has_ended journal task))
+pub quits_phase : (journal : List Event) (task : ℕ) → is_terminated journal task ≡ false
+    → is_quittable (phase_of journal task) ≡ (is_at_open_terminate journal task && not (has_ended journal task))
 unfolding has_ended
 quits_phase journal task live =
     quits_as (is_terminated journal task) (phase_of_live journal task) live
@@ -89,14 +93,17 @@ live_bits true false d e same rest = absurd (cc)
 live_bits false true d e same rest = absurd (cc)
 live_bits false false d e same rest = rest refl
 
-phase_at : (tasks : List Facts) (journal : List Event) (task : ℕ) → HoldFacts tasks journal → task < task_count journal → (task_at tasks task).phase ≡ phase_of journal task
+phase_at : (tasks : List Facts) (journal : List Event) (task : ℕ) → HoldFacts tasks journal → task < task_count journal
+    → (task_at tasks task).phase ≡ phase_of journal task
 phase_at tasks journal task hold below = ap (λ (f : Facts). f.phase) (hold.facts task below)
 
 -- live dependents are counted alike where dependence is the same
-pub live_alike : (tasks : List Facts) (journal : List Event) (master : Master) → HoldFacts tasks journal → SameDependents tasks journal master → live_dependents tasks master ≡ live_count journal master
+pub live_alike : (tasks : List Facts) (journal : List Event) (master : Master) → HoldFacts tasks journal → SameDependents tasks journal master
+    → live_dependents tasks master ≡ live_count journal master
 live_alike tasks journal master hold same =
     rw hold.many
-    (count_same (λ u. not (is_terminated journal u) && depends_on journal u master) (λ u. not (ends (task_at tasks u).phase) && depends_in tasks u master) (task_count journal)
+    (count_same (λ u. not (is_terminated journal u) && depends_on journal u master) (λ u. not (ends (task_at tasks u).phase) && depends_in tasks u master)
+    (task_count journal)
     (λ u below.
     live_bits (ends (task_at tasks u).phase) (is_terminated journal u) (depends_in tasks u master) (depends_on journal u master)
     (ap ends (phase_at tasks journal u hold below) ∙ ends_phase journal u) (same u below)))
@@ -118,16 +125,23 @@ ready_bits q n false h m is same = rw is refl
 
 -- dependents that aren't ready to quit are counted alike where dependence is the same and the queues of live
 -- tasks are empty alike
-pub unready_alike : (tables : State) (journal : List Event) (master : Master) → HoldFacts tables.tasks journal → ((u : ℕ) → u < task_count journal → has_no_calls tables.tasks tables.queues u ≡ has_empty_queues journal u) → SameDependents tables.tasks journal master → unready_dependents tables.tasks tables.queues master ≡ unready_count journal master
+pub unready_alike : (tables : State) (journal : List Event) (master : Master) → HoldFacts tables.tasks journal
+    → ((u : ℕ) → u < task_count journal → has_no_calls tables.tasks tables.queues u ≡ has_empty_queues journal u) → SameDependents tables.tasks journal master
+    → unready_dependents tables.tasks tables.queues master ≡ unready_count journal master
 unfolding is_ready_to_quit
 unready_alike tables journal master hold empty same =
     rw hold.many
-    (count_same (λ u. not (is_terminated journal u) && not (is_at_open_terminate journal u && not (has_ended journal u) && has_empty_queues journal u) && depends_on journal u master) (λ u. (not (ends (task_at tables.tasks u).phase) && not (is_quittable (task_at tables.tasks u).phase && has_no_calls tables.tasks tables.queues u)) && depends_in tables.tasks u master) (task_count journal)
+    (count_same (λ u. not (is_terminated journal u) && not (is_at_open_terminate journal u && not (has_ended journal u) && has_empty_queues journal u)
+    && depends_on journal u master) (λ u. (not (ends (task_at tables.tasks u).phase)
+    && not (is_quittable (task_at tables.tasks u).phase && has_no_calls tables.tasks tables.queues u)) && depends_in tables.tasks u master) (task_count journal)
     (λ u below.
-    unready_bits (ends (task_at tables.tasks u).phase) (is_terminated journal u) (is_quittable (task_at tables.tasks u).phase && has_no_calls tables.tasks tables.queues u) (is_at_open_terminate journal u && not (has_ended journal u) && has_empty_queues journal u) (depends_in tables.tasks u master) (depends_on journal u master)
+    unready_bits (ends (task_at tables.tasks u).phase) (is_terminated journal u)
+    (is_quittable (task_at tables.tasks u).phase && has_no_calls tables.tasks tables.queues u)
+    (is_at_open_terminate journal u && not (has_ended journal u) && has_empty_queues journal u) (depends_in tables.tasks u master) (depends_on journal u master)
     (ap ends (phase_at tables.tasks journal u hold below) ∙ ends_phase journal u)
     (λ live.
-    ready_bits (is_quittable (task_at tables.tasks u).phase) (has_no_calls tables.tasks tables.queues u) (is_at_open_terminate journal u) (has_ended journal u) (has_empty_queues journal u)
+    ready_bits (is_quittable (task_at tables.tasks u).phase) (has_no_calls tables.tasks tables.queues u) (is_at_open_terminate journal u) (has_ended journal u)
+    (has_empty_queues journal u)
     (ap is_quittable (phase_at tables.tasks journal u hold below) ∙ quits_phase journal u live)
     (empty u below))
     (same u below)))

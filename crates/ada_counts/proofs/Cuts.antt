@@ -13,7 +13,8 @@ use Rattle.ada_counts.specs.Holders.{CutsKeepTheRest}
 
 pub all_apart : (call : ℕ) (members : List Member) → (Contains members (Rendezvous call) → ⊥) → filter (is_apart_from call) members ≡ members
 all_apart call [] absent = refl
-all_apart call (Block p ∷ rest) absent = ap (λ (xs : List Member). Block p ∷ xs) (all_apart call rest (λ has. absent (Contains-later (Block p) (Rendezvous call) rest has)))
+all_apart call (Block p ∷ rest) absent =
+    ap (λ (xs : List Member). Block p ∷ xs) (all_apart call rest (λ has. absent (Contains-later (Block p) (Rendezvous call) rest has)))
 all_apart call (Rendezvous met ∷ rest) absent =
     rw (ne_eqb met call (λ same. absent (subst (λ (n : ℕ). Contains (Rendezvous met ∷ rest) (Rendezvous n)) same (Contains-first (Rendezvous met) rest))))
     (ap (λ (xs : List Member). Rendezvous met ∷ xs) (all_apart call rest (λ has. absent (Contains-later (Rendezvous met) (Rendezvous call) rest has))))

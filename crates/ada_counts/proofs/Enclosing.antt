@@ -18,7 +18,9 @@ use Rattle.ada_tables.specs.Dependents.{has_block, up_to, holds, encloses, outsi
 use Rattle.ada_counts.specs.Holders.{IsUnder, AreNested}
 use Rattle.ada_counts.proofs.Nesting.{nest_properly}
 
-under_outside : (journal : List Event) (p : ℕ) (before : Option ℕ) (body : Master) (members : List Member) → AreNested journal (option_map_or BlockMaster before body) members → has_block p members ≡ true → IsUnder journal p (option_map_or BlockMaster (outside p before members) body)
+under_outside : (journal : List Event) (p : ℕ) (before : Option ℕ) (body : Master) (members : List Member)
+    → AreNested journal (option_map_or BlockMaster before body) members → has_block p members ≡ true
+    → IsUnder journal p (option_map_or BlockMaster (outside p before members) body)
 unfolding outside
 under_outside journal p before body [] nested has = absurd (false≢true has)
 under_outside journal p before body (Block q ∷ rest) nested has =
@@ -29,7 +31,8 @@ under_outside journal p before body (Block q ∷ rest) nested has =
 under_outside journal p before body (Rendezvous call ∷ rest) nested has = under_outside journal p before body rest nested has
 
 -- in a lawful journal a block of a nest was opened within the parent that the tables find
-pub opened_within : (journal : List Event) (task p : ℕ) → IsLawful journal → has_block p (nest journal task) ≡ true → IsUnder journal p (parent_within task (nest journal task) p)
+pub opened_within : (journal : List Event) (task p : ℕ) → IsLawful journal → has_block p (nest journal task) ≡ true
+    → IsUnder journal p (parent_within task (nest journal task) p)
 opened_within journal task p lawful has =
     under_outside journal p None (Body (record { 0 = task })) (nest journal task) (nest_properly journal task lawful) has
 
@@ -41,7 +44,8 @@ abbrev among : List Member → Master → Bool
 among members (Body t) = false
 among members (BlockMaster b) = has_block b members
 
-from_block : (journal : List Event) (q : ℕ) (outer y : Master) → IsLawful journal → IsUnder journal q outer → reaches journal (BlockMaster q) y ≡ (same_master (BlockMaster q) y || reaches journal outer y)
+from_block : (journal : List Event) (q : ℕ) (outer y : Master) → IsLawful journal → IsUnder journal q outer
+    → reaches journal (BlockMaster q) y ≡ (same_master (BlockMaster q) y || reaches journal outer y)
 from_block journal q outer y lawful is =
     masters_reach_by_parents journal (BlockMaster q) y lawful (record { event = is.event; opening = is.opening; stands = is.stands; says = is.says })
     ∙ ap (λ (o : Option Master). same_master (BlockMaster q) y || option_map_or (λ (z : Master). reaches journal z y) o false) (parent_under journal q outer is)
@@ -68,7 +72,8 @@ skip : (call : ℕ) (rest : List Member) (y : Master) → among (Rendezvous call
 skip call rest (Body t) = refl
 skip call rest (BlockMaster p) = refl
 
-from_inner : (journal : List Event) (inner : ℕ) (outer y : Master) (members : List Member) → IsLawful journal → AreNested journal outer members → has_block inner members ≡ true → reaches journal (BlockMaster inner) y ≡ (among (up_to inner members) y || reaches journal outer y)
+from_inner : (journal : List Event) (inner : ℕ) (outer y : Master) (members : List Member) → IsLawful journal → AreNested journal outer members
+    → has_block inner members ≡ true → reaches journal (BlockMaster inner) y ≡ (among (up_to inner members) y || reaches journal outer y)
 from_inner journal inner outer y [] lawful nested has = absurd (false≢true has)
 from_inner journal inner outer y (Block q ∷ rest) lawful nested has =
     elim (cases_eq q inner) [
@@ -85,7 +90,8 @@ from_inner journal inner outer y (Rendezvous call ∷ rest) lawful nested has =
     from_inner journal inner outer y rest lawful nested has
     ∙ ap (λ (b : Bool). b || reaches journal outer y) (sym (skip call (up_to inner rest) y))
 
-from_body : (journal : List Event) (t : TaskNo) (y : Master) → IsLawful journal → t.0 < task_count journal → reaches journal (Body t) y ≡ (same_master (Body t) y || depends_on journal t.0 y)
+from_body : (journal : List Event) (t : TaskNo) (y : Master) → IsLawful journal → t.0 < task_count journal
+    → reaches journal (Body t) y ≡ (same_master (Body t) y || depends_on journal t.0 y)
 from_body journal t y lawful below =
     masters_reach_by_parents journal (Body t) y lawful below
     ∙ ap (λ (b : Bool). same_master (Body t) y || b) (sym (tasks_depend_by_parents journal t y lawful))
@@ -98,7 +104,8 @@ same_body t u =
     ]
 
 -- from a master that a task holds, the way goes on by what it encloses there, and then by what the task depends on
-pub reaches_held : (journal : List Event) (task : ℕ) (x y : Master) → IsLawful journal → task < task_count journal → holds task (nest journal task) x ≡ true → reaches journal x y ≡ (encloses task (nest journal task) x y || depends_on journal task y)
+pub reaches_held : (journal : List Event) (task : ℕ) (x y : Master) → IsLawful journal → task < task_count journal → holds task (nest journal task) x ≡ true
+    → reaches journal x y ≡ (encloses task (nest journal task) x y || depends_on journal task y)
 reaches_held journal task (Body t) (Body u) lawful below held =
     let same : t.0 ≡ task = eqb-true t.0 task held in
     from_body journal t (Body u) lawful (subst (λ (n : ℕ). n < task_count journal) (sym same) below)
@@ -115,7 +122,8 @@ reaches_held journal task (BlockMaster inner) (BlockMaster b) lawful below held 
     from_inner journal inner (Body (record { 0 = task })) (BlockMaster b) (nest journal task) lawful (nest_properly journal task lawful) held
     ∙ ap (λ (c : Bool). has_block b (up_to inner (nest journal task)) || c) (from_body journal (record { 0 = task }) (BlockMaster b) lawful below)
 
-from_innermost : (journal : List Event) (outer y : Master) (members : List Member) → IsLawful journal → AreNested journal outer members → reaches journal (innermost_block outer members) y ≡ (among members y || reaches journal outer y)
+from_innermost : (journal : List Event) (outer y : Master) (members : List Member) → IsLawful journal → AreNested journal outer members
+    → reaches journal (innermost_block outer members) y ≡ (among members y || reaches journal outer y)
 unfolding innermost_block
 from_innermost journal outer (Body t) [] lawful nested = refl
 from_innermost journal outer (BlockMaster b) [] lawful nested = refl
@@ -128,7 +136,8 @@ from_innermost journal outer y (Rendezvous call ∷ rest) lawful nested =
     ∙ ap (λ (b : Bool). b || reaches journal outer y) (sym (skip call rest y))
 
 -- from a task's frame the way goes on by all masters that the task holds, and then by what it depends on
-pub frame_reaches_held : (journal : List Event) (task : ℕ) (y : Master) → IsLawful journal → task < task_count journal → reaches journal (frame journal task) y ≡ (holds task (nest journal task) y || depends_on journal task y)
+pub frame_reaches_held : (journal : List Event) (task : ℕ) (y : Master) → IsLawful journal → task < task_count journal
+    → reaches journal (frame journal task) y ≡ (holds task (nest journal task) y || depends_on journal task y)
 unfolding frame
 frame_reaches_held journal task (Body u) lawful below =
     from_innermost journal (Body (record { 0 = task })) (Body u) (nest journal task) lawful (nest_properly journal task lawful)

@@ -1,5 +1,6 @@
 -- The entries of a task by number, and that a call names an entry of its callee.
-use Rattle.std.proofs.Common.{◌≡◌, ℕ, pos, suc, ◌+◌, ◌-◌, ◌<◌, ◌+ℤ◌, ◌-ℤ◌, Bool, true, false, not, eqb, Option, Some, None, is_none, List, [], ◌∷◌, take, refl, sym, ap, ◌∙◌, subst, arith, inl, inr}
+use Rattle.std.proofs.Common.{◌≡◌, ℕ, pos, suc, ◌+◌, ◌-◌, ◌<◌, ◌+ℤ◌, ◌-ℤ◌, Bool, true, false, not, eqb, Option, Some, None, is_none, List, [], ◌∷◌, take, refl}
+use Rattle.std.proofs.Common.{sym, ap, ◌∙◌, subst, arith, inl, inr}
 use Rattle.std.specs.Prelude.{slice_get, unsigned_abs, if◌then◌else◌}
 use Rattle.std.specs.Option.{option_map_or, option_len}
 use Rattle.std.specs.Bool.{then_some}
@@ -47,11 +48,15 @@ numbered fs n below =
     (found.0, entry_is fs found.0 n found.1)
 
 -- an entry of a family that is declared, within its range, has a number
-pub has_number : (fs : List Family) (e : Entry) (o : Option Family) → slice_get fs e.family ≡ o → is_none o ≡ false → option_map_or (λ (f : Family). not (is_in_range f e.index)) o false ≡ false → (n : ℕ) × (number_within fs e ≡ Some n)
+pub has_number : (fs : List Family) (e : Entry) (o : Option Family) → slice_get fs e.family ≡ o → is_none o ≡ false
+    → option_map_or (λ (f : Family). not (is_in_range f e.index)) o false ≡ false → (n : ℕ) × (number_within fs e ≡ Some n)
 unfolding number_within
 has_number fs e None is known within = absurd (cc)
-has_number fs e (Some f) is known within =
-    (entries_in (take e.family fs) + unsigned_abs (e.index -ℤ f.low), rw is (in_range (is_in_range f e.index) (entries_in (take e.family fs) + unsigned_abs (e.index -ℤ f.low)) within))
+has_number fs e (Some f) is known within = (
+  entries_in (take e.family fs) + unsigned_abs (e.index -ℤ f.low),
+  rw is
+      (in_range (is_in_range f e.index) (entries_in (take e.family fs) + unsigned_abs (e.index -ℤ f.low)) within),
+)
   where
     in_range : (b : Bool) (n : ℕ) → not b ≡ false → then_some b n ≡ Some n
     in_range true n within = refl
@@ -69,7 +74,8 @@ creation_exists (event ∷ before) task c made =
       | inr was ↦ omega (arith, creation_exists before task c was)
     ]
 
-declared_by : (fs : Option Creation) (e : Entry) (n : ℕ) → number_within (option_map_or (λ (c : Creation). c.families) fs []) e ≡ Some n → (c : Creation) × (fs ≡ Some c)
+declared_by : (fs : Option Creation) (e : Entry) (n : ℕ) → number_within (option_map_or (λ (c : Creation). c.families) fs []) e ≡ Some n → (c : Creation)
+    × (fs ≡ Some c)
 unfolding number_within
 declared_by None e n number = absurd (none-some n number)
 declared_by (Some c) e n number = (c, refl)
@@ -89,15 +95,19 @@ abbrev pub HasNumber : List Event → Call → Type 0
 HasNumber journal c = (n : ℕ) × (number_within (families_of journal c.callee) c.entry ≡ Some n)
 
 number_stays : (event : Event) (before : List Event) (c : Call) → HasNumber before c → HasNumber (event ∷ before) c
-number_stays event before c has =
-    (has.0, ap (λ (fs : List Family). number_within fs c.entry) (families_stay event before c.callee (declarer_exists before c.callee c.entry has.0 has.1)) ∙ has.1)
+number_stays event before c has = (
+  has.0,
+  ap (λ (fs : List Family). number_within fs c.entry)
+      (families_stay event before c.callee (declarer_exists before c.callee c.entry has.0 has.1)) ∙ has.1,
+)
 
 asked_number : (journal : List Event) (r : Request) (c : Call) → refusal journal r ≡ None → call_in (asked_event journal r) ≡ Some c → HasNumber journal c
 unfolding asked_event call_in names_no_family breaks_constraint lacks_family is_outside
 asked_number journal (request.Call by callee entry patience) c accepted says =
     let same = same_Some _ c says in
     let is = is_accepted journal (request.Call by callee entry patience) accepted in
-    subst (HasNumber journal) same (has_number (families_of journal callee.0) entry (slice_get (families_of journal callee.0) entry.family) refl is.families_known is.in_range)
+    subst (HasNumber journal) same (has_number (families_of journal callee.0) entry (slice_get (families_of journal callee.0) entry.family) refl
+    is.families_known is.in_range)
 asked_number journal _ c accepted says = absurd (none-some c says)
 
 pub new_number : (event : Event) (before : List Event) (c : Call) → MayFollow before event → call_in event ≡ Some c → HasNumber before c
@@ -105,7 +115,8 @@ new_number event before c (inl forces) says = absurd (none-some c.by (sym (force
 new_number event before c (inr asked) says = asked_number before asked.request c asked.accepted (ap call_in (sym asked.becomes) ∙ says)
 
 -- in a lawful journal a call names an entry of its callee
-pub call_names_entry : (journal : List Event) (p : ℕ) (event : Event) (c : Call) → IsLawful journal → event_at journal p ≡ Some event → call_in event ≡ Some c → (n : ℕ) × (number_within (families_of journal c.callee) c.entry ≡ Some n)
+pub call_names_entry : (journal : List Event) (p : ℕ) (event : Event) (c : Call) → IsLawful journal → event_at journal p ≡ Some event → call_in event ≡ Some c
+    → (n : ℕ) × (number_within (families_of journal c.callee) c.entry ≡ Some n)
 unfolding event_at
 call_names_entry [] p event c lawful at says = absurd (none-some event at)
 call_names_entry (newest ∷ before) p event c lawful at says =

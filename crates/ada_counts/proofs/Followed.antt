@@ -19,7 +19,9 @@ use Rattle.ada_counts.specs.Facing.{HoldFacts, HoldQueues}
 use Rattle.ada_counts.proofs.Following.{tables_follow, same_facts}
 use Rattle.ada_counts.proofs.SlotsApart.{same_slots}
 
-module _ (event : Event) (before : List Event) (old queued nested new : State) (makes : creation_in event ≡ None) (stand : StandFor old before) (once : queued ≡ record old { queues = queued.queues; spare = queued.spare }) (twice : nested ≡ record queued { tasks = nested.tasks }) (thrice : new ≡ record nested { tasks = new.tasks }) where
+module _ (event : Event) (before : List Event) (old queued nested new : State) (makes : creation_in event ≡ None) (stand : StandFor old before)
+    (once : queued ≡ record old { queues = queued.queues; spare = queued.spare }) (twice : nested ≡ record queued { tasks = nested.tasks })
+    (thrice : new ≡ record nested { tasks = new.tasks }) where
   same_queues : new.queues ≡ queued.queues
   same_queues = ap (λ (s : State). s.queues) thrice ∙ ap (λ (s : State). s.queues) twice
 
@@ -34,7 +36,8 @@ module _ (event : Event) (before : List Event) (old queued nested new : State) (
             ∙ ap (λ (f : Facts). record f { nest = nest (event ∷ before) task; phase = phase_of (event ∷ before) task }) (sym (stand.tasks task known));
         queues = λ task entry has.
             subst (λ (qs : List (List QueuedCall)). AreQueued (event ∷ before) task entry (queue_at qs (slot_at old.tasks task entry))) (sym same_queues)
-            (subst (λ (ts : List Facts). AreQueued (event ∷ before) task entry (queue_at queued.queues (slot_at ts task entry))) (ap (λ (s : State). s.tasks) once)
+            (subst (λ (ts : List Facts). AreQueued (event ∷ before) task entry (queue_at queued.queues (slot_at ts task entry)))
+            (ap (λ (s : State). s.tasks) once)
             (queues task entry (subst (λ (s : State). HasEntry s.tasks task entry) (sym once) has)));
       })
 
@@ -43,7 +46,8 @@ module _ (event : Event) (before : List Event) (old queued nested new : State) (
       ap (λ (qs : List (List QueuedCall)). length qs) same_queues ∙ kept ∙ was ∙ sym (same_slots event before makes)
 
 -- an event of another kind than a creation makes no task
-pub makes_none : (e : Event) → ((by : TaskNo) (under master : Master) (families : List Family) → e ≡ Created by under master families → ⊥) → creation_in e ≡ None
+pub makes_none : (e : Event) → ((by : TaskNo) (under master : Master) (families : List Family) → e ≡ Created by under master families → ⊥)
+    → creation_in e ≡ None
 unfolding creation_in
 makes_none (Created by under master families) other = absurd (other by under master families refl)
 makes_none _ other = refl

@@ -27,12 +27,17 @@ pub same_creation : (event : Event) (before : List Event) (task : ℕ) → creat
 unfolding creation_of
 same_creation event before task makes = rw makes (none_if (eqb task (task_count before)) (creation_of before task))
 
-pub same_facts : (event : Event) (before : List Event) (task : ℕ) → creation_in event ≡ None → record (facts_in before task) { nest = nest (event ∷ before) task; phase = phase_of (event ∷ before) task } ≡ facts_in (event ∷ before) task
+pub same_facts : (event : Event) (before : List Event) (task : ℕ) → creation_in event ≡ None → record (facts_in before task) {
+  nest =
+      nest (event ∷ before) task;
+  phase = phase_of (event ∷ before) task;
+} ≡ facts_in (event ∷ before) task
 unfolding families_of
 same_facts event before task makes = rw (same_creation event before task makes) refl
 
 -- where the families of all tasks stay, so do all slots
-same_declared : (old new : List Facts) → length new ≡ length old → ((task : ℕ) → task < length old → (task_at new task).families ≡ (task_at old task).families) → declared new ≡ declared old
+same_declared : (old new : List Facts) → length new ≡ length old → ((task : ℕ) → task < length old → (task_at new task).families ≡ (task_at old task).families)
+    → declared new ≡ declared old
 same_declared [] [] many same = refl
 same_declared [] (y ∷ new) many same = absurd (omega (arith, many))
 same_declared (x ∷ old) [] many same = absurd (omega (arith, many))
@@ -40,7 +45,8 @@ same_declared (x ∷ old) (y ∷ new) many same =
     rw (same 0 (omega arith))
     (ap (λ (fs : List (List Family)). x.families ∷ fs) (same_declared old new (omega (arith, many)) (λ task below. same (suc task) (omega (arith, below)))))
 
-module _ (event : Event) (before : List Event) (old new : State) (lawful : IsLawful (event ∷ before)) (makes : creation_in event ≡ None) (stand : StandFor old before) (following : AreFollowing event before old new) where
+module _ (event : Event) (before : List Event) (old new : State) (lawful : IsLawful (event ∷ before)) (makes : creation_in event ≡ None)
+    (stand : StandFor old before) (following : AreFollowing event before old new) where
   same_families : (task : ℕ) → task < length old.tasks → (task_at new.tasks task).families ≡ (task_at old.tasks task).families
   same_families task below = ap (λ (f : Facts). f.families) (following.tasks task below)
 
@@ -66,7 +72,8 @@ module _ (event : Event) (before : List Event) (old new : State) (lawful : IsLaw
       (record { many = following.same ∙ stand.many ∙ sym (task_count-same event before makes); facts = facts_follow })
       (λ task entry has.
       let was = entry_same task entry has in
-      subst (λ (slot : ℕ). AreQueued (event ∷ before) task entry (queue_at new.queues slot)) (sym (slot_same task entry was.known)) (following.queues task entry was))
+      subst (λ (slot : ℕ). AreQueued (event ∷ before) task entry (queue_at new.queues slot)) (sym (slot_same task entry was.known))
+      (following.queues task entry was))
 
 pub tables_follow : TablesFollow
 tables_follow event before old new lawful makes stand following = follow event before old new lawful makes stand following

@@ -29,7 +29,9 @@ use Rattle.ada_counts.proofs.Telling.{records_tell_phases}
 never : (n : ℕ) (o : Option ℕ) → (o ≡ Some n → ⊥) → is_number n o ≡ false
 never n o none = false_from_ne_true (is_number n o) (λ is. none (is_number-some n o is))
 
-unreleased_at : (event : Event) (before : List Event) (task at : ℕ) → ((position : ℕ) → released_in event ≡ Some position → IsSuspendedAt before task position → ⊥) → (0 < at → IsSuspendedAt before task at) → (released_in event ≡ Some 0 → ⊥) → is_number at (released_in event) ≡ false
+unreleased_at : (event : Event) (before : List Event) (task at : ℕ)
+    → ((position : ℕ) → released_in event ≡ Some position → IsSuspendedAt before task position → ⊥) → (0 < at → IsSuspendedAt before task at)
+    → (released_in event ≡ Some 0 → ⊥) → is_number at (released_in event) ≡ false
 unreleased_at event before task zero apart held none = never 0 (released_in event) none
 unreleased_at event before task (suc n) apart held none = never (suc n) (released_in event) (λ frees. apart (suc n) frees (held (omega arith)))
 
@@ -39,10 +41,13 @@ releases_some event before lawful frees =
     positive before held.event held.stands
 
 -- of a task that hasn't ended
-live_phase : (event : Event) (before : List Event) (task : ℕ) → IsLawful (event ∷ before) → (held_in event ≡ Some task → ⊥) → lists_task task (started_in event) ≡ false → ((position : ℕ) → released_in event ≡ Some position → IsSuspendedAt before task position → ⊥) → ends event before task ≡ false → phase_of (event ∷ before) task ≡ phase_of before task
+live_phase : (event : Event) (before : List Event) (task : ℕ) → IsLawful (event ∷ before) → (held_in event ≡ Some task → ⊥)
+    → lists_task task (started_in event) ≡ false → ((position : ℕ) → released_in event ≡ Some position → IsSuspendedAt before task position → ⊥)
+    → ends event before task ≡ false → phase_of (event ∷ before) task ≡ phase_of before task
 live_phase event before task lawful holds listed apart lives =
     let (r, is) = record_exists before task in
-    let parts = or_parts (is_number task (completed_in event)) (is_number task (gone_in event) || option_map_or (depends_on before task) (quit_in event) false) lives in
+    let parts = or_parts (is_number task (completed_in event))
+    (is_number task (gone_in event) || option_map_or (depends_on before task) (quit_in event) false) lives in
     let now : Record = record {
       doing = record r.doing { joined = is_met (event ∷ before) r.doing.at; outcome = latest_outcome (event ∷ before) task };
       stage = stage_after event before task r.stage;

@@ -22,7 +22,8 @@ use Rattle.ada_laws.proofs.Searching.{event_at-cases}
 use Rattle.ada_laws.proofs.Growing.{is_terminated-more, has_ended-terminated}
 use Rattle.ada_laws.proofs.Accepting.{running_live}
 use Rattle.ada_laws.proofs.Framing.{IsBlockOf, frame_is}
-use Rattle.ada_laws.proofs.Reaching.{reaches-same, reaches_up, reaches_down, reaches_known, reaches_trans, parent_in-opened, opening_asked, creation_asked, frame_known}
+use Rattle.ada_laws.proofs.Reaching.{reaches-same, reaches_up, reaches_down, reaches_known, reaches_trans, parent_in-opened, opening_asked, creation_asked}
+use Rattle.ada_laws.proofs.Reaching.{frame_known}
 use Rattle.ada_laws.proofs.Depending.{IsMadeUnder, depends_on-cases, depends_on-made, depends_on-later, depends_exists, depends_reaches, depends_after}
 use Rattle.ada_laws.proofs.DependentLaws.{all_terminated_at, a_terminated_body_has_no_live_dependent}
 use Rattle.ada_laws.proofs.Parents.{master_known, tasks_depend_by_parents}
@@ -34,14 +35,16 @@ use Rattle.ada_counts.proofs.Owners.{block_in_nest, nest_has_block, one_holder}
 use Rattle.ada_counts.proofs.Enclosing.{reaches_held}
 
 -- a task's block reaches the task's own body
-own_frame : (journal : List Event) (task : ℕ) → ((p : ℕ) → IsBlockOf journal task p → reaches journal (BlockMaster p) (Body (record { 0 = task })) ≡ true) → reaches journal (frame journal task) (Body (record { 0 = task })) ≡ true
+own_frame : (journal : List Event) (task : ℕ) → ((p : ℕ) → IsBlockOf journal task p → reaches journal (BlockMaster p) (Body (record { 0 = task })) ≡ true)
+    → reaches journal (frame journal task) (Body (record { 0 = task })) ≡ true
 own_frame journal task by_block =
     elim (frame_is journal task) [
       | inl body ↦ rw body (reaches-same journal (Body (record { 0 = task })))
       | inr block ↦ rw block.2 (by_block block.0 block.1)
     ]
 
-block_reaches_own : (journal : List Event) (task p : ℕ) → IsLawful journal → IsBlockOf journal task p → reaches journal (BlockMaster p) (Body (record { 0 = task })) ≡ true
+block_reaches_own : (journal : List Event) (task p : ℕ) → IsLawful journal → IsBlockOf journal task p
+    → reaches journal (BlockMaster p) (Body (record { 0 = task })) ≡ true
 unfolding reaches event_at
 block_reaches_own [] task p lawful block = absurd (none-some block.event block.stands)
 block_reaches_own (event ∷ before) task p lawful block =
@@ -51,7 +54,8 @@ block_reaches_own (event ∷ before) task p lawful block =
           let asked = opening_asked event before block.opening lawful.1 says in
           let under : parent_in before event (BlockMaster p) ≡ frame before task =
           parent_in-opened event before p block.opening says newest.0 ∙ (asked.within ∙ ap (frame before) block.by) in
-          or_right (same_master (BlockMaster p) (Body (record { 0 = task }))) (reaches before (parent_in before event (BlockMaster p)) (Body (record { 0 = task })))
+          or_right (same_master (BlockMaster p) (Body (record { 0 = task })))
+          (reaches before (parent_in before event (BlockMaster p)) (Body (record { 0 = task })))
           (rw under (own_frame before task (λ q inner. block_reaches_own before task q lawful.0 inner)))
       | inr older ↦
           reaches_up event before (BlockMaster p) (Body (record { 0 = task }))
@@ -60,18 +64,21 @@ block_reaches_own (event ∷ before) task p lawful block =
     ]
 
 -- who depends on a master depends on what is reached from it
-depends_further : (journal : List Event) (u : ℕ) (x y : Master) → IsLawful journal → depends_on journal u x ≡ true → reaches journal x y ≡ true → depends_on journal u y ≡ true
+depends_further : (journal : List Event) (u : ℕ) (x y : Master) → IsLawful journal → depends_on journal u x ≡ true → reaches journal x y ≡ true
+    → depends_on journal u y ≡ true
 depends_further [] u x y lawful depends further = absurd (false≢true (unfold depends_on in depends))
 depends_further (event ∷ before) u x y lawful depends further =
     elim (depends_on-cases event before u x depends) [
       | inl made ↦
           let by = creation_asked event before made.creation lawful.1 made.says in
-          let known = reaches_known before lawful.0 (frame before made.creation.by) made.creation.master (frame_known before made.creation.by by.asked.exists) by.reached in
+          let known = reaches_known before lawful.0 (frame before made.creation.by) made.creation.master (frame_known before made.creation.by by.asked.exists)
+          by.reached in
           let there = reaches_known before lawful.0 made.creation.master x known made.reached in
           depends_on-made event before u y made.creation made.says made.newest
           (reaches_trans before lawful.0 made.creation.master x y known made.reached (reaches_down event before x y there further))
       | inr older ↦
-          let there = reaches_known before lawful.0 (Body (record { 0 = u })) x (depends_exists before u x older) (depends_reaches before (record { 0 = u }) x older) in
+          let there = reaches_known before lawful.0 (Body (record { 0 = u })) x (depends_exists before u x older)
+          (depends_reaches before (record { 0 = u }) x older) in
           depends_on-later event before u y (depends_further before u x y lawful.0 older (reaches_down event before x y there further))
     ]
 
@@ -81,7 +88,8 @@ unfolding left_in creation_in
 leaving_makes_none (event.Left close) c says = refl
 leaving_makes_none _ c says = absurd (none-some c says)
 
-cut_within : (b : ℕ) (test : Bool) (members rest : List Member) → has_block b (cond test [] members) ≡ true → (has_block b members ≡ true → has_block b rest ≡ true) → has_block b rest ≡ true
+cut_within : (b : ℕ) (test : Bool) (members rest : List Member) → has_block b (cond test [] members) ≡ true
+    → (has_block b members ≡ true → has_block b rest ≡ true) → has_block b rest ≡ true
 cut_within b true members rest has further = absurd (false≢true has)
 cut_within b false members rest has further = further has
 
@@ -90,7 +98,8 @@ within b inner [] has = absurd (false≢true has)
 within b inner (member ∷ rest) has =
     elim (or_cases (is_block b member) (has_block b (cond (is_block inner member) [] (up_to inner rest))) has) [
       | inl here ↦ or_left (is_block b member) (has_block b rest) here
-      | inr later ↦ or_right (is_block b member) (has_block b rest) (cut_within b (is_block inner member) (up_to inner rest) rest later (λ has. within b inner rest has))
+      | inr later ↦ or_right (is_block b member) (has_block b rest)
+          (cut_within b (is_block inner member) (up_to inner rest) rest later (λ has. within b inner rest has))
     ]
 
 -- a block that stands outside what a task is in isn't left
@@ -98,11 +107,13 @@ enclosing_unleft : (journal : List Event) (task b : ℕ) (x : Master) → enclos
 enclosing_unleft journal task b (Body t) inside = absurd (false≢true inside)
 enclosing_unleft journal task b (BlockMaster inner) inside = (block_in_nest journal task b (within b inner (nest journal task) inside)).1
 
-innermost_held : (task : ℕ) (all : List Member) (outer : Master) (members : List Member) → holds task all outer ≡ true → ((p : ℕ) → has_block p members ≡ true → has_block p all ≡ true) → holds task all (innermost_block outer members) ≡ true
+innermost_held : (task : ℕ) (all : List Member) (outer : Master) (members : List Member) → holds task all outer ≡ true
+    → ((p : ℕ) → has_block p members ≡ true → has_block p all ≡ true) → holds task all (innermost_block outer members) ≡ true
 unfolding innermost_block
 innermost_held task all outer [] held among = held
 innermost_held task all outer (Block p ∷ rest) held among =
-    innermost_held task all (BlockMaster p) rest (among p (or_left (eqb p p) (has_block p rest) (eq-eqb p p refl))) (λ q has. among q (or_right (eqb p q) (has_block q rest) has))
+    innermost_held task all (BlockMaster p) rest (among p (or_left (eqb p p) (has_block p rest) (eq-eqb p p refl)))
+    (λ q has. among q (or_right (eqb p q) (has_block q rest) has))
 innermost_held task all outer (Rendezvous call ∷ rest) held among = innermost_held task all outer rest held among
 
 -- a task holds its frame
@@ -111,11 +122,13 @@ unfolding frame
 frame_held journal task = innermost_held task (nest journal task) (Body (record { 0 = task })) (nest journal task) (eq-eqb task task refl) (λ p has. has)
 
 -- no task is made that depends on a block that was left
-no_late_dependent : (event : Event) (before : List Event) (u b : ℕ) → IsLawful (event ∷ before) → is_left before b ≡ true → ((v : ℕ) → depends_on before v (BlockMaster b) ≡ true → is_terminated before v ≡ true) → IsMadeUnder event before u (BlockMaster b) → ⊥
+no_late_dependent : (event : Event) (before : List Event) (u b : ℕ) → IsLawful (event ∷ before) → is_left before b ≡ true
+    → ((v : ℕ) → depends_on before v (BlockMaster b) ≡ true → is_terminated before v ≡ true) → IsMadeUnder event before u (BlockMaster b) → ⊥
 no_late_dependent event before u b lawful left dependents made =
     let maker = made.creation.by in
     let by = creation_asked event before made.creation lawful.1 made.says in
-    let reached = reaches_trans before lawful.0 (frame before maker) made.creation.master (BlockMaster b) (frame_known before maker by.asked.exists) by.reached made.reached in
+    let reached = reaches_trans before lawful.0 (frame before maker) made.creation.master (BlockMaster b) (frame_known before maker by.asked.exists) by.reached
+    made.reached in
     let ways : (encloses maker (nest before maker) (frame before maker) (BlockMaster b) || depends_on before maker (BlockMaster b)) ≡ true =
     sym (reaches_held before maker (frame before maker) (BlockMaster b) lawful.0 by.asked.exists (frame_held before maker)) ∙ reached in
     elim (or_cases (encloses maker (nest before maker) (frame before maker) (BlockMaster b)) (depends_on before maker (BlockMaster b)) ways) [
@@ -124,10 +137,12 @@ no_late_dependent event before u b lawful left dependents made =
     ]
 
 -- where a block is left all of its dependents are terminated
-left_now : (event : Event) (before : List Event) (u b : ℕ) → IsLawful (event ∷ before) → Leaves event before b → depends_on before u (BlockMaster b) ≡ true → is_terminated before u ≡ true
+left_now : (event : Event) (before : List Event) (u b : ℕ) → IsLawful (event ∷ before) → Leaves event before b → depends_on before u (BlockMaster b) ≡ true
+    → is_terminated before u ≡ true
 unfolding is_to_leave
 left_now event before u b lawful gone depends =
-    let all = (and_parts (is_pending before gone.at gone.closing.by) (all_terminated before (BlockMaster gone.closing.block)) (leaves_ready event before b lawful.1 gone)).1 in
+    let all = (and_parts (is_pending before gone.at gone.closing.by) (all_terminated before (BlockMaster gone.closing.block))
+    (leaves_ready event before b lawful.1 gone)).1 in
     all_terminated_at before (BlockMaster b) u (subst (λ (n : ℕ). all_terminated before (BlockMaster n) ≡ true) gone.block all) depends
 
 -- all that depend on a block that was left are terminated
@@ -149,12 +164,14 @@ a_left_block_has_no_live_dependent (event ∷ before) b u lawful left depends =
     ]
 
 -- a task on whose body a live task depends is live
-holder_live : (journal : List Event) (task holder : ℕ) → IsLawful journal → is_terminated journal task ≡ false → depends_on journal task (Body (record { 0 = holder })) ≡ true → is_terminated journal holder ≡ false
+holder_live : (journal : List Event) (task holder : ℕ) → IsLawful journal → is_terminated journal task ≡ false
+    → depends_on journal task (Body (record { 0 = holder })) ≡ true → is_terminated journal holder ≡ false
 holder_live journal task holder lawful live depends =
     false_from_ne_true (is_terminated journal holder) (λ ended.
     true≢false (sym (a_terminated_body_has_no_live_dependent journal lawful (record { 0 = holder }) task ended depends) ∙ live))
 
-of_block : (journal : List Event) (task b : ℕ) → IsLawful journal → IsKnown journal (BlockMaster b) → is_terminated journal task ≡ false → depends_on journal task (BlockMaster b) ≡ true → IsHeld journal task (BlockMaster b)
+of_block : (journal : List Event) (task b : ℕ) → IsLawful journal → IsKnown journal (BlockMaster b) → is_terminated journal task ≡ false
+    → depends_on journal task (BlockMaster b) ≡ true → IsHeld journal task (BlockMaster b)
 of_block journal task b lawful known live depends =
     let holder = known.opening.by in
     let own : IsBlockOf journal holder b = record { event = known.event; opening = known.opening; stands = known.stands; says = known.says; by = refl } in
@@ -170,7 +187,8 @@ of_block journal task b lawful known live depends =
       alone = λ other has. one_holder journal other holder (BlockMaster b) has held;
     }
 
-of_body : (journal : List Event) (task holder : ℕ) → IsLawful journal → is_terminated journal task ≡ false → depends_on journal task (Body (record { 0 = holder })) ≡ true → IsHeld journal task (Body (record { 0 = holder }))
+of_body : (journal : List Event) (task holder : ℕ) → IsLawful journal → is_terminated journal task ≡ false
+    → depends_on journal task (Body (record { 0 = holder })) ≡ true → IsHeld journal task (Body (record { 0 = holder }))
 of_body journal task holder lawful live depends = record {
   holder = holder;
   before = depends_after journal task (record { 0 = holder }) lawful depends;
@@ -179,7 +197,8 @@ of_body journal task holder lawful live depends = record {
   alone = λ other has. one_holder journal other holder (Body (record { 0 = holder })) has (eq-eqb holder holder refl);
 }
 
-pub of_master : (journal : List Event) (task : ℕ) (x : Master) → IsLawful journal → IsKnown journal x → is_terminated journal task ≡ false → depends_on journal task x ≡ true → IsHeld journal task x
+pub of_master : (journal : List Event) (task : ℕ) (x : Master) → IsLawful journal → IsKnown journal x → is_terminated journal task ≡ false
+    → depends_on journal task x ≡ true → IsHeld journal task x
 of_master journal task (Body t) lawful known live depends = of_body journal task t.0 lawful live depends
 of_master journal task (BlockMaster b) lawful known live depends = of_block journal task b lawful known live depends
 

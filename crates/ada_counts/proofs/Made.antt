@@ -1,5 +1,6 @@
 -- Tables to which the task is added that an event makes.
-use Rattle.std.proofs.Common.{◌≡◌, ℕ, zero, suc, ◌+◌, ◌<◌, ◌≤◌, false, Some, None, IsSome, List, [], ◌∷◌, ◌++◌, length, replicate, refl, sym, ap, ◌∙◌, subst, arith, inl, inr, length-append}
+use Rattle.std.proofs.Common.{◌≡◌, ℕ, zero, suc, ◌+◌, ◌<◌, ◌≤◌, false, Some, None, IsSome, List, [], ◌∷◌, ◌++◌, length, replicate, refl, sym, ap, ◌∙◌, subst}
+use Rattle.std.proofs.Common.{arith, inl, inr, length-append}
 use Rattle.std.specs.Option.{option_and_then, unwrap_or}
 use Rattle.std.specs.List.{Contains}
 use Rattle.std.proofs.Math.Seq.{get_or-append_seam}
@@ -22,7 +23,8 @@ use Rattle.ada_events.specs.Entries.{entries_in}
 use Rattle.ada_events.specs.Limits.{slot_count, makes_too_many_tasks, makes_too_many_slots}
 use Rattle.ada_events.specs.Refusals.{refusal}
 use Rattle.ada_events.specs.Search.{event_at}
-use Rattle.ada_events.specs.Says.{Creation, Opening, Call, creation_in, opening_in, call_in, meeting_in, released_in, completed_in, gone_in, quit_in, held_in, started_in}
+use Rattle.ada_events.specs.Says.{Creation, Opening, Call, creation_in, opening_in, call_in, meeting_in, released_in, completed_in, gone_in, quit_in, held_in}
+use Rattle.ada_events.specs.Says.{started_in}
 use Rattle.ada_events.specs.Slots.{number_within}
 use Rattle.ada_events.specs.Tasks.{task_count, creation_of}
 use Rattle.ada_events.specs.Phases.{is_terminated}
@@ -65,7 +67,8 @@ nothing_in : {A : Type 0} (xs : List A) → ((x : A) → Contains xs x → ⊥) 
 nothing_in [] none = refl
 nothing_in (x ∷ rest) none = absurd (none x (Contains-first x rest))
 
-opener_exists : (journal : List Event) (p : ℕ) (e : Event) (o : Opening) → IsLawful journal → event_at journal p ≡ Some e → opening_in e ≡ Some o → o.by < task_count journal
+opener_exists : (journal : List Event) (p : ℕ) (e : Event) (o : Opening) → IsLawful journal → event_at journal p ≡ Some e → opening_in e ≡ Some o
+    → o.by < task_count journal
 unfolding event_at
 opener_exists [] p e o lawful at says = absurd (none-some e at)
 opener_exists (event ∷ before) p e o lawful at says =
@@ -110,7 +113,8 @@ queue_unmade journal u entry lawful beyond =
 abbrev made : (event : Event) (master : Master) (families : List Family) → MakesTask event master families → Creation
 made event master families makes = record { by = makes.by.0; under = makes.under; master = master; families = families }
 
-pub makes_one : (event : Event) (master : Master) (families : List Family) (makes : MakesTask event master families) → creation_in event ≡ Some (made event master families makes)
+pub makes_one : (event : Event) (master : Master) (families : List Family) (makes : MakesTask event master families)
+    → creation_in event ≡ Some (made event master families makes)
 unfolding creation_in
 makes_one event master families makes = ap creation_in makes.is
 
@@ -126,11 +130,22 @@ record OnlyMakes (event : Event) : Type 0 where
 makes_only : (event : Event) (by : TaskNo) (under master : Master) (families : List Family) → event ≡ kind.Created by under master families → OnlyMakes event
 unfolding opening_in meeting_in released_in call_in completed_in gone_in quit_in
 makes_only event by under master families is =
-    record { opens = ap opening_in is; meets = ap meeting_in is; frees = ap released_in is; calls = ap call_in is; completes = ap completed_in is; goes = ap gone_in is; quits = ap quit_in is }
+    record {
+      opens = ap opening_in is;
+      meets = ap meeting_in is;
+      frees = ap released_in is;
+      calls = ap call_in is;
+      completes = ap completed_in is;
+      goes = ap
+          gone_in is;
+      quits = ap quit_in is;
+    }
 
-same_phase : (event : Event) (before : List Event) (by : TaskNo) (under master : Master) (families : List Family) (task : ℕ) → event ≡ kind.Created by under master families → IsLawful (event ∷ before) → phase_of (event ∷ before) task ≡ phase_of before task
+same_phase : (event : Event) (before : List Event) (by : TaskNo) (under master : Master) (families : List Family) (task : ℕ)
+    → event ≡ kind.Created by under master families → IsLawful (event ∷ before) → phase_of (event ∷ before) task ≡ phase_of before task
 unfolding held_in started_in released_in completed_in gone_in quit_in
-same_phase event before by under master families task is lawful = nobody_touched event (kind.Created by under master families) before is refl refl refl refl refl refl lawful task
+same_phase event before by under master families task is lawful =
+    nobody_touched event (kind.Created by under master families) before is refl refl refl refl refl refl lawful task
 
 same_creation : (event : Event) (before : List Event) (task : ℕ) → task < task_count before → creation_of (event ∷ before) task ≡ creation_of before task
 unfolding creation_of
@@ -140,7 +155,8 @@ new_creation : (event : Event) (before : List Event) (c : Creation) → creation
 unfolding creation_of
 new_creation event before c says = rw (eq-eqb (task_count before) (task_count before) refl, says) refl
 
-asked_few : (journal : List Event) (r : Request) (c : Creation) → refusal journal r ≡ None → creation_in (asked_event journal r) ≡ Some c → (task_count journal < MOST_TASKS) × (slot_count journal + entries_in c.families ≤ MOST_SLOTS)
+asked_few : (journal : List Event) (r : Request) (c : Creation) → refusal journal r ≡ None → creation_in (asked_event journal r) ≡ Some c
+    → (task_count journal < MOST_TASKS) × (slot_count journal + entries_in c.families ≤ MOST_SLOTS)
 unfolding asked_event creation_in makes_too_many_tasks makes_too_many_slots
 asked_few journal (request.Create by master families) c accepted says =
     let is = is_accepted journal (request.Create by master families) accepted in (
@@ -151,7 +167,8 @@ asked_few journal (request.Create by master families) c accepted says =
 asked_few journal _ c accepted says = absurd (none-some c says)
 
 -- there are few tasks and entries where one more task is made
-pub made_few : (event : Event) (before : List Event) (c : Creation) → IsLawful (event ∷ before) → creation_in event ≡ Some c → (task_count before < MOST_TASKS) × (slot_count before + entries_in c.families ≤ MOST_SLOTS)
+pub made_few : (event : Event) (before : List Event) (c : Creation) → IsLawful (event ∷ before) → creation_in event ≡ Some c → (task_count before < MOST_TASKS)
+    × (slot_count before + entries_in c.families ≤ MOST_SLOTS)
 made_few event before c lawful says = by_row lawful.1
   where
     by_row : MayFollow before event → (task_count before < MOST_TASKS) × (slot_count before + entries_in c.families ≤ MOST_SLOTS)
@@ -161,11 +178,14 @@ made_few event before c lawful says = by_row lawful.1
 -- slots of the tasks before stay, and those of the new one come behind
 slot_stays : (tasks : List Facts) (x : Facts) (task : ℕ) (e : Entry) → task < length tasks → slot_at (tasks ++ x ∷ []) task e ≡ slot_at tasks task e
 slot_stays [] x task e below = absurd (omega (arith, below))
-slot_stays (y ∷ rest) x zero e below = ap (λ (n : ℕ). n + unwrap_or (number_within y.families e) 0) (before_first (y ∷ (rest ++ x ∷ [])) ∙ sym (before_first (y ∷ rest)))
+slot_stays (y ∷ rest) x zero e below =
+    ap (λ (n : ℕ). n + unwrap_or (number_within y.families e) 0) (before_first (y ∷ (rest ++ x ∷ [])) ∙ sym (before_first (y ∷ rest)))
 slot_stays (y ∷ rest) x (suc task) e below =
-    slot_later y (rest ++ x ∷ []) task e ∙ ap (λ (n : ℕ). entries_in y.families + n) (slot_stays rest x task e (omega (arith, below))) ∙ sym (slot_later y rest task e)
+    slot_later y (rest ++ x ∷ []) task e ∙ ap (λ (n : ℕ). entries_in y.families + n) (slot_stays rest x task e (omega (arith, below)))
+    ∙ sym (slot_later y rest task e)
 
-slot_new : (tasks : List Facts) (x : Facts) (e : Entry) → slot_at (tasks ++ x ∷ []) (length tasks) e ≡ slots_before (declared tasks) (length tasks) + unwrap_or (number_within x.families e) 0
+slot_new : (tasks : List Facts) (x : Facts) (e : Entry)
+    → slot_at (tasks ++ x ∷ []) (length tasks) e ≡ slots_before (declared tasks) (length tasks) + unwrap_or (number_within x.families e) 0
 slot_new [] x e = ap (λ (n : ℕ). n + unwrap_or (number_within x.families e) 0) (before_first (x ∷ []) ∙ sym (before_first []))
 slot_new (y ∷ rest) x e =
     slot_later y (rest ++ x ∷ []) (length rest) e
@@ -176,7 +196,8 @@ get_nothing zero m = refl
 get_nothing (suc n) zero = refl
 get_nothing (suc n) (suc m) = get_nothing n m
 
-module _ (event : Event) (before : List Event) (old new : State) (master : Master) (families : List Family) (lawful : IsLawful (event ∷ before)) (makes : MakesTask event master families) (stand : StandFor old before) (slots : length old.queues ≡ slot_count before) where
+module _ (event : Event) (before : List Event) (old new : State) (master : Master) (families : List Family) (lawful : IsLawful (event ∷ before))
+    (makes : MakesTask event master families) (stand : StandFor old before) (slots : length old.queues ≡ slot_count before) where
   only : OnlyMakes event
   only = makes_only event makes.by makes.under master families makes.is
 
@@ -206,7 +227,8 @@ module _ (event : Event) (before : List Event) (old new : State) (master : Maste
   -- the master is the body or an open block of a live task
   pub made_open : IsOpen old.tasks master
   made_open =
-      let held = masters_are_held (event ∷ before) new_task (made event master families makes) lawful (new_creation event before (made event master families makes) says) new_live in
+      let held = masters_are_held (event ∷ before) new_task (made event master families makes) lawful
+      (new_creation event before (made event master families makes) says) new_live in
       let below : held.holder < task_count before = held.before in
       let live : is_terminated before held.holder ≡ false = sym (nobody_terminated event before held.holder only.goes only.quits) ∙ held.live in
       record {
@@ -235,9 +257,20 @@ module _ (event : Event) (before : List Event) (old new : State) (master : Maste
 
   newest_facts : facts_in (event ∷ before) new_task ≡ made_facts (Some master) families
   newest_facts =
-      rw (new_creation event before (made event master families makes) says, new_families event before (made event master families makes) says, same_nest new_task, nest_unmade before new_task lawful.0 (omega arith), new_phase) refl
+      rw (
+        new_creation event before (made event master families makes) says,
+        new_families event before (made event master families makes) says,
+        same_nest
+            new_task,
+        nest_unmade before new_task lawful.0 (omega arith),
+        new_phase,
+      ) refl
 
-  module _ (is : new ≡ record old { tasks = old.tasks ++ made_facts (Some master) families ∷ []; queues = old.queues ++ replicate (entries_in families) [] }) where
+  module _ (is : new ≡ record old {
+    tasks = old.tasks ++ made_facts (Some master) families ∷ [];
+    queues = old.queues
+        ++ replicate (entries_in families) [];
+  }) where
     tasks_are : new.tasks ≡ old.tasks ++ made_facts (Some master) families ∷ []
     tasks_are = ap (λ (s : State). s.tasks) is
 
@@ -273,13 +306,19 @@ module _ (event : Event) (before : List Event) (old new : State) (master : Maste
     same_queue : (task : ℕ) (entry : Entry) → queue (event ∷ before) task entry ≡ queue before task entry
     same_queue task entry = others_keep_queues event before task entry lawful only.calls only.frees only.meets only.completes
 
-    older_queue : (task : ℕ) (entry : Entry) → HasEntry new.tasks task entry → task < task_count before → AreQueued (event ∷ before) task entry (queue_at new.queues (slot_at new.tasks task entry))
+    older_queue : (task : ℕ) (entry : Entry) → HasEntry new.tasks task entry → task < task_count before
+        → AreQueued (event ∷ before) task entry (queue_at new.queues (slot_at new.tasks task entry))
     older_queue task entry has below =
         let had : HasEntry old.tasks task entry =
-        record { known = omega (arith, below, stand.many); declares = subst (λ (f : Facts). IsSome (number_within f.families entry)) (older_task task below) has.declares } in
+        record {
+          known = omega (arith, below, stand.many);
+          declares = subst (λ (f : Facts). IsSome (number_within f.families entry)) (older_task task below)
+              has.declares;
+        } in
         let slot : slot_at new.tasks task entry ≡ slot_at old.tasks task entry =
         ap (λ (ts : List Facts). slot_at ts task entry) tasks_are ∙ slot_stays old.tasks (made_facts (Some master) families) task entry had.known in
-        let within : slot_at old.tasks task entry < length old.queues = omega (arith, slot_within old.tasks task entry had, slots, slots_held old.tasks before hold) in
+        let within : slot_at old.tasks task entry < length old.queues = omega
+        (arith, slot_within old.tasks task entry had, slots, slots_held old.tasks before hold) in
         let there : queue_at new.queues (slot_at new.tasks task entry) ≡ queue_at old.queues (slot_at old.tasks task entry) =
         ap (queue_at new.queues) slot
         ∙ ap (λ (qs : List (List QueuedCall)). queue_at qs (slot_at old.tasks task entry)) queues_are
@@ -322,4 +361,10 @@ module _ (event : Event) (before : List Event) (old new : State) (master : Maste
     pub made_slots : length new.queues ≡ slot_count (event ∷ before)
     made_slots =
         ap (λ (qs : List (List QueuedCall)). length qs) queues_are
-        ∙ omega (arith, length-append old.queues (replicate (entries_in families) []), length-replicate {A = List QueuedCall} (entries_in families) [], slots, more_slots event before (made event master families makes) says)
+        ∙ omega (
+          arith,
+          length-append old.queues (replicate (entries_in families) []),
+          length-replicate {A = List QueuedCall} (entries_in families) [],
+          slots,
+          more_slots event before (made event master families makes) says,
+        )

@@ -1,5 +1,6 @@
 -- What each kind of event changes in nests.
-use Rattle.std.proofs.Common.{◌≡◌, ℕ, zero, suc, ◌-◌, ◌<◌, ◌≤◌, Bool, true, false, cond, not, ◌&&◌, eqb, Option, Some, None, List, [], ◌∷◌, ◌++◌, length, take, refl, sym, ap, ◌∙◌, subst, arith, inl, inr, append-nil, length-append}
+use Rattle.std.proofs.Common.{◌≡◌, ℕ, zero, suc, ◌-◌, ◌<◌, ◌≤◌, Bool, true, false, cond, not, ◌&&◌, eqb, Option, Some, None, List, [], ◌∷◌, ◌++◌, length, take}
+use Rattle.std.proofs.Common.{refl, sym, ap, ◌∙◌, subst, arith, inl, inr, append-nil, length-append}
 use Rattle.std.specs.Option.{option_and_then, option_map_or}
 use Rattle.std.specs.List.{filter, Contains}
 use Rattle.std.proofs.Math.Seq.{take-append_seam}
@@ -57,20 +58,24 @@ use Rattle.ada_counts.proofs.Nesting.{innermost_last}
 use Rattle.ada_counts.proofs.OnePhaseKinds.{not_in_nest}
 use Rattle.ada_counts.proofs.Owners.{block_in_nest, one_holder}
 use Rattle.ada_counts.proofs.PendingNests.{EndsWith, has_innermost, closed_last, waiting_shallow}
-use Rattle.ada_counts.proofs.ReleasedKinds.{HasOpenCall, plain_release, plainly_uncalled, cancelled_unmet, failed_open, ended_open, IsLeaving, is_leaving, closing_is}
+use Rattle.ada_counts.proofs.ReleasedKinds.{HasOpenCall, plain_release, plainly_uncalled, cancelled_unmet, failed_open, ended_open, IsLeaving, is_leaving}
+use Rattle.ada_counts.proofs.ReleasedKinds.{closing_is}
 
 -- an event that opens, meets and releases nothing
-pub nests_kept : (event f : Event) (before : List Event) → event ≡ f → opening_in f ≡ None → meeting_in f ≡ None → released_in f ≡ None → IsLawful (event ∷ before) → ChangesNests event before Nothing
+pub nests_kept : (event f : Event) (before : List Event) → event ≡ f → opening_in f ≡ None → meeting_in f ≡ None → released_in f ≡ None
+    → IsLawful (event ∷ before) → ChangesNests event before Nothing
 nests_kept event f before is opens meets frees lawful = λ task.
     others_keep_nests event before task lawful (ap opening_in is ∙ opens) (ap meeting_in is ∙ meets) (ap released_in is ∙ frees)
 
 -- the end of an activation
-pub nests_elaborated : (event : Event) (before : List Event) (by : TaskNo) (ok : Bool) → event ≡ kind.Elaborated by ok → IsLawful (event ∷ before) → ChangesNests event before Nothing
+pub nests_elaborated : (event : Event) (before : List Event) (by : TaskNo) (ok : Bool) → event ≡ kind.Elaborated by ok → IsLawful (event ∷ before)
+    → ChangesNests event before Nothing
 unfolding opening_in meeting_in released_in
 nests_elaborated event before by ok is lawful = nests_kept event (kind.Elaborated by ok) before is refl refl refl lawful
 
 -- the end of a wait otherwise than by a rendezvous, of a delay or of a start
-pub nests_passed : (event f : Event) (before : List Event) (p : ℕ) → event ≡ f → plain_release f ≡ Some p → released_in f ≡ Some p → left_in f ≡ None → meeting_in f ≡ None → IsLawful (event ∷ before) → ChangesNests event before Nothing
+pub nests_passed : (event f : Event) (before : List Event) (p : ℕ) → event ≡ f → plain_release f ≡ Some p → released_in f ≡ Some p → left_in f ≡ None
+    → meeting_in f ≡ None → IsLawful (event ∷ before) → ChangesNests event before Nothing
 nests_passed event f before p is plain frees leaves meets lawful = λ task.
     nest_released event before task p (ap released_in is ∙ frees) (ap left_in is ∙ leaves) (ap meeting_in is ∙ meets)
     ∙ all_apart p (nest before task) (not_in_nest before task p (plainly_uncalled event before p lawful (ap plain_release is ∙ plain)))
@@ -97,7 +102,8 @@ nests_cancelled event before p is lawful = λ task.
     (λ has. true≢false (sym (met_member before task p (nest_member before task (Rendezvous p) lawful.0 has)) ∙ cancelled_unmet event before p lawful is))
 
 -- whose nest has the rendezvous with a call is the task called
-pub accepted_by_callee : (journal : List Event) (task p : ℕ) (c : Call) → IsLawful journal → call_at journal p ≡ Some c → Contains (nest journal task) (Rendezvous p) → task ≡ c.callee
+pub accepted_by_callee : (journal : List Event) (task p : ℕ) (c : Call) → IsLawful journal → call_at journal p ≡ Some c
+    → Contains (nest journal task) (Rendezvous p) → task ≡ c.callee
 unfolding nest is_wait_of
 accepted_by_callee journal task p c lawful calls has =
     let (q, e, at, gives) = gathered-found (member_at journal task) journal (Rendezvous p) has in
@@ -114,7 +120,8 @@ pub called : (journal : List Event) (p : ℕ) (has : HasOpenCall journal p) → 
 called journal p has = ap (option_and_then call_in) has.1.stands.stands ∙ has.1.stands.says
 
 -- the end of a rendezvous, or of a call that may be joined
-nests_ended : (event f : Event) (before : List Event) (task : TaskNo) (p : ℕ) (has : HasOpenCall before p) → task.0 ≡ has.0.callee → event ≡ f → released_in f ≡ Some p → left_in f ≡ None → meeting_in f ≡ None → IsLawful (event ∷ before) → ChangesNests event before (EndsRendezvous task p)
+nests_ended : (event f : Event) (before : List Event) (task : TaskNo) (p : ℕ) (has : HasOpenCall before p) → task.0 ≡ has.0.callee → event ≡ f
+    → released_in f ≡ Some p → left_in f ≡ None → meeting_in f ≡ None → IsLawful (event ∷ before) → ChangesNests event before (EndsRendezvous task p)
 nests_ended event f before task p has by is frees leaves meets lawful = record {
   known =
       let named = call_names_entry before p has.1.stands.event has.0 lawful.0 has.1.stands.stands has.1.stands.says in
@@ -128,26 +135,30 @@ nests_ended event f before task p has by is frees leaves meets lawful = record {
     ended : (t : ℕ) → nest (event ∷ before) t ≡ filter (is_apart_from p) (nest before t)
     ended t = nest_released event before t p (ap released_in is ∙ frees) (ap left_in is ∙ leaves) (ap meeting_in is ∙ meets)
 
-pub nests_of_end : (event : Event) (before : List Event) (by task : TaskNo) (p : ℕ) (raised : Bool) → event ≡ kind.Ended by p raised → ((c : Call) → call_at before p ≡ Some c → task.0 ≡ c.callee) → IsLawful (event ∷ before) → ChangesNests event before (EndsRendezvous task p)
+pub nests_of_end : (event : Event) (before : List Event) (by task : TaskNo) (p : ℕ) (raised : Bool) → event ≡ kind.Ended by p raised
+    → ((c : Call) → call_at before p ≡ Some c → task.0 ≡ c.callee) → IsLawful (event ∷ before) → ChangesNests event before (EndsRendezvous task p)
 unfolding released_in left_in meeting_in
 nests_of_end event before by task p raised is callee lawful =
     let has = ended_open event before by p raised lawful is in
     nests_ended event (kind.Ended by p raised) before task p has (callee has.0 (called before p has)) is refl refl refl lawful
 
-pub nests_of_failure : (event : Event) (before : List Event) (task : TaskNo) (p : ℕ) → event ≡ kind.Failed p → ((c : Call) → call_at before p ≡ Some c → task.0 ≡ c.callee) → IsLawful (event ∷ before) → ChangesNests event before (EndsRendezvous task p)
+pub nests_of_failure : (event : Event) (before : List Event) (task : TaskNo) (p : ℕ) → event ≡ kind.Failed p
+    → ((c : Call) → call_at before p ≡ Some c → task.0 ≡ c.callee) → IsLawful (event ∷ before) → ChangesNests event before (EndsRendezvous task p)
 unfolding released_in left_in meeting_in
 nests_of_failure event before task p is callee lawful =
     let has = failed_open event before p lawful is in
     nests_ended event (kind.Failed p) before task p has (callee has.0 (called before p has)) is refl refl refl lawful
 
-asked_open : (journal : List Event) (r : Request) (o : Opening) → refusal journal r ≡ None → opening_in (asked_event journal r) ≡ Some o → length (nest journal o.by) < MOST_MEMBERS
+asked_open : (journal : List Event) (r : Request) (o : Opening) → refusal journal r ≡ None → opening_in (asked_event journal r) ≡ Some o
+    → length (nest journal o.by) < MOST_MEMBERS
 unfolding asked_event opening_in is_too_deep
 asked_open journal (request.Open by) o accepted says =
     subst (λ (x : Opening). length (nest journal x.by) < MOST_MEMBERS) (same_Some _ o says)
     (leb-false MOST_MEMBERS (length (nest journal by.0)) (is_accepted journal (request.Open by) accepted).not_deep)
 asked_open journal _ o accepted says = absurd (none-some o says)
 
-opening_shallow : (event : Event) (before : List Event) (o : Opening) → MayFollow before event → opening_in event ≡ Some o → length (nest before o.by) < MOST_MEMBERS
+opening_shallow : (event : Event) (before : List Event) (o : Opening) → MayFollow before event → opening_in event ≡ Some o
+    → length (nest before o.by) < MOST_MEMBERS
 opening_shallow event before o (inl forces) says = absurd (none-some o (sym (row-opens_none before event (forced-row before event forces)) ∙ says))
 opening_shallow event before o (inr asked) says = asked_open before asked.request o asked.accepted (ap opening_in (sym asked.becomes) ∙ says)
 
@@ -164,7 +175,8 @@ unfolding opening_in
 opened_says event by under is = ap opening_in is
 
 -- the opening of a block
-pub nests_opened : (event : Event) (before : List Event) (by : TaskNo) (under : Master) (block : ℕ) → event ≡ kind.Opened by under → block ≡ suc (length before) → IsLawful (event ∷ before) → ChangesNests event before (Enters by (Block block))
+pub nests_opened : (event : Event) (before : List Event) (by : TaskNo) (under : Master) (block : ℕ) → event ≡ kind.Opened by under → block ≡ suc (length before)
+    → IsLawful (event ∷ before) → ChangesNests event before (Enters by (Block block))
 nests_opened event before by under block is place lawful = (
   record {
     shallow = opening_shallow event before (record { by = by.0; under = under }) lawful.1 says;
@@ -189,10 +201,12 @@ unfolding is_wait_of
 waits_for journal task p w at = rw at refl
 
 -- the begin of a rendezvous
-pub nests_met : (event : Event) (before : List Event) (task : TaskNo) (call wait : ℕ) → event ≡ kind.Met call wait → IsSuspendedAt before task.0 wait → IsLawful (event ∷ before) → ChangesNests event before (Enters task (Rendezvous call))
+pub nests_met : (event : Event) (before : List Event) (task : TaskNo) (call wait : ℕ) → event ≡ kind.Met call wait → IsSuspendedAt before task.0 wait
+    → IsLawful (event ∷ before) → ChangesNests event before (Enters task (Rendezvous call))
 nests_met event before task call wait is held lawful = (
   record {
-    shallow = subst (λ (u : ℕ). length (nest before u) < MOST_MEMBERS) by (waiting_shallow before wait taking.stands.event taking.wait lawful.0 taking.stands.stands taking.stands.says pending.0 pending.1);
+    shallow = subst (λ (u : ℕ). length (nest before u) < MOST_MEMBERS) by
+        (waiting_shallow before wait taking.stands.event taking.wait lawful.0 taking.stands.stands taking.stands.says pending.0 pending.1);
     new = tt;
   },
   record {
@@ -216,7 +230,8 @@ nests_met event before task call wait is held lawful = (
     by : taking.wait.by ≡ task.0
     by =
         same_Some taking.wait.by task.0
-        (sym (held_in-wait taking.stands.event taking.wait taking.stands.says) ∙ ap held_in (same_Some taking.stands.event held.event (sym taking.stands.stands ∙ held.stands)) ∙ held.holds)
+        (sym (held_in-wait taking.stands.event taking.wait taking.stands.says)
+        ∙ ap held_in (same_Some taking.stands.event held.event (sym taking.stands.stands ∙ held.stands)) ∙ held.holds)
 
 -- filtering a block out
 beside_all : (b : ℕ) (members : List Member) → has_block b members ≡ false → filter (is_beside_block b) members ≡ members
@@ -230,7 +245,8 @@ once : (b : ℕ) (outer : List Member) → AreDistinct (outer ++ Block b ∷ [])
 once b [] distinct = refl
 once b (Block q ∷ rest) distinct =
     rw (ne_eqb q b (λ same.
-    distinct.0 (subst (λ (n : ℕ). Contains (rest ++ Block b ∷ []) (Block n)) (sym same) (Contains-append_right rest (Block b ∷ []) (Block b) (Contains-first (Block b) [])))))
+    distinct.0 (subst (λ (n : ℕ). Contains (rest ++ Block b ∷ []) (Block n)) (sym same)
+    (Contains-append_right rest (Block b ∷ []) (Block b) (Contains-first (Block b) [])))))
     (once b rest distinct.1)
 once b (Rendezvous call ∷ rest) distinct = once b rest distinct.1
 
@@ -267,7 +283,8 @@ unfolding left_in
 left_says event close is = ap left_in is
 
 -- the leaving of a block
-pub nests_left : (event : Event) (before : List Event) (task : TaskNo) (close : ℕ) → event ≡ kind.Left close → IsSuspendedAt before task.0 close → IsLawful (event ∷ before) → ChangesNests event before (LeavesBlock task)
+pub nests_left : (event : Event) (before : List Event) (task : TaskNo) (close : ℕ) → event ≡ kind.Left close → IsSuspendedAt before task.0 close
+    → IsLawful (event ∷ before) → ChangesNests event before (LeavesBlock task)
 unfolding is_to_leave
 nests_left event before task close is held lawful = (
   record {
@@ -309,11 +326,14 @@ nests_left event before task close is held lawful = (
         (sym (held_in-closing leaving.event k leaving.says) ∙ ap held_in (same_Some leaving.event held.event (sym leaving.stands ∙ held.stands)) ∙ held.holds)
 
     last : EndsWith (Block k.block) (nest before task.0)
-    last = subst (λ (u : ℕ). EndsWith (Block k.block) (nest before u)) by (closed_last before close leaving.event k lawful.0 leaving.stands leaving.says pending.0 pending.1)
+    last = subst (λ (u : ℕ). EndsWith (Block k.block) (nest before u)) by
+        (closed_last before close leaving.event k lawful.0 leaving.stands leaving.says pending.0 pending.1)
 
     left : (t : ℕ) → nest (event ∷ before) t ≡ filter (is_beside_block k.block) (nest before t)
-    left t = blocks_are_left event before t close k.block (record { 0 = k.by }) lawful (left_says event close is) (leaving.stands ∙ ap Some (closing_is leaving.event k leaving.says))
+    left t = blocks_are_left event before t close k.block (record { 0 = k.by }) lawful (left_says event close is)
+        (leaving.stands ∙ ap Some (closing_is leaving.event k leaving.says))
 
 -- the callee of a call, by the equation that tells it
-pub callee_of : (journal : List Event) (p task : ℕ) → task ≡ option_map_or (λ (c : Call). c.callee) (call_at journal p) 0 → (c : Call) → call_at journal p ≡ Some c → task ≡ c.callee
+pub callee_of : (journal : List Event) (p task : ℕ) → task ≡ option_map_or (λ (c : Call). c.callee) (call_at journal p) 0 → (c : Call)
+    → call_at journal p ≡ Some c → task ≡ c.callee
 callee_of journal p task is c at = is ∙ ap (λ (o : Option Call). option_map_or (λ (c : Call). c.callee) o 0) at

@@ -1,7 +1,8 @@
 -- Blocks nest properly: in a lawful journal a block that isn't left was opened within the block before it in its
 -- task's nest, or else within the task's body.
 use Rattle.ada_counts.specs.Holders.{IsUnder, AreNested}
-use Rattle.std.proofs.Common.{◌≡◌, ℕ, suc, ◌-◌, ◌<◌, ◌≤◌, Bool, true, false, cond, not, ◌&&◌, eqb, Option, Some, None, List, [], ◌∷◌, ◌++◌, length, refl, sym, ap, ◌∙◌, subst, arith, inl, inr, append-nil, length-append}
+use Rattle.std.proofs.Common.{◌≡◌, ℕ, suc, ◌-◌, ◌<◌, ◌≤◌, Bool, true, false, cond, not, ◌&&◌, eqb, Option, Some, None, List, [], ◌∷◌, ◌++◌, length, refl, sym}
+use Rattle.std.proofs.Common.{ap, ◌∙◌, subst, arith, inl, inr, append-nil, length-append}
 use Rattle.std.specs.Option.{option_map_or, option_or, option_to_list}
 use Rattle.std.specs.Bool.{then_some}
 use Rattle.std.specs.List.{filter, Contains, slice_get}
@@ -68,12 +69,14 @@ under_later event before p outer is = record {
   under = is.under;
 }
 
-nested_later : (event : Event) (before : List Event) (outer : Master) (members : List Member) → AreNested before outer members → AreNested (event ∷ before) outer members
+nested_later : (event : Event) (before : List Event) (outer : Master) (members : List Member) → AreNested before outer members
+    → AreNested (event ∷ before) outer members
 nested_later event before outer [] nested = tt
 nested_later event before outer (Block p ∷ rest) nested = (under_later event before p outer nested.0, nested_later event before (BlockMaster p) rest nested.1)
 nested_later event before outer (Rendezvous call ∷ rest) nested = nested_later event before outer rest nested
 
-nested_push : (journal : List Event) (outer : Master) (members : List Member) (p : ℕ) → AreNested journal outer members → IsUnder journal p (innermost_block outer members) → AreNested journal outer (members ++ Block p ∷ [])
+nested_push : (journal : List Event) (outer : Master) (members : List Member) (p : ℕ) → AreNested journal outer members
+    → IsUnder journal p (innermost_block outer members) → AreNested journal outer (members ++ Block p ∷ [])
 unfolding innermost_block
 nested_push journal outer [] p nested under = (under, tt)
 nested_push journal outer (Block q ∷ rest) p nested under = (nested.0, nested_push journal (BlockMaster q) rest p nested.1 under)
@@ -85,7 +88,8 @@ nested_part journal outer (Block q ∷ rest) more nested = (nested.0, nested_par
 nested_part journal outer (Rendezvous call ∷ rest) more nested = nested_part journal outer rest more nested
 
 -- rendezvous make no difference
-nested_filtered : (journal : List Event) (outer : Master) (members : List Member) → AreNested journal outer (filter is_block_member members) → AreNested journal outer members
+nested_filtered : (journal : List Event) (outer : Master) (members : List Member) → AreNested journal outer (filter is_block_member members)
+    → AreNested journal outer members
 nested_filtered journal outer [] nested = tt
 nested_filtered journal outer (Block q ∷ rest) nested = (nested.0, nested_filtered journal (BlockMaster q) rest nested.1)
 nested_filtered journal outer (Rendezvous call ∷ rest) nested = nested_filtered journal outer rest nested
@@ -102,7 +106,8 @@ unfolding nest member_at
 blocks_of_nest journal task =
     gathered-filtered (member_at journal task) (block_at journal task) is_block_member journal (λ p e at. both (opening_in e) (meeting_in e) p)
   where
-    met : (m : Option Meeting) → None ≡ kept is_block_member (option_map_or (λ (m : Meeting). then_some (is_wait_of journal task m.wait && is_open_call journal m.call) (Rendezvous m.call)) m None)
+    met : (m : Option Meeting) → None ≡ kept is_block_member
+        (option_map_or (λ (m : Meeting). then_some (is_wait_of journal task m.wait && is_open_call journal m.call) (Rendezvous m.call)) m None)
     met None = refl
     met (Some m) = by_test (is_wait_of journal task m.wait && is_open_call journal m.call) m.call
       where
@@ -110,11 +115,15 @@ blocks_of_nest journal task =
         by_test true call = refl
         by_test false call = refl
 
-    opened : (b : Bool) (p : ℕ) (x : Option Member) → None ≡ kept is_block_member x → then_some b (Block p) ≡ kept is_block_member (option_or (then_some b (Block p)) x)
+    opened : (b : Bool) (p : ℕ) (x : Option Member) → None ≡ kept is_block_member x
+        → then_some b (Block p) ≡ kept is_block_member (option_or (then_some b (Block p)) x)
     opened true p x none = refl
     opened false p x none = none
 
-    both : (o : Option Opening) (m : Option Meeting) (p : ℕ) → option_map_or (λ (o : Opening). then_some (eqb o.by task && not (is_left journal p)) (Block p)) o None ≡ kept is_block_member (option_or (option_map_or (λ (o : Opening). then_some (eqb o.by task && not (is_left journal p)) (Block p)) o None) (option_map_or (λ (m : Meeting). then_some (is_wait_of journal task m.wait && is_open_call journal m.call) (Rendezvous m.call)) m None))
+    both : (o : Option Opening) (m : Option Meeting) (p : ℕ)
+        → option_map_or (λ (o : Opening). then_some (eqb o.by task && not (is_left journal p)) (Block p)) o None
+        ≡ kept is_block_member (option_or (option_map_or (λ (o : Opening). then_some (eqb o.by task && not (is_left journal p)) (Block p)) o None)
+        (option_map_or (λ (m : Meeting). then_some (is_wait_of journal task m.wait && is_open_call journal m.call) (Rendezvous m.call)) m None))
     both None m p = met m
     both (Some o) m p = opened (eqb o.by task && not (is_left journal p)) p _ (met m)
 
@@ -126,10 +135,13 @@ frame_of_blocks journal task =
     ∙ ap (innermost_block (Body (record { 0 = task }))) (sym (blocks_of_nest journal task))
 
 -- what is known of a block of a nest
-pub member_parts : (journal : List Event) (task p q : ℕ) (e : Event) → block_at journal task p e ≡ Some (Block q) → (o : Opening) × (opening_in e ≡ Some o) × (o.by ≡ task) × (is_left journal p ≡ false) × (p ≡ q)
+pub member_parts : (journal : List Event) (task p q : ℕ) (e : Event) → block_at journal task p e ≡ Some (Block q) → (o : Opening) × (opening_in e ≡ Some o)
+    × (o.by ≡ task) × (is_left journal p ≡ false) × (p ≡ q)
 member_parts journal task p q e gives = parts (opening_in e) refl gives
   where
-    parts : (o : Option Opening) → opening_in e ≡ o → option_map_or (λ (o : Opening). then_some (eqb o.by task && not (is_left journal p)) (Block p)) o None ≡ Some (Block q) → (o : Opening) × (opening_in e ≡ Some o) × (o.by ≡ task) × (is_left journal p ≡ false) × (p ≡ q)
+    parts : (o : Option Opening) → opening_in e ≡ o
+        → option_map_or (λ (o : Opening). then_some (eqb o.by task && not (is_left journal p)) (Block p)) o None ≡ Some (Block q) → (o : Opening)
+        × (opening_in e ≡ Some o) × (o.by ≡ task) × (is_left journal p ≡ false) × (p ≡ q)
     parts None says gives = absurd (none-some (Block q) gives)
     parts (Some o) says gives =
         let found = then_some-some (eqb o.by task && not (is_left journal p)) (Block p) (Block q) gives in
@@ -137,39 +149,52 @@ member_parts journal task p q e gives = parts (opening_in e) refl gives
         let same : p ≡ q = cc (found.1) in
         (o, says, eqb-true o.by task both.0, not-true (is_left journal p) both.1, same)
 
-agree : (o : Option Opening) (task p : ℕ) (old new : Bool) → (old ≡ true → new ≡ true) → (option_map_or (λ (o : Opening). then_some (eqb o.by task && not old) (Block p)) o None ≡ Some (Block p) → new ≡ true → ⊥) → option_map_or (λ (o : Opening). then_some (eqb o.by task && not old) (Block p)) o None ≡ option_map_or (λ (o : Opening). then_some (eqb o.by task && not new) (Block p)) o None
+agree : (o : Option Opening) (task p : ℕ) (old new : Bool) → (old ≡ true → new ≡ true)
+    → (option_map_or (λ (o : Opening). then_some (eqb o.by task && not old) (Block p)) o None ≡ Some (Block p) → new ≡ true → ⊥)
+    → option_map_or (λ (o : Opening). then_some (eqb o.by task && not old) (Block p)) o None
+    ≡ option_map_or (λ (o : Opening). then_some (eqb o.by task && not new) (Block p)) o None
 agree None task p old new more none = refl
 agree (Some o) task p true true more none = refl
 agree (Some o) task p true false more none = absurd (false≢true (more refl))
 agree (Some o) task p false false more none = refl
 agree (Some o) task p false true more none = by_task (eqb o.by task) none
   where
-    by_task : (b : Bool) → (then_some (b && true) (Block p) ≡ Some (Block p) → true ≡ true → ⊥) → then_some (b && true) (Block p) ≡ then_some (b && false) (Block p)
+    by_task : (b : Bool) → (then_some (b && true) (Block p) ≡ Some (Block p) → true ≡ true → ⊥)
+        → then_some (b && true) (Block p) ≡ then_some (b && false) (Block p)
     by_task true none = absurd (none refl refl)
     by_task false none = refl
 
-still : (event : Event) (before : List Event) (task p : ℕ) (e : Event) → (block_at before task p e ≡ Some (Block p) → is_left (event ∷ before) p ≡ true → ⊥) → block_at before task p e ≡ block_at (event ∷ before) task p e
+still : (event : Event) (before : List Event) (task p : ℕ) (e : Event) → (block_at before task p e ≡ Some (Block p) → is_left (event ∷ before) p ≡ true → ⊥)
+    → block_at before task p e ≡ block_at (event ∷ before) task p e
 still event before task p e none =
     agree (opening_in e) task p (is_left before p) (is_left (event ∷ before) p) (left_more event before p) none
 
 -- a block that is left is the last of its task's
 abbrev IsLast : Event → List Event → ℕ → List Event → Type 0
 IsLast event before task journal =
-    (p q : ℕ) (e f : Event) → event_at journal p ≡ Some e → event_at journal q ≡ Some f → block_at before task p e ≡ Some (Block p) → block_at before task q f ≡ Some (Block q) → is_left (event ∷ before) p ≡ true → p < q → ⊥
+    (p q : ℕ) (e f : Event) → event_at journal p ≡ Some e → event_at journal q ≡ Some f → block_at before task p e ≡ Some (Block p)
+    → block_at before task q f ≡ Some (Block q) → is_left (event ∷ before) p ≡ true → p < q → ⊥
 
-shrink : (event : Event) (before : List Event) (task : ℕ) (outer : Master) (journal : List Event) → IsLast event before task journal → AreNested before outer (gathered (block_at before task) journal) → AreNested before outer (gathered (block_at (event ∷ before) task) journal)
+shrink : (event : Event) (before : List Event) (task : ℕ) (outer : Master) (journal : List Event) → IsLast event before task journal
+    → AreNested before outer (gathered (block_at before task) journal) → AreNested before outer (gathered (block_at (event ∷ before) task) journal)
 unfolding gathered
 shrink event before task outer [] last nested = tt
 shrink event before task outer (e ∷ earlier) last nested =
-    by_newest (block_at (event ∷ before) task (suc (length earlier)) e) refl (λ (fewer : IsLast event before task earlier) (part : AreNested before outer (gathered (block_at before task) earlier)). shrink event before task outer earlier fewer part)
+    by_newest (block_at (event ∷ before) task (suc (length earlier)) e) refl
+    (λ (fewer : IsLast event before task earlier) (part : AreNested before outer (gathered (block_at before task) earlier)). shrink event before task outer
+    earlier fewer part)
   where
     fewer : IsLast event before task earlier
     fewer p q f g at_p at_q = last p q f g (event_at-older e earlier p f at_p) (event_at-older e earlier q g at_q)
 
-    by_newest : (o : Option Member) → block_at (event ∷ before) task (suc (length earlier)) e ≡ o → (IsLast event before task earlier → AreNested before outer (gathered (block_at before task) earlier) → AreNested before outer (gathered (block_at (event ∷ before) task) earlier)) → AreNested before outer (gathered (block_at (event ∷ before) task) earlier ++ option_to_list o)
+    by_newest : (o : Option Member) → block_at (event ∷ before) task (suc (length earlier)) e ≡ o
+        → (IsLast event before task earlier → AreNested before outer (gathered (block_at before task) earlier)
+        → AreNested before outer (gathered (block_at (event ∷ before) task) earlier))
+        → AreNested before outer (gathered (block_at (event ∷ before) task) earlier ++ option_to_list o)
     by_newest None is again =
         rw (append-nil (gathered (block_at (event ∷ before) task) earlier))
-        (again fewer (nested_part before outer (gathered (block_at before task) earlier) (option_to_list (block_at before task (suc (length earlier)) e)) nested))
+        (again fewer (nested_part before outer (gathered (block_at before task) earlier)
+        (option_to_list (block_at before task (suc (length earlier)) e)) nested))
     by_newest (Some x) is again =
         let stays : block_at before task (suc (length earlier)) e ≡ Some x =
         still event before task (suc (length earlier)) e (λ was left. newly_left x is left) ∙ is in
@@ -184,13 +209,17 @@ shrink event before task outer (e ∷ earlier) last nested =
         newest_is (Block q) is = ap (λ (n : ℕ). Some (Block n)) (sym (member_parts (event ∷ before) task (suc (length earlier)) q e is).4)
         newest_is (Rendezvous call) is = absurd (no_rendezvous (opening_in e) is)
           where
-            no_rendezvous : (o : Option Opening) → option_map_or (λ (o : Opening). then_some (eqb o.by task && not (is_left (event ∷ before) (suc (length earlier)))) (Block (suc (length earlier)))) o None ≡ Some (Rendezvous call) → ⊥
+            no_rendezvous : (o : Option Opening) → option_map_or
+                (λ (o : Opening). then_some (eqb o.by task && not (is_left (event ∷ before) (suc (length earlier)))) (Block (suc (length earlier)))) o None
+                ≡ Some (Rendezvous call) → ⊥
             no_rendezvous None gives = none-some (Rendezvous call) gives
             no_rendezvous (Some o) gives =
-                let found = then_some-some (eqb o.by task && not (is_left (event ∷ before) (suc (length earlier)))) (Block (suc (length earlier))) (Rendezvous call) gives in
+                let found = then_some-some (eqb o.by task && not (is_left (event ∷ before) (suc (length earlier)))) (Block (suc (length earlier)))
+                (Rendezvous call) gives in
                 cc (found.1)
 
-        newly_left : (x : Member) → block_at (event ∷ before) task (suc (length earlier)) e ≡ Some x → is_left (event ∷ before) (suc (length earlier)) ≡ true → ⊥
+        newly_left : (x : Member) → block_at (event ∷ before) task (suc (length earlier)) e ≡ Some x
+            → is_left (event ∷ before) (suc (length earlier)) ≡ true → ⊥
         newly_left x is left =
             let parts = member_parts (event ∷ before) task (suc (length earlier)) (suc (length earlier)) e (is ∙ newest_is x is) in
             true≢false (sym left ∙ parts.3)
@@ -205,13 +234,15 @@ innermost_last members x =
     ap (slice_get (members ++ x ∷ [])) many ∙ slice_last members x
 
 -- the innermost block of what is gathered is the latest
-latest : (give : ℕ → Event → Option Member) (journal : List Event) (p b : ℕ) (e : Event) → ((q r : ℕ) (f : Event) → give q f ≡ Some (Block r) → q ≡ r) → event_at journal p ≡ Some e → give p e ≡ Some (Block p) → innermost (gathered give journal) ≡ Some (Block b) → p ≤ b
+latest : (give : ℕ → Event → Option Member) (journal : List Event) (p b : ℕ) (e : Event) → ((q r : ℕ) (f : Event) → give q f ≡ Some (Block r) → q ≡ r)
+    → event_at journal p ≡ Some e → give p e ≡ Some (Block p) → innermost (gathered give journal) ≡ Some (Block b) → p ≤ b
 unfolding gathered event_at
 latest give [] p b e placed at gives last = absurd (none-some e at)
 latest give (newest ∷ earlier) p b e placed at gives last =
     by_newest (give (suc (length earlier)) newest) refl last (λ older rest. latest give earlier p b e placed older gives rest)
   where
-    by_newest : (o : Option Member) → give (suc (length earlier)) newest ≡ o → innermost (gathered give earlier ++ option_to_list o) ≡ Some (Block b) → (event_at earlier p ≡ Some e → innermost (gathered give earlier) ≡ Some (Block b) → p ≤ b) → p ≤ b
+    by_newest : (o : Option Member) → give (suc (length earlier)) newest ≡ o → innermost (gathered give earlier ++ option_to_list o) ≡ Some (Block b)
+        → (event_at earlier p ≡ Some e → innermost (gathered give earlier) ≡ Some (Block b) → p ≤ b) → p ≤ b
     by_newest None is last again =
         elim (event_at-cases newest earlier p e at) [
           | inl now ↦ absurd (none-some (Block p) (sym is ∙ ap (give (suc (length earlier))) now.1 ∙ ap (λ n. give n e) (sym now.0) ∙ gives))
@@ -226,12 +257,15 @@ latest give (newest ∷ earlier) p b e placed at gives last =
 placed_member : (journal : List Event) (task q r : ℕ) (e : Event) → member_at journal task q e ≡ Some (Block r) → q ≡ r
 unfolding member_at
 placed_member journal task q r e gives =
-    elim (option_or-some (block_at journal task q e) (option_map_or (λ (m : Meeting). then_some (is_wait_of journal task m.wait && is_open_call journal m.call) (Rendezvous m.call)) (meeting_in e) None) (Block r) gives) [
+    elim (option_or-some (block_at journal task q e)
+    (option_map_or (λ (m : Meeting). then_some (is_wait_of journal task m.wait && is_open_call journal m.call) (Rendezvous m.call)) (meeting_in e) None)
+    (Block r) gives) [
       | inl opened ↦ (member_parts journal task q r e opened).4
       | inr met ↦ absurd (no_block (meeting_in e) met)
     ]
   where
-    no_block : (o : Option Meeting) → option_map_or (λ (m : Meeting). then_some (is_wait_of journal task m.wait && is_open_call journal m.call) (Rendezvous m.call)) o None ≡ Some (Block r) → ⊥
+    no_block : (o : Option Meeting) → option_map_or
+        (λ (m : Meeting). then_some (is_wait_of journal task m.wait && is_open_call journal m.call) (Rendezvous m.call)) o None ≡ Some (Block r) → ⊥
     no_block None gives = none-some (Block r) gives
     no_block (Some m) gives =
         let found = then_some-some (is_wait_of journal task m.wait && is_open_call journal m.call) (Rendezvous m.call) (Block r) gives in
@@ -239,19 +273,23 @@ placed_member journal task q r e gives =
 
 block_of_nest : (journal : List Event) (task p : ℕ) (e : Event) → block_at journal task p e ≡ Some (Block p) → member_at journal task p e ≡ Some (Block p)
 unfolding member_at
-block_of_nest journal task p e gives = ap (λ (o : Option Member). option_or o (option_map_or (λ (m : Meeting). then_some (is_wait_of journal task m.wait && is_open_call journal m.call) (Rendezvous m.call)) (meeting_in e) None)) gives
+block_of_nest journal task p e gives =
+    ap (λ (o : Option Member). option_or o (option_map_or
+    (λ (m : Meeting). then_some (is_wait_of journal task m.wait && is_open_call journal m.call) (Rendezvous m.call)) (meeting_in e) None)) gives
 
 -- the block is the innermost of the task's nest, and none of its blocks was opened later
 record IsInnermost (journal : List Event) (task b : ℕ) : Type 0 where
   own : IsBlockOf journal task b
   last : (p : ℕ) (e : Event) → event_at journal p ≡ Some e → block_at journal task p e ≡ Some (Block p) → p ≤ b
 
-innermost_found : (journal : List Event) (task : ℕ) (o : Option Member) → innermost (nest journal task) ≡ o → option_map_or is_rendezvous o true ≡ false → IsInnermost journal task (member_position o)
+innermost_found : (journal : List Event) (task : ℕ) (o : Option Member) → innermost (nest journal task) ≡ o → option_map_or is_rendezvous o true ≡ false
+    → IsInnermost journal task (member_position o)
 unfolding nest member_at
 innermost_found journal task None is block = absurd (true≢false block)
 innermost_found journal task (Some (Rendezvous call)) is block = absurd (true≢false block)
 innermost_found journal task (Some (Block b)) is block =
-    let contains : Contains (gathered (member_at journal task) journal) (Block b) = contained (gathered (member_at journal task) journal) (length (gathered (member_at journal task) journal) - 1) (Block b) is in
+    let contains : Contains (gathered (member_at journal task) journal) (Block b) = contained (gathered (member_at journal task) journal)
+    (length (gathered (member_at journal task) journal) - 1) (Block b) is in
     let (q, e, at, gives) = gathered-found (member_at journal task) journal (Block b) contains in
     let place : q ≡ b = placed_member journal task q b e gives in
     record {
@@ -264,24 +302,29 @@ innermost_found journal task (Some (Block b)) is block =
 
     own : (q : ℕ) (e : Event) → event_at journal q ≡ Some e → member_at journal task q e ≡ Some (Block b) → q ≡ b → IsBlockOf journal task b
     own q e at gives place =
-        elim (option_or-some (block_at journal task q e) (option_map_or (λ (m : Meeting). then_some (is_wait_of journal task m.wait && is_open_call journal m.call) (Rendezvous m.call)) (meeting_in e) None) (Block b) gives) [
+        elim (option_or-some (block_at journal task q e)
+        (option_map_or (λ (m : Meeting). then_some (is_wait_of journal task m.wait && is_open_call journal m.call) (Rendezvous m.call)) (meeting_in e) None)
+        (Block b) gives) [
           | inl opened ↦
               let parts = member_parts journal task q b e opened in
               subst (IsBlockOf journal task) place (record { event = e; opening = parts.0; stands = at; says = parts.1; by = parts.2 })
           | inr met ↦ absurd (no_block (meeting_in e) met)
         ]
       where
-        no_block : (o : Option Meeting) → option_map_or (λ (m : Meeting). then_some (is_wait_of journal task m.wait && is_open_call journal m.call) (Rendezvous m.call)) o None ≡ Some (Block b) → ⊥
+        no_block : (o : Option Meeting) → option_map_or
+            (λ (m : Meeting). then_some (is_wait_of journal task m.wait && is_open_call journal m.call) (Rendezvous m.call)) o None ≡ Some (Block b) → ⊥
         no_block None gives = none-some (Block b) gives
         no_block (Some m) gives =
             let found = then_some-some (is_wait_of journal task m.wait && is_open_call journal m.call) (Rendezvous m.call) (Block b) gives in
             cc (found.1)
 
-asked_close : (journal : List Event) (r : Request) (k : Closing) → refusal journal r ≡ None → closing_in (asked_event journal r) ≡ Some k → IsInnermost journal k.by k.block
+asked_close : (journal : List Event) (r : Request) (k : Closing) → refusal journal r ≡ None → closing_in (asked_event journal r) ≡ Some k
+    → IsInnermost journal k.by k.block
 unfolding asked_event closing_in has_no_block
 asked_close journal (request.Close by) k accepted says =
     let same = same_Some _ k says in
-    subst (λ (x : Closing). IsInnermost journal x.by x.block) same (innermost_found journal by.0 (innermost (nest journal by.0)) refl (is_accepted journal (request.Close by) accepted).in_block)
+    subst (λ (x : Closing). IsInnermost journal x.by x.block) same
+    (innermost_found journal by.0 (innermost (nest journal by.0)) refl (is_accepted journal (request.Close by) accepted).in_block)
 asked_close journal _ k accepted says = absurd (none-some k says)
 
 new_close : (event : Event) (before : List Event) (k : Closing) → MayFollow before event → closing_in event ≡ Some k → IsInnermost before k.by k.block
@@ -294,9 +337,17 @@ no_opening (event.Opened by under) o says = (refl, refl)
 no_opening _ o says = absurd (none-some o says)
 
 -- what was innermost stays so while its task opens nothing
-innermost_later : (event : Event) (before : List Event) (task b : ℕ) → ((o : Opening) → opening_in event ≡ Some o → o.by ≡ task → ⊥) → IsInnermost before task b → IsInnermost (event ∷ before) task b
+innermost_later : (event : Event) (before : List Event) (task b : ℕ) → ((o : Opening) → opening_in event ≡ Some o → o.by ≡ task → ⊥) → IsInnermost before task b
+    → IsInnermost (event ∷ before) task b
 innermost_later event before task b none is = record {
-  own = record { event = is.own.event; opening = is.own.opening; stands = event_at-older event before b is.own.event is.own.stands; says = is.own.says; by = is.own.by };
+  own = record {
+    event = is.own.event;
+    opening = is.own.opening;
+    stands = event_at-older event before b is.own.event is.own.stands;
+    says = is.own.says;
+    by =
+        is.own.by;
+  };
   last = λ p e at was.
       let parts = member_parts (event ∷ before) task p p e was in
       elim (event_at-cases event before p e at) [
@@ -306,25 +357,37 @@ innermost_later event before task b none is = record {
 }
 
 -- while a close is pending, its block is the innermost of its task
-pending_innermost : (journal : List Event) (c : ℕ) (e : Event) (k : Closing) → IsLawful journal → event_at journal c ≡ Some e → closing_in e ≡ Some k → is_released journal c ≡ false → has_ended journal k.by ≡ false → IsInnermost journal k.by k.block
+pending_innermost : (journal : List Event) (c : ℕ) (e : Event) (k : Closing) → IsLawful journal → event_at journal c ≡ Some e → closing_in e ≡ Some k
+    → is_released journal c ≡ false → has_ended journal k.by ≡ false → IsInnermost journal k.by k.block
 unfolding event_at
 pending_innermost [] c e k lawful at says unreleased live = absurd (none-some e at)
 pending_innermost (newest ∷ before) c e k lawful at says unreleased live =
     elim (event_at-cases newest before c e at) [
       | inl now ↦
           let here : closing_in newest ≡ Some k = ap closing_in now.1 ∙ says in
-          innermost_later newest before k.by k.block (λ o opens by. absurd (none-some k (sym (no_opening newest o opens).0 ∙ here))) (new_close newest before k lawful.1 here)
+          innermost_later newest before k.by k.block (λ o opens by. absurd (none-some k (sym (no_opening newest o opens).0 ∙ here)))
+          (new_close newest before k lawful.1 here)
       | inr older ↦
-          let was = pending_innermost before c e k lawful.0 older says (is_released-before newest before c unreleased) (has_ended-before newest before k.by live) in
+          let was = pending_innermost before c e k lawful.0 older says (is_released-before newest before c unreleased)
+          (has_ended-before newest before k.by live) in
           innermost_later newest before k.by k.block
           (λ o opens by.
           let asked = opening_asked newest before o lawful.1 opens in
-          let held = is_suspended-from before k.by c (record { event = e; stands = older; holds = held_in-closing e k says; unreleased = is_released-before newest before c unreleased; live = has_ended-before newest before k.by live }) in
+          let held = is_suspended-from before k.by c
+          (record {
+            event = e;
+            stands = older;
+            holds = held_in-closing e k says;
+            unreleased = is_released-before newest before c unreleased;
+            live =
+                has_ended-before newest before k.by live;
+          }) in
           true≢false (sym held ∙ running_free before k.by (subst (λ (u : ℕ). is_running before u ≡ true) by asked.runs)))
           was
     ]
 
-row_leaving : (journal : List Event) (event : Event) (c : ℕ) (e : Event) (k : Closing) → IsRow journal event → left_in event ≡ Some c → event_at journal c ≡ Some e → closing_in e ≡ Some k → is_to_leave journal c k ≡ true
+row_leaving : (journal : List Event) (event : Event) (c : ℕ) (e : Event) (k : Closing) → IsRow journal event → left_in event ≡ Some c
+    → event_at journal c ≡ Some e → closing_in e ≡ Some k → is_to_leave journal c k ≡ true
 unfolding left_in
 row_leaving journal event c e k (leaves p f closing at closes leave) says stands closed =
     let place : p ≡ c = same_Some p c says in
@@ -339,16 +402,22 @@ left_in-asked journal (request.Open by) = refl
 left_in-asked journal _ = refl
 
 -- a block is left where its close is pending and all of its dependents are terminated
-pub leaves_ready : (event : Event) (before : List Event) (p : ℕ) → MayFollow before event → (gone : Leaves event before p) → is_to_leave before gone.at gone.closing ≡ true
-leaves_ready event before p (inl forces) gone = row_leaving before event gone.at gone.closed gone.closing (forced-row before event forces) gone.leaves gone.stands gone.says
+pub leaves_ready : (event : Event) (before : List Event) (p : ℕ) → MayFollow before event → (gone : Leaves event before p)
+    → is_to_leave before gone.at gone.closing ≡ true
+leaves_ready event before p (inl forces) gone =
+    row_leaving before event gone.at gone.closed gone.closing (forced-row before event forces) gone.leaves gone.stands gone.says
 leaves_ready event before p (inr asked) gone = absurd (none-some gone.at (sym (ap left_in asked.becomes ∙ left_in-asked before asked.request) ∙ gone.leaves))
 
 leaving : (event : Event) (before : List Event) (p : ℕ) → IsLawful (event ∷ before) → Leaves event before p → (t : ℕ) × IsInnermost before t p
 unfolding is_to_leave
 leaving event before p lawful gone =
-    let pending = and_parts (is_pending before gone.at gone.closing.by) (all_terminated before (BlockMaster gone.closing.block)) (leaves_ready event before p lawful.1 gone) in
-    let free = pending_parts before gone.at gone.closing.by pending.0 in
-    (gone.closing.by, subst (λ (b : ℕ). IsInnermost before gone.closing.by b) gone.block (pending_innermost before gone.at gone.closed gone.closing lawful.0 gone.stands gone.says free.0 free.1))
+    let pending = and_parts (is_pending before gone.at gone.closing.by) (all_terminated before (BlockMaster gone.closing.block))
+    (leaves_ready event before p lawful.1 gone) in
+    let free = pending_parts before gone.at gone.closing.by pending.0 in (
+      gone.closing.by,
+      subst (λ (b : ℕ). IsInnermost before gone.closing.by b) gone.block
+          (pending_innermost before gone.at gone.closed gone.closing lawful.0 gone.stands gone.says free.0 free.1),
+    )
 
 leaves_last : (event : Event) (before : List Event) (task : ℕ) → IsLawful (event ∷ before) → IsLast event before task before
 leaves_last event before task lawful p q e f at_p at_q was_p was_q left less =
@@ -375,16 +444,22 @@ blocks_nest (event ∷ before) task lawful =
     outer : Master
     outer = Body (record { 0 = task })
 
-    by_newest : (o : Option Member) → block_at (event ∷ before) task (suc (length before)) event ≡ o → AreNested before (Body (record { 0 = task })) (blocks before task) → AreNested (event ∷ before) (Body (record { 0 = task })) (gathered (block_at (event ∷ before) task) before ++ option_to_list o)
+    by_newest : (o : Option Member) → block_at (event ∷ before) task (suc (length before)) event ≡ o
+        → AreNested before (Body (record { 0 = task })) (blocks before task)
+        → AreNested (event ∷ before) (Body (record { 0 = task })) (gathered (block_at (event ∷ before) task) before ++ option_to_list o)
     by_newest None is older =
         rw (append-nil (gathered (block_at (event ∷ before) task) before))
-        (nested_later event before outer (gathered (block_at (event ∷ before) task) before) (shrink event before task outer before (leaves_last event before task lawful) older))
+        (nested_later event before outer (gathered (block_at (event ∷ before) task) before)
+        (shrink event before task outer before (leaves_last event before task lawful) older))
     by_newest (Some (Rendezvous call)) is older = absurd (no_rendezvous (opening_in event) is)
       where
-        no_rendezvous : (o : Option Opening) → option_map_or (λ (o : Opening). then_some (eqb o.by task && not (is_left (event ∷ before) (suc (length before)))) (Block (suc (length before)))) o None ≡ Some (Rendezvous call) → ⊥
+        no_rendezvous : (o : Option Opening) → option_map_or
+            (λ (o : Opening). then_some (eqb o.by task && not (is_left (event ∷ before) (suc (length before)))) (Block (suc (length before)))) o None
+            ≡ Some (Rendezvous call) → ⊥
         no_rendezvous None gives = none-some (Rendezvous call) gives
         no_rendezvous (Some o) gives =
-            let found = then_some-some (eqb o.by task && not (is_left (event ∷ before) (suc (length before)))) (Block (suc (length before))) (Rendezvous call) gives in
+            let found = then_some-some (eqb o.by task && not (is_left (event ∷ before) (suc (length before)))) (Block (suc (length before)))
+            (Rendezvous call) gives in
             cc (found.1)
     by_newest (Some (Block p)) is older =
         let (o, says, by, unleft, place) = member_parts (event ∷ before) task (suc (length before)) p event is in

@@ -39,52 +39,65 @@ use Rattle.ada_counts.proofs.Telling.{records_tell_phases}
 pub caller_later : (event : Event) (before : List Event) (call caller : ℕ) → caller_of before call ≡ Some caller → caller_of (event ∷ before) call ≡ Some caller
 caller_later event before call caller made = of_event (event_at before call) refl made
   where
-    of_event : (o : Option Event) → event_at before call ≡ o → option_map (λ (c : Call). c.by) (option_and_then call_in o) ≡ Some caller → caller_of (event ∷ before) call ≡ Some caller
+    of_event : (o : Option Event) → event_at before call ≡ o → option_map (λ (c : Call). c.by) (option_and_then call_in o) ≡ Some caller
+        → caller_of (event ∷ before) call ≡ Some caller
     of_event None at made = absurd (none-some caller made)
     of_event (Some e) at made = rw (event_at-older event before call e at) made
 
 -- the calls at an entry stay where its queue does
-pub queued_later : (event : Event) (before : List Event) (task : ℕ) (entry : Entry) (calls : List QueuedCall) → queue (event ∷ before) task entry ≡ queue before task entry → AreQueued before task entry calls → AreQueued (event ∷ before) task entry calls
+pub queued_later : (event : Event) (before : List Event) (task : ℕ) (entry : Entry) (calls : List QueuedCall)
+    → queue (event ∷ before) task entry ≡ queue before task entry → AreQueued before task entry calls → AreQueued (event ∷ before) task entry calls
 queued_later event before task entry calls same old = record {
   positions = old.positions ∙ sym same;
-  callers = All-weaker (λ (c : QueuedCall). caller_of before c.call ≡ Some c.caller) (λ (c : QueuedCall). caller_of (event ∷ before) c.call ≡ Some c.caller) (λ c made. caller_later event before c.call c.caller made) calls old.callers;
+  callers = All-weaker (λ (c : QueuedCall). caller_of before c.call ≡ Some c.caller) (λ (c : QueuedCall). caller_of (event ∷ before) c.call ≡ Some c.caller)
+      (λ c made. caller_later event before c.call c.caller made) calls old.callers;
 }
 
 -- what the tables hold of a task whose nest and phase stay
-kept_facts : (event : Event) (before : List Event) (task : ℕ) (held : Facts) → held ≡ facts_in before task → nest (event ∷ before) task ≡ nest before task → phase_of (event ∷ before) task ≡ phase_of before task → held ≡ facts_after event before task held
+kept_facts : (event : Event) (before : List Event) (task : ℕ) (held : Facts) → held ≡ facts_in before task → nest (event ∷ before) task ≡ nest before task
+    → phase_of (event ∷ before) task ≡ phase_of before task → held ≡ facts_after event before task held
 kept_facts event before task held is nests phases = rw (nests, phases, is) refl
 
-new_facts : (event : Event) (before : List Event) (task : ℕ) (held : Facts) (phase : Phase) → held ≡ facts_in before task → nest (event ∷ before) task ≡ nest before task → phase ≡ phase_of (event ∷ before) task → record held { phase = phase } ≡ facts_after event before task held
+new_facts : (event : Event) (before : List Event) (task : ℕ) (held : Facts) (phase : Phase) → held ≡ facts_in before task
+    → nest (event ∷ before) task ≡ nest before task → phase ≡ phase_of (event ∷ before) task
+    → record held { phase = phase } ≡ facts_after event before task held
 new_facts event before task held phase is nests now = rw (nests, now, is) refl
 
-pub phase_followed : (event : Event) (before : List Event) (old new : State) (task : ℕ) (phase : Phase) (kept : Record) → IsLawful (event ∷ before) → StandFor old before → task < task_count before → ChangesOnePhase event before task → IsRecordOf (event ∷ before) task kept → phase ≡ phase_by kept → new ≡ record old { tasks = with_phase task phase old.tasks } → StandFor new (event ∷ before)
+pub phase_followed : (event : Event) (before : List Event) (old new : State) (task : ℕ) (phase : Phase) (kept : Record) → IsLawful (event ∷ before)
+    → StandFor old before → task < task_count before → ChangesOnePhase event before task → IsRecordOf (event ∷ before) task kept → phase ≡ phase_by kept
+    → new ≡ record old { tasks = with_phase task phase old.tasks } → StandFor new (event ∷ before)
 phase_followed event before old new task phase kept lawful stand known changes right by is =
     tables_follow event before old new lawful changes.makes stand (record {
       same = ap (λ (s : State). length s.tasks) is ∙ length-set old.tasks task (record (task_at old.tasks task) { phase = phase });
       tasks = λ other below. ap (λ (s : State). task_at s.tasks other) is ∙ of_task other below;
       queues = λ other entry has.
-          subst (λ (queues : List (List QueuedCall)). AreQueued (event ∷ before) other entry (queue_at queues (slot_at old.tasks other entry))) (sym (ap (λ (s : State). s.queues) is))
-          (queued_later event before other entry (queue_at old.queues (slot_at old.tasks other entry)) (changes.queues other entry) (stand.queues other entry has));
+          subst (λ (queues : List (List QueuedCall)). AreQueued (event ∷ before) other entry (queue_at queues (slot_at old.tasks other entry)))
+          (sym (ap (λ (s : State). s.queues) is))
+          (queued_later event before other entry (queue_at old.queues (slot_at old.tasks other entry)) (changes.queues other entry)
+          (stand.queues other entry has));
     })
   where
     within : task < length old.tasks
     within = omega (arith, known, stand.many)
 
-    of_task : (other : ℕ) → other < length old.tasks → task_at (with_phase task phase old.tasks) other ≡ facts_after event before other (task_at old.tasks other)
+    of_task : (other : ℕ) → other < length old.tasks
+        → task_at (with_phase task phase old.tasks) other ≡ facts_after event before other (task_at old.tasks other)
     of_task other below =
         let exists : other < task_count before = omega (arith, below, stand.many) in
         elim (cases_eq other task) [
           | inl same ↦
               subst (λ (n : ℕ). task_at (with_phase task phase old.tasks) n ≡ facts_after event before n (task_at old.tasks n)) (sym same)
               (get_or-set_same old.tasks task (record (task_at old.tasks task) { phase = phase }) nobody within
-              ∙ new_facts event before task (task_at old.tasks task) phase (stand.tasks task known) (changes.nests task) (by ∙ records_tell_phases (event ∷ before) task kept right))
+              ∙ new_facts event before task (task_at old.tasks task) phase (stand.tasks task known) (changes.nests task)
+              (by ∙ records_tell_phases (event ∷ before) task kept right))
           | inr differs ↦
               get_or-set_other old.tasks task other (record (task_at old.tasks task) { phase = phase }) nobody differs
               ∙ kept_facts event before other (task_at old.tasks other) (stand.tasks other exists) (changes.nests other) (changes.phases other differs)
         ]
 
 -- the tables know that a task isn't terminated
-pub live_in_tables : (old : State) (before : List Event) (task : ℕ) → StandFor old before → task < task_count before → is_terminated before task ≡ false → ends (task_at old.tasks task).phase ≡ false
+pub live_in_tables : (old : State) (before : List Event) (task : ℕ) → StandFor old before → task < task_count before → is_terminated before task ≡ false
+    → ends (task_at old.tasks task).phase ≡ false
 live_in_tables old before task stand known live = ap (λ (f : Facts). ends f.phase) (stand.tasks task known) ∙ ends_phase before task ∙ live
 
 pub held_opens_none : (e : Event) (task : ℕ) → held_in e ≡ Some task → opening_in e ≡ None
@@ -109,9 +122,11 @@ holds_change_one_phase event before task lawful hold calls =
           (same_completed event before other only.quiet) (same_terminated event before other only.quiet);
     }
 
-gone_says : (e : Event) (task : TaskNo) → e ≡ Gone task → (creation_in e ≡ None) × (opening_in e ≡ None) × (meeting_in e ≡ None) × (released_in e ≡ None) × (call_in e ≡ None) × (completed_in e ≡ None) × (held_in e ≡ None) × (started_in e ≡ [])
+gone_says : (e : Event) (task : TaskNo) → e ≡ Gone task → (creation_in e ≡ None) × (opening_in e ≡ None) × (meeting_in e ≡ None) × (released_in e ≡ None)
+    × (call_in e ≡ None) × (completed_in e ≡ None) × (held_in e ≡ None) × (started_in e ≡ [])
 unfolding creation_in opening_in meeting_in released_in call_in completed_in held_in started_in
-gone_says e task is = (ap creation_in is, ap opening_in is, ap meeting_in is, ap released_in is, ap call_in is, ap completed_in is, ap held_in is, ap started_in is)
+gone_says e task is =
+    (ap creation_in is, ap opening_in is, ap meeting_in is, ap released_in is, ap call_in is, ap completed_in is, ap held_in is, ap started_in is)
 
 gone_completes : (event : Event) (before : List Event) (other : ℕ) → completed_in event ≡ None → is_completed (event ∷ before) other ≡ is_completed before other
 unfolding is_completed

@@ -60,8 +60,10 @@ releases_change_one_phase event before task position lawful frees leaves uncalle
     let says = says_release event position frees.releases in
     record {
       makes = only.plain.quiet.makes;
-      nests = λ other. nest_released event before other position frees.releases leaves frees.meets ∙ all_apart position (nest before other) (not_in_nest before other position uncalled);
-      queues = λ other entry. queue_released event before other entry position frees.releases frees.meets says.0 ∙ filter_absent position (queue before other entry) (not_in_queue before other position entry uncalled);
+      nests = λ other. nest_released event before other position frees.releases leaves frees.meets
+          ∙ all_apart position (nest before other) (not_in_nest before other position uncalled);
+      queues = λ other entry. queue_released event before other entry position frees.releases frees.meets says.0
+          ∙ filter_absent position (queue before other entry) (not_in_queue before other position entry uncalled);
       phases = λ other differs.
           others_keep_phases event before other lawful (λ holds. none-some other (sym only.holds ∙ holds)) (rw only.plain.starts refl)
           (λ p also there.
@@ -84,14 +86,18 @@ pub record OnlyCompletes (event : Event) : Type 0 where
 
 pub completes_only : (e : Event) (task : ℕ) → completed_in e ≡ Some task → OnlyCompletes e
 unfolding completed_in creation_in opening_in meeting_in released_in call_in held_in started_in gone_in quit_in
-completes_only (Completed by) task says = record { makes = refl; opens = refl; meets = refl; frees = refl; calls = refl; holds = refl; starts = refl; goes = refl; quits = refl }
-completes_only (Elaborated by false) task says = record { makes = refl; opens = refl; meets = refl; frees = refl; calls = refl; holds = refl; starts = refl; goes = refl; quits = refl }
+completes_only (Completed by) task says =
+    record { makes = refl; opens = refl; meets = refl; frees = refl; calls = refl; holds = refl; starts = refl; goes = refl; quits = refl }
+completes_only (Elaborated by false) task says =
+    record { makes = refl; opens = refl; meets = refl; frees = refl; calls = refl; holds = refl; starts = refl; goes = refl; quits = refl }
 completes_only (Elaborated by true) task says = absurd (none-some task says)
-completes_only (Halted by) task says = record { makes = refl; opens = refl; meets = refl; frees = refl; calls = refl; holds = refl; starts = refl; goes = refl; quits = refl }
+completes_only (Halted by) task says =
+    record { makes = refl; opens = refl; meets = refl; frees = refl; calls = refl; holds = refl; starts = refl; goes = refl; quits = refl }
 completes_only _ task says = absurd (none-some task says)
 
 -- who isn't suspended has no queued call
-queued_stays : (event : Event) (before : List Event) (task p : ℕ) (e : Event) → IsLawful (event ∷ before) → completed_in event ≡ Some task → is_suspended before task ≡ false → event_at before p ≡ Some e → is_queued_at before p e ≡ true → ends_caller event before (call_in e) ≡ false
+queued_stays : (event : Event) (before : List Event) (task p : ℕ) (e : Event) → IsLawful (event ∷ before) → completed_in event ≡ Some task
+    → is_suspended before task ≡ false → event_at before p ≡ Some e → is_queued_at before p e ≡ true → ends_caller event before (call_in e) ≡ false
 unfolding is_queued_at
 queued_stays event before task p e lawful completes free at queued =
     let (c, says, opened) = is_open_at-call before p e at (and_parts (is_open_at before p e) (not (is_met before p)) queued).0 in
@@ -104,15 +110,18 @@ all_kept : (q a : Bool) → (q ≡ true → a ≡ false) → (q && (true && not 
 all_kept true a lives = rw (lives refl) refl
 all_kept false a lives = refl
 
-pub completed_queue : (event : Event) (before : List Event) (task other : ℕ) (entry : Entry) → IsLawful (event ∷ before) → completed_in event ≡ Some task → is_suspended before task ≡ false → OnlyCompletes event → queue (event ∷ before) other entry ≡ queue before other entry
+pub completed_queue : (event : Event) (before : List Event) (task other : ℕ) (entry : Entry) → IsLawful (event ∷ before) → completed_in event ≡ Some task
+    → is_suspended before task ≡ false → OnlyCompletes event → queue (event ∷ before) other entry ≡ queue before other entry
 completed_queue event before task other entry lawful completes free only =
     queue_more event before other entry (λ _. true)
     (λ p e at.
     queued-more event before p e
-    ∙ rw (only.frees, only.meets) (all_kept (is_queued_at before p e) (ends_caller event before (call_in e)) (queued_stays event before task p e lawful completes free at)))
+    ∙ rw (only.frees, only.meets) (all_kept (is_queued_at before p e) (ends_caller event before (call_in e))
+    (queued_stays event before task p e lawful completes free at)))
     ∙ rw (no_newest event before other entry only.calls, filter_all (queue before other entry)) (append-nil (queue before other entry))
 
-pub other_completed : (event : Event) (before : List Event) (task other : ℕ) → completed_in event ≡ Some task → other ≢ task → is_completed (event ∷ before) other ≡ is_completed before other
+pub other_completed : (event : Event) (before : List Event) (task other : ℕ) → completed_in event ≡ Some task → other ≢ task
+    → is_completed (event ∷ before) other ≡ is_completed before other
 unfolding is_completed
 other_completed event before task other says differs = rw (says, ne_eqb other task differs) refl
 

@@ -1,5 +1,6 @@
 -- A master is held by one task at most.
-use Rattle.std.proofs.Common.{◌≡◌, ℕ, zero, suc, ◌<◌, true, false, ◌&&◌, eqb, Option, Some, None, List, [], ◌∷◌, length, get_or, refl, sym, ap, ◌∙◌, subst, arith, inl, inr}
+use Rattle.std.proofs.Common.{◌≡◌, ℕ, zero, suc, ◌<◌, true, false, ◌&&◌, eqb, Option, Some, None, List, [], ◌∷◌, length, get_or, refl, sym, ap, ◌∙◌, subst}
+use Rattle.std.proofs.Common.{arith, inl, inr}
 use Rattle.std.specs.Option.{option_map_or}
 use Rattle.std.specs.Bool.{then_some}
 use Rattle.std.specs.List.{Contains}
@@ -33,7 +34,9 @@ pub block_in_nest : (journal : List Event) (task b : ℕ) → has_block b (nest 
 unfolding nest member_at
 block_in_nest journal task b has =
     let (q, e, at, gives) = gathered-found (member_at journal task) journal (Block b) (contains_block (nest journal task) b has) in
-    elim (option_or-some (block_at journal task q e) (option_map_or (λ (m : Meeting). then_some (is_wait_of journal task m.wait && is_open_call journal m.call) (Rendezvous m.call)) (meeting_in e) None) (Block b) gives) [
+    elim (option_or-some (block_at journal task q e)
+    (option_map_or (λ (m : Meeting). then_some (is_wait_of journal task m.wait && is_open_call journal m.call) (Rendezvous m.call)) (meeting_in e) None)
+    (Block b) gives) [
       | inl opened ↦
           let parts = member_parts journal task q b e opened in (
             subst (IsBlockOf journal task) parts.4 (record { event = e; opening = parts.0; stands = at; says = parts.1; by = parts.2 }),
@@ -42,7 +45,8 @@ block_in_nest journal task b has =
       | inr met ↦ absurd (no_block (meeting_in e) met)
     ]
   where
-    no_block : (o : Option Meeting) → option_map_or (λ (m : Meeting). then_some (is_wait_of journal task m.wait && is_open_call journal m.call) (Rendezvous m.call)) o None ≡ Some (Block b) → ⊥
+    no_block : (o : Option Meeting) → option_map_or
+        (λ (m : Meeting). then_some (is_wait_of journal task m.wait && is_open_call journal m.call) (Rendezvous m.call)) o None ≡ Some (Block b) → ⊥
     no_block None gives = none-some (Block b) gives
     no_block (Some m) gives =
         let found = then_some-some (is_wait_of journal task m.wait && is_open_call journal m.call) (Rendezvous m.call) (Block b) gives in
@@ -57,7 +61,8 @@ has_contained (member ∷ rest) b (suc k) below is = or_right (is_block b member
 pub nest_has_block : (journal : List Event) (task b : ℕ) → IsBlockOf journal task b → is_left journal b ≡ false → has_block b (nest journal task) ≡ true
 unfolding nest member_at
 nest_has_block journal task b own unleft =
-    let (k, below, is) = gathered-from (member_at journal task) journal b own.event (Block b) own.stands (rw (own.says, eq-eqb own.opening.by task own.by, unleft) refl) in
+    let (k, below, is) = gathered-from (member_at journal task) journal b own.event (Block b) own.stands
+    (rw (own.says, eq-eqb own.opening.by task own.by, unleft) refl) in
     has_contained (nest journal task) b k below is
 
 -- a master is held by one task at most

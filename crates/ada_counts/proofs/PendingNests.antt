@@ -1,5 +1,6 @@
 -- What a task is within while it waits, or while a block that it closed waits for its dependents.
-use Rattle.std.proofs.Common.{◌≡◌, ℕ, zero, suc, ◌+◌, ◌-◌, ◌<◌, ◌≤◌, Bool, true, false, cond, not, ◌&&◌, eqb, Option, Some, None, List, [], ◌∷◌, ◌++◌, length, refl, sym, ap, ◌∙◌, subst, arith, inl, inr, append-nil}
+use Rattle.std.proofs.Common.{◌≡◌, ℕ, zero, suc, ◌+◌, ◌-◌, ◌<◌, ◌≤◌, Bool, true, false, cond, not, ◌&&◌, eqb, Option, Some, None, List, [], ◌∷◌, ◌++◌, length}
+use Rattle.std.proofs.Common.{refl, sym, ap, ◌∙◌, subst, arith, inl, inr, append-nil}
 use Rattle.std.specs.Option.{option_map_or, option_or}
 use Rattle.std.specs.Bool.{then_some}
 use Rattle.std.specs.List.{filter, slice_get}
@@ -68,7 +69,8 @@ pub has_innermost : (members : List Member) (b : ℕ) → EndsWith (Block b) mem
 has_innermost members b last = ap (has_block b) last.1 ∙ has_last b last.0
 
 -- a wait that takes a call isn't one of a task that stays suspended
-other_waits : (event : Event) (before : List Event) (task p : ℕ) (m : Meeting) → IsLawful (event ∷ before) → IsSuspendedAt before task p → is_released (event ∷ before) p ≡ false → meeting_in event ≡ Some m → is_wait_of before task m.wait ≡ false
+other_waits : (event : Event) (before : List Event) (task p : ℕ) (m : Meeting) → IsLawful (event ∷ before) → IsSuspendedAt before task p
+    → is_released (event ∷ before) p ≡ false → meeting_in event ≡ Some m → is_wait_of before task m.wait ≡ false
 unfolding is_wait_of
 other_waits event before task p m lawful held unreleased says =
     false_from_ne_true (is_wait_of before task m.wait) (λ mine.
@@ -77,7 +79,14 @@ other_waits event before task p m lawful held unreleased says =
     let same : w ≡ taking.wait = same_Some w taking.wait (sym at ∙ rw (taking.stands.stands) taking.stands.says) in
     let pending = pending_parts before m.wait taking.wait.by taking.pending in
     let there : IsSuspendedAt before taking.wait.by m.wait =
-    record { event = taking.stands.event; stands = taking.stands.stands; holds = held_in-wait taking.stands.event taking.wait taking.stands.says; unreleased = pending.0; live = pending.1 } in
+    record {
+      event = taking.stands.event;
+      stands = taking.stands.stands;
+      holds = held_in-wait taking.stands.event taking.wait taking.stands.says;
+      unreleased =
+          pending.0;
+      live = pending.1;
+    } in
     let one : taking.wait.by ≡ task = ap (λ (x : Wait). x.by) (sym same) ∙ eqb-true w.by task by in
     let here : m.wait ≡ p = suspended_once before task m.wait p lawful.0 (subst (λ (u : ℕ). IsSuspendedAt before u m.wait) one there) held in
     let frees : released_in event ≡ Some p = ap released_in (meeting_in-met event m says) ∙ (met_frees m.call m.wait).0 ∙ ap Some here in
@@ -88,7 +97,8 @@ unfolding wait_in
 met_waits_none e m says = ap wait_in (meeting_in-met e m says)
 
 -- nothing comes into the nest of a task that stays suspended
-enters_none : (event : Event) (before : List Event) (task p : ℕ) → IsLawful (event ∷ before) → IsSuspendedAt before task p → is_released (event ∷ before) p ≡ false → member_at (event ∷ before) task (suc (length before)) event ≡ None
+enters_none : (event : Event) (before : List Event) (task p : ℕ) → IsLawful (event ∷ before) → IsSuspendedAt before task p
+    → is_released (event ∷ before) p ≡ false → member_at (event ∷ before) task (suc (length before)) event ≡ None
 unfolding member_at
 enters_none event before task p lawful held unreleased = by_opening (opening_in event) refl
   where
@@ -98,11 +108,21 @@ enters_none event before task p lawful held unreleased = by_opening (opening_in 
         let runs = subst (λ (u : ℕ). is_running before u ≡ true) (eqb-true o.by task same) (opening_asked event before o lawful.1 says).runs in
         true≢false (sym (is_suspended-from before task p held) ∙ running_free before task runs))
 
-    by_meeting : (m : Option Meeting) → meeting_in event ≡ m → option_map_or (λ (m : Meeting). then_some (is_wait_of (event ∷ before) task m.wait && is_open_call (event ∷ before) m.call) (Rendezvous m.call)) m None ≡ None
+    by_meeting : (m : Option Meeting) → meeting_in event ≡ m
+        → option_map_or (λ (m : Meeting). then_some (is_wait_of (event ∷ before) task m.wait && is_open_call (event ∷ before) m.call) (Rendezvous m.call)) m
+        None ≡ None
     by_meeting None says = refl
-    by_meeting (Some m) says = rw (wait_same event before task m.wait (met_waits_none event m says), other_waits event before task p m lawful held unreleased says) refl
+    by_meeting (Some m) says = rw (
+      wait_same event before task m.wait (met_waits_none event m says),
+      other_waits event before task p m lawful held unreleased
+          says,
+    ) refl
 
-    by_opening : (o : Option Opening) → opening_in event ≡ o → option_or (option_map_or (λ (o : Opening). then_some (eqb o.by task && not (is_left (event ∷ before) (suc (length before)))) (Block (suc (length before)))) o None) (option_map_or (λ (m : Meeting). then_some (is_wait_of (event ∷ before) task m.wait && is_open_call (event ∷ before) m.call) (Rendezvous m.call)) (meeting_in event) None) ≡ None
+    by_opening : (o : Option Opening) → opening_in event ≡ o
+        → option_or (option_map_or (λ (o : Opening). then_some (eqb o.by task && not (is_left (event ∷ before) (suc (length before))))
+        (Block (suc (length before)))) o None) (option_map_or
+        (λ (m : Meeting). then_some (is_wait_of (event ∷ before) task m.wait && is_open_call (event ∷ before) m.call) (Rendezvous m.call)) (meeting_in event)
+        None) ≡ None
     by_opening None says = by_meeting (meeting_in event) refl
     by_opening (Some o) says = rw (other_opens o says) (by_meeting (meeting_in event) refl)
 
@@ -112,13 +132,15 @@ stays event before (Block p) = not (is_left (event ∷ before) p)
 stays event before (Rendezvous call) = is_open_call (event ∷ before) call
 
 -- the nest of a task that stays suspended loses members at most
-held_nest : (event : Event) (before : List Event) (task p : ℕ) → IsLawful (event ∷ before) → IsSuspendedAt before task p → is_released (event ∷ before) p ≡ false → nest (event ∷ before) task ≡ filter (stays event before) (nest before task)
+held_nest : (event : Event) (before : List Event) (task p : ℕ) → IsLawful (event ∷ before) → IsSuspendedAt before task p
+    → is_released (event ∷ before) p ≡ false → nest (event ∷ before) task ≡ filter (stays event before) (nest before task)
 held_nest event before task p lawful held unreleased =
     nest_more event before task lawful
     ∙ rw (enters_none event before task p lawful held unreleased) (append-nil (filter (stays event before) (nest before task)))
 
 -- an event that holds somebody up changes no nest
-holding_nest : (event : Event) (before : List Event) (by task : ℕ) → IsLawful (event ∷ before) → held_in event ≡ Some by → nest (event ∷ before) task ≡ nest before task
+holding_nest : (event : Event) (before : List Event) (by task : ℕ) → IsLawful (event ∷ before) → held_in event ≡ Some by
+    → nest (event ∷ before) task ≡ nest before task
 holding_nest event before by task lawful holds =
     let only = hold_only event by holds in
     others_keep_nests event before task lawful (held_opens_none event by holds) only.meets only.releases
@@ -128,18 +150,21 @@ innermost_is None block = absurd (true≢false block)
 innermost_is (Some (Rendezvous call)) block = absurd (true≢false block)
 innermost_is (Some (Block b)) block = refl
 
-asked_close : (journal : List Event) (r : Request) (k : Closing) → refusal journal r ≡ None → closing_in (asked_event journal r) ≡ Some k → innermost (nest journal k.by) ≡ Some (Block k.block)
+asked_close : (journal : List Event) (r : Request) (k : Closing) → refusal journal r ≡ None → closing_in (asked_event journal r) ≡ Some k
+    → innermost (nest journal k.by) ≡ Some (Block k.block)
 unfolding asked_event closing_in has_no_block
 asked_close journal (request.Close by) k accepted says =
     subst (λ (x : Closing). innermost (nest journal x.by) ≡ Some (Block x.block)) (same_Some _ k says)
     (innermost_is (innermost (nest journal by.0)) (is_accepted journal (request.Close by) accepted).in_block)
 asked_close journal _ k accepted says = absurd (none-some k says)
 
-new_close : (event : Event) (before : List Event) (k : Closing) → MayFollow before event → closing_in event ≡ Some k → innermost (nest before k.by) ≡ Some (Block k.block)
+new_close : (event : Event) (before : List Event) (k : Closing) → MayFollow before event → closing_in event ≡ Some k
+    → innermost (nest before k.by) ≡ Some (Block k.block)
 new_close event before k (inl forces) says = absurd (none-some k.by (sym (forced-step before event forces).holds_none ∙ held_in-closing event k says))
 new_close event before k (inr asked) says = asked_close before asked.request k asked.accepted (ap closing_in (sym asked.becomes) ∙ says)
 
-kept_last : (event : Event) (before : List Event) (b : ℕ) (members : List Member) → is_left (event ∷ before) b ≡ false → EndsWith (Block b) members → EndsWith (Block b) (filter (stays event before) members)
+kept_last : (event : Event) (before : List Event) (b : ℕ) (members : List Member) → is_left (event ∷ before) b ≡ false → EndsWith (Block b) members
+    → EndsWith (Block b) (filter (stays event before) members)
 kept_last event before b members unleft last = (
   filter (stays event before) last.0,
   ap (filter (stays event before)) last.1
@@ -148,7 +173,8 @@ kept_last event before b members unleft last = (
 )
 
 -- while the close of a block is pending, the block is the innermost of its task
-pub closed_last : (journal : List Event) (c : ℕ) (e : Event) (k : Closing) → IsLawful journal → event_at journal c ≡ Some e → closing_in e ≡ Some k → is_released journal c ≡ false → has_ended journal k.by ≡ false → EndsWith (Block k.block) (nest journal k.by)
+pub closed_last : (journal : List Event) (c : ℕ) (e : Event) (k : Closing) → IsLawful journal → event_at journal c ≡ Some e → closing_in e ≡ Some k
+    → is_released journal c ≡ false → has_ended journal k.by ≡ false → EndsWith (Block k.block) (nest journal k.by)
 unfolding event_at is_to_leave
 closed_last [] c e k lawful at says unreleased live = absurd (none-some e at)
 closed_last (event ∷ before) c e k lawful at says unreleased live =
@@ -168,13 +194,22 @@ closed_last (event ∷ before) c e k lawful at says unreleased live =
           elim (left_cases event before k.block lawful left) [
             | inr already ↦ true≢false (sym already ∙ (block_in_nest before k.by k.block has).1)
             | inl gone ↦
-                let ready = and_first (is_pending before gone.at gone.closing.by) (all_terminated before (BlockMaster gone.closing.block)) (leaves_ready event before k.block lawful.1 gone) in
+                let ready = and_first (is_pending before gone.at gone.closing.by) (all_terminated before (BlockMaster gone.closing.block))
+                (leaves_ready event before k.block lawful.1 gone) in
                 let pending = pending_parts before gone.at gone.closing.by ready in
                 let also = closed_last before gone.at gone.closed gone.closing lawful.0 gone.stands gone.says pending.0 pending.1 in
-                let holds = subst (λ (b : ℕ). has_block b (nest before gone.closing.by) ≡ true) gone.block (has_innermost (nest before gone.closing.by) gone.closing.block also) in
+                let holds = subst (λ (b : ℕ). has_block b (nest before gone.closing.by) ≡ true) gone.block
+                (has_innermost (nest before gone.closing.by) gone.closing.block also) in
                 let one : gone.closing.by ≡ k.by = one_holder before gone.closing.by k.by (BlockMaster k.block) holds has in
                 let there : IsSuspendedAt before gone.closing.by gone.at =
-                record { event = gone.closed; stands = gone.stands; holds = held_in-closing gone.closed gone.closing gone.says; unreleased = pending.0; live = pending.1 } in
+                record {
+                  event = gone.closed;
+                  stands = gone.stands;
+                  holds = held_in-closing gone.closed gone.closing gone.says;
+                  unreleased = pending.0;
+                  live =
+                      pending.1;
+                } in
                 let place : gone.at ≡ c = suspended_once before k.by gone.at c lawful.0 (subst (λ (u : ℕ). IsSuspendedAt before u gone.at) one there) held in
                 true≢false (sym (is_released-now event before c (left_frees event gone.at gone.leaves ∙ ap Some place)) ∙ unreleased)
           ]) in
@@ -192,11 +227,13 @@ filter_shorter test (x ∷ rest) =
     let shorter = filter_shorter test rest in
     by_test (test x) (omega arith) (omega arith)
   where
-    by_test : (b : Bool) → length (filter test rest) ≤ length (x ∷ rest) → length (x ∷ filter test rest) ≤ length (x ∷ rest) → length (cond b (x ∷ filter test rest) (filter test rest)) ≤ length (x ∷ rest)
+    by_test : (b : Bool) → length (filter test rest) ≤ length (x ∷ rest) → length (x ∷ filter test rest) ≤ length (x ∷ rest)
+        → length (cond b (x ∷ filter test rest) (filter test rest)) ≤ length (x ∷ rest)
     by_test true less more = more
     by_test false less more = less
 
-asked_wait : (journal : List Event) (r : Request) (w : Wait) → refusal journal r ≡ None → wait_in (asked_event journal r) ≡ Some w → length (nest journal w.by) < MOST_MEMBERS
+asked_wait : (journal : List Event) (r : Request) (w : Wait) → refusal journal r ≡ None → wait_in (asked_event journal r) ≡ Some w
+    → length (nest journal w.by) < MOST_MEMBERS
 unfolding asked_event wait_in is_too_deep
 asked_wait journal (request.Wait by choices tail pick) w accepted says =
     subst (λ (x : Wait). length (nest journal x.by) < MOST_MEMBERS) (same_Some _ w says)
@@ -208,7 +245,8 @@ new_wait event before w (inl forces) says = absurd (none-some w.by (sym (forced-
 new_wait event before w (inr asked) says = asked_wait before asked.request w asked.accepted (ap wait_in (sym asked.becomes) ∙ says)
 
 -- while a wait is pending, its task's nest has room for one more member
-pub waiting_shallow : (journal : List Event) (c : ℕ) (e : Event) (w : Wait) → IsLawful journal → event_at journal c ≡ Some e → wait_in e ≡ Some w → is_released journal c ≡ false → has_ended journal w.by ≡ false → length (nest journal w.by) < MOST_MEMBERS
+pub waiting_shallow : (journal : List Event) (c : ℕ) (e : Event) (w : Wait) → IsLawful journal → event_at journal c ≡ Some e → wait_in e ≡ Some w
+    → is_released journal c ≡ false → has_ended journal w.by ≡ false → length (nest journal w.by) < MOST_MEMBERS
 unfolding event_at
 waiting_shallow [] c e w lawful at says unreleased live = absurd (none-some e at)
 waiting_shallow (event ∷ before) c e w lawful at says unreleased live =

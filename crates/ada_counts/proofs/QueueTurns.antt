@@ -41,16 +41,20 @@ use Rattle.ada_counts.proofs.OnePhaseKinds.{completes_only, completed_queue, fil
 use Rattle.ada_counts.proofs.ReleasedKinds.{plain_release, plainly_uncalled, is_leaving, closing_is}
 
 -- an event that makes no call, releases nothing, meets and completes nobody
-pub queues_kept : (event f : Event) (before : List Event) → event ≡ f → call_in f ≡ None → released_in f ≡ None → meeting_in f ≡ None → completed_in f ≡ None → IsLawful (event ∷ before) → ChangesQueues event before Nothing
+pub queues_kept : (event f : Event) (before : List Event) → event ≡ f → call_in f ≡ None → released_in f ≡ None → meeting_in f ≡ None → completed_in f ≡ None
+    → IsLawful (event ∷ before) → ChangesQueues event before Nothing
 queues_kept event f before is calls frees meets completes lawful = λ task entry.
-    others_keep_queues event before task entry lawful (ap call_in is ∙ calls) (ap released_in is ∙ frees) (ap meeting_in is ∙ meets) (ap completed_in is ∙ completes)
+    others_keep_queues event before task entry lawful (ap call_in is ∙ calls) (ap released_in is ∙ frees) (ap meeting_in is ∙ meets)
+    (ap completed_in is ∙ completes)
 
 -- the release of something that isn't a call
-uncalled_released : (event : Event) (before : List Event) (p : ℕ) → released_in event ≡ Some p → meeting_in event ≡ None → call_in event ≡ None → call_at before p ≡ None → ChangesQueues event before Nothing
+uncalled_released : (event : Event) (before : List Event) (p : ℕ) → released_in event ≡ Some p → meeting_in event ≡ None → call_in event ≡ None
+    → call_at before p ≡ None → ChangesQueues event before Nothing
 uncalled_released event before p frees meets calls uncalled = λ task entry.
     queue_released event before task entry p frees meets calls ∙ filter_absent p (queue before task entry) (not_in_queue before task p entry uncalled)
 
-pub queues_passed : (event f : Event) (before : List Event) (p : ℕ) → event ≡ f → plain_release f ≡ Some p → released_in f ≡ Some p → meeting_in f ≡ None → call_in f ≡ None → IsLawful (event ∷ before) → ChangesQueues event before Nothing
+pub queues_passed : (event f : Event) (before : List Event) (p : ℕ) → event ≡ f → plain_release f ≡ Some p → released_in f ≡ Some p → meeting_in f ≡ None
+    → call_in f ≡ None → IsLawful (event ∷ before) → ChangesQueues event before Nothing
 queues_passed event f before p is plain frees meets calls lawful =
     uncalled_released event before p (ap released_in is ∙ frees) (ap meeting_in is ∙ meets) (ap call_in is ∙ calls)
     (plainly_uncalled event before p lawful (ap plain_release is ∙ plain))
@@ -64,7 +68,8 @@ unfolding released_in meeting_in call_in left_in
 queues_left event before close is lawful =
     let leaving = is_leaving event before close lawful.1 (ap left_in is) in
     uncalled_released event before close (ap released_in is) (ap meeting_in is) (ap call_in is)
-    (ap (option_and_then call_in) (leaving.stands ∙ ap Some (closing_is leaving.event leaving.closing leaving.says)) ∙ closed_calls_none (record { 0 = leaving.closing.by }) leaving.closing.block)
+    (ap (option_and_then call_in) (leaving.stands ∙ ap Some (closing_is leaving.event leaving.closing leaving.says))
+    ∙ closed_calls_none (record { 0 = leaving.closing.by }) leaving.closing.block)
 
 -- who asks to complete, or to end its activation
 abbrev ends_itself : Event → Option ℕ
@@ -88,18 +93,22 @@ ends_free event before task lawful says = by_row lawful.1
     by_row : MayFollow before event → is_suspended before task ≡ false
     by_row (inl forces) = absurd (none-some task (sym (row_ends_none before event (forced-row before event forces)) ∙ says))
     by_row (inr asked) =
-        running_free before task (asker_runs before asked.request task asked.accepted (asked_end before asked.request task (ap ends_itself (sym asked.becomes) ∙ says)))
+        running_free before task (asker_runs before asked.request task asked.accepted
+        (asked_end before asked.request task (ap ends_itself (sym asked.becomes) ∙ says)))
 
-free_completion : (event : Event) (before : List Event) (task : ℕ) → IsLawful (event ∷ before) → completed_in event ≡ Some task → is_suspended before task ≡ false → ChangesQueues event before Nothing
+free_completion : (event : Event) (before : List Event) (task : ℕ) → IsLawful (event ∷ before) → completed_in event ≡ Some task
+    → is_suspended before task ≡ false → ChangesQueues event before Nothing
 free_completion event before task lawful completes free = λ other entry.
     completed_queue event before task other entry lawful completes free (completes_only event task completes)
 
-pub queues_completed : (event : Event) (before : List Event) (by : TaskNo) → event ≡ kind.Completed by → IsLawful (event ∷ before) → ChangesQueues event before Nothing
+pub queues_completed : (event : Event) (before : List Event) (by : TaskNo) → event ≡ kind.Completed by → IsLawful (event ∷ before)
+    → ChangesQueues event before Nothing
 unfolding completed_in
 queues_completed event before by is lawful =
     free_completion event before by.0 lawful (ap completed_in is) (ends_free event before by.0 lawful (ap ends_itself is))
 
-pub queues_elaborated : (event : Event) (before : List Event) (by : TaskNo) (ok : Bool) → event ≡ kind.Elaborated by ok → IsLawful (event ∷ before) → ChangesQueues event before Nothing
+pub queues_elaborated : (event : Event) (before : List Event) (by : TaskNo) (ok : Bool) → event ≡ kind.Elaborated by ok → IsLawful (event ∷ before)
+    → ChangesQueues event before Nothing
 unfolding completed_in call_in released_in meeting_in
 queues_elaborated event before by true is lawful = queues_kept event (kind.Elaborated by true) before is refl refl refl refl lawful
 queues_elaborated event before by false is lawful =
@@ -117,7 +126,8 @@ filter_whole f (x ∷ xs) all =
     rw (all x (Contains-first x xs), filter_whole f xs (λ y has. all y (Contains-later x y xs has))) refl
 
 -- who made a queued call is suspended at it
-pub queued_by : (journal : List Event) (task : ℕ) (entry : Entry) (p : ℕ) → Contains (queue journal task entry) p → (u : ℕ) × (caller_of journal p ≡ Some u) × IsSuspendedAt journal u p
+pub queued_by : (journal : List Event) (task : ℕ) (entry : Entry) (p : ℕ) → Contains (queue journal task entry) p → (u : ℕ) × (caller_of journal p ≡ Some u)
+    × IsSuspendedAt journal u p
 queued_by journal task entry p has =
     let queued = queue-found journal task entry p has in (
       queued.call.by,
@@ -126,7 +136,8 @@ queued_by journal task entry p has =
     )
 
 -- of what a task is suspended at, and of its calls, the same is queued
-same_taken : (before : List Event) (u p : ℕ) (task : ℕ) (entry : Entry) → IsLawful before → IsSuspendedAt before u p → filter (λ q. not (eqb q p)) (queue before task entry) ≡ without_caller before u (queue before task entry)
+same_taken : (before : List Event) (u p : ℕ) (task : ℕ) (entry : Entry) → IsLawful before → IsSuspendedAt before u p
+    → filter (λ q. not (eqb q p)) (queue before task entry) ≡ without_caller before u (queue before task entry)
 same_taken before u p task entry lawful held =
     filter_alike (λ q. not (eqb q p)) (λ q. not (is_number u (caller_of before q))) (queue before task entry) (λ q has.
     let (v, caller, there) = queued_by before task entry q has in
@@ -144,7 +155,8 @@ same_taken before u p task entry lawful held =
         ]
 
 -- a call that ends leaves its queue, if it is still there
-pub queues_ended : (event f : Event) (before : List Event) (task : TaskNo) (p : ℕ) → event ≡ f → released_in f ≡ Some p → meeting_in f ≡ None → call_in f ≡ None → IsSuspendedAt before task.0 p → IsLawful (event ∷ before) → ChangesQueues event before (Leaves task)
+pub queues_ended : (event f : Event) (before : List Event) (task : TaskNo) (p : ℕ) → event ≡ f → released_in f ≡ Some p → meeting_in f ≡ None → call_in f ≡ None
+    → IsSuspendedAt before task.0 p → IsLawful (event ∷ before) → ChangesQueues event before (Leaves task)
 queues_ended event f before task p is frees meets calls held lawful = record {
   exists = suspended_exists before task.0 p lawful.0 held;
   queues = λ other entry.
@@ -153,14 +165,16 @@ queues_ended event f before task p is frees meets calls held lawful = record {
 }
 
 -- a call whose rendezvous begins leaves its queue
-pub queues_met : (event : Event) (before : List Event) (task : TaskNo) (call wait : ℕ) → event ≡ kind.Met call wait → IsSuspendedAt before task.0 call → IsLawful (event ∷ before) → ChangesQueues event before (Leaves task)
+pub queues_met : (event : Event) (before : List Event) (task : TaskNo) (call wait : ℕ) → event ≡ kind.Met call wait → IsSuspendedAt before task.0 call
+    → IsLawful (event ∷ before) → ChangesQueues event before (Leaves task)
 queues_met event before task call wait is held lawful = record {
   exists = suspended_exists before task.0 call lawful.0 held;
   queues = λ other entry. queue_met event before other entry call wait lawful is ∙ same_taken before task.0 call other entry lawful.0 held;
 }
 
 -- who isn't suspended has no queued call
-none_taken : (before : List Event) (u : ℕ) (task : ℕ) (entry : Entry) → is_suspended before u ≡ false → without_caller before u (queue before task entry) ≡ queue before task entry
+none_taken : (before : List Event) (u : ℕ) (task : ℕ) (entry : Entry) → is_suspended before u ≡ false
+    → without_caller before u (queue before task entry) ≡ queue before task entry
 none_taken before u task entry free =
     filter_whole (λ q. not (is_number u (caller_of before q))) (queue before task entry) (λ q has.
     let (v, caller, there) = queued_by before task entry q has in
@@ -168,7 +182,8 @@ none_taken before u task entry free =
     ∙ ap not (ne_eqb u v (λ same. true≢false (sym (is_suspended-from before u q (subst (λ (n : ℕ). IsSuspendedAt before n q) (sym same) there)) ∙ free))))
 
 -- the call of a task that is halted leaves its queue
-pub queues_halted : (event : Event) (before : List Event) (task : TaskNo) → event ≡ kind.Halted task → IsLawful (event ∷ before) → ChangesQueues event before (Leaves task)
+pub queues_halted : (event : Event) (before : List Event) (task : TaskNo) → event ≡ kind.Halted task → IsLawful (event ∷ before)
+    → ChangesQueues event before (Leaves task)
 unfolding completed_in
 queues_halted event before task is lawful = record {
   exists = completion_exists event before task lawful (inr is);
@@ -182,7 +197,8 @@ queues_halted event before task is lawful = record {
 }
 
 -- a call comes last at its entry
-pub queues_called : (event : Event) (before : List Event) (call : Call) (by callee : TaskNo) (entry : Entry) → call_in event ≡ Some call → call.by ≡ by.0 → call.callee ≡ callee.0 → call.entry ≡ entry → IsLawful (event ∷ before) → ChangesQueues event before (Joins by callee entry)
+pub queues_called : (event : Event) (before : List Event) (call : Call) (by callee : TaskNo) (entry : Entry) → call_in event ≡ Some call → call.by ≡ by.0
+    → call.callee ≡ callee.0 → call.entry ≡ entry → IsLawful (event ∷ before) → ChangesQueues event before (Joins by callee entry)
 queues_called event before call by callee entry says made called named lawful =
     let ran = holder_ran event before call.by lawful (held_in-call event call says) in
     let (n, number) = new_number event before call lawful.1 says in

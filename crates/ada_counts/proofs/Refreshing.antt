@@ -1,5 +1,6 @@
 -- Tables in which tasks got the phases that they have after one more event.
-use Rattle.std.proofs.Common.{◌≡◌, ◌≢◌, ℕ, ◌+◌, ◌<◌, ◌≤◌, Bool, true, false, cond, ◌||◌, eqb, ltb, Some, None, List, [], ◌∷◌, length, take, get_or, refl, sym, ap, ◌∙◌, subst, arith, inl, inr}
+use Rattle.std.proofs.Common.{◌≡◌, ◌≢◌, ℕ, ◌+◌, ◌<◌, ◌≤◌, Bool, true, false, cond, ◌||◌, eqb, ltb, Some, None, List, [], ◌∷◌, length, take, get_or, refl, sym}
+use Rattle.std.proofs.Common.{ap, ◌∙◌, subst, arith, inl, inr}
 use Rattle.std.proofs.lemmas.Bool.{cases_eq, cases_lt, eq-eqb, ne_eqb, lt-ltb, le-ltb, or_parts, true≢false}
 use Rattle.std.proofs.lemmas.List.{length-set, get_or-set_same, get_or-set_other, take_all}
 use Rattle.std.proofs.lemmas.List.Folds.{list_any_more}
@@ -31,16 +32,19 @@ ended_phase : (event : Event) (before : List Event) (task : ℕ) → is_terminat
 ended_phase event before task ended = rw (is_terminated-more event before task ended, ended) refl
 
 -- whose phase is as it was after the event needn't be done
-done_anyway : (event : Event) (before : List Event) (task : ℕ) (d : Bool) → (d ≡ false → phase_of (event ∷ before) task ≡ phase_of before task) → facts_between event before d task ≡ facts_between event before true task
+done_anyway : (event : Event) (before : List Event) (task : ℕ) (d : Bool) → (d ≡ false → phase_of (event ∷ before) task ≡ phase_of before task)
+    → facts_between event before d task ≡ facts_between event before true task
 done_anyway event before task true same = refl
 done_anyway event before task false same =
     ap (λ (p : Phase). record (facts_in before task) { nest = nest (event ∷ before) task; phase = p }) (sym (same refl))
 
-module _ (event : Event) (before : List Event) (done : ℕ → Bool) (old : State) (task : ℕ) (kept : Record) (between : AreBetween event before done old.tasks) (known : task < task_count before) (right : IsRecordOf (event ∷ before) task kept) where
+module _ (event : Event) (before : List Event) (done : ℕ → Bool) (old : State) (task : ℕ) (kept : Record) (between : AreBetween event before done old.tasks)
+    (known : task < task_count before) (right : IsRecordOf (event ∷ before) task kept) where
   within : task < length old.tasks
   within = omega (arith, known, between.many)
 
-  at_other : (other : ℕ) (new : Facts) → other ≢ task → other < task_count before → new ≡ task_at old.tasks other → new ≡ facts_between event before (eqb other task || done other) other
+  at_other : (other : ℕ) (new : Facts) → other ≢ task → other < task_count before → new ≡ task_at old.tasks other
+      → new ≡ facts_between event before (eqb other task || done other) other
   at_other other new differs below is =
       is ∙ between.facts other below ∙ ap (λ (b : Bool). facts_between event before (b || done other) other) (sym (ne_eqb other task differs))
 
@@ -50,7 +54,8 @@ module _ (event : Event) (before : List Event) (done : ℕ → Bool) (old : Stat
   given : record (task_at old.tasks task) { phase = phase_by kept } ≡ facts_between event before true task
   given =
       ap (λ (f : Facts). record f { phase = phase_by kept }) (between.facts task known)
-      ∙ ap (λ (p : Phase). record (facts_in before task) { nest = nest (event ∷ before) task; phase = p }) (records_tell_phases (event ∷ before) task kept right)
+      ∙ ap (λ (p : Phase). record (facts_in before task) { nest = nest (event ∷ before) task; phase = p })
+      (records_tell_phases (event ∷ before) task kept right)
 
   -- the phase that the tables hold of a task is one that it had
   ended_before : ends (task_at old.tasks task).phase ≡ true → done task ≡ false → is_terminated before task ≡ true
@@ -60,7 +65,8 @@ module _ (event : Event) (before : List Event) (done : ℕ → Bool) (old : Stat
       ∙ ap (λ (f : Facts). ends f.phase) (sym (between.facts task known))
       ∙ ended
 
-  by_end : (b : Bool) → ends (task_at old.tasks task).phase ≡ b → AreBetween event before (λ t. eqb t task || done t) (cond b old (record old { tasks = with_phase task (phase_by kept) old.tasks })).tasks
+  by_end : (b : Bool) → ends (task_at old.tasks task).phase ≡ b
+      → AreBetween event before (λ t. eqb t task || done t) (cond b old (record old { tasks = with_phase task (phase_by kept) old.tasks })).tasks
   by_end true ended = record {
     many = between.many;
     facts = λ other below.
@@ -93,19 +99,23 @@ module _ (event : Event) (before : List Event) (done : ℕ → Bool) (old : Stat
 pub refreshed_kept : (task : ℕ) (kept : Record) (old : State) → refreshed task kept old ≡ record old { tasks = (refreshed task kept old).tasks }
 refreshed_kept task kept old = by_end (ends (task_at old.tasks task).phase)
   where
-    by_end : (b : Bool) → cond b old (record old { tasks = with_phase task (phase_by kept) old.tasks }) ≡ record old { tasks = (cond b old (record old { tasks = with_phase task (phase_by kept) old.tasks })).tasks }
+    by_end : (b : Bool) → cond b old (record old { tasks = with_phase task (phase_by kept) old.tasks })
+        ≡ record old { tasks = (cond b old (record old { tasks = with_phase task (phase_by kept) old.tasks })).tasks }
     by_end true = refl
     by_end false = refl
 
 -- who counts as done is a matter of the tasks that exist
-pub between_same : (event : Event) (before : List Event) (done other : ℕ → Bool) (tasks : List Facts) → ((task : ℕ) → task < task_count before → done task ≡ other task) → AreBetween event before done tasks → AreBetween event before other tasks
+pub between_same : (event : Event) (before : List Event) (done other : ℕ → Bool) (tasks : List Facts)
+    → ((task : ℕ) → task < task_count before → done task ≡ other task) → AreBetween event before done tasks → AreBetween event before other tasks
 between_same event before done other tasks same between = record {
   many = between.many;
   facts = λ task below. between.facts task below ∙ ap (λ (b : Bool). facts_between event before b task) (same task below);
 }
 
 -- once all phases that the event changes are done
-pub all_done : (event : Event) (before : List Event) (done : ℕ → Bool) (tasks : List Facts) → creation_in event ≡ None → ((task : ℕ) → task < task_count before → done task ≡ false → phase_of (event ∷ before) task ≡ phase_of before task) → AreBetween event before done tasks → HoldFacts tasks (event ∷ before)
+pub all_done : (event : Event) (before : List Event) (done : ℕ → Bool) (tasks : List Facts) → creation_in event ≡ None
+    → ((task : ℕ) → task < task_count before → done task ≡ false → phase_of (event ∷ before) task ≡ phase_of before task) → AreBetween event before done tasks
+    → HoldFacts tasks (event ∷ before)
 all_done event before done tasks makes same between = record {
   many = between.many ∙ sym (task_count-same event before makes);
   facts = λ task below.
@@ -113,7 +123,10 @@ all_done event before done tasks makes same between = record {
       between.facts task known ∙ done_anyway event before task (done task) (same task known) ∙ same_facts event before task makes;
 }
 
-kept_more : (task : ℕ) (kept : Record) (first old new : State) → old ≡ record first { tasks = old.tasks } → new ≡ refreshed task kept old → new ≡ record first { tasks = new.tasks }
+kept_more : (task : ℕ) (kept : Record) (first old new : State) → old ≡ record first {
+  tasks =
+      old.tasks;
+} → new ≡ refreshed task kept old → new ≡ record first { tasks = new.tasks }
 kept_more task kept first old new was is =
     is ∙ refreshed_kept task kept old
     ∙ ap (λ (s : State). record s { tasks = (refreshed task kept old).tasks }) was
@@ -140,7 +153,8 @@ below_more t many =
           ])
     ]
 
-pub one_swept : (event : Event) (before : List Event) (first old new : State) (many : ℕ) (kept : Record) → AreSwept event before first old many → many < task_count before → IsRecordOf (event ∷ before) many kept → new ≡ refreshed many kept old → AreSwept event before first new (many + 1)
+pub one_swept : (event : Event) (before : List Event) (first old new : State) (many : ℕ) (kept : Record) → AreSwept event before first old many
+    → many < task_count before → IsRecordOf (event ∷ before) many kept → new ≡ refreshed many kept old → AreSwept event before first new (many + 1)
 one_swept event before first old new many kept swept known right is = (
   subst (λ (s : State). AreBetween event before (λ t. ltb t (many + 1)) s.tasks) (sym is)
       (between_same event before (λ t. eqb t many || ltb t many) (λ t. ltb t (many + 1)) (refreshed many kept old).tasks (λ t below. below_more t many)
@@ -148,13 +162,16 @@ one_swept event before first old new many kept swept known right is = (
   kept_more many kept first old new swept.1 is,
 )
 
-pub all_swept : (event : Event) (before : List Event) (first now : State) (many : ℕ) → creation_in event ≡ None → task_count before ≤ many → AreSwept event before first now many → HoldFacts now.tasks (event ∷ before)
+pub all_swept : (event : Event) (before : List Event) (first now : State) (many : ℕ) → creation_in event ≡ None → task_count before ≤ many
+    → AreSwept event before first now many → HoldFacts now.tasks (event ∷ before)
 all_swept event before first now many makes whole swept =
     all_done event before (λ t. ltb t many) now.tasks makes
     (λ t below undone. absurd (true≢false (sym (lt-ltb t many (omega (arith, whole, below))) ∙ undone))) swept.0
 
 -- where one phase changes at most
-pub one_refreshed : (event : Event) (before : List Event) (old new : State) (task : TaskNo) (kept : Record) → creation_in event ≡ None → TouchesOnly event before (Some task) → AreRenested event before old.tasks → IsRecordOf (event ∷ before) task.0 kept → new ≡ refreshed task.0 kept old → HoldFacts new.tasks (event ∷ before)
+pub one_refreshed : (event : Event) (before : List Event) (old new : State) (task : TaskNo) (kept : Record) → creation_in event ≡ None
+    → TouchesOnly event before (Some task) → AreRenested event before old.tasks → IsRecordOf (event ∷ before) task.0 kept → new ≡ refreshed task.0 kept old
+    → HoldFacts new.tasks (event ∷ before)
 one_refreshed event before old new task kept makes touches nests right is =
     subst (λ (s : State). HoldFacts s.tasks (event ∷ before)) (sym is)
     (all_done event before (λ t. eqb t task.0 || false) (refreshed task.0 kept old).tasks makes
@@ -166,7 +183,8 @@ abbrev pub AreNamed : Event → List Event → List TaskNo → State → State �
 AreNamed event before tasks first now many =
     AreBetween event before (λ t. lists_task t (take many tasks)) now.tasks × (now ≡ record first { tasks = now.tasks })
 
-pub none_named : (event : Event) (before : List Event) (tasks : List TaskNo) (first : State) → AreRenested event before first.tasks → AreNamed event before tasks first first 0
+pub none_named : (event : Event) (before : List Event) (tasks : List TaskNo) (first : State) → AreRenested event before first.tasks
+    → AreNamed event before tasks first first 0
 none_named event before [] first nests = (nests, refl)
 none_named event before (t ∷ rest) first nests = (nests, refl)
 
@@ -183,10 +201,14 @@ or_swap true false = refl
 or_swap false true = refl
 or_swap false false = refl
 
-pub one_named : (event : Event) (before : List Event) (tasks : List TaskNo) (first old new : State) (many : ℕ) (d : TaskNo) (kept : Record) → AreNamed event before tasks first old many → many < length tasks → (get_or tasks many d).0 < task_count before → IsRecordOf (event ∷ before) (get_or tasks many d).0 kept → new ≡ refreshed (get_or tasks many d).0 kept old → AreNamed event before tasks first new (many + 1)
+pub one_named : (event : Event) (before : List Event) (tasks : List TaskNo) (first old new : State) (many : ℕ) (d : TaskNo) (kept : Record)
+    → AreNamed event before tasks first old many → many < length tasks → (get_or tasks many d).0 < task_count before
+    → IsRecordOf (event ∷ before) (get_or tasks many d).0 kept → new ≡ refreshed (get_or tasks many d).0 kept old
+    → AreNamed event before tasks first new (many + 1)
 one_named event before tasks first old new many d kept named below known right is = (
   subst (λ (s : State). AreBetween event before (λ t. lists_task t (take (many + 1) tasks)) s.tasks) (sym is)
-      (between_same event before (λ t. eqb t (get_or tasks many d).0 || lists_task t (take many tasks)) (λ t. lists_task t (take (many + 1) tasks)) (refreshed (get_or tasks many d).0 kept old).tasks
+      (between_same event before (λ t. eqb t (get_or tasks many d).0 || lists_task t (take many tasks)) (λ t. lists_task t (take (many + 1) tasks))
+      (refreshed (get_or tasks many d).0 kept old).tasks
       (λ t exists.
       or_swap (eqb t (get_or tasks many d).0) (lists_task t (take many tasks))
       ∙ ap (λ (b : Bool). lists_task t (take many tasks) || b) (eqb_swap t (get_or tasks many d).0)
@@ -196,13 +218,16 @@ one_named event before tasks first old new many d kept named below known right i
 )
 
 -- once all that a start names are done, and then who starts them
-pub all_named : (event : Event) (before : List Event) (by : TaskNo) (tasks : List TaskNo) (first old new : State) (many : ℕ) (kept : Record) → IsLawful (event ∷ before) → event ≡ Started by tasks → creation_in event ≡ None → length tasks ≤ many → AreNamed event before tasks first old many → by.0 < task_count before → IsRecordOf (event ∷ before) by.0 kept → new ≡ refreshed by.0 kept old → HoldFacts new.tasks (event ∷ before)
+pub all_named : (event : Event) (before : List Event) (by : TaskNo) (tasks : List TaskNo) (first old new : State) (many : ℕ) (kept : Record)
+    → IsLawful (event ∷ before) → event ≡ Started by tasks → creation_in event ≡ None → length tasks ≤ many → AreNamed event before tasks first old many
+    → by.0 < task_count before → IsRecordOf (event ∷ before) by.0 kept → new ≡ refreshed by.0 kept old → HoldFacts new.tasks (event ∷ before)
 all_named event before by tasks first old new many kept lawful starts makes whole named known right is =
     subst (λ (s : State). HoldFacts s.tasks (event ∷ before)) (sym is)
     (all_done event before (λ t. eqb t by.0 || lists_task t (take many tasks)) (refreshed by.0 kept old).tasks makes
     (λ t below undone.
     let both = or_parts (eqb t by.0) (lists_task t (take many tasks)) undone in
-    start_touches event before by tasks t starts lawful (λ same. true≢false (sym (eq-eqb t by.0 same) ∙ both.0)) (ap (lists_task t) (sym (take_all many tasks whole)) ∙ both.1))
+    start_touches event before by tasks t starts lawful (λ same. true≢false (sym (eq-eqb t by.0 same) ∙ both.0))
+    (ap (lists_task t) (sym (take_all many tasks whole)) ∙ both.1))
     (refreshed_more event before (λ t. lists_task t (take many tasks)) old by.0 kept named.0 known right))
 
 pub start_makes : (event : Event) (by : TaskNo) (tasks : List TaskNo) → event ≡ Started by tasks → creation_in event ≡ None

@@ -46,7 +46,8 @@ plain_release (kind.Woken pause) = Some pause
 plain_release (kind.Activated start ok) = Some start
 plain_release _ = None
 
-asked_plainly : (journal : List Event) (r : Request) → (forced_call (asked_event journal r) ≡ None) × (plain_release (asked_event journal r) ≡ None) × (left_in (asked_event journal r) ≡ None)
+asked_plainly : (journal : List Event) (r : Request) → (forced_call (asked_event journal r) ≡ None) × (plain_release (asked_event journal r) ≡ None)
+    × (left_in (asked_event journal r) ≡ None)
 unfolding asked_event left_in
 asked_plainly journal (request.Open by) = (refl, refl, refl)
 asked_plainly journal _ = (refl, refl, refl)
@@ -94,7 +95,8 @@ row_unmet : (journal : List Event) (event : Event) (p : ℕ) → IsRow journal e
 unfolding is_to_cancel is_queued_at
 row_unmet journal event p (cancels q e at cancel) ends =
     subst (λ (n : ℕ). is_met journal n ≡ false) (same_Some q p ends)
-    (not-true (is_met journal q) (and_parts (is_open_at journal q e) (not (is_met journal q)) (and_parts _ (is_open_at journal q e && not (is_met journal q)) cancel).1).1)
+    (not-true (is_met journal q) (and_parts (is_open_at journal q e) (not (is_met journal q))
+    (and_parts _ (is_open_at journal q e && not (is_met journal q)) cancel).1).1)
 row_unmet journal event p _ ends = absurd (none-some p ends)
 
 -- no rendezvous began with a call that is cancelled
@@ -127,7 +129,8 @@ uncalled_at journal p q e at none same =
     subst (λ (n : ℕ). call_at journal n ≡ None) (same_Some q p same) (ap (option_and_then call_in) at ∙ none)
 
 row_uncalled : (journal : List Event) (event : Event) (p : ℕ) → IsRow journal event → plain_release event ≡ Some p → call_at journal p ≡ None
-row_uncalled journal event p (passes q e wait way at says pending takes) ends = uncalled_at journal p q e at (no_call e (λ c calls. not_both e c wait calls says)) ends
+row_uncalled journal event p (passes q e wait way at says pending takes) ends =
+    uncalled_at journal p q e at (no_call e (λ c calls. not_both e c wait calls says)) ends
 row_uncalled journal event p (wakes q e delay at says wake) ends = uncalled_at journal p q e at (delay_calls_none e delay says) ends
 row_uncalled journal event p (activates q e start ok at says pending all same) ends = uncalled_at journal p q e at (start_calls_none e start says) ends
 row_uncalled journal event p _ ends = absurd (none-some p ends)
@@ -148,14 +151,16 @@ ended_call _ = None
 contained : {A : Type 0} (xs : List A) (k : ℕ) (x : A) → slice_get xs k ≡ Some x → Contains xs x
 contained xs k x found = (k, slice_get_within xs k x found, get_or_from_slice_get xs k x x found)
 
-innermost_open : (journal : List Event) (task p : ℕ) (o : Option Member) → innermost (nest journal task) ≡ o → not (option_map_or is_rendezvous o false) ≡ false → member_position o ≡ p → is_open_call journal p ≡ true
+innermost_open : (journal : List Event) (task p : ℕ) (o : Option Member) → innermost (nest journal task) ≡ o → not (option_map_or is_rendezvous o false) ≡ false
+    → member_position o ≡ p → is_open_call journal p ≡ true
 innermost_open journal task p None is served same = absurd (true≢false served)
 innermost_open journal task p (Some (Block q)) is served same = absurd (true≢false served)
 innermost_open journal task p (Some (Rendezvous call)) is served same =
     subst (λ (n : ℕ). is_open_call journal n ≡ true) same
     (nest_open journal task call (contained (nest journal task) (length (nest journal task) - 1) (Rendezvous call) is))
 
-asked_open : (journal : List Event) (r : Request) (p : ℕ) → refusal journal r ≡ None → ended_call (asked_event journal r) ≡ Some p → is_open_call journal p ≡ true
+asked_open : (journal : List Event) (r : Request) (p : ℕ) → refusal journal r ≡ None → ended_call (asked_event journal r) ≡ Some p
+    → is_open_call journal p ≡ true
 unfolding asked_event is_not_in_accept
 asked_open journal (request.End by raised) p accepted ends =
     innermost_open journal by.0 p (innermost (nest journal by.0)) refl (is_accepted journal (request.End by raised) accepted).in_accept (same_Some _ p ends)
@@ -166,7 +171,8 @@ row_ends_none journal event (fails q e at fail) = refl
 row_ends_none journal event _ = refl
 
 -- what a task ends is a rendezvous with an open call
-pub ended_open : (event : Event) (before : List Event) (by : TaskNo) (p : ℕ) (raised : Bool) → IsLawful (event ∷ before) → event ≡ kind.Ended by p raised → HasOpenCall before p
+pub ended_open : (event : Event) (before : List Event) (by : TaskNo) (p : ℕ) (raised : Bool) → IsLawful (event ∷ before) → event ≡ kind.Ended by p raised
+    → HasOpenCall before p
 unfolding is_open_call
 ended_open event before by p raised lawful is =
     let (e, at, opened) = option_map_or-true (is_open_at before p) (event_at before p) (by_row lawful.1) in

@@ -19,6 +19,7 @@ idle_in tasks journal (Block b) lawful hold idle =
 idle_in tasks journal (Rendezvous call) lawful hold idle = tt
 
 -- the innermost member that a task leaves has no live dependents in the tables
-pub idle_left : (tasks : List Facts) (journal : List Event) (task : ℕ) (x : Member) → IsLawful journal → HoldFacts tasks journal → task < task_count journal → CanLeave journal task → innermost (task_at tasks task).nest ≡ Some x → IsIdle tasks x
+pub idle_left : (tasks : List Facts) (journal : List Event) (task : ℕ) (x : Member) → IsLawful journal → HoldFacts tasks journal → task < task_count journal
+    → CanLeave journal task → innermost (task_at tasks task).nest ≡ Some x → IsIdle tasks x
 idle_left tasks journal task x lawful hold known leaves inner =
     idle_in tasks journal x lawful hold (leaves.idle x (ap (λ (f : Facts). innermost f.nest) (sym (hold.facts task known)) ∙ inner))

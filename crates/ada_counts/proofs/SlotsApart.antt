@@ -1,5 +1,6 @@
 -- Each entry that a task has stands at a slot of its own, and each slot is that of an entry.
-use Rattle.std.proofs.Common.{◌≡◌, ℕ, zero, suc, ◌+◌, ◌-◌, ◌<◌, true, eqb, ℤ, pos, negsuc, Option, Some, None, IsSome, List, [], ◌∷◌, length, take, refl, sym, ap, ◌∙◌, arith, inl, inr}
+use Rattle.std.proofs.Common.{◌≡◌, ℕ, zero, suc, ◌+◌, ◌-◌, ◌<◌, true, eqb, ℤ, pos, negsuc, Option, Some, None, IsSome, List, [], ◌∷◌, length, take, refl, sym}
+use Rattle.std.proofs.Common.{ap, ◌∙◌, arith, inl, inr}
 use Rattle.std.specs.Prelude.{int_le}
 use Rattle.std.specs.Option.{unwrap_or}
 use Rattle.std.proofs.lemmas.Bool.{cases_lt, and_parts, eqb-true, leb-true, eq-eqb}
@@ -22,7 +23,8 @@ use Rattle.ada_counts.proofs.Empty.{is_some, unwrapped}
 use Rattle.ada_counts.proofs.Entries.{numbered, families_stay}
 
 -- the slots before a task are those of the first one, and those before it among the others
-pub before_later : (x : Facts) (rest : List Facts) (task : ℕ) → slots_before (declared (x ∷ rest)) (suc task) ≡ entries_in x.families + slots_before (declared rest) task
+pub before_later : (x : Facts) (rest : List Facts) (task : ℕ)
+    → slots_before (declared (x ∷ rest)) (suc task) ≡ entries_in x.families + slots_before (declared rest) task
 before_later x rest task = sum_by-cons entries_in x.families (take task (declared rest))
 
 pub before_first : (tasks : List Facts) → slots_before (declared tasks) 0 ≡ 0
@@ -44,7 +46,8 @@ numbers_below fs e has =
     omega (arith, below, unwrapped (number_within fs e) found.0 found.1)
 
 -- entries of one number are the same
-pub numbers_apart : (fs : List Family) (e f : Entry) → IsSome (number_within fs e) → IsSome (number_within fs f) → unwrap_or (number_within fs e) 0 ≡ unwrap_or (number_within fs f) 0 → e ≡ f
+pub numbers_apart : (fs : List Family) (e f : Entry) → IsSome (number_within fs e) → IsSome (number_within fs f)
+    → unwrap_or (number_within fs e) 0 ≡ unwrap_or (number_within fs f) 0 → e ≡ f
 numbers_apart fs e f has also same =
     let one = number_found fs e has in
     let two = number_found fs f also in
@@ -66,7 +69,8 @@ slot_within (x ∷ rest) (suc task) e has =
     omega (arith, slot_within rest task e (has_later x rest task e has), slot_later x rest task e, before_later x rest (length rest))
 
 -- entries of one slot are the same
-pub slots_apart : (tasks : List Facts) (t u : ℕ) (e f : Entry) → HasEntry tasks t e → HasEntry tasks u f → slot_at tasks t e ≡ slot_at tasks u f → (t ≡ u) × (e ≡ f)
+pub slots_apart : (tasks : List Facts) (t u : ℕ) (e f : Entry) → HasEntry tasks t e → HasEntry tasks u f → slot_at tasks t e ≡ slot_at tasks u f
+    → (t ≡ u) × (e ≡ f)
 slots_apart [] t u e f has also same = absurd (omega (arith, has.known))
 slots_apart (x ∷ rest) zero zero e f has also same = (refl, numbers_apart x.families e f has.declares also.declares (omega (arith, same)))
 slots_apart (x ∷ rest) zero (suc u) e f has also same =
@@ -74,7 +78,8 @@ slots_apart (x ∷ rest) zero (suc u) e f has also same =
 slots_apart (x ∷ rest) (suc t) zero e f has also same =
     absurd (omega (arith, same, numbers_below x.families f also.declares, slot_later x rest t e, before_first (x ∷ rest)))
 slots_apart (x ∷ rest) (suc t) (suc u) e f has also same =
-    let further = slots_apart rest t u e f (has_later x rest t e has) (has_later x rest u f also) (omega (arith, same, slot_later x rest t e, slot_later x rest u f)) in
+    let further = slots_apart rest t u e f (has_later x rest t e has) (has_later x rest u f also)
+    (omega (arith, same, slot_later x rest t e, slot_later x rest u f)) in
     (ap suc further.0, further.1)
 
 -- an entry that stands at a slot
@@ -107,7 +112,8 @@ slot_found (x ∷ rest) slot below =
     ]
 
 -- one more task
-before_more : (tasks : List Facts) (n : ℕ) → n < length tasks → slots_before (declared tasks) (suc n) ≡ slots_before (declared tasks) n + entries_in (task_at tasks n).families
+before_more : (tasks : List Facts) (n : ℕ) → n < length tasks
+    → slots_before (declared tasks) (suc n) ≡ slots_before (declared tasks) n + entries_in (task_at tasks n).families
 before_more [] n below = absurd (omega (arith, below))
 before_more (x ∷ rest) zero below = omega (arith, before_later x rest 0, before_first (x ∷ rest), before_first rest)
 before_more (x ∷ rest) (suc n) below =
@@ -121,7 +127,8 @@ pub main_families : families_of [] 0 ≡ []
 unfolding families_of creation_of
 main_families = refl
 
-pub new_families : (event : Event) (before : List Event) (c : Creation) → creation_in event ≡ Some c → families_of (event ∷ before) (task_count before) ≡ c.families
+pub new_families : (event : Event) (before : List Event) (c : Creation) → creation_in event ≡ Some c
+    → families_of (event ∷ before) (task_count before) ≡ c.families
 unfolding families_of creation_of
 new_families event before c makes = rw (eq-eqb (task_count before) (task_count before) refl, makes) refl
 
@@ -129,7 +136,8 @@ pub one_more_task : (event : Event) (before : List Event) (c : Creation) → cre
 unfolding task_count
 one_more_task event before c makes = rw makes (omega arith)
 
-pub more_slots : (event : Event) (before : List Event) (c : Creation) → creation_in event ≡ Some c → slot_count (event ∷ before) ≡ entries_in c.families + slot_count before
+pub more_slots : (event : Event) (before : List Event) (c : Creation) → creation_in event ≡ Some c
+    → slot_count (event ∷ before) ≡ entries_in c.families + slot_count before
 unfolding slot_count
 more_slots event before c makes = rw makes refl
 
@@ -144,7 +152,8 @@ same_tasks event before makes = rw makes (omega arith)
 abbrev pub HaveFamilies : List Facts → List Event → Type 0
 HaveFamilies tasks journal = (t : ℕ) → t < task_count journal → (t < length tasks) × ((task_at tasks t).families ≡ families_of journal t)
 
-pub slots_counted : (tasks : List Facts) (journal : List Event) → HaveFamilies tasks journal → slots_before (declared tasks) (task_count journal) ≡ slot_count journal
+pub slots_counted : (tasks : List Facts) (journal : List Event) → HaveFamilies tasks journal
+    → slots_before (declared tasks) (task_count journal) ≡ slot_count journal
 unfolding slot_count task_count
 slots_counted tasks [] have =
     let main = have 0 (omega arith) in
@@ -156,12 +165,20 @@ slots_counted tasks (event ∷ before) have = by_creation (creation_in event) re
         let now = have t (omega (arith, below)) in
         (now.0, now.1 ∙ families_stay event before t below)
 
-    by_creation : (o : Option Creation) → creation_in event ≡ o → slots_before (declared tasks) (task_count before) ≡ slot_count before → slots_before (declared tasks) (task_count (event ∷ before)) ≡ slot_count (event ∷ before)
+    by_creation : (o : Option Creation) → creation_in event ≡ o → slots_before (declared tasks) (task_count before) ≡ slot_count before
+        → slots_before (declared tasks) (task_count (event ∷ before)) ≡ slot_count (event ∷ before)
     by_creation None makes was = ap (slots_before (declared tasks)) (same_tasks event before makes) ∙ was ∙ sym (same_slots event before makes)
     by_creation (Some c) makes was =
         let now = have (task_count before) (omega (arith, one_more_task event before c makes)) in
         ap (slots_before (declared tasks)) (one_more_task event before c makes)
-        ∙ omega (arith, before_more tasks (task_count before) now.0, ap entries_in (now.1 ∙ new_families event before c makes), more_slots event before c makes, was)
+        ∙ omega (
+          arith,
+          before_more tasks (task_count before) now.0,
+          ap entries_in (now.1 ∙ new_families event before c makes),
+          more_slots event before c
+              makes,
+          was,
+        )
 
 -- tables that hold a journal's tasks have as many slots as it has entries
 pub slots_held : (tasks : List Facts) (journal : List Event) → HoldFacts tasks journal → slots_before (declared tasks) (length tasks) ≡ slot_count journal
@@ -182,5 +199,6 @@ same_entry-true e f same =
     let indexes = and_parts (int_le e.index f.index) (int_le f.index e.index) both.1 in
     made e.family f.family e.index f.index (eqb-true e.family f.family both.0) (int_le-antisymmetric e.index f.index indexes.0 indexes.1)
   where
-    made : (a b : ℕ) (i j : ℤ) → a ≡ b → i ≡ j → (let x : Entry = record { family = a; index = i } in x) ≡ (let y : Entry = record { family = b; index = j } in y)
+    made : (a b : ℕ) (i j : ℤ) → a ≡ b → i ≡ j → (let x : Entry = record { family = a; index = i } in x)
+        ≡ (let y : Entry = record { family = b; index = j } in y)
     made a b i j families indexes = rw (families, indexes) refl

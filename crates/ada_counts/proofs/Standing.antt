@@ -13,7 +13,8 @@ use Rattle.ada_counts.specs.Holders.{HeldTablesStand}
 use Rattle.ada_counts.proofs.Walking.{same_dependents}
 
 -- the counts follow from the facts, the queues and dependence
-pub stand_by_dependence : (tables : State) (journal : List Event) → IsLawful journal → HoldFacts tables.tasks journal → HoldQueues tables journal → ((master : Master) → Stands tables.tasks master → SameDependents tables.tasks journal master) → StandFor tables journal
+pub stand_by_dependence : (tables : State) (journal : List Event) → IsLawful journal → HoldFacts tables.tasks journal → HoldQueues tables journal
+    → ((master : Master) → Stands tables.tasks master → SameDependents tables.tasks journal master) → StandFor tables journal
 stand_by_dependence tables journal lawful hold queues same = record {
   many = hold.many;
   tasks = hold.facts;

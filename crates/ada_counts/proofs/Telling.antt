@@ -6,7 +6,9 @@ use Rattle.ada_records.proofs.Queries.{tells_suspended}
 use Rattle.ada_tables.specs.declared.phase.Phase.TheVariants.{Unstarted, Active, Held, Quittable, Completed, Terminated}
 use Rattle.ada_counts.specs.Telling.{RecordsTellPhases}
 
-bits : (t c z s q o : Bool) → q ≡ (o && not (c || t)) → cond t Terminated (cond c Completed (cond z (cond s Active Unstarted) (cond q Quittable Held))) ≡ cond t Terminated (cond c Completed (cond (not z) (cond o Quittable Held) (cond (s && not (c || t) && not (not z)) Active Unstarted)))
+bits : (t c z s q o : Bool) → q ≡ (o && not (c || t))
+    → cond t Terminated (cond c Completed (cond z (cond s Active Unstarted) (cond q Quittable Held)))
+    ≡ cond t Terminated (cond c Completed (cond (not z) (cond o Quittable Held) (cond (s && not (c || t) && not (not z)) Active Unstarted)))
 bits true c z s q o is = refl
 bits false true z s q o is = refl
 bits false false true true q o is = refl
@@ -18,4 +20,5 @@ pub records_tell_phases : RecordsTellPhases
 unfolding is_running has_ended
 records_tell_phases journal task kept is =
     rw (is.stage.terminated, is.stage.completed, is.stage.started, tells_suspended journal task kept.doing.at is.doing.at)
-    (bits (is_terminated journal task) (is_completed journal task) (eqb kept.doing.at 0) (is_started journal task) kept.doing.quittable (is_at_open_terminate journal task) is.doing.quittable)
+    (bits (is_terminated journal task) (is_completed journal task) (eqb kept.doing.at 0) (is_started journal task) kept.doing.quittable
+    (is_at_open_terminate journal task) is.doing.quittable)

@@ -23,12 +23,16 @@ module _ (tasks : List Facts) (journal : List Event) (lawful : IsLawful journal)
   none_reached zero y = refl
   none_reached (suc n) y = none_reached n y
 
-  mutual_step : (n t : ℕ) (y : Master) (o : Option Creation) → creation_of journal t ≡ o → is_terminated journal t ≡ false → ((x : Master) → IsHeld journal t x → reaches tasks t (Some x) y ≡ reaches_by journal x y) → reaches tasks t (option_map (λ (c : Creation). c.master) o) y ≡ option_map_or (λ (z : Master). reaches_by journal z y) (option_map (λ (c : Creation). c.master) o) false
+  mutual_step : (n t : ℕ) (y : Master) (o : Option Creation) → creation_of journal t ≡ o → is_terminated journal t ≡ false
+      → ((x : Master) → IsHeld journal t x → reaches tasks t (Some x) y ≡ reaches_by journal x y)
+      → reaches tasks t (option_map (λ (c : Creation). c.master) o) y
+      ≡ option_map_or (λ (z : Master). reaches_by journal z y) (option_map (λ (c : Creation). c.master) o) false
   mutual_step n t y None says live walk = none_reached t y
   mutual_step n t y (Some c) says live walk = walk c.master (masters_are_held journal t c lawful says live)
 
   -- where a task depends, if the ways do the same
-  by_master : (t : ℕ) (y : Master) → is_terminated journal t ≡ false → ((x : Master) → IsHeld journal t x → reaches tasks t (Some x) y ≡ reaches_by journal x y) → reaches tasks t (option_map (λ (c : Creation). c.master) (creation_of journal t)) y ≡ depends_by journal t y
+  by_master : (t : ℕ) (y : Master) → is_terminated journal t ≡ false → ((x : Master) → IsHeld journal t x → reaches tasks t (Some x) y ≡ reaches_by journal x y)
+      → reaches tasks t (option_map (λ (c : Creation). c.master) (creation_of journal t)) y ≡ depends_by journal t y
   by_master t y live walk =
       mutual_step 0 t y (creation_of journal t) refl live walk ∙ sym (tasks_depend_by_parents journal (record { 0 = t }) y lawful)
 
@@ -47,7 +51,13 @@ module _ (tasks : List Facts) (journal : List Event) (lawful : IsLawful journal)
         | inr other ↦
             let free : holds n (nest journal n) x ≡ false = false_from_ne_true _ (λ has. other (sym (is.alone n has))) in
             rw (hold.facts n below, free)
-            (walks n x y (omega arith) (record { holder = is.holder; before = omega (arith, is.before, other); held = is.held; live = is.live; alone = is.alone }))
+            (walks n x y (omega arith) (record {
+              holder = is.holder;
+              before = omega (arith, is.before, other);
+              held = is.held;
+              live = is.live;
+              alone = is.alone;
+            }))
       ]
 
   pub same_dependents : (y : Master) → SameDependents tasks journal y

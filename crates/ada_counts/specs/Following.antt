@@ -25,7 +25,8 @@ facts_after event before task held = record held { nest = nest (event ∷ before
 pub record AreFollowing (event : Event) (before : List Event) (old new : State) : Type 0 where
   pub same : length new.tasks ≡ length old.tasks
   pub tasks : (task : ℕ) → task < length old.tasks → task_at new.tasks task ≡ facts_after event before task (task_at old.tasks task)
-  pub queues : (task : ℕ) (entry : Entry) → HasEntry old.tasks task entry → AreQueued (event ∷ before) task entry (queue_at new.queues (slot_at old.tasks task entry))
+  pub queues : (task : ℕ) (entry : Entry) → HasEntry old.tasks task entry
+      → AreQueued (event ∷ before) task entry (queue_at new.queues (slot_at old.tasks task entry))
 
 -- where an event makes no task, tables that stand for a journal stand for it with the event once nests, phases and
 -- queues are changed: counts, masters and entries need no care

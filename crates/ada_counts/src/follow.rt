@@ -13,8 +13,8 @@ use ada_events::{Event, Families, FamilyList, Journal, Master, Refusal};
 use ada_records::Record;
 use ada_tables::Tables;
 
-/// Lets tables that stand for a journal follow an event that makes no task. There is a queue for each entry, and room for
-/// one more call where the event makes one; the records are those after the event.
+/// Lets tables that stand for a journal follow an event that makes no task. There is a queue for each entry, and room
+/// for one more call where the event makes one; the records are those after the event.
 pub fn follow(tables: &mut Tables, records: &[Record], journal: &Journal, event: &Event)
     requires lawful { IsLawful (event.now ∷ journal.now.events) }
     requires makes { creation_in event.now ≡ None }
@@ -30,8 +30,8 @@ pub fn follow(tables: &mut Tables, records: &[Record], journal: &Journal, event:
     follow_phases(tables, records, journal, event);
 }
 
-/// Lets tables that stand for a journal follow an event that makes a task (9.1). Fails with `OutOfMemory` alone, and then
-/// changes nothing.
+/// Lets tables that stand for a journal follow an event that makes a task (9.1). Fails with `OutOfMemory` alone, and
+/// then changes nothing.
 pub fn follow_creation(
     tables: &mut Tables,
     _journal: &Journal,
@@ -54,8 +54,8 @@ pub fn follow_creation(
 }
 
 /// Lets tables that stand for a journal follow any event, before that is appended. There is a queue for each entry, and
-/// room for one more call where the event makes one. The records are those after the event, unless it makes a task. Fails
-/// with `OutOfMemory` alone, where the event makes a task, and then changes nothing.
+/// room for one more call where the event makes one. The records are those after the event, unless it makes a task.
+/// Fails with `OutOfMemory` alone, where the event makes a task, and then changes nothing.
 pub fn note(
     tables: &mut Tables,
     records: &[Record],

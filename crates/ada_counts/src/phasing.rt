@@ -109,8 +109,8 @@ fn refresh_all(tables: &mut Tables, records: &[Record], _journal: &Journal, _eve
     }
 }
 
-/// Gives the phases that an event changes to the tasks of tables in which their nests are changed. The records are those
-/// after the event, which makes no task.
+/// Gives the phases that an event changes to the tasks of tables in which their nests are changed. The records are
+/// those after the event, which makes no task.
 pub fn follow_phases(tables: &mut Tables, records: &[Record], journal: &Journal, event: &Event)
     requires lawful { IsLawful (event.now ∷ journal.now.events) }
     requires makes { creation_in event.now ≡ None }

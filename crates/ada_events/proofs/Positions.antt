@@ -1,5 +1,6 @@
 -- The event at a position of a journal, against the list of its events in the order of arrival.
-use Rattle.std.proofs.Common.{◌≡◌, ℕ, suc, ◌-◌, ◌<◌, ◌≤◌, ltb, Option, Some, None, List, [], ◌∷◌, length, reverse, get_or, sym, refl, ap, ◌∙◌, arith, inl, inr, Bor, ◌≢◌, is_some, IfSome}
+use Rattle.std.proofs.Common.{◌≡◌, ℕ, suc, ◌-◌, ◌<◌, ◌≤◌, ltb, Option, Some, None, List, [], ◌∷◌, length, reverse, get_or, sym, refl, ap, ◌∙◌, arith, inl, inr}
+use Rattle.std.proofs.Common.{Bor, ◌≢◌, is_some, IfSome}
 use Rattle.std.specs.Option.{option_copied}
 use Rattle.std.proofs.lemmas.List.{reverse-reverse, length-reverse}
 use Rattle.std.proofs.lemmas.Grind.{reverse_onto}
@@ -42,11 +43,13 @@ event_at-within [] p d low high = absurd (omega arith)
 event_at-within (event ∷ before) p d low high =
     elim (cases_eq p (suc (length before))) [
       | inl same ↦ event_at-newest event before p same ∙ ap Some (sym (rw (let e : p - 1 ≡ length before = omega arith in e) (read_newest event before d)))
-      | inr other ↦ event_at-older event before p other ∙ event_at-within before p d low (omega arith) ∙ ap Some (sym (read_older event before (p - 1) d (omega arith)))
+      | inr other ↦ event_at-older event before p other ∙ event_at-within before p d low (omega arith)
+          ∙ ap Some (sym (read_older event before (p - 1) d (omega arith)))
     ]
 
 -- what a slice gives one place lower
-pub event_at-from_slice : (events : List Event) (p : ℕ) (r : Option (Bor Event)) → p ≢ 0 → is_some r ≡ ltb (p - 1) (length events) → IfSome r (λ x. x.now ≡ get_or events (p - 1) x.now) → option_copied r ≡ event_at (reverse events) p
+pub event_at-from_slice : (events : List Event) (p : ℕ) (r : Option (Bor Event)) → p ≢ 0 → is_some r ≡ ltb (p - 1) (length events)
+    → IfSome r (λ x. x.now ≡ get_or events (p - 1) x.now) → option_copied r ≡ event_at (reverse events) p
 event_at-from_slice events p None some same value =
     sym (event_at-past (reverse events) p (omega (arith, length-reverse events, ltb-false (p - 1) (length events) (sym same))))
 event_at-from_slice events p (Some x) some same value =

@@ -7,7 +7,8 @@ use Rattle.ada_events.specs.declared.event.Event.TheVariants as event
 use Rattle.ada_events.specs.declared.event.Way.{Way}
 use Rattle.ada_events.specs.declared.event.Way.TheVariants as way
 use Rattle.ada_events.specs.declared.outcome.Outcome.{Outcome}
-use Rattle.ada_events.specs.declared.outcome.Outcome.TheVariants.{Dead, Done, Held, Served, TaskingError, Cancelled, Accepted, TookElse, TookDelay, ProgramError, Awake, ActivationOk, ActivationFailed, BlockLeft, Raised, Nothing}
+use Rattle.ada_events.specs.declared.outcome.Outcome.TheVariants.{Dead, Done, Held, Served, TaskingError, Cancelled, Accepted, TookElse, TookDelay}
+use Rattle.ada_events.specs.declared.outcome.Outcome.TheVariants.{ProgramError, Awake, ActivationOk, ActivationFailed, BlockLeft, Raised, Nothing}
 use Rattle.ada_events.specs.Search.{is_number}
 use Rattle.ada_events.specs.Says.{held_in, released_in, wait_at}
 use Rattle.ada_events.specs.Phases.{is_completed, is_terminated}

@@ -8,7 +8,10 @@ use Rattle.ada_events.specs.declared.request.Request.{Request}
 use Rattle.ada_events.specs.declared.request.Request.TheVariants.{Create, Activate, Elaborated, Call, Wait, End, Close, Complete, Abort}
 use Rattle.ada_events.specs.declared.request.Tail.TheVariants.{Delays, Terminate}
 use Rattle.ada_events.specs.declared.refusal.Refusal.{Refusal}
-use Rattle.ada_events.specs.declared.refusal.Refusal.TheVariants.{UnknownTask, NotRunning, DuringActivation, NotActivating, NotYourMaster, EmptyList, NotYourTask, NoAccept, NoSuchFamily, ConstraintError, SameFamilyNested, TerminateInAccept, NotInAccept, NoBlock, StillNested, MainTask, MomentBack, MomentTooLarge, TooManyTasks, TooManySlots, TooDeep, JournalFull}
+use Rattle.ada_events.specs.declared.refusal.Refusal.TheVariants.{UnknownTask, NotRunning, DuringActivation, NotActivating, NotYourMaster, EmptyList}
+use Rattle.ada_events.specs.declared.refusal.Refusal.TheVariants.{NotYourTask, NoAccept, NoSuchFamily, ConstraintError, SameFamilyNested, TerminateInAccept}
+use Rattle.ada_events.specs.declared.refusal.Refusal.TheVariants.{NotInAccept, NoBlock, StillNested, MainTask, MomentBack, MomentTooLarge, TooManyTasks}
+use Rattle.ada_events.specs.declared.refusal.Refusal.TheVariants.{TooManySlots, TooDeep, JournalFull}
 use Rattle.ada_events.specs.declared.names.TaskNo.{TaskNo}
 use Rattle.ada_events.specs.declared.names.Choice.{Choice}
 use Rattle.ada_events.specs.declared.names.Entry.{Entry}

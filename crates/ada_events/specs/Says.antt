@@ -9,7 +9,8 @@ use Rattle.ada_events.specs.declared.names.Choice.{Choice}
 use Rattle.ada_events.specs.declared.names.Patience.{Patience}
 use Rattle.ada_events.specs.declared.event.EventTail.{EventTail}
 use Rattle.ada_events.specs.declared.event.Event.{Event}
-use Rattle.ada_events.specs.declared.event.Event.TheVariants.{Opened, Created, Started, Elaborated, Called, Waiting, Paused, Ended, Closed, Completed, Aborted, Ticked, Halted, Failed, Met, Cancelled, Passed, Woken, Activated, Gone, Quit, Left}
+use Rattle.ada_events.specs.declared.event.Event.TheVariants.{Opened, Created, Started, Elaborated, Called, Waiting, Paused, Ended, Closed, Completed, Aborted}
+use Rattle.ada_events.specs.declared.event.Event.TheVariants.{Ticked, Halted, Failed, Met, Cancelled, Passed, Woken, Activated, Gone, Quit, Left}
 use Rattle.ada_events.specs.Search.{event_at}
 
 -- a task was made (9.1): by whom, within what, depending on what, with which entries

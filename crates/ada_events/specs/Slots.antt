@@ -45,7 +45,8 @@ entry_within place (family ∷ rest) number =
 -- the entry at a slot where the event after a journal made its task
 unfoldable pub entry_made : List Event → Event → ℕ → Option Place
 entry_made before event slot =
-    option_and_then (λ (c : Creation). option_map (λ (e : Entry). record { task = task_count before; entry = e }) (entry_within 0 c.families (slot - slot_count before)))
+    option_and_then (λ (c : Creation). option_map (λ (e : Entry). record { task = task_count before; entry = e })
+    (entry_within 0 c.families (slot - slot_count before)))
     (creation_in event)
 
 -- the entry at a slot; none behind the last

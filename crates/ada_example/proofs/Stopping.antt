@@ -29,16 +29,19 @@ named_exists : (journal : List Event) (by task : TaskNo) → refusal journal (Ab
 unfolding names_unknown_task named_tasks
 named_exists journal by task accepted =
     let known = (is_accepted journal (Abort by (task ∷ [])) accepted).tasks_known in
-    let fails = (or_parts (is_some_and (asker (Abort by (task ∷ []))) (λ t. not (has_task journal t))) (list_any (λ (t : TaskNo). not (has_task journal t.0)) (task ∷ [])) known).1 in
+    let fails = (or_parts (is_some_and (asker (Abort by (task ∷ []))) (λ t. not (has_task journal t)))
+    (list_any (λ (t : TaskNo). not (has_task journal t.0)) (task ∷ [])) known).1 in
     let here = (or_parts (not (has_task journal task.0)) false fails).0 in
     ltb-true task.0 (task_count journal) (not-false (has_task journal task.0) here)
 
 -- one that isn't terminated becomes abnormal
-becomes_abnormal : (journal : List Event) (by task : TaskNo) → task.0 < task_count journal → is_terminated journal task.0 ≡ false → is_abnormal (Aborted by (task ∷ []) ∷ journal) task.0 ≡ true
+becomes_abnormal : (journal : List Event) (by task : TaskNo) → task.0 < task_count journal → is_terminated journal task.0 ≡ false
+    → is_abnormal (Aborted by (task ∷ []) ∷ journal) task.0 ≡ true
 unfolding is_abnormal aborted_in
 becomes_abnormal journal by task exists lives = grind arith
 
-terminated_or_abnormal : (was terminated completed abnormal : Bool) → (was ≡ true → terminated ≡ true) → (was ≡ false → abnormal ≡ true) → not ((completed || terminated) || abnormal) ≡ false
+terminated_or_abnormal : (was terminated completed abnormal : Bool) → (was ≡ true → terminated ≡ true) → (was ≡ false → abnormal ≡ true)
+    → not ((completed || terminated) || abnormal) ≡ false
 terminated_or_abnormal true terminated completed abnormal stays becomes =
     ap not (or_left (completed || terminated) abnormal (or_right completed terminated (stays refl)))
 terminated_or_abnormal false terminated completed abnormal stays becomes =
@@ -48,7 +51,8 @@ abort_stops : (journal : List Event) (by task : TaskNo) → task.0 < task_count 
 unfolding is_callable has_ended
 abort_stops journal by task exists =
     let event = Aborted by (task ∷ []) in
-    terminated_or_abnormal (is_terminated journal task.0) (is_terminated (event ∷ journal) task.0) (is_completed (event ∷ journal) task.0) (is_abnormal (event ∷ journal) task.0)
+    terminated_or_abnormal (is_terminated journal task.0) (is_terminated (event ∷ journal) task.0) (is_completed (event ∷ journal) task.0)
+    (is_abnormal (event ∷ journal) task.0)
     (terminated_tasks_stay_so event journal task.0)
     (becomes_abnormal journal by task exists)
 

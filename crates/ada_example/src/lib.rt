@@ -15,7 +15,8 @@ use ada_kernel::Kernel;
 #[tactic(auto, using(crate::proofs::Stopping::stopped))]
 pub fn stop(kernel: &mut Kernel, by: TaskNo, task: TaskNo) -> Result<(), Refusal>
     ensures stopped { OnOk result (is_callable kernel.new task.0 ≡ false) }
-    ensures refused { IfErr result (λ cause. IsRefused kernel.old (asked.Abort by (task ∷ [])) cause kernel.new) }
+    ensures refused { IfErr result (λ cause.
+        IsRefused kernel.old (asked.Abort by (task ∷ [])) cause kernel.new) }
 {
     let tasks = Tasks::from_slice(&[task]);
     kernel.step(Request::Abort { by, tasks })?;

@@ -31,8 +31,8 @@ impl Facts {
     }
 
     /// A flag for each task, by number, where the event may touch many: whether the task depends on the master whose
-    /// dependents terminate together (9.4), or is hit by the abort (9.10). Of a task that is terminated already its flag
-    /// says nothing, and of another event the list says nothing.
+    /// dependents terminate together (9.4), or is hit by the abort (9.10). Of a task that is terminated already its
+    /// flag says nothing, and of another event the list says nothing.
     pub fn touched(&self) -> &[bool]
         ensures { result.now ≡ self.now.touched }
     {

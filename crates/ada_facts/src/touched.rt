@@ -107,8 +107,8 @@ fn hits_holder(state: &State, task: TaskNo, _tasks: &[TaskNo], hit: &[bool]) -> 
     }
 }
 
-// Whether an abort of these tasks hits a task (9.10): it names that, or hits the task that holds what it was made under.
-// The flags say whom it names, and whom it hits of the tasks that were made before.
+// Whether an abort of these tasks hits a task (9.10): it names that, or hits the task that holds what it was made
+// under. The flags say whom it names, and whom it hits of the tasks that were made before.
 fn is_hit(state: &State, task: TaskNo, _tasks: &[TaskNo], named: &[bool], hit: &[bool]) -> bool
     requires known { task.0 < task_count state.now }
     requires few { task.0 < MOST_TASKS }

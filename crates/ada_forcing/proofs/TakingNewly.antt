@@ -26,7 +26,8 @@ use Rattle.ada_laws.proofs.Meeting.{taken_front, front_queued}
 use Rattle.ada_forcing.specs.Newly.{IsCallOf, WaitsNewlyTake}
 
 -- what is queued stands in the queue
-pub queued-in_queue : (journal : List Event) (task : ℕ) (entry : Entry) (position : ℕ) → IsQueuedCall journal task entry position → Contains (queue journal task entry) position
+pub queued-in_queue : (journal : List Event) (task : ℕ) (entry : Entry) (position : ℕ) → IsQueuedCall journal task entry position
+    → Contains (queue journal task entry) position
 unfolding queue is_call_of is_queued_at
 queued-in_queue journal task entry position queued =
     let event = queued.opened.stands.event in
@@ -34,17 +35,20 @@ queued-in_queue journal task entry position queued =
     and_from (eqb queued.call.callee task) (same_entry queued.call.entry entry) (eq-eqb queued.call.callee task queued.of_task) queued.of_entry in
     let calls : is_call_of task entry event ≡ true = rw queued.opened.stands.says of in
     let stands : is_queued_at journal position event ≡ true =
-    and_from (is_open_at journal position event) (not (is_met journal position)) (is_open_at-from journal queued.call position queued.opened) (not_from_false (is_met journal position) queued.unmet) in
+    and_from (is_open_at journal position event) (not (is_met journal position)) (is_open_at-from journal queued.call position queued.opened)
+    (not_from_false (is_met journal position) queued.unmet) in
     gathered-from (λ p e. then_some (is_call_of task entry e && is_queued_at journal p e) p) journal position event position queued.opened.stands.stands
     (rw (calls, stands) refl)
 
 is_met-before : (event : Event) (before : List Event) (p : ℕ) → is_met (event ∷ before) p ≡ false → is_met before p ≡ false
 unfolding is_met
 is_met-before event before p unmet =
-    (or_parts (is_some_and (meeting_in event) (λ (m : Meeting). eqb m.call p)) (list_any (λ (e : Event). is_some_and (meeting_in e) (λ (m : Meeting). eqb m.call p)) before) unmet).1
+    (or_parts (is_some_and (meeting_in event) (λ (m : Meeting). eqb m.call p))
+    (list_any (λ (e : Event). is_some_and (meeting_in e) (λ (m : Meeting). eqb m.call p)) before) unmet).1
 
 -- what is queued after one more event is that event, or was queued before
-pub queued-cases : (event : Event) (before : List Event) (task : ℕ) (entry : Entry) (position : ℕ) → IsQueuedCall (event ∷ before) task entry position → IsQueuedCall before task entry position ⊎ IsCallOf event task
+pub queued-cases : (event : Event) (before : List Event) (task : ℕ) (entry : Entry) (position : ℕ) → IsQueuedCall (event ∷ before) task entry position
+    → IsQueuedCall before task entry position ⊎ IsCallOf event task
 queued-cases event before task entry position queued =
     elim (event_at-cases event before position queued.opened.stands.event queued.opened.stands.stands) [
       | inl newest ↦ inr (record { call = queued.call; says = ap call_in newest.1 ∙ queued.opened.stands.says; of = queued.of_task })
@@ -66,7 +70,8 @@ first_one [] x (k, below, same) = absurd (omega arith)
 first_one (y ∷ xs) x contains = (y, refl)
 
 -- where a call is queued at an open choice, the wait takes a call
-takes_one : (journal : List Event) (wait : Wait) (choice : Choice) (call : ℕ) (taken : Option ℕ) → taken_call journal wait ≡ taken → Contains wait.choices choice → choice.guard ≡ true → IsQueuedCall journal wait.by choice.entry call → (taken : ℕ) × (taken_call journal wait ≡ Some taken)
+takes_one : (journal : List Event) (wait : Wait) (choice : Choice) (call : ℕ) (taken : Option ℕ) → taken_call journal wait ≡ taken
+    → Contains wait.choices choice → choice.guard ≡ true → IsQueuedCall journal wait.by choice.entry call → (taken : ℕ) × (taken_call journal wait ≡ Some taken)
 unfolding front_of
 takes_one journal wait choice call (Some taken) takes among chosen queued = (taken, takes)
 takes_one journal wait choice call None takes among chosen queued =
@@ -79,7 +84,8 @@ unfolding front_of
 front_open journal task call choice front = (if_some choice.guard (slice_get (queue journal task choice.entry) 0) call front).0
 
 -- what is pending was so before
-pub pending_before : (event : Event) (before : List Event) (position task : ℕ) → is_pending (event ∷ before) position task ≡ true → is_pending before position task ≡ true
+pub pending_before : (event : Event) (before : List Event) (position task : ℕ) → is_pending (event ∷ before) position task ≡ true
+    → is_pending before position task ≡ true
 unfolding is_pending
 pending_before event before position task pending =
     let both = and_parts (not (is_released (event ∷ before) position)) (not (has_ended (event ∷ before) task)) pending in
@@ -87,7 +93,8 @@ pending_before event before position task pending =
     (not_from_false (is_released before position) (is_released-before event before position (not-true (is_released (event ∷ before) position) both.0)))
     (not_from_false (has_ended before task) (has_ended-before event before task (not-true (has_ended (event ∷ before) task) both.1)))
 
-met_from : (journal : List Event) (position taken : ℕ) (wait : Wait) → is_pending journal position wait.by ≡ true → taken_call journal wait ≡ Some taken → met_at journal position wait ≡ Some (Met taken position)
+met_from : (journal : List Event) (position taken : ℕ) (wait : Wait) → is_pending journal position wait.by ≡ true → taken_call journal wait ≡ Some taken
+    → met_at journal position wait ≡ Some (Met taken position)
 unfolding met_at
 met_from journal position taken wait pending takes = rw (pending, takes) refl
 

@@ -9,8 +9,10 @@ use Rattle.ada_events.specs.Search.{event_at}
 use Rattle.ada_events.specs.Says.{Opening, Delay, Closing, wait_in, delay_in, start_in, closing_in, opening_in}
 use Rattle.ada_events.specs.Tasks.{task_count}
 use Rattle.ada_forcing.specs.declared.row.Row.{Row}
-use Rattle.ada_forcing.specs.declared.row.Row.TheVariants.{Halting, Failing, Taking, Cancelling, Passing, Waking, Activating, Going, QuittingBody, QuittingBlock, Leaving}
-use Rattle.ada_events.specs.Forced.{task_no, is_to_halt, is_to_fail, met_at, is_to_cancel, passed_at, is_to_wake, activated_at, is_to_go, is_to_quit, is_to_leave}
+use Rattle.ada_forcing.specs.declared.row.Row.TheVariants.{Halting, Failing, Taking, Cancelling, Passing, Waking, Activating, Going, QuittingBody}
+use Rattle.ada_forcing.specs.declared.row.Row.TheVariants.{QuittingBlock, Leaving}
+use Rattle.ada_events.specs.Forced.{task_no, is_to_halt, is_to_fail, met_at, is_to_cancel, passed_at, is_to_wake, activated_at, is_to_go, is_to_quit}
+use Rattle.ada_events.specs.Forced.{is_to_leave}
 
 -- the rows in their order
 abbrev pub rank : Row → ℕ

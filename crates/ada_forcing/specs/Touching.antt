@@ -46,13 +46,16 @@ pub data Touches (event : Event) (before : List Event) : Row → ℕ → Type 0 
   task_made : (row : Row) (creation : Creation) → goes_by_task row ≡ true → creation_in event ≡ Some creation → Touches event before row (task_count before)
   aborts : (u : ℕ) → is_abnormal before u ≡ false → is_abnormal (event ∷ before) u ≡ true → Touches event before Halting u
   frees : (u p : ℕ) (call : Call) → released_in event ≡ Some p → IsCallAt before call p → call.by ≡ u → Touches event before Halting u
-  loses : (p : ℕ) (call : Call) → IsCallAt before call p → is_lost before call.callee ≡ false → is_lost (event ∷ before) call.callee ≡ true → Touches event before Failing p
+  loses : (p : ℕ) (call : Call) → IsCallAt before call p → is_lost before call.callee ≡ false → is_lost (event ∷ before) call.callee ≡ true
+      → Touches event before Failing p
   calls : (p : ℕ) (wait : Wait) → IsWaitAt before wait p → IsCallOf event wait.by → Touches event before Taking p
   moves : (row : Row) (p : ℕ) → goes_by_moment row ≡ true → (moment_in event ≡ None → ⊥) → Touches event before row p
-  elaborates : (p : ℕ) (e : Event) (start : Start) (t : TaskNo) → event_at before p ≡ Some e → start_in e ≡ Some start → Contains start.tasks t → is_done_activating before t ≡ false → is_done_activating (event ∷ before) t ≡ true → Touches event before Activating p
+  elaborates : (p : ℕ) (e : Event) (start : Start) (t : TaskNo) → event_at before p ≡ Some e → start_in e ≡ Some start → Contains start.tasks t
+      → is_done_activating before t ≡ false → is_done_activating (event ∷ before) t ≡ true → Touches event before Activating p
   completes : (u : ℕ) → completed_in event ≡ Some u → Touches event before Going u
   abandons : (u : ℕ) → is_abandoned before u ≡ false → is_abandoned (event ∷ before) u ≡ true → Touches event before Going u
   ends_below : (u : ℕ) → IsNewlyBelow is_terminated event before (Body (task_no u)) → Touches event before Going u
   body_quits : (u : ℕ) → MayQuit event before (Body (task_no u)) → Touches event before QuittingBody u
   block_quits : (p : ℕ) → MayQuit event before (Block p) → Touches event before QuittingBlock p
-  ends_within : (p : ℕ) (e : Event) (closing : Closing) → event_at before p ≡ Some e → closing_in e ≡ Some closing → IsNewlyBelow is_terminated event before (Block closing.block) → Touches event before Leaving p
+  ends_within : (p : ℕ) (e : Event) (closing : Closing) → event_at before p ≡ Some e → closing_in e ≡ Some closing
+      → IsNewlyBelow is_terminated event before (Block closing.block) → Touches event before Leaving p

@@ -13,7 +13,8 @@ use Rattle.ada_events.specs.Phases.{has_start, is_completed, is_terminated, has_
 use Rattle.ada_events.specs.Termination.{all_terminated, is_complete, is_abandoned}
 use Rattle.ada_events.specs.Forced.{is_to_halt, is_to_go, is_to_quit}
 use Rattle.ada_forcing.specs.declared.row.Row.{Row}
-use Rattle.ada_forcing.specs.declared.row.Row.TheVariants.{Halting, Failing, Taking, Cancelling, Passing, Waking, Activating, Going, QuittingBody, QuittingBlock, Leaving}
+use Rattle.ada_forcing.specs.declared.row.Row.TheVariants.{Halting, Failing, Taking, Cancelling, Passing, Waking, Activating, Going, QuittingBody}
+use Rattle.ada_forcing.specs.declared.row.Row.TheVariants.{QuittingBlock, Leaving}
 use Rattle.ada_forcing.specs.Rows.{step_at}
 use Rattle.ada_rows.specs.States.{AreMade}
 use Rattle.ada_touching.specs.Keeping.{IsAgendaOf}
@@ -39,7 +40,8 @@ main_is_made = record { many = refl; each = of_main; past = none_past }
 
 -- no row gives a step
 pub none_at_first : (row : Row) (key : ℕ) → step_at [] row key ≡ None
-unfolding step_at event_at any_event first_given gathered first_below all_below task_count creation_of reaches depends_on has_start is_completed is_terminated has_ended is_abnormal all_terminated is_complete is_abandoned is_to_halt is_to_go is_to_quit
+unfolding step_at event_at any_event first_given gathered first_below all_below task_count creation_of reaches depends_on has_start is_completed is_terminated
+    has_ended is_abnormal all_terminated is_complete is_abandoned is_to_halt is_to_go is_to_quit
 none_at_first Halting zero = refl
 none_at_first Halting (suc n) = rw (le-ltb (suc n) 1 (omega arith)) refl
 none_at_first Failing key = refl

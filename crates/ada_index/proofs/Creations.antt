@@ -32,7 +32,8 @@ creation_made event master families makes =
     (record { by = makes.by.0; under = makes.under; master = master; families = families }, ap creation_in makes.is)
 
 -- it leaves the moment
-pub moment_kept : (event : Event) (before : List Event) (master : Master) (families : List Family) → MakesTask event master families → moment (event ∷ before) ≡ moment before
+pub moment_kept : (event : Event) (before : List Event) (master : Master) (families : List Family) → MakesTask event master families
+    → moment (event ∷ before) ≡ moment before
 unfolding moment moment_in
 moment_kept event before master families makes = ap (λ e. unwrap_or (moment_in e) (moment before)) makes.is
 
@@ -40,7 +41,8 @@ one_more : (event : Event) (before : List Event) (c : Creation) → creation_in 
 unfolding task_count
 one_more event before c makes = rw makes (omega arith)
 
-newest_is : (event : Event) (before : List Event) (task : ℕ) (c : Creation) → creation_in event ≡ Some c → task ≡ task_count before → creation_of (event ∷ before) task ≡ Some c
+newest_is : (event : Event) (before : List Event) (task : ℕ) (c : Creation) → creation_in event ≡ Some c → task ≡ task_count before
+    → creation_of (event ∷ before) task ≡ Some c
 unfolding creation_of
 newest_is event before task c makes newest = rw (eq-eqb task (task_count before) newest, makes) refl
 
@@ -49,7 +51,8 @@ unfolding creation_of
 others_stay event before task other = rw (ne_eqb task (task_count before) other) refl
 
 -- an event that makes a task adds its own position
-pub made_more : (made : List ℕ) (event : Event) (before : List Event) (c : Creation) (own : ℕ) → AreMade made before → creation_in event ≡ Some c → own ≡ length before + 1 → AreMade (made ++ own ∷ []) (event ∷ before)
+pub made_more : (made : List ℕ) (event : Event) (before : List Event) (c : Creation) (own : ℕ) → AreMade made before → creation_in event ≡ Some c
+    → own ≡ length before + 1 → AreMade (made ++ own ∷ []) (event ∷ before)
 made_more made event before c own old makes is = record {
   many = omega (arith, length-append made (own ∷ []), one_more event before c makes, old.many);
   each = λ task below.

@@ -27,7 +27,8 @@ step_has_room tables journal step is = room (call_in step) (λ c says. none-some
     room (Some c) never some = absurd (never c refl)
 
 -- nor does an event that is no call
-pub needs_no_room : (tables : State) (event : Event) → ((by callee : TaskNo) (entry : Entry) (patience : Patience) (due : Option ℤ) → event ≡ Called by callee entry patience due → ⊥) → HaveRoomFor tables event
+pub needs_no_room : (tables : State) (event : Event)
+    → ((by callee : TaskNo) (entry : Entry) (patience : Patience) (due : Option ℤ) → event ≡ Called by callee entry patience due → ⊥) → HaveRoomFor tables event
 unfolding call_in
 needs_no_room tables (Called by callee entry patience due) other some = absurd (other by callee entry patience due refl)
 needs_no_room tables _ other some = absurd (false≢true some)

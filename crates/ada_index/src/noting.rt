@@ -83,7 +83,8 @@ impl Index {
         Ok(())
     }
 
-    /// Notes an event that is to be appended. Fails with `OutOfMemory` alone, and then stands for the journal as before.
+    /// Notes an event that is to be appended. Fails with `OutOfMemory` alone, and then stands for the journal as
+    /// before.
     pub fn note(&mut self, journal: &Journal, event: &Event) -> Result<(), Refusal>
         requires lawful { IsLawful (event.now ∷ journal.now.events) }
         requires stands { IsIndexOf self.old journal.now.events }

@@ -22,7 +22,8 @@ fn step_of_rank(state: &State, rank: usize, key: usize) -> Option<Event>
     }
 }
 
-/// The step that a journal forces, if there is one. Keys of the agenda before it that give no step are dropped on the way.
+/// The step that a journal forces, if there is one. Keys of the agenda before it that give no step are dropped on the
+/// way.
 pub(crate) fn next_step(agenda: &mut Agenda, state: &State) -> Option<Event>
     requires { IsAgendaOf agenda.old state.now }
     ensures step { result ≡ forced state.now }

@@ -12,7 +12,9 @@ use Rattle.ada_events.specs.Tasks.{task_count, has_task}
 use Rattle.ada_events.specs.Phases.{has_ended, is_suspended, is_started, is_running}
 use Rattle.ada_events.specs.Says.{creation_in}
 use Rattle.ada_events.specs.Asks.{asker, asked_event, named_tasks}
-use Rattle.ada_events.specs.Refusals.{names_unknown_task, asker_not_running, is_during_activation, is_not_activating, is_not_your_master, has_empty_list, is_not_your_task, has_no_accept, names_no_family, breaks_constraint, nests_same_family, terminates_in_accept, is_not_in_accept, has_no_block, is_still_nested, aborts_main, Cause, first_cause, causes, refusal}
+use Rattle.ada_events.specs.Refusals.{names_unknown_task, asker_not_running, is_during_activation, is_not_activating, is_not_your_master, has_empty_list}
+use Rattle.ada_events.specs.Refusals.{is_not_your_task, has_no_accept, names_no_family, breaks_constraint, nests_same_family, terminates_in_accept}
+use Rattle.ada_events.specs.Refusals.{is_not_in_accept, has_no_block, is_still_nested, aborts_main, Cause, first_cause, causes, refusal}
 use Rattle.ada_events.specs.declared.limits.TheConstants.{MOST_EVENTS, MOST_APPENDED, MOST_TASKS}
 use Rattle.ada_events.specs.Limits.{moves_back, is_too_late, makes_too_many_tasks, makes_too_many_slots, is_too_deep, is_full}
 use Rattle.ada_laws.proofs.Searching.{three_parts, option_map_or-false}
@@ -22,7 +24,8 @@ abbrev pub NoneApplies : List Cause → Type 0
 NoneApplies [] = Unit {0}
 NoneApplies (c ∷ rest) = (c.applies ≡ false) × NoneApplies rest
 
-none_of_one : (applies : Bool) (c : Cause) (rest : List Cause) → applies ≡ c.applies → first_cause (c ∷ rest) ≡ None → (c.applies ≡ false) × (first_cause rest ≡ None)
+none_of_one : (applies : Bool) (c : Cause) (rest : List Cause) → applies ≡ c.applies → first_cause (c ∷ rest) ≡ None → (c.applies ≡ false)
+    × (first_cause rest ≡ None)
 unfolding first_cause
 none_of_one true c rest same none = absurd (none-some c.name (sym none ∙ rw (← same) refl))
 none_of_one false c rest same none = (sym same, rw (← same) at none)
@@ -92,7 +95,8 @@ pub asker_exists : (journal : List Event) (r : Request) (task : ℕ) → refusal
 unfolding names_unknown_task
 asker_exists journal r task accepted asks =
     let known = (is_accepted journal r accepted).tasks_known in
-    let fails = (or_parts (is_some_and (asker r) (λ t. not (has_task journal t))) (list_any (λ (t : TaskNo). not (has_task journal t.0)) (named_tasks r)) known).0 in
+    let fails = (or_parts (is_some_and (asker r) (λ t. not (has_task journal t))) (list_any (λ (t : TaskNo). not (has_task journal t.0)) (named_tasks r))
+    known).0 in
     let known_one = option_map_or-false (λ t. not (has_task journal t)) (asker r) task fails asks in
     ltb-true task (task_count journal) (not-false (has_task journal task) known_one)
 
@@ -114,7 +118,8 @@ unfolding is_running
 running_free journal task runs = (three_parts (is_started journal task) (has_ended journal task) (is_suspended journal task) runs).2
 
 -- a request makes a task only where there are fewer than the most
-pub creates_within : (journal : List Event) (r : Request) → refusal journal r ≡ None → task_count journal ≤ MOST_TASKS → task_count (asked_event journal r ∷ journal) ≤ MOST_TASKS
+pub creates_within : (journal : List Event) (r : Request) → refusal journal r ≡ None → task_count journal ≤ MOST_TASKS
+    → task_count (asked_event journal r ∷ journal) ≤ MOST_TASKS
 unfolding task_count asked_event creation_in makes_too_many_tasks
 creates_within journal (request.Create by master families) accepted few =
     let fewer : task_count journal < 256 = leb-false 256 (task_count journal) (is_accepted journal (request.Create by master families) accepted).few_tasks in

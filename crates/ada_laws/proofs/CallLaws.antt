@@ -1,5 +1,6 @@
 -- Laws of entry calls.
-use Rattle.std.proofs.Common.{◌≡◌, ℕ, ◌+◌, ◌<◌, ◌%◌, Bool, true, false, not, ◌||◌, Option, Some, None, List, [], ◌∷◌, length, sym, refl, ap, ◌∙◌, subst, arith, inl, inr}
+use Rattle.std.proofs.Common.{◌≡◌, ℕ, ◌+◌, ◌<◌, ◌%◌, Bool, true, false, not, ◌||◌, Option, Some, None, List, [], ◌∷◌, length, sym, refl, ap, ◌∙◌, subst, arith}
+use Rattle.std.proofs.Common.{inl, inr}
 use Rattle.std.specs.Option.{option_map_or, option_map, option_and_then, is_some}
 use Rattle.std.specs.Bool.{then_some}
 use Rattle.std.specs.List.{Contains, slice_get}
@@ -15,7 +16,8 @@ use Rattle.ada_events.specs.Calls.{is_open_at, is_met, queue, is_pending}
 use Rattle.ada_events.specs.Waits.{numbers_from, front_of, is_selectable, taken_choice, taken_call}
 use Rattle.ada_events.specs.Forced.{is_to_fail, failed, met_at, met}
 use Rattle.ada_laws.specs.Laws.{OfEvery, OfLawful, OfSettled}
-use Rattle.ada_laws.specs.Calls.{IsCallAt, OneOpenCallEach, OpenCallsSuspend, CallsThatSuspendAreOpen, OpenCallsAreJoinedOrQueued, QueuesRise, FrontsAreMet, OneMeetingForAJoinedCall, NoOpenCallToAFinishedTask, NoAcceptorWaitsAtAQueuedChoice}
+use Rattle.ada_laws.specs.Calls.{IsCallAt, OneOpenCallEach, OpenCallsSuspend, CallsThatSuspendAreOpen, OpenCallsAreJoinedOrQueued, QueuesRise, FrontsAreMet}
+use Rattle.ada_laws.specs.Calls.{OneMeetingForAJoinedCall, NoOpenCallToAFinishedTask, NoAcceptorWaitsAtAQueuedChoice}
 use Rattle.ada_laws.proofs.Gathering.{first_given-none}
 use Rattle.ada_laws.proofs.Numbering.{numbers_from-none, numbers_from-found}
 use Rattle.ada_laws.specs.Suspension.{IsSuspendedAt}
@@ -84,10 +86,12 @@ then_none : {A : Type 0} (b : Bool) (x : A) → then_some b x ≡ None → b ≡
 then_none true x none = absurd (none-some x (sym none))
 then_none false x none = refl
 
-not_to_fail : (journal : List Event) (call : Call) (position : ℕ) (event : Event) → call_in event ≡ Some call → is_open_at journal position event ≡ true → is_to_fail journal position event ≡ false → (has_ended journal call.callee ≡ false) × (is_abnormal journal call.callee ≡ false)
+not_to_fail : (journal : List Event) (call : Call) (position : ℕ) (event : Event) → call_in event ≡ Some call → is_open_at journal position event ≡ true
+    → is_to_fail journal position event ≡ false → (has_ended journal call.callee ≡ false) × (is_abnormal journal call.callee ≡ false)
 unfolding is_to_fail
 not_to_fail journal call position event says opened stays =
-    elim (and_cases (option_map_or (λ (c : Call). has_ended journal c.callee || is_abnormal journal c.callee) (call_in event) false) (is_open_at journal position event) stays) [
+    elim (and_cases (option_map_or (λ (c : Call). has_ended journal c.callee || is_abnormal journal c.callee) (call_in event) false)
+    (is_open_at journal position event) stays) [
       | inl finished ↦ or_parts (has_ended journal call.callee) (is_abnormal journal call.callee) (rw says at finished)
       | inr shut ↦ absurd (true≢false (sym opened ∙ shut))
     ]
@@ -95,7 +99,8 @@ not_to_fail journal call position event says opened stays =
 pub no_open_call_to_a_finished_task : OfSettled NoOpenCallToAFinishedTask
 unfolding failed
 no_open_call_to_a_finished_task journal settled call position opened =
-    let none = first_given-none (λ p e. then_some (is_to_fail journal p e) (Failed p)) journal position opened.stands.event (settled_at_rest journal settled).no_failed opened.stands.stands in
+    let none = first_given-none (λ p e. then_some (is_to_fail journal p e) (Failed p)) journal position opened.stands.event
+    (settled_at_rest journal settled).no_failed opened.stands.stands in
     not_to_fail journal call position opened.stands.event opened.stands.says (is_open_at-from journal call position opened)
     (then_none (is_to_fail journal position opened.stands.event) (Failed position) none)
 
@@ -114,7 +119,8 @@ map_none : {A B : Type 0} (f : A → B) (o : Option A) → option_map f o ≡ No
 map_none f None none = refl
 map_none f (Some x) none = absurd (none-some (f x) (sym none))
 
-none_met : (journal : List Event) (wait : Wait) (position : ℕ) → is_pending journal position wait.by ≡ true → met_at journal position wait ≡ None → taken_call journal wait ≡ None
+none_met : (journal : List Event) (wait : Wait) (position : ℕ) → is_pending journal position wait.by ≡ true → met_at journal position wait ≡ None
+    → taken_call journal wait ≡ None
 unfolding met_at
 none_met journal wait position pending none = map_none (λ call. Met call position) (taken_call journal wait) (rw pending at none)
 
@@ -127,19 +133,22 @@ selectable : (o : Option ℕ) → is_some o ≡ true → (call : ℕ) × (o ≡ 
 selectable None passes = absurd (false≢true passes)
 selectable (Some call) passes = (call, refl)
 
-call_of_number : (front : Choice → Option ℕ) (choices : List Choice) (o : Option ℕ) (number place call : ℕ) (choice : Choice) → o ≡ Some number → number ≡ place → slice_get choices place ≡ Some choice → front choice ≡ Some call → option_and_then front (option_and_then (slice_get choices) o) ≡ Some call
+call_of_number : (front : Choice → Option ℕ) (choices : List Choice) (o : Option ℕ) (number place call : ℕ) (choice : Choice) → o ≡ Some number → number ≡ place
+    → slice_get choices place ≡ Some choice → front choice ≡ Some call → option_and_then front (option_and_then (slice_get choices) o) ≡ Some call
 call_of_number front choices o number place call choice chosen same stands at_front = rw (chosen, same, stands) at_front
 
 -- a choice that is taken has a call at its front
 chosen_taken : (journal : List Event) (wait : Wait) (number : ℕ) → taken_choice journal wait ≡ Some number → (call : ℕ) × (taken_call journal wait ≡ Some call)
 unfolding taken_call taken_choice is_selectable
 chosen_taken journal wait number chosen =
-    let found = numbers_from-found (is_selectable journal wait.by) 0 wait.choices (wait.pick % length (numbers_from (is_selectable journal wait.by) 0 wait.choices)) number chosen in
+    let found = numbers_from-found (is_selectable journal wait.by) 0 wait.choices
+    (wait.pick % length (numbers_from (is_selectable journal wait.by) 0 wait.choices)) number chosen in
     let (call, front) = selectable (front_of journal wait.by found.item) found.passes in
     let at : number ≡ found.place = found.is ∙ (let e : 0 + found.place ≡ found.place = omega arith in e) in
     (call, call_of_number (front_of journal wait.by) wait.choices (taken_choice journal wait) number found.place call found.item chosen at found.stands front)
 
-none_taken_by : (journal : List Event) (wait : Wait) (choice : Choice) (number : Option ℕ) → taken_choice journal wait ≡ number → taken_call journal wait ≡ None → Contains wait.choices choice → front_of journal wait.by choice ≡ None
+none_taken_by : (journal : List Event) (wait : Wait) (choice : Choice) (number : Option ℕ) → taken_choice journal wait ≡ number → taken_call journal wait ≡ None
+    → Contains wait.choices choice → front_of journal wait.by choice ≡ None
 unfolding taken_choice is_selectable
 none_taken_by journal wait choice None chosen none (k, below, same) =
     unselectable (front_of journal wait.by choice)
@@ -150,22 +159,27 @@ none_taken_by journal wait choice (Some number) chosen none among =
     let (call, taken) = chosen_taken journal wait number chosen in
     absurd (none-some call (sym none ∙ taken))
 
-pub none_taken : (journal : List Event) (wait : Wait) (choice : Choice) → taken_call journal wait ≡ None → Contains wait.choices choice → front_of journal wait.by choice ≡ None
+pub none_taken : (journal : List Event) (wait : Wait) (choice : Choice) → taken_call journal wait ≡ None → Contains wait.choices choice
+    → front_of journal wait.by choice ≡ None
 none_taken journal wait choice none among = none_taken_by journal wait choice (taken_choice journal wait) refl none among
 
-no_front : (journal : List Event) (task : ℕ) (choice : Choice) → choice.guard ≡ true → front_of journal task choice ≡ None → queue journal task choice.entry ≡ []
+no_front : (journal : List Event) (task : ℕ) (choice : Choice) → choice.guard ≡ true → front_of journal task choice ≡ None
+    → queue journal task choice.entry ≡ []
 unfolding front_of
 no_front journal task choice chosen none = first-none (queue journal task choice.entry) (rw chosen at none)
 
-is_pending-from : (journal : List Event) (position task : ℕ) → is_released journal position ≡ false → has_ended journal task ≡ false → is_pending journal position task ≡ true
+is_pending-from : (journal : List Event) (position task : ℕ) → is_released journal position ≡ false → has_ended journal task ≡ false
+    → is_pending journal position task ≡ true
 unfolding is_pending
 is_pending-from journal position task unreleased live =
-    and_from (not (is_released journal position)) (not (has_ended journal task)) (not_from_false (is_released journal position) unreleased) (not_from_false (has_ended journal task) live)
+    and_from (not (is_released journal position)) (not (has_ended journal task)) (not_from_false (is_released journal position) unreleased)
+    (not_from_false (has_ended journal task) live)
 
 pub no_acceptor_waits_at_a_queued_choice : OfSettled NoAcceptorWaitsAtAQueuedChoice
 unfolding met
 no_acceptor_waits_at_a_queued_choice journal settled wait position choice stands unreleased live among chosen =
-    let none = first_given-none (λ p e. option_and_then (met_at journal p) (wait_in e)) journal position stands.event (settled_at_rest journal settled).no_met stands.stands in
+    let none = first_given-none (λ p e. option_and_then (met_at journal p) (wait_in e)) journal position stands.event (settled_at_rest journal settled).no_met
+    stands.stands in
     let none_here : met_at journal position wait ≡ None = rw stands.says at none in
     no_front journal wait.by choice chosen
     (none_taken journal wait choice (none_met journal wait position (is_pending-from journal position wait.by unreleased live) none_here) among)

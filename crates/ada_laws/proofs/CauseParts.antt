@@ -17,7 +17,10 @@ first_cause-append [] ys = refl
 first_cause-append (c ∷ xs) ys =
     ap (λ r. if c.applies then Some c.name else r) (first_cause-append xs ys) ∙ if-option_or c.applies c.name (first_cause xs) (first_cause ys)
 
-pub first_cause_in_parts : (journal : List Event) (request : Request) → refusal journal request ≡ option_or (first_cause (causes_by_name journal request)) (option_or (first_cause (causes_by_entry journal request)) (option_or (first_cause (causes_by_nest journal request)) (first_cause (causes_by_limit journal request))))
+pub first_cause_in_parts : (journal : List Event) (request : Request)
+    → refusal journal request ≡ option_or (first_cause (causes_by_name journal request))
+    (option_or (first_cause (causes_by_entry journal request))
+    (option_or (first_cause (causes_by_nest journal request)) (first_cause (causes_by_limit journal request))))
 unfolding refusal causes
 first_cause_in_parts journal request =
     first_cause-append (causes_by_name journal request) (causes_by_entry journal request ++ (causes_by_nest journal request ++ causes_by_limit journal request))

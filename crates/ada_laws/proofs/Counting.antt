@@ -31,7 +31,8 @@ caller_at-call : (journal : List Event) (call : Call) (position : ℕ) → IsCal
 unfolding caller_at
 caller_at-call journal call position stands = rw (stands.stands, stands.says) refl
 
-caller_apart : (journal : List Event) (task : ℕ) (entry : Entry) (p q : ℕ) → IsLawful journal → Contains (queue journal task entry) p → Contains (queue journal task entry) q → p < q → caller_at journal p ≢ caller_at journal q
+caller_apart : (journal : List Event) (task : ℕ) (entry : Entry) (p q : ℕ) → IsLawful journal → Contains (queue journal task entry) p
+    → Contains (queue journal task entry) q → p < q → caller_at journal p ≢ caller_at journal q
 caller_apart journal task entry p q lawful has_p has_q less = λ same.
     let a = queue-found journal task entry p has_p in
     let b = queue-found journal task entry q has_q in
@@ -39,21 +40,25 @@ caller_apart journal task entry p q lawful has_p has_q less = λ same.
     let one : p ≡ q = one_open_call_each journal lawful a.call b.call p q a.opened b.opened callers in
     omega arith
 
-callers_apart : (journal : List Event) (task : ℕ) (entry : Entry) → IsLawful journal → AllPairs (λ x y. x ≢ y) (map (caller_at journal) (queue journal task entry))
+callers_apart : (journal : List Event) (task : ℕ) (entry : Entry) → IsLawful journal
+    → AllPairs (λ x y. x ≢ y) (map (caller_at journal) (queue journal task entry))
 callers_apart journal task entry lawful i j d less below =
     let xs = queue journal task entry in
     let within : j < length xs = omega (arith, length-map xs (caller_at journal)) in
     let apart : caller_at journal (get_or xs i 0) ≢ caller_at journal (get_or xs j 0) =
-    caller_apart journal task entry (get_or xs i 0) (get_or xs j 0) lawful (Contains-get_or xs i 0 (omega arith)) (Contains-get_or xs j 0 within) (queue-rises journal task entry i j 0 less within) in
+    caller_apart journal task entry (get_or xs i 0) (get_or xs j 0) lawful (Contains-get_or xs i 0 (omega arith)) (Contains-get_or xs j 0 within)
+    (queue-rises journal task entry i j 0 less within) in
     λ same. apart (sym (get_or-map (caller_at journal) xs i 0 d (omega arith)) ∙ same ∙ get_or-map (caller_at journal) xs j 0 d within)
 
-caller_exists : (journal : List Event) (task : ℕ) (entry : Entry) (q : ℕ) → IsLawful journal → Contains (map (caller_at journal) (queue journal task entry)) q → q < task_count journal
+caller_exists : (journal : List Event) (task : ℕ) (entry : Entry) (q : ℕ) → IsLawful journal → Contains (map (caller_at journal) (queue journal task entry)) q
+    → q < task_count journal
 caller_exists journal task entry q lawful (k, below, same) =
     let xs = queue journal task entry in
     let within : k < length xs = omega (arith, length-map xs (caller_at journal)) in
     let a = queue-found journal task entry (get_or xs k 0) (Contains-get_or xs k 0 within) in
     let is : q ≡ a.call.by = sym same ∙ get_or-map (caller_at journal) xs k 0 q within ∙ caller_at-call journal a.call (get_or xs k 0) a.opened.stands in
-    let exists : a.call.by < task_count journal = suspended_exists journal a.call.by (get_or xs k 0) lawful (open_calls_suspend journal a.call (get_or xs k 0) a.opened) in
+    let exists : a.call.by < task_count journal = suspended_exists journal a.call.by (get_or xs k 0) lawful
+    (open_calls_suspend journal a.call (get_or xs k 0) a.opened) in
     omega arith
 
 pub queues_are_short : QueuesAreShort

@@ -26,7 +26,8 @@ use Rattle.ada_laws.proofs.Growing.{is_terminated-more, is_terminated-quit, has_
 use Rattle.ada_laws.proofs.Accepting.{running_live}
 use Rattle.ada_laws.proofs.Rows.{IsRow, forced-row}
 use Rattle.ada_laws.proofs.Rows.IsRow.{goes}
-use Rattle.ada_laws.proofs.Depending.{IsMadeUnder, depends_on-cases, depends_exists, depends_trans, maker_of_dependent, dependents_started, started_named, created_positive}
+use Rattle.ada_laws.proofs.Depending.{IsMadeUnder, depends_on-cases, depends_exists, depends_trans, maker_of_dependent, dependents_started, started_named}
+use Rattle.ada_laws.proofs.Depending.{created_positive}
 
 -- by what a task is terminated: the newest event terminates it by itself, or together with all that
 -- depend on a master, or it was terminated before
@@ -55,7 +56,8 @@ unfolding creation_in gone_in quit_in
 creation_ends_none (Created by under master families) c says = (refl, refl)
 creation_ends_none _ c says = absurd (none-some c says)
 
-terminated_before : (event : Event) (before : List Event) (task : ℕ) (c : Creation) → creation_in event ≡ Some c → IsEnd event before task → is_terminated before task ≡ true
+terminated_before : (event : Event) (before : List Event) (task : ℕ) (c : Creation) → creation_in event ≡ Some c → IsEnd event before task
+    → is_terminated before task ≡ true
 terminated_before event before task c says (alone gone) = absurd (none-some task (sym (creation_ends_none event c says).0 ∙ gone))
 terminated_before event before task c says (together m quit depends) = absurd (none-some m (sym (creation_ends_none event c says).1 ∙ quit))
 terminated_before event before task c says (earlier was) = was
@@ -76,11 +78,14 @@ going event before task (inl forces) says = row_going before event task (forced-
 going event before task (inr asked) says =
     absurd (none-some task (sym (gone_in-asked before asked.request) ∙ (ap gone_in (sym asked.becomes) ∙ says)))
 
-pub abandoned_parts : (journal : List Event) (task : ℕ) → is_abandoned journal task ≡ true → (c : Creation) × (creation_of journal task ≡ Some c) × (has_start journal task ≡ false)
+pub abandoned_parts : (journal : List Event) (task : ℕ) → is_abandoned journal task ≡ true → (c : Creation) × (creation_of journal task ≡ Some c)
+    × (has_start journal task ≡ false)
 unfolding is_abandoned
 abandoned_parts journal task abandoned =
-    let both = and_parts (option_map_or (λ (c : Creation). is_complete journal c.under || is_terminated journal c.by) (creation_of journal task) false) (not (has_start journal task)) abandoned in
-    let (c, says, complete) = option_map_or-true (λ (c : Creation). is_complete journal c.under || is_terminated journal c.by) (creation_of journal task) both.0 in
+    let both = and_parts (option_map_or (λ (c : Creation). is_complete journal c.under || is_terminated journal c.by) (creation_of journal task) false)
+    (not (has_start journal task)) abandoned in
+    let (c, says, complete) = option_map_or-true (λ (c : Creation). is_complete journal c.under || is_terminated journal c.by)
+    (creation_of journal task) both.0 in
     (c, says, not-true (has_start journal task) both.1)
 
 -- nobody depends on the body of an abandoned task
@@ -93,7 +98,8 @@ abandoned_alone journal u t lawful abandoned depends =
       | inr named ↦ true≢false (sym named ∙ never)
     ]
 
-pub all_terminated_at : (journal : List Event) (m : Master) (u : ℕ) → all_terminated journal m ≡ true → depends_on journal u m ≡ true → is_terminated journal u ≡ true
+pub all_terminated_at : (journal : List Event) (m : Master) (u : ℕ) → all_terminated journal m ≡ true → depends_on journal u m ≡ true
+    → is_terminated journal u ≡ true
 unfolding all_terminated
 all_terminated_at journal m u all depends =
     let here = all_below-holds (λ u. not (depends_on journal u m) || is_terminated journal u) (task_count journal) u all (depends_exists journal u m depends) in
@@ -103,7 +109,8 @@ all_terminated_at journal m u all depends =
     ]
 
 -- a dependent of a task that goes is terminated
-gone_dependent : (journal : List Event) (u : ℕ) (t : TaskNo) → IsLawful journal → is_to_go journal t.0 ≡ true → depends_on journal u (Body t) ≡ true → is_terminated journal u ≡ true
+gone_dependent : (journal : List Event) (u : ℕ) (t : TaskNo) → IsLawful journal → is_to_go journal t.0 ≡ true → depends_on journal u (Body t) ≡ true
+    → is_terminated journal u ≡ true
 unfolding is_to_go
 gone_dependent journal u t lawful go depends =
     let ways = (and_parts (not (is_terminated journal t.0)) (is_completed journal t.0 && all_terminated journal (Body t) || is_abandoned journal t.0) go).1 in
@@ -113,7 +120,8 @@ gone_dependent journal u t lawful go depends =
     ]
 
 -- where a task is terminated no further task is made that depends on its body
-no_late_dependent : (event : Event) (before : List Event) (u : ℕ) (t : TaskNo) → IsLawful (event ∷ before) → is_terminated before t.0 ≡ true → ((v : ℕ) → depends_on before v (Body t) ≡ true → is_terminated before v ≡ true) → IsMadeUnder event before u (Body t) → ⊥
+no_late_dependent : (event : Event) (before : List Event) (u : ℕ) (t : TaskNo) → IsLawful (event ∷ before) → is_terminated before t.0 ≡ true
+    → ((v : ℕ) → depends_on before v (Body t) ≡ true → is_terminated before v ≡ true) → IsMadeUnder event before u (Body t) → ⊥
 no_late_dependent event before u t lawful ended dependents made =
     let maker = maker_of_dependent event before u t lawful made in
     let by_ended : is_terminated before made.creation.by ≡ true =
@@ -124,7 +132,9 @@ no_late_dependent event before u t lawful ended dependents made =
     true≢false (sym (has_ended-terminated before made.creation.by by_ended) ∙ running_live before made.creation.by maker.0)
 
 -- the dependents of a task, after it was terminated
-end_dependents : (event : Event) (before : List Event) (u : ℕ) (t : TaskNo) → IsLawful (event ∷ before) → ((v : ℕ) → is_terminated before t.0 ≡ true → depends_on before v (Body t) ≡ true → is_terminated before v ≡ true) → IsEnd event before t.0 → depends_on before u (Body t) ≡ true → is_terminated (event ∷ before) u ≡ true
+end_dependents : (event : Event) (before : List Event) (u : ℕ) (t : TaskNo) → IsLawful (event ∷ before)
+    → ((v : ℕ) → is_terminated before t.0 ≡ true → depends_on before v (Body t) ≡ true → is_terminated before v ≡ true) → IsEnd event before t.0
+    → depends_on before u (Body t) ≡ true → is_terminated (event ∷ before) u ≡ true
 end_dependents event before u t lawful dependents (alone gone) depends =
     is_terminated-more event before u (gone_dependent before u t lawful.0 (going event before t.0 lawful.1 gone) depends)
 end_dependents event before u t lawful dependents (together m says on_m) depends =

@@ -1,5 +1,6 @@
 -- Dependents: who depends on a master, and by what.
-use Rattle.std.proofs.Common.{◌≡◌, ℕ, ◌<◌, true, false, not, ◌&&◌, cond, Option, Some, None, List, [], ◌∷◌, sym, refl, ap, ◌∙◌, subst, arith, ◌⊎◌, inl, inr, eqb}
+use Rattle.std.proofs.Common.{◌≡◌, ℕ, ◌<◌, true, false, not, ◌&&◌, cond, Option, Some, None, List, [], ◌∷◌, sym, refl, ap, ◌∙◌, subst, arith, ◌⊎◌, inl, inr}
+use Rattle.std.proofs.Common.{eqb}
 use Rattle.std.specs.Option.{option_map_or, option_len}
 use Rattle.std.specs.List.{list_any}
 use Rattle.std.proofs.lemmas.Bool.{or_cases, or_left, or_right, and_parts, and_from, cases_eq, eq-eqb, eqb-true, false≢true}
@@ -18,7 +19,8 @@ use Rattle.ada_events.specs.Lawful.{IsLawful}
 use Rattle.ada_laws.proofs.Searching.{option_map_or-true, option_or-some, if_some, event_at-cases}
 use Rattle.ada_laws.proofs.Accepting.{running_started}
 use Rattle.ada_laws.proofs.Framing.{IsBlockOf, frame_is}
-use Rattle.ada_laws.proofs.Reaching.{same_master-true, reaches_up, reaches_known, reaches_trans, parent_in-known, parent_in-other, parent_in-created, parent_in-opened, parent_in-uncreated, creation_asked, opening_asked, frame_known}
+use Rattle.ada_laws.proofs.Reaching.{same_master-true, reaches_up, reaches_known, reaches_trans, parent_in-known, parent_in-other, parent_in-created}
+use Rattle.ada_laws.proofs.Reaching.{parent_in-opened, parent_in-uncreated, creation_asked, opening_asked, frame_known}
 
 -- a task depends on a master by its creation, or did before the newest event
 pub record IsMadeUnder (event : Event) (before : List Event) (task : ℕ) (master : Master) : Type 0 where
@@ -27,27 +29,34 @@ pub record IsMadeUnder (event : Event) (before : List Event) (task : ℕ) (maste
   pub newest : task ≡ task_count before
   pub reached : reaches before creation.master master ≡ true
 
-pub depends_on-cases : (event : Event) (before : List Event) (task : ℕ) (master : Master) → depends_on (event ∷ before) task master ≡ true → IsMadeUnder event before task master ⊎ (depends_on before task master ≡ true)
+pub depends_on-cases : (event : Event) (before : List Event) (task : ℕ) (master : Master) → depends_on (event ∷ before) task master ≡ true
+    → IsMadeUnder event before task master ⊎ (depends_on before task master ≡ true)
 unfolding depends_on
 depends_on-cases event before task master depends =
-    elim (or_cases (option_map_or (λ (c : Creation). eqb task (task_count before) && reaches before c.master master) (creation_in event) false) (depends_on before task master) depends) [
+    elim (or_cases (option_map_or (λ (c : Creation). eqb task (task_count before) && reaches before c.master master) (creation_in event) false)
+    (depends_on before task master) depends) [
       | inl made ↦
-          let (c, says, both) = option_map_or-true (λ (c : Creation). eqb task (task_count before) && reaches before c.master master) (creation_in event) made in
+          let (c, says, both) = option_map_or-true (λ (c : Creation). eqb task (task_count before) && reaches before c.master master)
+          (creation_in event) made in
           let parts = and_parts (eqb task (task_count before)) (reaches before c.master master) both in
           inl (record { creation = c; says = says; newest = eqb-true task (task_count before) parts.0; reached = parts.1 })
       | inr older ↦ inr older
     ]
 
-pub depends_on-made : (event : Event) (before : List Event) (task : ℕ) (master : Master) (c : Creation) → creation_in event ≡ Some c → task ≡ task_count before → reaches before c.master master ≡ true → depends_on (event ∷ before) task master ≡ true
+pub depends_on-made : (event : Event) (before : List Event) (task : ℕ) (master : Master) (c : Creation) → creation_in event ≡ Some c → task ≡ task_count before
+    → reaches before c.master master ≡ true → depends_on (event ∷ before) task master ≡ true
 unfolding depends_on
 depends_on-made event before task master c says newest reached =
-    or_left (option_map_or (λ (c : Creation). eqb task (task_count before) && reaches before c.master master) (creation_in event) false) (depends_on before task master)
+    or_left (option_map_or (λ (c : Creation). eqb task (task_count before) && reaches before c.master master) (creation_in event) false)
+    (depends_on before task master)
     (rw says (and_from (eqb task (task_count before)) (reaches before c.master master) (eq-eqb task (task_count before) newest) reached))
 
-pub depends_on-later : (event : Event) (before : List Event) (task : ℕ) (master : Master) → depends_on before task master ≡ true → depends_on (event ∷ before) task master ≡ true
+pub depends_on-later : (event : Event) (before : List Event) (task : ℕ) (master : Master) → depends_on before task master ≡ true
+    → depends_on (event ∷ before) task master ≡ true
 unfolding depends_on
 depends_on-later event before task master depends =
-    or_right (option_map_or (λ (c : Creation). eqb task (task_count before) && reaches before c.master master) (creation_in event) false) (depends_on before task master) depends
+    or_right (option_map_or (λ (c : Creation). eqb task (task_count before) && reaches before c.master master) (creation_in event) false)
+    (depends_on before task master) depends
 
 -- a dependent exists
 pub depends_exists : (journal : List Event) (task : ℕ) (master : Master) → depends_on journal task master ≡ true → task < task_count journal
@@ -79,12 +88,14 @@ depends_reaches (event ∷ before) t master depends =
 
 -- what is reached from the parent of a task's body is reached from the body before, or the newest event
 -- made the task
-body_step : (event : Event) (before : List Event) (t : TaskNo) (master : Master) (o : Option Creation) → creation_in event ≡ o → t.0 ≡ task_count before → reaches before (parent_in before event (Body t)) master ≡ true → (reaches before (Body t) master ≡ true) ⊎ (depends_on (event ∷ before) t.0 master ≡ true)
+body_step : (event : Event) (before : List Event) (t : TaskNo) (master : Master) (o : Option Creation) → creation_in event ≡ o → t.0 ≡ task_count before
+    → reaches before (parent_in before event (Body t)) master ≡ true → (reaches before (Body t) master ≡ true) ⊎ (depends_on (event ∷ before) t.0 master ≡ true)
 body_step event before t master None says newest reached = inl (rw (parent_in-uncreated event before t says) at reached)
 body_step event before t master (Some c) says newest reached =
     inr (depends_on-made event before t.0 master c says newest (rw (parent_in-created event before t c says newest) at reached))
 
-body_parent_reaches : (event : Event) (before : List Event) (t : TaskNo) (master : Master) → reaches before (parent_in before event (Body t)) master ≡ true → (reaches before (Body t) master ≡ true) ⊎ (depends_on (event ∷ before) t.0 master ≡ true)
+body_parent_reaches : (event : Event) (before : List Event) (t : TaskNo) (master : Master) → reaches before (parent_in before event (Body t)) master ≡ true
+    → (reaches before (Body t) master ≡ true) ⊎ (depends_on (event ∷ before) t.0 master ≡ true)
 body_parent_reaches event before t master reached =
     elim (cases_eq t.0 (task_count before)) [
       | inl newest ↦ body_step event before t master (creation_in event) refl newest reached
@@ -92,7 +103,8 @@ body_parent_reaches event before t master reached =
     ]
 
 -- what is reached from a task's body is that body, or the task depends on it
-pub reaches_from_body : (journal : List Event) (t : TaskNo) (master : Master) → reaches journal (Body t) master ≡ true → (Body t ≡ master) ⊎ (depends_on journal t.0 master ≡ true)
+pub reaches_from_body : (journal : List Event) (t : TaskNo) (master : Master) → reaches journal (Body t) master ≡ true → (Body t ≡ master)
+    ⊎ (depends_on journal t.0 master ≡ true)
 unfolding reaches
 reaches_from_body [] t master reached = inl (same_master-true (Body t) master reached)
 reaches_from_body (event ∷ before) t master reached =
@@ -117,7 +129,8 @@ depends_after (event ∷ before) task t lawful depends =
     elim (depends_on-cases event before task (Body t) depends) [
       | inl made ↦
           let by = creation_asked event before made.creation lawful.1 made.says in
-          let known = reaches_known before lawful.0 (frame before made.creation.by) made.creation.master (frame_known before made.creation.by by.asked.exists) by.reached in
+          let known = reaches_known before lawful.0 (frame before made.creation.by) made.creation.master (frame_known before made.creation.by by.asked.exists)
+          by.reached in
           let below : t.0 < task_count before = reaches_known before lawful.0 made.creation.master (Body t) known made.reached in
           let newest : task ≡ task_count before = made.newest in
           omega arith
@@ -125,9 +138,11 @@ depends_after (event ∷ before) task t lawful depends =
     ]
 
 -- who depends on a task's body depends on what the task depends on
-pub depends_trans : (journal : List Event) (u t : TaskNo) (master : Master) → IsLawful journal → depends_on journal u.0 (Body t) ≡ true → depends_on journal t.0 master ≡ true → depends_on journal u.0 master ≡ true
+pub depends_trans : (journal : List Event) (u t : TaskNo) (master : Master) → IsLawful journal → depends_on journal u.0 (Body t) ≡ true
+    → depends_on journal t.0 master ≡ true → depends_on journal u.0 master ≡ true
 depends_trans journal u t master lawful first second =
-    let all = reaches_trans journal lawful (Body u) (Body t) master (depends_exists journal u.0 (Body t) first) (depends_reaches journal u (Body t) first) (depends_reaches journal t master second) in
+    let all = reaches_trans journal lawful (Body u) (Body t) master (depends_exists journal u.0 (Body t) first) (depends_reaches journal u (Body t) first)
+    (depends_reaches journal t master second) in
     elim (reaches_from_body journal u master all) [
       | inl same ↦
           let after : t.0 < u.0 = depends_after journal u.0 t lawful first in
@@ -137,7 +152,9 @@ depends_trans journal u t master lawful first second =
     ]
 
 -- whose body is reached from the frame of a task: the task's own, or one on which it depends
-frame_reaches_from : (journal : List Event) (task t : TaskNo) → ((p : ℕ) → IsBlockOf journal task.0 p → reaches journal (Block p) (Body t) ≡ true → (task ≡ t) ⊎ (depends_on journal task.0 (Body t) ≡ true)) → reaches journal (frame journal task.0) (Body t) ≡ true → (task ≡ t) ⊎ (depends_on journal task.0 (Body t) ≡ true)
+frame_reaches_from : (journal : List Event) (task t : TaskNo)
+    → ((p : ℕ) → IsBlockOf journal task.0 p → reaches journal (Block p) (Body t) ≡ true → (task ≡ t) ⊎ (depends_on journal task.0 (Body t) ≡ true))
+    → reaches journal (frame journal task.0) (Body t) ≡ true → (task ≡ t) ⊎ (depends_on journal task.0 (Body t) ≡ true)
 frame_reaches_from journal task t by_block reached =
     elim (frame_is journal task.0) [
       | inl body ↦
@@ -148,11 +165,13 @@ frame_reaches_from journal task t by_block reached =
       | inr block ↦ by_block block.0 block.1 (rw block.2 at reached)
     ]
 
-still : (event : Event) (before : List Event) (task t : TaskNo) → (task ≡ t) ⊎ (depends_on before task.0 (Body t) ≡ true) → (task ≡ t) ⊎ (depends_on (event ∷ before) task.0 (Body t) ≡ true)
+still : (event : Event) (before : List Event) (task t : TaskNo) → (task ≡ t) ⊎ (depends_on before task.0 (Body t) ≡ true) → (task ≡ t)
+    ⊎ (depends_on (event ∷ before) task.0 (Body t) ≡ true)
 still event before task t (inl same) = inl same
 still event before task t (inr depends) = inr (depends_on-later event before task.0 (Body t) depends)
 
-pub block_reaches : (journal : List Event) (task t : TaskNo) (p : ℕ) → IsLawful journal → IsBlockOf journal task.0 p → reaches journal (Block p) (Body t) ≡ true → (task ≡ t) ⊎ (depends_on journal task.0 (Body t) ≡ true)
+pub block_reaches : (journal : List Event) (task t : TaskNo) (p : ℕ) → IsLawful journal → IsBlockOf journal task.0 p → reaches journal (Block p) (Body t) ≡ true
+    → (task ≡ t) ⊎ (depends_on journal task.0 (Body t) ≡ true)
 unfolding reaches event_at
 block_reaches [] task t p lawful block reached = absurd (none-some block.event block.stands)
 block_reaches (event ∷ before) task t p lawful block reached =
@@ -177,11 +196,13 @@ block_reaches (event ∷ before) task t p lawful block reached =
           ]
     ]
 
-pub frame_reaches : (journal : List Event) (task t : TaskNo) → IsLawful journal → reaches journal (frame journal task.0) (Body t) ≡ true → (task ≡ t) ⊎ (depends_on journal task.0 (Body t) ≡ true)
+pub frame_reaches : (journal : List Event) (task t : TaskNo) → IsLawful journal → reaches journal (frame journal task.0) (Body t) ≡ true → (task ≡ t)
+    ⊎ (depends_on journal task.0 (Body t) ≡ true)
 frame_reaches journal task t lawful reached = frame_reaches_from journal task t (λ p block further. block_reaches journal task t p lawful block further) reached
 
 -- whoever makes a task that depends on a task's body is that task, or depends on its body
-pub maker_of_dependent : (event : Event) (before : List Event) (u : ℕ) (t : TaskNo) → IsLawful (event ∷ before) → (made : IsMadeUnder event before u (Body t)) → (is_running before made.creation.by ≡ true) × ((made.creation.by ≡ t.0) ⊎ (depends_on before made.creation.by (Body t) ≡ true))
+pub maker_of_dependent : (event : Event) (before : List Event) (u : ℕ) (t : TaskNo) → IsLawful (event ∷ before) → (made : IsMadeUnder event before u (Body t))
+    → (is_running before made.creation.by ≡ true) × ((made.creation.by ≡ t.0) ⊎ (depends_on before made.creation.by (Body t) ≡ true))
 maker_of_dependent event before u t lawful made =
     let c = made.creation in
     let by = creation_asked event before c lawful.1 made.says in

@@ -25,7 +25,8 @@ pub record IsBlockOf (journal : List Event) (task position : ℕ) : Type 0 where
   pub says : opening_in event ≡ Some opening
   pub by : opening.by ≡ task
 
-innermost_block-is : (outer : Master) (members : List Member) → (innermost_block outer members ≡ outer) ⊎ ((p : ℕ) × Contains members (Block p) × (innermost_block outer members ≡ BlockMaster p))
+innermost_block-is : (outer : Master) (members : List Member) → (innermost_block outer members ≡ outer)
+    ⊎ ((p : ℕ) × Contains members (Block p) × (innermost_block outer members ≡ BlockMaster p))
 unfolding innermost_block
 innermost_block-is outer [] = inl refl
 innermost_block-is outer (Block p ∷ rest) =
@@ -39,7 +40,8 @@ innermost_block-is outer (Rendezvous call ∷ rest) =
       | inr block ↦ inr (block.0, Contains-later (Rendezvous call) (Block block.0) rest block.1, block.2)
     ]
 
-block_of : (journal : List Event) (task p q : ℕ) (event : Event) (o : Option Opening) → opening_in event ≡ o → event_at journal q ≡ Some event → option_map_or (λ (o : Opening). then_some (eqb o.by task && not (is_left journal q)) (Block q)) o None ≡ Some (Block p) → IsBlockOf journal task p
+block_of : (journal : List Event) (task p q : ℕ) (event : Event) (o : Option Opening) → opening_in event ≡ o → event_at journal q ≡ Some event
+    → option_map_or (λ (o : Opening). then_some (eqb o.by task && not (is_left journal q)) (Block q)) o None ≡ Some (Block p) → IsBlockOf journal task p
 block_of journal task p q event None says at gives = absurd (none-some (Block p) gives)
 block_of journal task p q event (Some o) says at gives =
     let found = then_some-some (eqb o.by task && not (is_left journal q)) (Block q) (Block p) gives in
@@ -47,7 +49,8 @@ block_of journal task p q event (Some o) says at gives =
     let same : q ≡ p = cc (found.1) in
     subst (IsBlockOf journal task) same (record { event = event; opening = o; stands = at; says = says; by = eqb-true o.by task both.0 })
 
-not_block : (test : Meeting → Bool) (p : ℕ) (o : Option Meeting) → option_map_or (λ (m : Meeting). then_some (test m) (Rendezvous m.call)) o None ≡ Some (Block p) → ⊥
+not_block : (test : Meeting → Bool) (p : ℕ) (o : Option Meeting)
+    → option_map_or (λ (m : Meeting). then_some (test m) (Rendezvous m.call)) o None ≡ Some (Block p) → ⊥
 not_block test p None gives = none-some (Block p) gives
 not_block test p (Some m) gives =
     let found = then_some-some (test m) (Rendezvous m.call) (Block p) gives in
@@ -66,7 +69,8 @@ nest_block journal task p contains =
     ]
 
 -- the frame of a task is its body, or a block that it opened
-pub frame_is : (journal : List Event) (task : ℕ) → (frame journal task ≡ Body (record { 0 = task })) ⊎ ((p : ℕ) × IsBlockOf journal task p × (frame journal task ≡ BlockMaster p))
+pub frame_is : (journal : List Event) (task : ℕ) → (frame journal task ≡ Body (record { 0 = task }))
+    ⊎ ((p : ℕ) × IsBlockOf journal task p × (frame journal task ≡ BlockMaster p))
 unfolding frame
 frame_is journal task =
     elim (innermost_block-is (Body (record { 0 = task })) (nest journal task)) [

@@ -6,7 +6,8 @@ use Rattle.ada_events.specs.Search.{any_event, first_given, gathered, first_belo
 use Rattle.ada_events.specs.Tasks.{task_count, creation_of}
 use Rattle.ada_events.specs.Masters.{reaches, depends_on}
 use Rattle.ada_events.specs.Phases.{has_start, is_completed, is_terminated, has_ended, is_abnormal}
-use Rattle.ada_events.specs.Forced.{is_to_halt, halted, failed, met, cancelled, passed, woken, activated, is_to_go, gone, is_to_quit, quit_body, quit_block, left, first_of_all, forced}
+use Rattle.ada_events.specs.Forced.{is_to_halt, halted, failed, met, cancelled, passed, woken, activated, is_to_go, gone, is_to_quit, quit_body, quit_block}
+use Rattle.ada_events.specs.Forced.{left, first_of_all, forced}
 use Rattle.ada_events.specs.Termination.{all_terminated, is_complete, is_abandoned}
 use Rattle.ada_events.specs.Asks.{asked_event}
 use Rattle.ada_events.specs.Lawful.{IsLawful, IsAsked, Forces}
@@ -14,7 +15,9 @@ use Rattle.ada_events.specs.Lawful.Forces.{nothing, one_more}
 use Rattle.ada_laws.specs.Groups.{EndsInGroup, StepsFollowTheirRequest}
 
 pub empty_is_settled : forced [] ≡ None
-unfolding any_event first_given gathered first_below all_below task_count creation_of reaches depends_on has_start is_completed is_terminated has_ended is_abnormal all_terminated is_complete is_abandoned is_to_halt halted failed met cancelled passed woken activated is_to_go gone is_to_quit quit_body quit_block left first_of_all forced
+unfolding any_event first_given gathered first_below all_below task_count creation_of reaches depends_on has_start is_completed is_terminated has_ended
+    is_abnormal all_terminated is_complete is_abandoned is_to_halt halted failed met cancelled passed woken activated is_to_go gone is_to_quit quit_body
+    quit_block left first_of_all forced
 empty_is_settled = refl
 
 -- a group begins with the event of its request

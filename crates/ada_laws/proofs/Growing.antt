@@ -49,7 +49,8 @@ is_released-before event before p not_so =
 pub is_completed-now : (event : Event) (before : List Event) (task : ℕ) → completed_in event ≡ Some task → is_completed (event ∷ before) task ≡ true
 unfolding is_completed
 is_completed-now event before task says =
-    or_left (is_number task (completed_in event)) (list_any (λ (e : Event). is_number task (completed_in e)) before) (is_number-from task (completed_in event) says)
+    or_left (is_number task (completed_in event)) (list_any (λ (e : Event). is_number task (completed_in e)) before)
+    (is_number-from task (completed_in event) says)
 
 pub has_ended-completed : (journal : List Event) (task : ℕ) → is_completed journal task ≡ true → has_ended journal task ≡ true
 unfolding has_ended
@@ -70,7 +71,8 @@ is_terminated-gone event before task says =
     or_left (is_number task (gone_in event) || option_map_or (depends_on before task) (quit_in event) false) (is_terminated before task)
     (or_left (is_number task (gone_in event)) (option_map_or (depends_on before task) (quit_in event) false) (is_number-from task (gone_in event) says))
 
-pub is_terminated-quit : (event : Event) (before : List Event) (task : ℕ) (m : Master) → quit_in event ≡ Some m → depends_on before task m ≡ true → is_terminated (event ∷ before) task ≡ true
+pub is_terminated-quit : (event : Event) (before : List Event) (task : ℕ) (m : Master) → quit_in event ≡ Some m → depends_on before task m ≡ true
+    → is_terminated (event ∷ before) task ≡ true
 unfolding is_terminated
 is_terminated-quit event before task m says depends =
     or_left (is_number task (gone_in event) || option_map_or (depends_on before task) (quit_in event) false) (is_terminated before task)

@@ -35,7 +35,8 @@ is_abnormal-more : (event : Event) (before : List Event) (task : ℕ) → is_abn
 unfolding is_abnormal
 is_abnormal-more event before task was =
     or_right
-    (list_any (λ (t : TaskNo). t.0 == task || depends_on before task (Body t)) (aborted_in event) && nat_lt task (task_count before) && not (is_terminated before task))
+    (list_any (λ (t : TaskNo). t.0 == task || depends_on before task (Body t)) (aborted_in event) && nat_lt task (task_count before)
+    && not (is_terminated before task))
     (is_abnormal before task) was
 
 uncallable : (a b : Bool) → (a || b) ≡ true → not (a || b) ≡ false
@@ -61,7 +62,8 @@ not_before : (now last : ℤ) → int_lt now last ≡ false → last ≤ℤ now
 not_before now last test = grind (arith, ints)
 
 -- a request moves it on
-asked_moment : (journal : List Event) (r : Request) → refusal journal r ≡ None → moment journal ≤ℤ unwrap_or (moment_in (asked_event journal r)) (moment journal)
+asked_moment : (journal : List Event) (r : Request) → refusal journal r ≡ None
+    → moment journal ≤ℤ unwrap_or (moment_in (asked_event journal r)) (moment journal)
 unfolding moment_in asked_event moves_back
 asked_moment journal (request.Tick now) accepted =
     not_before now (moment journal) (is_accepted journal (request.Tick now) accepted).moves_on

@@ -56,7 +56,8 @@ forces_few from to lawful (one_more {journal = journal} {event = event} before s
 pub appends_few : AppendsFew
 appends_few old request new lawful settled accepted after =
     let next = asked_lawful old request lawful settled accepted in
-    let few : length new + work_left new ≤ suc (length old) + work_left (asked_event old request ∷ old) = forces_few (asked_event old request ∷ old) new next after.forces in
+    let few : length new + work_left new ≤ suc (length old) + work_left (asked_event old request ∷ old) = forces_few (asked_event old request ∷ old) new next
+    after.forces in
     let most : work_left (asked_event old request ∷ old) ≤ 768 = work_left-most (asked_event old request ∷ old) next in
     omega arith
 
@@ -89,7 +90,9 @@ events_are_few journal lawful =
     omega arith
 
 -- the forced steps from a journal on, while there is work left
-settle_from : (journal : List Event) (next : Option Event) → forced journal ≡ next → ((event : Event) → forced journal ≡ Some event → (new : List Event) × Forces (event ∷ journal) new × (forced new ≡ None)) → (new : List Event) × Forces journal new × (forced new ≡ None)
+settle_from : (journal : List Event) (next : Option Event) → forced journal ≡ next
+    → ((event : Event) → forced journal ≡ Some event → (new : List Event) × Forces (event ∷ journal) new × (forced new ≡ None)) → (new : List Event)
+    × Forces journal new × (forced new ≡ None)
 settle_from journal None step further = (journal, nothing, step)
 settle_from journal (Some event) step further =
     let (new, forces, settled) = further event step in

@@ -1,5 +1,6 @@
 -- Rendezvous: what a wait takes, and that a call is taken once.
-use Rattle.std.proofs.Common.{◌≡◌, ℕ, suc, ◌≤◌, Bool, ◌==◌, eqb, true, false, Some, None, List, [], ◌∷◌, length, sym, refl, ap, ◌∙◌, subst, arith, inl, inr, ◌≢◌}
+use Rattle.std.proofs.Common.{◌≡◌, ℕ, suc, ◌≤◌, Bool, ◌==◌, eqb, true, false, Some, None, List, [], ◌∷◌, length, sym, refl, ap, ◌∙◌, subst, arith, inl, inr}
+use Rattle.std.proofs.Common.{◌≢◌}
 use Rattle.std.specs.Option.{option_and_then}
 use Rattle.std.specs.List.{Contains, list_any, slice_get}
 use Rattle.std.proofs.lemmas.Bool.{or_cases, or_left, or_right, ne_eqb, eq-eqb, eqb-true, true≢false, false≢true}
@@ -55,18 +56,21 @@ contained_at xs k x found = (k, slice_get_within xs k x found, get_or_from_slice
 pub taken_front : (journal : List Event) (wait : Wait) (call : ℕ) → taken_call journal wait ≡ Some call → IsFrontFor journal wait call
 unfolding taken_call
 taken_front journal wait call taken =
-    let (choice, chosen, front) = option_and_then-some (front_of journal wait.by) (option_and_then (slice_get wait.choices) (taken_choice journal wait)) call taken in
+    let (choice, chosen, front) = option_and_then-some (front_of journal wait.by) (option_and_then (slice_get wait.choices) (taken_choice journal wait))
+    call taken in
     let (number, picked, stands) = option_and_then-some (slice_get wait.choices) (taken_choice journal wait) choice chosen in
     record { choice = choice; among = contained_at wait.choices number choice stands; front = front }
 
 -- what is at the front of a choice's queue is a call of the choice's entry
-pub front_queued : (journal : List Event) (task call : ℕ) (choice : Choice) → front_of journal task choice ≡ Some call → IsQueuedCall journal task choice.entry call
+pub front_queued : (journal : List Event) (task call : ℕ) (choice : Choice) → front_of journal task choice ≡ Some call
+    → IsQueuedCall journal task choice.entry call
 unfolding front_of
 front_queued journal task call choice front =
     let found = if_some choice.guard (slice_get (queue journal task choice.entry) 0) call front in
     queue-found journal task choice.entry call (contained_at (queue journal task choice.entry) 0 call found.1)
 
-pub taken_queued : (journal : List Event) (call position : ℕ) (taking : IsTaking journal call position) → (choice : Choice) × IsQueuedCall journal taking.wait.by choice.entry call
+pub taken_queued : (journal : List Event) (call position : ℕ) (taking : IsTaking journal call position) → (choice : Choice)
+    × IsQueuedCall journal taking.wait.by choice.entry call
 taken_queued journal call position taking =
     let front = taken_front journal taking.wait call taking.taken in
     (front.choice, front_queued journal taking.wait.by call front.choice front.front)
@@ -87,8 +91,12 @@ is_met-found [] call met = absurd (false≢true met)
 is_met-found (event ∷ before) call met =
     elim (or_cases (begins_with call event) (list_any (begins_with call) before) met) [
       | inl here ↦
-          let (m, meeting, same) = option_map_or-true (λ (m : Meeting). eqb m.call call) (meeting_in event) here in
-          (m.wait, suc (length before), event_at-newest event before ∙ ap Some (meeting_in-met event m meeting ∙ ap (λ (c : ℕ). Met c m.wait) (eqb-true m.call call same)))
+          let (m, meeting, same) = option_map_or-true (λ (m : Meeting). eqb m.call call) (meeting_in event) here in (
+            m.wait,
+            suc (length before),
+            event_at-newest event before
+                ∙ ap Some (meeting_in-met event m meeting ∙ ap (λ (c : ℕ). Met c m.wait) (eqb-true m.call call same)),
+          )
       | inr there ↦
           let (position, p, at) = is_met-found before call there in
           (position, p, event_at-older event before p (Met call position) at)
@@ -113,7 +121,8 @@ newest_unmet event before call position lawful same =
     (taken_queued before call position taking).1.unmet
 
 -- with a call one rendezvous began at most
-pub met_once : (journal : List Event) (call v w p q : ℕ) → IsLawful journal → event_at journal p ≡ Some (Met call v) → event_at journal q ≡ Some (Met call w) → p ≡ q
+pub met_once : (journal : List Event) (call v w p q : ℕ) → IsLawful journal → event_at journal p ≡ Some (Met call v)
+    → event_at journal q ≡ Some (Met call w) → p ≡ q
 unfolding event_at
 met_once [] call v w p q lawful at_p at_q = absurd (none-some _ at_p)
 met_once (event ∷ before) call v w p q lawful at_p at_q =
@@ -167,7 +176,8 @@ meeting_later event before call position meeting = record {
 }
 
 -- what is met is a call, by a wait of the task called
-pub meeting_at : (journal : List Event) (call position p : ℕ) → IsLawful journal → event_at journal p ≡ Some (Met call position) → IsMeetingOf journal call position
+pub meeting_at : (journal : List Event) (call position p : ℕ) → IsLawful journal → event_at journal p ≡ Some (Met call position)
+    → IsMeetingOf journal call position
 unfolding event_at meeting_in
 meeting_at [] call position p lawful at = absurd (none-some _ at)
 meeting_at (event ∷ before) call position p lawful at =
@@ -187,7 +197,8 @@ unfolding events_before
 events_before-older event before p other = rw (ne_eqb p (suc (length before)) other) refl
 
 -- what took a call, before the rendezvous
-pub taking_before : (journal : List Event) (call position p : ℕ) → IsLawful journal → event_at journal p ≡ Some (Met call position) → IsTaking (events_before journal p) call position
+pub taking_before : (journal : List Event) (call position p : ℕ) → IsLawful journal → event_at journal p ≡ Some (Met call position)
+    → IsTaking (events_before journal p) call position
 unfolding event_at meeting_in
 taking_before [] call position p lawful at = absurd (none-some _ at)
 taking_before (event ∷ before) call position p lawful at =

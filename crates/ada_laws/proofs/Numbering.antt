@@ -9,7 +9,8 @@ none_here : (b : Bool) (n : ℕ) (rest : List ℕ) → cond b (n ∷ rest) rest 
 none_here true n rest none = absurd (cc)
 none_here false n rest none = (refl, none)
 
-pub numbers_from-none : {A : Type 0} (test : A → Bool) (n : ℕ) (xs : List A) (k : ℕ) (x : A) → numbers_from test n xs ≡ [] → slice_get xs k ≡ Some x → test x ≡ false
+pub numbers_from-none : {A : Type 0} (test : A → Bool) (n : ℕ) (xs : List A) (k : ℕ) (x : A) → numbers_from test n xs ≡ [] → slice_get xs k ≡ Some x
+    → test x ≡ false
 unfolding numbers_from
 numbers_from-none test n [] k x none at = absurd (none-some x at)
 numbers_from-none test n (y ∷ ys) zero x none at =
@@ -34,7 +35,9 @@ later test n x xs number found = record {
   passes = found.passes;
 }
 
-number_one : {A : Type 0} (test : A → Bool) (n : ℕ) (x : A) (xs : List A) (b : Bool) (rest : List ℕ) (k number : ℕ) → test x ≡ b → slice_get (cond b (n ∷ rest) rest) k ≡ Some number → ((j : ℕ) → slice_get rest j ≡ Some number → IsNumbered test (suc n) xs number) → IsNumbered test n (x ∷ xs) number
+number_one : {A : Type 0} (test : A → Bool) (n : ℕ) (x : A) (xs : List A) (b : Bool) (rest : List ℕ) (k number : ℕ) → test x ≡ b
+    → slice_get (cond b (n ∷ rest) rest) k ≡ Some number → ((j : ℕ) → slice_get rest j ≡ Some number → IsNumbered test (suc n) xs number)
+    → IsNumbered test n (x ∷ xs) number
 number_one test n x xs true rest zero number passes found there = record {
   place = 0;
   item = x;
@@ -45,7 +48,8 @@ number_one test n x xs true rest zero number passes found there = record {
 number_one test n x xs true rest (suc k) number passes found there = later test n x xs number (there k found)
 number_one test n x xs false rest k number passes found there = later test n x xs number (there k found)
 
-pub numbers_from-found : {A : Type 0} (test : A → Bool) (n : ℕ) (xs : List A) (k number : ℕ) → slice_get (numbers_from test n xs) k ≡ Some number → IsNumbered test n xs number
+pub numbers_from-found : {A : Type 0} (test : A → Bool) (n : ℕ) (xs : List A) (k number : ℕ) → slice_get (numbers_from test n xs) k ≡ Some number
+    → IsNumbered test n xs number
 unfolding numbers_from
 numbers_from-found test n [] k number found = absurd (none-some number found)
 numbers_from-found test n (x ∷ xs) k number found =

@@ -53,18 +53,21 @@ raised_in-asked journal (request.End by false) task raises = absurd (none-some t
 raised_in-asked journal _ task raises = absurd (none-some task raises)
 
 -- neither does a suspended task end a rendezvous by an exception, nor is it held up anew
-pub unraised : (e : Event) (before : List Event) (task position : ℕ) → IsLawful (e ∷ before) → IsSuspendedAt before task position → is_number task (raised_in e) ≡ false
+pub unraised : (e : Event) (before : List Event) (task position : ℕ) → IsLawful (e ∷ before) → IsSuspendedAt before task position
+    → is_number task (raised_in e) ≡ false
 unraised e before task position lawful h =
     false_from_ne_true (is_number task (raised_in e)) (λ yes.
     let raises = is_number-some task (raised_in e) yes in
     elim lawful.1 [
       | inl forces ↦ none-some task (sym (row-raises_none before e (forced-row before e forces)) ∙ raises)
       | inr asked ↦
-          let runs = asker_runs before asked.request task asked.accepted (raised_in-asked before asked.request task (ap raised_in (sym asked.becomes) ∙ raises)) in
+          let runs = asker_runs before asked.request task asked.accepted
+          (raised_in-asked before asked.request task (ap raised_in (sym asked.becomes) ∙ raises)) in
           true≢false (sym (is_suspended-from before task position h) ∙ running_free before task runs)
     ])
 
-pub unheld : (e : Event) (before : List Event) (task position : ℕ) → IsLawful (e ∷ before) → IsSuspendedAt before task position → is_number task (held_in e) ≡ false
+pub unheld : (e : Event) (before : List Event) (task position : ℕ) → IsLawful (e ∷ before) → IsSuspendedAt before task position
+    → is_number task (held_in e) ≡ false
 unheld e before task position lawful h =
     false_from_ne_true (is_number task (held_in e)) (λ yes.
     let holds = is_number-some task (held_in e) yes in
@@ -76,7 +79,8 @@ unheld e before task position lawful h =
     ])
 
 -- the latest doing of a suspended task is what it is suspended at
-pub suspended_given : (all journal : List Event) (task position : ℕ) → IsLawful journal → IsSuspendedAt journal task position → last_given (outcome_at all task) journal ≡ Some (became all position)
+pub suspended_given : (all journal : List Event) (task position : ℕ) → IsLawful journal → IsSuspendedAt journal task position
+    → last_given (outcome_at all task) journal ≡ Some (became all position)
 unfolding last_given outcome_at event_at
 suspended_given all [] task position lawful h = absurd (none-some h.event h.stands)
 suspended_given all (e ∷ before) task position lawful h =
@@ -123,7 +127,8 @@ held_unreleased (e ∷ before) position held =
           (held_unreleased before position (rw not_now at held))
     ]
 
-last_given-found : {A : Type 0} (give : ℕ → Event → Option A) (journal : List Event) (x : A) → last_given give journal ≡ Some x → (p : ℕ) × (e : Event) × (event_at journal p ≡ Some e) × (give p e ≡ Some x)
+last_given-found : {A : Type 0} (give : ℕ → Event → Option A) (journal : List Event) (x : A) → last_given give journal ≡ Some x → (p : ℕ) × (e : Event)
+    × (event_at journal p ≡ Some e) × (give p e ≡ Some x)
 unfolding last_given
 last_given-found give [] x given = absurd (none-some x given)
 last_given-found give (e ∷ before) x given =
@@ -144,7 +149,8 @@ held_at true held outcome same = absurd (cc)
 held_at false true outcome same = (refl, same_Some outcome Held same)
 held_at false false outcome same = absurd (none-some Held same)
 
-live_held : (terminated completed : Bool) (outcome : Outcome) → cond terminated Dead (cond completed Done outcome) ≡ Held → (terminated ≡ false) × (completed ≡ false) × (outcome ≡ Held)
+live_held : (terminated completed : Bool) (outcome : Outcome) → cond terminated Dead (cond completed Done outcome) ≡ Held → (terminated ≡ false)
+    × (completed ≡ false) × (outcome ≡ Held)
 live_held true completed outcome same = absurd (cc)
 live_held false true outcome same = absurd (cc)
 live_held false false outcome same = (refl, refl, same)

@@ -1,5 +1,6 @@
 -- Parents: what is reached from a master is the master, or is reached from its parent.
-use Rattle.std.proofs.Common.{◌≡◌, ℕ, suc, ◌<◌, ◌≤◌, Bool, true, false, ◌||◌, Option, Some, None, List, [], ◌∷◌, length, sym, refl, ap, ◌∙◌, subst, arith, inl, inr, eqb}
+use Rattle.std.proofs.Common.{◌≡◌, ℕ, suc, ◌<◌, ◌≤◌, Bool, true, false, ◌||◌, Option, Some, None, List, [], ◌∷◌, length, sym, refl, ap, ◌∙◌, subst, arith, inl}
+use Rattle.std.proofs.Common.{inr, eqb}
 use Rattle.std.specs.Prelude.{if◌then◌else◌}
 use Rattle.std.specs.Option.{option_map, option_map_or, option_len}
 use Rattle.std.proofs.lemmas.Bool.{cases_eq, eq-eqb, ne_eqb, false_from_ne_true}
@@ -17,7 +18,8 @@ use Rattle.ada_events.specs.Lawful.{IsLawful}
 use Rattle.ada_laws.specs.Masters.{parent_of, IsKnown, MastersReachByParents, TasksDependByParents}
 use Rattle.ada_laws.proofs.Depending.{depends_exists}
 use Rattle.ada_laws.proofs.Searching.{option_or-some, if_some, event_at-cases, event_at-newest, event_at-other, event_at-within}
-use Rattle.ada_laws.proofs.Reaching.{reaches-same, known_later, parent_in-known, parent_in-created, parent_in-opened, reaches_up, reaches_down, frame_known, creation_asked, opening_asked, reaches_known}
+use Rattle.ada_laws.proofs.Reaching.{reaches-same, known_later, parent_in-known, parent_in-created, parent_in-opened, reaches_up, reaches_down, frame_known}
+use Rattle.ada_laws.proofs.Reaching.{creation_asked, opening_asked, reaches_known}
 
 or_true : (b : Bool) → (b || true) ≡ true
 or_true true = refl
@@ -38,7 +40,8 @@ pub data IsMade (event : Event) (before : List Event) : Master → Type 0 where
   body : (t : TaskNo) (c : Creation) → creation_in event ≡ Some c → t.0 ≡ task_count before → IsMade event before (Body t)
   block : (p : ℕ) (o : Opening) → opening_in event ≡ Some o → p ≡ suc (length before) → IsMade event before (Block p)
 
-made_body : (event : Event) (before : List Event) (t : TaskNo) (o : Option Creation) → creation_in event ≡ o → t.0 < task_count (event ∷ before) → IsMade event before (Body t)
+made_body : (event : Event) (before : List Event) (t : TaskNo) (o : Option Creation) → creation_in event ≡ o → t.0 < task_count (event ∷ before)
+    → IsMade event before (Body t)
 unfolding task_count
 made_body event before t None none below = earlier (Body t) (omega (arith, ap option_len none))
 made_body event before t (Some c) says below =
@@ -69,11 +72,13 @@ parent_of-later event before (Block p) known =
     let within : p ≤ length before = event_at-within before p known.event known.stands in
     rw (event_at-other event before p (omega arith)) refl
 
-parent_of-body : (event : Event) (before : List Event) (t : TaskNo) (c : Creation) → creation_in event ≡ Some c → t.0 ≡ task_count before → parent_of (event ∷ before) (Body t) ≡ Some c.master
+parent_of-body : (event : Event) (before : List Event) (t : TaskNo) (c : Creation) → creation_in event ≡ Some c → t.0 ≡ task_count before
+    → parent_of (event ∷ before) (Body t) ≡ Some c.master
 unfolding creation_of
 parent_of-body event before t c says same = rw (eq-eqb t.0 (task_count before) same, says) refl
 
-parent_of-block : (event : Event) (before : List Event) (p : ℕ) (o : Opening) → opening_in event ≡ Some o → p ≡ suc (length before) → parent_of (event ∷ before) (Block p) ≡ Some o.under
+parent_of-block : (event : Event) (before : List Event) (p : ℕ) (o : Opening) → opening_in event ≡ Some o → p ≡ suc (length before)
+    → parent_of (event ∷ before) (Block p) ≡ Some o.under
 parent_of-block event before p o says same = rw (same, event_at-newest event before, says) refl
 
 creation_known : (event : Event) (before : List Event) (c : Creation) → IsLawful (event ∷ before) → creation_in event ≡ Some c → IsKnown before c.master
@@ -89,7 +94,9 @@ opening_known event before o lawful says =
 abbrev by_parent : List Event → Master → Master → Bool
 by_parent journal x y = same_master x y || is_some_and (parent_of journal x) (λ (z : Master). reaches journal z y)
 
-older_parent : (event : Event) (before : List Event) (x y : Master) (o : Option Master) → IsLawful before → IsKnown before x → ((z : Master) → reaches before x z ≡ by_parent before x z) → parent_of before x ≡ o → option_map_or (λ (z : Master). reaches (event ∷ before) z y) o false ≡ option_map_or (λ (z : Master). reaches before z y) o false
+older_parent : (event : Event) (before : List Event) (x y : Master) (o : Option Master) → IsLawful before → IsKnown before x
+    → ((z : Master) → reaches before x z ≡ by_parent before x z) → parent_of before x ≡ o
+    → option_map_or (λ (z : Master). reaches (event ∷ before) z y) o false ≡ option_map_or (λ (z : Master). reaches before z y) o false
 older_parent event before x y None lawful known older is = refl
 older_parent event before x y (Some z) lawful known older is =
     let reached : reaches before x z ≡ true = older z ∙ rw (is, reaches-same before z) (or_true (same_master x z)) in
@@ -99,10 +106,17 @@ or_twice : (a b : Bool) → (a || (a || b)) ≡ (a || b)
 or_twice true b = refl
 or_twice false b = refl
 
-by_making : (event : Event) (before : List Event) (x y : Master) → IsLawful (event ∷ before) → IsMade event before x → (IsKnown before x → (z : Master) → reaches before x z ≡ by_parent before x z) → reaches (event ∷ before) x y ≡ by_parent (event ∷ before) x y
+by_making : (event : Event) (before : List Event) (x y : Master) → IsLawful (event ∷ before) → IsMade event before x
+    → (IsKnown before x → (z : Master) → reaches before x z ≡ by_parent before x z) → reaches (event ∷ before) x y ≡ by_parent (event ∷ before) x y
 unfolding reaches
 by_making event before x y lawful (earlier z known) older =
-    rw (parent_in-known event before z known, parent_of-later event before z known, older_parent event before z y (parent_of before z) lawful.0 known (older known) refl, older known y)
+    rw (
+      parent_in-known event before z known,
+      parent_of-later event before z known,
+      older_parent event before z y (parent_of before z) lawful.0 known
+          (older known) refl,
+      older known y,
+    )
     (or_twice (same_master z y) (option_map_or (λ (m : Master). reaches before m y) (parent_of before z) false))
 by_making event before x y lawful (body t c says same) older =
     rw (parent_in-created event before t c says same, parent_of-body event before t c says same)
@@ -141,11 +155,15 @@ master_known (event ∷ before) t c lawful says =
       | inr was ↦ master_known before t c lawful.0 was
     ])
 
-of_older : (event : Event) (before : List Event) (t : TaskNo) (y : Master) (o : Option Creation) → IsLawful before → creation_of before t.0 ≡ o → option_map_or (λ (z : Master). reaches before z y) (option_map (λ (c : Creation). c.master) o) false ≡ option_map_or (λ (z : Master). reaches (event ∷ before) z y) (option_map (λ (c : Creation). c.master) o) false
+of_older : (event : Event) (before : List Event) (t : TaskNo) (y : Master) (o : Option Creation) → IsLawful before → creation_of before t.0 ≡ o
+    → option_map_or (λ (z : Master). reaches before z y) (option_map (λ (c : Creation). c.master) o) false
+    ≡ option_map_or (λ (z : Master). reaches (event ∷ before) z y) (option_map (λ (c : Creation). c.master) o) false
 of_older event before t y None lawful says = refl
 of_older event before t y (Some c) lawful says = sym (reaches_later event before c.master y (master_known before t c lawful says))
 
-of_creation : (event : Event) (before : List Event) (t : TaskNo) (y : Master) → IsLawful (event ∷ before) → (o : Option Creation) → creation_in event ≡ o → depends_on before t.0 y ≡ option_map_or (λ (z : Master). reaches before z y) (parent_of before (Body t)) false → depends_on (event ∷ before) t.0 y ≡ option_map_or (λ (z : Master). reaches (event ∷ before) z y) (parent_of (event ∷ before) (Body t)) false
+of_creation : (event : Event) (before : List Event) (t : TaskNo) (y : Master) → IsLawful (event ∷ before) → (o : Option Creation) → creation_in event ≡ o
+    → depends_on before t.0 y ≡ option_map_or (λ (z : Master). reaches before z y) (parent_of before (Body t)) false
+    → depends_on (event ∷ before) t.0 y ≡ option_map_or (λ (z : Master). reaches (event ∷ before) z y) (parent_of (event ∷ before) (Body t)) false
 unfolding depends_on creation_of
 of_creation event before t y lawful None says older =
     rw (says, none_if (eqb t.0 (task_count before)), older) (of_older event before t y (creation_of before t.0) lawful.0 refl)

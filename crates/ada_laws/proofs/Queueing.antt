@@ -28,13 +28,16 @@ same_entry-same e =
     (and_from (int_le e.index e.index) (int_le e.index e.index) (int_le-same e.index) (int_le-same e.index))
 
 -- an open call, as the definitions test it
-pub is_open_at-from : (journal : List Event) (call : Call) (position : ℕ) (opened : IsOpenCallAt journal call position) → is_open_at journal position opened.stands.event ≡ true
+pub is_open_at-from : (journal : List Event) (call : Call) (position : ℕ) (opened : IsOpenCallAt journal call position)
+    → is_open_at journal position opened.stands.event ≡ true
 unfolding is_open_at is_pending
 is_open_at-from journal call position opened =
     rw opened.stands.says
-    (and_from (not (is_released journal position)) (not (has_ended journal call.by)) (not_from_false (is_released journal position) opened.unreleased) (not_from_false (has_ended journal call.by) opened.live))
+    (and_from (not (is_released journal position)) (not (has_ended journal call.by)) (not_from_false (is_released journal position) opened.unreleased)
+    (not_from_false (has_ended journal call.by) opened.live))
 
-pub is_open_at-call : (journal : List Event) (position : ℕ) (event : Event) → event_at journal position ≡ Some event → is_open_at journal position event ≡ true → (call : Call) × (call_in event ≡ Some call) × IsOpenCallAt journal call position
+pub is_open_at-call : (journal : List Event) (position : ℕ) (event : Event) → event_at journal position ≡ Some event → is_open_at journal position event ≡ true
+    → (call : Call) × (call_in event ≡ Some call) × IsOpenCallAt journal call position
 unfolding is_open_at is_pending
 is_open_at-call journal position event at opened =
     let (call, says, pending) = option_map_or-true (λ (c : Call). not (is_released journal position) && not (has_ended journal c.by)) (call_in event) opened in
@@ -66,7 +69,8 @@ pub record IsQueuedCall (journal : List Event) (task : ℕ) (entry : Entry) (pos
   pub of_task : call.callee ≡ task
   pub of_entry : same_entry call.entry entry ≡ true
 
-queued_call : (journal : List Event) (task : ℕ) (entry : Entry) (position : ℕ) (event : Event) → event_at journal position ≡ Some event → is_call_of task entry event ≡ true → is_queued_at journal position event ≡ true → IsQueuedCall journal task entry position
+queued_call : (journal : List Event) (task : ℕ) (entry : Entry) (position : ℕ) (event : Event) → event_at journal position ≡ Some event
+    → is_call_of task entry event ≡ true → is_queued_at journal position event ≡ true → IsQueuedCall journal task entry position
 unfolding is_call_of is_queued_at
 queued_call journal task entry position event at calls queued =
     let parts = and_parts (is_open_at journal position event) (not (is_met journal position)) queued in
@@ -82,7 +86,8 @@ queued_call journal task entry position event at calls queued =
       of_entry = subst (λ (c : Call). same_entry c.entry entry ≡ true) one both.1;
     }
 
-pub queue-found : (journal : List Event) (task : ℕ) (entry : Entry) (position : ℕ) → Contains (queue journal task entry) position → IsQueuedCall journal task entry position
+pub queue-found : (journal : List Event) (task : ℕ) (entry : Entry) (position : ℕ) → Contains (queue journal task entry) position
+    → IsQueuedCall journal task entry position
 unfolding queue
 queue-found journal task entry position contains =
     let (p, e, at, gives) = gathered-found (λ p e. then_some (is_call_of task entry e && is_queued_at journal p e) p) journal position contains in
@@ -95,18 +100,21 @@ unfolding is_call_of
 call_of_itself event call says =
     rw says (and_from (eqb call.callee call.callee) (same_entry call.entry call.entry) (eq-eqb call.callee call.callee refl) (same_entry-same call.entry))
 
-queued_from : (journal : List Event) (position : ℕ) (event : Event) → is_open_at journal position event ≡ true → is_met journal position ≡ false → is_queued_at journal position event ≡ true
+queued_from : (journal : List Event) (position : ℕ) (event : Event) → is_open_at journal position event ≡ true → is_met journal position ≡ false
+    → is_queued_at journal position event ≡ true
 unfolding is_queued_at
 queued_from journal position event opened unmet =
     and_from (is_open_at journal position event) (not (is_met journal position)) opened (not_from_false (is_met journal position) unmet)
 
-pub queue-from : (journal : List Event) (call : Call) (position : ℕ) → IsOpenCallAt journal call position → is_met journal position ≡ false → Contains (queue journal call.callee call.entry) position
+pub queue-from : (journal : List Event) (call : Call) (position : ℕ) → IsOpenCallAt journal call position → is_met journal position ≡ false
+    → Contains (queue journal call.callee call.entry) position
 unfolding queue
 queue-from journal call position opened unmet =
     let event = opened.stands.event in
     let queued = queued_from journal position event (is_open_at-from journal call position opened) unmet in
     let both = and_from (is_call_of call.callee call.entry event) (is_queued_at journal position event) (call_of_itself event call opened.stands.says) queued in
-    gathered-from (λ p e. then_some (is_call_of call.callee call.entry e && is_queued_at journal p e) p) journal position event position opened.stands.stands (rw both refl)
+    gathered-from (λ p e. then_some (is_call_of call.callee call.entry e && is_queued_at journal p e) p) journal position event position opened.stands.stands
+    (rw both refl)
 
 pub queue-rises : (journal : List Event) (task : ℕ) (entry : Entry) → AllPairs (λ p q. p < q) (queue journal task entry)
 unfolding queue

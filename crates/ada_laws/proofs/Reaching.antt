@@ -1,6 +1,7 @@
 -- Masters and their parents: of a lawful journal a master's parent was made before it, so that what is
 -- reached by parents is reached step by step.
-use Rattle.std.proofs.Common.{◌≡◌, ℕ, suc, ◌+◌, ◌<◌, ◌≤◌, true, cond, Option, Some, None, List, [], ◌∷◌, length, sym, refl, ap, ◌∙◌, subst, arith, inl, inr, ◌≢◌, eqb}
+use Rattle.std.proofs.Common.{◌≡◌, ℕ, suc, ◌+◌, ◌<◌, ◌≤◌, true, cond, Option, Some, None, List, [], ◌∷◌, length, sym, refl, ap, ◌∙◌, subst, arith, inl, inr}
+use Rattle.std.proofs.Common.{◌≢◌, eqb}
 use Rattle.std.specs.Option.{option_map_or, option_len}
 use Rattle.std.proofs.lemmas.Bool.{or_cases, or_left, or_right, cases_eq, ne_eqb, eq-eqb, eqb-true, not-false, false≢true}
 use Rattle.std.proofs.lemmas.Option.{same_Some, none-some}
@@ -70,17 +71,21 @@ unfolding parent_in
 parent_in-other event before t other = parent_body (creation_in event) t (task_count before) other
 
 -- the parent of what an event made
-body_made : (o : Option Creation) (c : Creation) (t : TaskNo) (n : ℕ) → o ≡ Some c → t.0 ≡ n → option_map_or (λ (c : Creation). cond (eqb t.0 n) c.master (Body t)) o (Body t) ≡ c.master
+body_made : (o : Option Creation) (c : Creation) (t : TaskNo) (n : ℕ) → o ≡ Some c → t.0 ≡ n
+    → option_map_or (λ (c : Creation). cond (eqb t.0 n) c.master (Body t)) o (Body t) ≡ c.master
 body_made o c t n says same = rw (says, eq-eqb t.0 n same) refl
 
-block_made : (o : Option Opening) (x : Opening) (p n : ℕ) → o ≡ Some x → p ≡ n → option_map_or (λ (x : Opening). cond (eqb p n) x.under (Block p)) o (Block p) ≡ x.under
+block_made : (o : Option Opening) (x : Opening) (p n : ℕ) → o ≡ Some x → p ≡ n
+    → option_map_or (λ (x : Opening). cond (eqb p n) x.under (Block p)) o (Block p) ≡ x.under
 block_made o x p n says same = rw (says, eq-eqb p n same) refl
 
-pub parent_in-created : (event : Event) (before : List Event) (t : TaskNo) (c : Creation) → creation_in event ≡ Some c → t.0 ≡ task_count before → parent_in before event (Body t) ≡ c.master
+pub parent_in-created : (event : Event) (before : List Event) (t : TaskNo) (c : Creation) → creation_in event ≡ Some c → t.0 ≡ task_count before
+    → parent_in before event (Body t) ≡ c.master
 unfolding parent_in
 parent_in-created event before t c says same = body_made (creation_in event) c t (task_count before) says same
 
-pub parent_in-opened : (event : Event) (before : List Event) (p : ℕ) (o : Opening) → opening_in event ≡ Some o → p ≡ suc (length before) → parent_in before event (Block p) ≡ o.under
+pub parent_in-opened : (event : Event) (before : List Event) (p : ℕ) (o : Opening) → opening_in event ≡ Some o → p ≡ suc (length before)
+    → parent_in before event (Block p) ≡ o.under
 unfolding parent_in
 parent_in-opened event before p o says same = block_made (opening_in event) o p (suc (length before)) says same
 
@@ -110,7 +115,8 @@ pub record IsAskedBy (journal : List Event) (task : ℕ) (under : Master) : Type
   pub runs : is_running journal task ≡ true
   pub within : under ≡ frame journal task
 
-asked_opening : (journal : List Event) (r : Request) (o : Opening) → refusal journal r ≡ None → opening_in (asked_event journal r) ≡ Some o → IsAskedBy journal o.by o.under
+asked_opening : (journal : List Event) (r : Request) (o : Opening) → refusal journal r ≡ None → opening_in (asked_event journal r) ≡ Some o
+    → IsAskedBy journal o.by o.under
 unfolding asked_event opening_in asker
 asked_opening journal (request.Open by) o accepted says =
     let same = same_Some _ o says in
@@ -130,7 +136,8 @@ pub record IsCreationBy (journal : List Event) (c : Creation) : Type 0 where
   pub asked : IsAskedBy journal c.by c.under
   pub reached : reaches journal (frame journal c.by) c.master ≡ true
 
-asked_creation : (journal : List Event) (r : Request) (c : Creation) → refusal journal r ≡ None → creation_in (asked_event journal r) ≡ Some c → IsCreationBy journal c
+asked_creation : (journal : List Event) (r : Request) (c : Creation) → refusal journal r ≡ None → creation_in (asked_event journal r) ≡ Some c
+    → IsCreationBy journal c
 unfolding asked_event creation_in asker is_not_your_master
 asked_creation journal (request.Create by master families) c accepted says =
     let same = same_Some _ c says in
@@ -156,7 +163,9 @@ frame_known journal task exists =
       | inr block ↦ rw block.2 (record { event = block.1.event; opening = block.1.opening; stands = block.1.stands; says = block.1.says })
     ]
 
-parent_body_known : (before : List Event) (o : Option Creation) (t : TaskNo) → t.0 < option_len o + task_count before → ((c : Creation) → o ≡ Some c → IsKnown before c.master) → IsKnown before (option_map_or (λ (c : Creation). cond (eqb t.0 (task_count before)) c.master (Body t)) o (Body t))
+parent_body_known : (before : List Event) (o : Option Creation) (t : TaskNo) → t.0 < option_len o + task_count before
+    → ((c : Creation) → o ≡ Some c → IsKnown before c.master)
+    → IsKnown before (option_map_or (λ (c : Creation). cond (eqb t.0 (task_count before)) c.master (Body t)) o (Body t))
 parent_body_known before None t below made = omega arith
 parent_body_known before (Some c) t below made =
     elim (cases_eq t.0 (task_count before)) [
@@ -165,7 +174,8 @@ parent_body_known before (Some c) t below made =
     ]
 
 -- the parent of what is known was known before, if what the event made has a parent that was
-parent_known : (event : Event) (before : List Event) (x : Master) → ((c : Creation) → creation_in event ≡ Some c → IsKnown before c.master) → ((o : Opening) → opening_in event ≡ Some o → IsKnown before o.under) → IsKnown (event ∷ before) x → IsKnown before (parent_in before event x)
+parent_known : (event : Event) (before : List Event) (x : Master) → ((c : Creation) → creation_in event ≡ Some c → IsKnown before c.master)
+    → ((o : Opening) → opening_in event ≡ Some o → IsKnown before o.under) → IsKnown (event ∷ before) x → IsKnown before (parent_in before event x)
 unfolding parent_in task_count
 parent_known event before (Body t) made opened known = parent_body_known before (creation_in event) t known made
 parent_known event before (Block p) made opened known =
@@ -180,7 +190,9 @@ parent_known event before (Block p) made opened known =
     ]
 
 -- the parent of what is known was known before the event
-pub parent_was_known : (event : Event) (before : List Event) (x : Master) → MayFollow before event → ((y z : Master) → IsKnown before y → reaches before y z ≡ true → IsKnown before z) → IsKnown (event ∷ before) x → IsKnown before (parent_in before event x)
+pub parent_was_known : (event : Event) (before : List Event) (x : Master) → MayFollow before event
+    → ((y z : Master) → IsKnown before y → reaches before y z ≡ true → IsKnown before z) → IsKnown (event ∷ before) x
+    → IsKnown before (parent_in before event x)
 parent_was_known event before x follows known_before known =
     parent_known event before x
     (λ c says.
@@ -204,7 +216,8 @@ reaches_known (event ∷ before) lawful x y known reached =
     ]
 
 -- what is reached from what is reached is reached
-pub reaches_trans : (journal : List Event) → IsLawful journal → (x y z : Master) → IsKnown journal x → reaches journal x y ≡ true → reaches journal y z ≡ true → reaches journal x z ≡ true
+pub reaches_trans : (journal : List Event) → IsLawful journal → (x y z : Master) → IsKnown journal x → reaches journal x y ≡ true → reaches journal y z ≡ true
+    → reaches journal x z ≡ true
 unfolding reaches
 reaches_trans [] lawful x y z known first second = subst (λ (w : Master). same_master x w ≡ true) (same_master-true y z second) first
 reaches_trans (event ∷ before) lawful x y z known first second =

@@ -56,13 +56,16 @@ row_unreleased journal event x (leaves p e closing at says leave) frees =
     (pending_parts journal p closing.by (and_parts (is_pending journal p closing.by) _ leave).0).0
 row_unreleased journal event x _ frees = absurd (none-some x frees)
 
-not_rendezvous : (test : Opening → Bool) (q call : ℕ) (o : Option Opening) → option_map_or (λ (o : Opening). then_some (test o) (Block q)) o None ≡ Some (Rendezvous call) → ⊥
+not_rendezvous : (test : Opening → Bool) (q call : ℕ) (o : Option Opening)
+    → option_map_or (λ (o : Opening). then_some (test o) (Block q)) o None ≡ Some (Rendezvous call) → ⊥
 not_rendezvous test q call None gives = none-some (Rendezvous call) gives
 not_rendezvous test q call (Some o) gives =
     let found = then_some-some (test o) (Block q) (Rendezvous call) gives in
     cc (found.1)
 
-rendezvous_open : (journal : List Event) (task call : ℕ) (o : Option Meeting) → option_map_or (λ (m : Meeting). then_some (is_wait_of journal task m.wait && is_open_call journal m.call) (Rendezvous m.call)) o None ≡ Some (Rendezvous call) → is_open_call journal call ≡ true
+rendezvous_open : (journal : List Event) (task call : ℕ) (o : Option Meeting)
+    → option_map_or (λ (m : Meeting). then_some (is_wait_of journal task m.wait && is_open_call journal m.call) (Rendezvous m.call)) o None
+    ≡ Some (Rendezvous call) → is_open_call journal call ≡ true
 rendezvous_open journal task call None gives = absurd (none-some (Rendezvous call) gives)
 rendezvous_open journal task call (Some m) gives =
     let found = then_some-some (is_wait_of journal task m.wait && is_open_call journal m.call) (Rendezvous m.call) (Rendezvous call) gives in
@@ -88,16 +91,23 @@ call_unreleased journal call opened =
     let (e, at, here) = option_map_or-true (is_open_at journal call) (event_at journal call) opened in
     open_unreleased journal call e at here
 
-rendezvous_unreleased : (journal : List Event) (task : ℕ) (member : Option Member) → innermost (nest journal task) ≡ member → is_some_and member is_rendezvous ≡ true → is_released journal (member_position member) ≡ false
+rendezvous_unreleased : (journal : List Event) (task : ℕ) (member : Option Member) → innermost (nest journal task) ≡ member
+    → is_some_and member is_rendezvous ≡ true → is_released journal (member_position member) ≡ false
 rendezvous_unreleased journal task None last within = absurd (false≢true within)
 rendezvous_unreleased journal task (Some (Block p)) last within = absurd (false≢true within)
 rendezvous_unreleased journal task (Some (Rendezvous call)) last within =
     let place = length (nest journal task) - 1 in
     call_unreleased journal call
-    (nest_open journal task call (place, slice_get_within (nest journal task) place (Rendezvous call) last, get_or_from_slice_get (nest journal task) place (Rendezvous call) (Rendezvous call) last))
+    (nest_open journal task call (
+      place,
+      slice_get_within (nest journal task) place (Rendezvous call) last,
+      get_or_from_slice_get (nest journal task) place
+          (Rendezvous call) (Rendezvous call) last,
+    ))
 
 -- a request releases only what isn't released: the call of the rendezvous that it ends
-asked_unreleased : (journal : List Event) (r : Request) (x : ℕ) → refusal journal r ≡ None → released_in (asked_event journal r) ≡ Some x → is_released journal x ≡ false
+asked_unreleased : (journal : List Event) (r : Request) (x : ℕ) → refusal journal r ≡ None → released_in (asked_event journal r) ≡ Some x
+    → is_released journal x ≡ false
 unfolding asked_event released_in is_not_in_accept
 asked_unreleased journal (request.End by raised) x accepted frees =
     let within = not-false (is_some_and (innermost (nest journal by.0)) is_rendezvous) (is_accepted journal (request.End by raised) accepted).in_accept in
@@ -129,12 +139,14 @@ one_release_each (event ∷ before) x p q d e lawful at_p at_q frees also =
           elim (event_at-cases event before q e at_q) [
             | inl q_newest ↦ p_newest.0 ∙ sym q_newest.0
             | inr q_older ↦
-                absurd (true≢false (sym (is_released-from before x q e q_older also) ∙ follows_unreleased event before x lawful.1 (ap released_in p_newest.1 ∙ frees)))
+                absurd (true≢false (sym (is_released-from before x q e q_older also)
+                ∙ follows_unreleased event before x lawful.1 (ap released_in p_newest.1 ∙ frees)))
           ]
       | inr p_older ↦
           elim (event_at-cases event before q e at_q) [
             | inl q_newest ↦
-                absurd (true≢false (sym (is_released-from before x p d p_older frees) ∙ follows_unreleased event before x lawful.1 (ap released_in q_newest.1 ∙ also)))
+                absurd (true≢false (sym (is_released-from before x p d p_older frees)
+                ∙ follows_unreleased event before x lawful.1 (ap released_in q_newest.1 ∙ also)))
             | inr q_older ↦ one_release_each before x p q d e lawful.0 p_older q_older frees also
           ]
     ]

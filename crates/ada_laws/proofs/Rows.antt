@@ -16,7 +16,9 @@ use Rattle.ada_events.specs.Says.{Opening, Start, Wait, Delay, Closing, wait_in,
 use Rattle.ada_events.specs.Tasks.{task_count, moment}
 use Rattle.ada_events.specs.Phases.{has_failed}
 use Rattle.ada_events.specs.Waits.{taken_call, way_of}
-use Rattle.ada_events.specs.Forced.{task_no, is_done_activating, is_to_halt, halted, is_to_fail, failed, met_at, met, is_to_cancel, cancelled, passed_at, passed, is_to_wake, woken, activated_at, activated, is_to_go, gone, is_to_quit, quit_body, quit_block, is_to_leave, left, first_of_all, forced}
+use Rattle.ada_events.specs.Forced.{task_no, is_done_activating, is_to_halt, halted, is_to_fail, failed, met_at, met, is_to_cancel, cancelled, passed_at}
+use Rattle.ada_events.specs.Forced.{passed, is_to_wake, woken, activated_at, activated, is_to_go, gone, is_to_quit, quit_body, quit_block, is_to_leave, left}
+use Rattle.ada_events.specs.Forced.{first_of_all, forced}
 use Rattle.ada_events.specs.Calls.{is_pending}
 use Rattle.ada_laws.proofs.Searching.{option_or-some, option_or-none, then_some-some, if_some, option_map-some, first_given-found, first_below-found}
 
@@ -24,14 +26,20 @@ use Rattle.ada_laws.proofs.Searching.{option_or-some, option_or-none, then_some-
 pub data IsRow (journal : List Event) : Event → Type 0 where
   halts : (u : ℕ) → u < task_count journal → is_to_halt journal u ≡ true → IsRow journal (Halted (task_no u))
   fails : (p : ℕ) (e : Event) → event_at journal p ≡ Some e → is_to_fail journal p e ≡ true → IsRow journal (Failed p)
-  meets : (p : ℕ) (e : Event) (wait : Wait) (call : ℕ) → event_at journal p ≡ Some e → wait_in e ≡ Some wait → is_pending journal p wait.by ≡ true → taken_call journal wait ≡ Some call → IsRow journal (Met call p)
+  meets : (p : ℕ) (e : Event) (wait : Wait) (call : ℕ) → event_at journal p ≡ Some e → wait_in e ≡ Some wait → is_pending journal p wait.by ≡ true
+      → taken_call journal wait ≡ Some call → IsRow journal (Met call p)
   cancels : (p : ℕ) (e : Event) → event_at journal p ≡ Some e → is_to_cancel journal p e ≡ true → IsRow journal (Cancelled p)
-  passes : (p : ℕ) (e : Event) (wait : Wait) (way : Way) → event_at journal p ≡ Some e → wait_in e ≡ Some wait → is_pending journal p wait.by ≡ true → way_of (moment journal) wait.choices wait.pick wait.tail ≡ Some way → IsRow journal (Passed p way)
-  wakes : (p : ℕ) (e : Event) (delay : Delay) → event_at journal p ≡ Some e → delay_in e ≡ Some delay → is_to_wake journal p delay ≡ true → IsRow journal (Woken p)
-  activates : (p : ℕ) (e : Event) (start : Start) (ok : Bool) → event_at journal p ≡ Some e → start_in e ≡ Some start → is_pending journal p start.by ≡ true → list_all (is_done_activating journal) start.tasks ≡ true → not (list_any (λ (t : TaskNo). has_failed journal t.0) start.tasks) ≡ ok → IsRow journal (Activated p ok)
+  passes : (p : ℕ) (e : Event) (wait : Wait) (way : Way) → event_at journal p ≡ Some e → wait_in e ≡ Some wait → is_pending journal p wait.by ≡ true
+      → way_of (moment journal) wait.choices wait.pick wait.tail ≡ Some way → IsRow journal (Passed p way)
+  wakes : (p : ℕ) (e : Event) (delay : Delay) → event_at journal p ≡ Some e → delay_in e ≡ Some delay → is_to_wake journal p delay ≡ true
+      → IsRow journal (Woken p)
+  activates : (p : ℕ) (e : Event) (start : Start) (ok : Bool) → event_at journal p ≡ Some e → start_in e ≡ Some start → is_pending journal p start.by ≡ true
+      → list_all (is_done_activating journal) start.tasks ≡ true → not (list_any (λ (t : TaskNo). has_failed journal t.0) start.tasks) ≡ ok
+      → IsRow journal (Activated p ok)
   goes : (u : ℕ) → u < task_count journal → is_to_go journal u ≡ true → IsRow journal (Gone (task_no u))
   quits : (m : Master) → is_to_quit journal m ≡ true → IsRow journal (Quit m)
-  leaves : (p : ℕ) (e : Event) (closing : Closing) → event_at journal p ≡ Some e → closing_in e ≡ Some closing → is_to_leave journal p closing ≡ true → IsRow journal (Left p)
+  leaves : (p : ℕ) (e : Event) (closing : Closing) → event_at journal p ≡ Some e → closing_in e ≡ Some closing → is_to_leave journal p closing ≡ true
+      → IsRow journal (Left p)
 
 pub halted-row : (journal : List Event) (event : Event) → halted journal ≡ Some event → IsRow journal event
 unfolding halted
@@ -75,7 +83,8 @@ passed-row journal event step =
 pub woken-row : (journal : List Event) (event : Event) → woken journal ≡ Some event → IsRow journal event
 unfolding woken
 woken-row journal event step =
-    let (p, e, at, gives) = first_given-found (λ p e. option_and_then (λ (d : Delay). then_some (is_to_wake journal p d) (Woken p)) (delay_in e)) journal event step in
+    let (p, e, at, gives) = first_given-found (λ p e. option_and_then (λ (d : Delay). then_some (is_to_wake journal p d) (Woken p)) (delay_in e)) journal
+    event step in
     option_and_then_some (λ (d : Delay). then_some (is_to_wake journal p d) (Woken p)) (delay_in e) event gives (λ delay says given.
     let found = then_some-some (is_to_wake journal p delay) (Woken p) event given in
     subst (λ (e : Event). IsRow journal e) found.1 (wakes p e delay at says found.0))
@@ -100,14 +109,16 @@ gone-row journal event step =
 pub quit_body-row : (journal : List Event) (event : Event) → quit_body journal ≡ Some event → IsRow journal event
 unfolding quit_body
 quit_body-row journal event step =
-    let (u, below, gives) = first_below-found (λ u. then_some (is_to_quit journal (Body (task_no u))) (Quit (Body (task_no u)))) (task_count journal) event step in
+    let (u, below, gives) = first_below-found (λ u. then_some (is_to_quit journal (Body (task_no u))) (Quit (Body (task_no u)))) (task_count journal)
+    event step in
     let found = then_some-some (is_to_quit journal (Body (task_no u))) (Quit (Body (task_no u))) event gives in
     subst (λ (e : Event). IsRow journal e) found.1 (quits (Body (task_no u)) found.0)
 
 pub quit_block-row : (journal : List Event) (event : Event) → quit_block journal ≡ Some event → IsRow journal event
 unfolding quit_block
 quit_block-row journal event step =
-    let (p, e, at, gives) = first_given-found (λ p e. option_and_then (λ (_ : Opening). then_some (is_to_quit journal (Block p)) (Quit (Block p))) (opening_in e)) journal event step in
+    let (p, e, at, gives) = first_given-found (λ p e. option_and_then (λ (_ : Opening). then_some (is_to_quit journal (Block p)) (Quit (Block p)))
+    (opening_in e)) journal event step in
     option_and_then_some (λ (_ : Opening). then_some (is_to_quit journal (Block p)) (Quit (Block p))) (opening_in e) event gives (λ opening says given.
     let found = then_some-some (is_to_quit journal (Block p)) (Quit (Block p)) event given in
     subst (λ (e : Event). IsRow journal e) found.1 (quits (Block p) found.0))
@@ -115,13 +126,15 @@ quit_block-row journal event step =
 pub left-row : (journal : List Event) (event : Event) → left journal ≡ Some event → IsRow journal event
 unfolding left
 left-row journal event step =
-    let (p, e, at, gives) = first_given-found (λ p e. option_and_then (λ (c : Closing). then_some (is_to_leave journal p c) (Left p)) (closing_in e)) journal event step in
+    let (p, e, at, gives) = first_given-found (λ p e. option_and_then (λ (c : Closing). then_some (is_to_leave journal p c) (Left p)) (closing_in e)) journal
+    event step in
     option_and_then_some (λ (c : Closing). then_some (is_to_leave journal p c) (Left p)) (closing_in e) event gives (λ closing says given.
     let found = then_some-some (is_to_leave journal p closing) (Left p) event given in
     subst (λ (e : Event). IsRow journal e) found.1 (leaves p e closing at says found.0))
 
 -- what holds of a step, if it holds of each of the two that it may be
-either : (journal : List Event) (event : Event) (a b : Option Event) → (a ≡ Some event → IsRow journal event) → (b ≡ Some event → IsRow journal event) → option_or a b ≡ Some event → IsRow journal event
+either : (journal : List Event) (event : Event) (a b : Option Event) → (a ≡ Some event → IsRow journal event) → (b ≡ Some event → IsRow journal event)
+    → option_or a b ≡ Some event → IsRow journal event
 either journal event a b at_a at_b step = elim (option_or-some a b event step) [ inl same ↦ at_a same | inr same ↦ at_b same ]
 
 -- a forced step is one of the rows
@@ -169,7 +182,8 @@ all_none (step ∷ rest) none =
 pub settled_at_rest : (journal : List Event) → forced journal ≡ None → IsAtRest journal
 unfolding forced
 settled_at_rest journal settled =
-    let none = all_none (halted journal ∷ failed journal ∷ met journal ∷ cancelled journal ∷ passed journal ∷ woken journal ∷ activated journal ∷ gone journal ∷ quit_body journal ∷ quit_block journal ∷ left journal ∷ []) settled in
+    let none = all_none (halted journal ∷ failed journal ∷ met journal ∷ cancelled journal ∷ passed journal ∷ woken journal ∷ activated journal ∷ gone journal
+    ∷ quit_body journal ∷ quit_block journal ∷ left journal ∷ []) settled in
     record {
       no_halted = none.0;
       no_failed = none.1.0;

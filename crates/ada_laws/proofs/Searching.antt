@@ -1,5 +1,6 @@
 -- What a search of a journal finds, and what is found where something passes.
-use Rattle.std.proofs.Common.{◌≡◌, ℕ, zero, suc, ◌<◌, ◌≤◌, Bool, true, false, cond, not, ◌&&◌, Option, Some, None, List, [], ◌∷◌, length, sym, refl, ap, ◌∙◌, arith, ◌⊎◌, inl, inr, ◌≢◌}
+use Rattle.std.proofs.Common.{◌≡◌, ℕ, zero, suc, ◌<◌, ◌≤◌, Bool, true, false, cond, not, ◌&&◌, Option, Some, None, List, [], ◌∷◌, length, sym, refl, ap, ◌∙◌}
+use Rattle.std.proofs.Common.{arith, ◌⊎◌, inl, inr, ◌≢◌}
 use Rattle.std.specs.Option.{option_or, option_map, option_map_or, option_and_then}
 use Rattle.std.specs.Bool.{then_some}
 use Rattle.std.proofs.lemmas.Bool.{ne_eqb, eq-eqb, eqb-true, cases_eq, or_cases, and_cases, and_parts, or_left, or_right, true≢false, false≢true}
@@ -82,14 +83,16 @@ event_at-older event before p e at =
     event_at-other event before p (omega arith) ∙ at
 
 -- what stands at a position of a longer journal is the newest event, or stood there before
-pub event_at-cases : (event : Event) (before : List Event) (p : ℕ) (e : Event) → event_at (event ∷ before) p ≡ Some e → ((p ≡ suc (length before)) × (event ≡ e)) ⊎ (event_at before p ≡ Some e)
+pub event_at-cases : (event : Event) (before : List Event) (p : ℕ) (e : Event) → event_at (event ∷ before) p ≡ Some e
+    → ((p ≡ suc (length before)) × (event ≡ e)) ⊎ (event_at before p ≡ Some e)
 event_at-cases event before p e at =
     elim (cases_eq p (suc (length before))) [
       | inl same ↦ inl (same, same_Some event e (sym (event_at-newest event before) ∙ (ap (event_at (event ∷ before)) (sym same) ∙ at)))
       | inr other ↦ inr (sym (event_at-other event before p other) ∙ at)
     ]
 
-pub any_event-found : (test : ℕ → Event → Bool) (journal : List Event) → any_event test journal ≡ true → (p : ℕ) × (e : Event) × (event_at journal p ≡ Some e) × (test p e ≡ true)
+pub any_event-found : (test : ℕ → Event → Bool) (journal : List Event) → any_event test journal ≡ true → (p : ℕ) × (e : Event) × (event_at journal p ≡ Some e)
+    × (test p e ≡ true)
 unfolding any_event
 any_event-found test [] passes = absurd (false≢true passes)
 any_event-found test (event ∷ before) passes =
@@ -100,7 +103,8 @@ any_event-found test (event ∷ before) passes =
           (p, e, event_at-older event before p e at, found)
     ]
 
-pub any_event-from : (test : ℕ → Event → Bool) (journal : List Event) (p : ℕ) (e : Event) → event_at journal p ≡ Some e → test p e ≡ true → any_event test journal ≡ true
+pub any_event-from : (test : ℕ → Event → Bool) (journal : List Event) (p : ℕ) (e : Event) → event_at journal p ≡ Some e → test p e ≡ true
+    → any_event test journal ≡ true
 unfolding any_event event_at
 any_event-from test [] p e at passes = absurd (none-some e at)
 any_event-from test (event ∷ before) p e at passes =
@@ -109,7 +113,8 @@ any_event-from test (event ∷ before) p e at passes =
       | inr older ↦ or_right (test (suc (length before)) event) (any_event test before) (any_event-from test before p e older passes)
     ]
 
-pub first_given-found : {A : Type 0} (give : ℕ → Event → Option A) (journal : List Event) (x : A) → first_given give journal ≡ Some x → (p : ℕ) × (e : Event) × (event_at journal p ≡ Some e) × (give p e ≡ Some x)
+pub first_given-found : {A : Type 0} (give : ℕ → Event → Option A) (journal : List Event) (x : A) → first_given give journal ≡ Some x → (p : ℕ) × (e : Event)
+    × (event_at journal p ≡ Some e) × (give p e ≡ Some x)
 unfolding first_given
 first_given-found give [] x given = absurd (none-some x given)
 first_given-found give (event ∷ before) x given =

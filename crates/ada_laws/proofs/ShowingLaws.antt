@@ -1,5 +1,6 @@
 -- True lists of boards.
-use Rattle.std.proofs.Common.{◌≡◌, ◌≢◌, ℕ, ◌+◌, ◌-◌, ◌<◌, ◌≤◌, List, [], ◌∷◌, ◌++◌, length, map, drop, get_or, refl, sym, ap, ◌∙◌, subst, arith, length-append, append_assoc}
+use Rattle.std.proofs.Common.{◌≡◌, ◌≢◌, ℕ, ◌+◌, ◌-◌, ◌<◌, ◌≤◌, List, [], ◌∷◌, ◌++◌, length, map, drop, get_or, refl, sym, ap, ◌∙◌, subst, arith, length-append}
+use Rattle.std.proofs.Common.{append_assoc}
 use Rattle.std.specs.List.{AllPairs, Contains}
 use Rattle.std.proofs.Math.Seq.{drop-append-add}
 use Rattle.std.proofs.lemmas.Bool.{eqb-true}
@@ -77,7 +78,8 @@ new_boards_are_true steps old boards true_of some lawful settled =
       each = All-push (IsShownBy new) boards (board_of new) still.each (newest_shown new settled);
     }
 
-behind_one : (event : Event) (steps old new : List Event) (boards : List Board) → AreTrueOf old boards → new ≡ steps ++ (event ∷ old) → IsLawful new → IsSettled new → AreTrueOf new (boards ++ board_of new ∷ [])
+behind_one : (event : Event) (steps old new : List Event) (boards : List Board) → AreTrueOf old boards → new ≡ steps ++ (event ∷ old) → IsLawful new
+    → IsSettled new → AreTrueOf new (boards ++ board_of new ∷ [])
 behind_one event steps old new boards true_of is lawful settled =
     let whole : new ≡ (steps ++ event ∷ []) ++ old = is ∙ sym (append_assoc steps (event ∷ []) old) in
     let P : List Event → Type 0 = λ j. AreTrueOf j (boards ++ board_of j ∷ []) in
@@ -114,5 +116,6 @@ true_boards_are_few boards (journal, true_of) =
     let most : (get_or boards found.0 dummy).events ≤ length journal = (true_of.each found.0 dummy within).within in
     omega arith in
     let short : length counts ≤ 65537 =
-    length-le_from_distinct_below counts 65537 (IsDistinct-from_AllPairs Decides-eqb counts apart) (λ q found. bounded q (Contains-from_any eqb-true q counts found)) in
+    length-le_from_distinct_below counts 65537 (IsDistinct-from_AllPairs Decides-eqb counts apart)
+    (λ q found. bounded q (Contains-from_any eqb-true q counts found)) in
     omega (arith, length-map boards board_length)

@@ -1,5 +1,6 @@
 -- Slots: how many there are, and where they lie.
-use Rattle.std.proofs.Common.{◌≡◌, ℕ, ℤ, ◌+◌, ◌-◌, ◌<◌, ◌≤◌, ◌⊎◌, cond, Bool, true, false, Option, Some, None, List, [], ◌∷◌, take, get_or, refl, ap, arith, inl, inr}
+use Rattle.std.proofs.Common.{◌≡◌, ℕ, ℤ, ◌+◌, ◌-◌, ◌<◌, ◌≤◌, ◌⊎◌, cond, Bool, true, false, Option, Some, None, List, [], ◌∷◌, take, get_or, refl, ap, arith}
+use Rattle.std.proofs.Common.{inl, inr}
 use Rattle.std.specs.Prelude.{slice_get, unsigned_abs, ◌-ℤ◌, int_le, ◌==◌, nat_lt}
 use Rattle.std.specs.Option.{option_map, option_map_or, option_and_then, option_len}
 use Rattle.std.specs.Bool.{then_some}
@@ -29,10 +30,12 @@ slot_count-same : (event : Event) (before : List Event) → creation_in event �
 unfolding slot_count
 slot_count-same event before says = rw says (omega arith)
 
-creates_slots_within : (journal : List Event) (r : Request) → refusal journal r ≡ None → slot_count journal ≤ MOST_SLOTS → slot_count (asked_event journal r ∷ journal) ≤ MOST_SLOTS
+creates_slots_within : (journal : List Event) (r : Request) → refusal journal r ≡ None → slot_count journal ≤ MOST_SLOTS
+    → slot_count (asked_event journal r ∷ journal) ≤ MOST_SLOTS
 unfolding slot_count asked_event creation_in makes_too_many_slots
 creates_slots_within journal (request.Create by master families) accepted few =
-    let fewer : slot_count journal + entries_in families ≤ 1024 = ltb-false 1024 (slot_count journal + entries_in families) (is_accepted journal (request.Create by master families) accepted).few_slots in
+    let fewer : slot_count journal + entries_in families
+    ≤ 1024 = ltb-false 1024 (slot_count journal + entries_in families) (is_accepted journal (request.Create by master families) accepted).few_slots in
     omega arith
 creates_slots_within journal _ accepted few = omega arith
 
@@ -53,7 +56,9 @@ offset_below f index in_range =
     let both = and_parts (int_le f.low index) (int_le index f.high) in_range in
     grind (arith, ints)
 
-number_found : (families : List Family) (entry : Entry) (n : ℕ) (o : Option Family) → slice_get families entry.family ≡ o → option_and_then (λ (f : Family). then_some (is_in_range f entry.index) (entries_in (take entry.family families) + unsigned_abs (entry.index -ℤ f.low))) o ≡ Some n → n < entries_in families
+number_found : (families : List Family) (entry : Entry) (n : ℕ) (o : Option Family) → slice_get families entry.family ≡ o
+    → option_and_then (λ (f : Family). then_some (is_in_range f entry.index) (entries_in (take entry.family families) + unsigned_abs (entry.index -ℤ f.low))) o
+    ≡ Some n → n < entries_in families
 unfolding entries_in
 number_found families entry n None none found = absurd (none-some n found)
 number_found families entry n (Some f) some found =
@@ -70,7 +75,9 @@ pub number_within-below : (families : List Family) (entry : Entry) (n : ℕ) →
 unfolding number_within
 number_within-below families entry n found = number_found families entry n (slice_get families entry.family) refl found
 
-made_below : (before : List Event) (entry : Entry) (slot : ℕ) (o : Option Creation) → option_and_then (λ (c : Creation). option_map (λ n. slot_count before + n) (number_within c.families entry)) o ≡ Some slot → slot < option_map_or (λ (c : Creation). entries_in c.families) o 0 + slot_count before
+made_below : (before : List Event) (entry : Entry) (slot : ℕ) (o : Option Creation)
+    → option_and_then (λ (c : Creation). option_map (λ n. slot_count before + n) (number_within c.families entry)) o ≡ Some slot
+    → slot < option_map_or (λ (c : Creation). entries_in c.families) o 0 + slot_count before
 made_below before entry slot None made = absurd (none-some slot made)
 made_below before entry slot (Some c) made =
     let (n, numbered, is) = option_map-some (λ n. slot_count before + n) (number_within c.families entry) slot made in
@@ -84,7 +91,8 @@ slots_are_numbered (event ∷ before) task entry slot found =
     elim (option_or-some (slot_made before event task entry) (slot_of before task entry) slot found) [
       | inl made ↦
           made_below before entry slot (creation_in event)
-          (if_some (task == task_count before) (option_and_then (λ (c : Creation). option_map (λ n. slot_count before + n) (number_within c.families entry)) (creation_in event)) slot made).1
+          (if_some (task == task_count before) (option_and_then (λ (c : Creation). option_map (λ n. slot_count before + n) (number_within c.families entry))
+          (creation_in event)) slot made).1
       | inr there ↦
           let below : slot < slot_count before = slots_are_numbered before task entry slot there in
           omega arith
@@ -94,10 +102,13 @@ one_of_two : {A : Type 0} (b : Bool) (x y : Option A) (v : A) → cond b x y ≡
 one_of_two true x y v found = inl found
 one_of_two false x y v found = inr found
 
-made_task : (before : List Event) (slot : ℕ) (place : Place) (o : Option Creation) → option_and_then (λ (c : Creation). option_map (λ (e : Entry). record { task = task_count before; entry = e }) (entry_within 0 c.families (slot - slot_count before))) o ≡ Some place → place.task < option_len o + task_count before
+made_task : (before : List Event) (slot : ℕ) (place : Place) (o : Option Creation)
+    → option_and_then (λ (c : Creation). option_map (λ (e : Entry). record { task = task_count before; entry = e })
+    (entry_within 0 c.families (slot - slot_count before))) o ≡ Some place → place.task < option_len o + task_count before
 made_task before slot place None made = absurd (none-some place made)
 made_task before slot place (Some c) made =
-    let (e, at, is) = option_map-some {B = Place} (λ (e : Entry). record { task = task_count before; entry = e }) (entry_within 0 c.families (slot - slot_count before)) place made in
+    let (e, at, is) = option_map-some {B = Place} (λ (e : Entry). record { task = task_count before; entry = e })
+    (entry_within 0 c.families (slot - slot_count before)) place made in
     let task : task_count before ≡ place.task = ap (λ (p : Place). p.task) is in
     omega arith
 

@@ -1,5 +1,6 @@
 -- Slots are in order of task, family and index.
-use Rattle.std.proofs.Common.{◌≡◌, ℕ, ℤ, pos, zero, suc, ◌+◌, ◌<◌, ◌≤◌, ◌<ℤ◌, ◌⊎◌, ◌+ℤ◌, Option, Some, None, List, [], ◌∷◌, take, refl, sym, ap, ◌∙◌, subst, arith, inl, inr}
+use Rattle.std.proofs.Common.{◌≡◌, ℕ, ℤ, pos, zero, suc, ◌+◌, ◌<◌, ◌≤◌, ◌<ℤ◌, ◌⊎◌, ◌+ℤ◌, Option, Some, None, List, [], ◌∷◌, take, refl, sym, ap, ◌∙◌, subst}
+use Rattle.std.proofs.Common.{arith, inl, inr}
 use Rattle.std.specs.Prelude.{slice_get, ◌==◌}
 use Rattle.std.specs.Option.{option_map, option_and_then}
 use Rattle.std.proofs.lemmas.Bool.{cases_lt, eqb-true}
@@ -37,7 +38,8 @@ smaller_offset : (low : ℤ) (a b : ℕ) → (low +ℤ pos a) <ℤ (low +ℤ pos
 smaller_offset low a b less = omega (arith, ints)
 
 -- numbers of entries are in order of family and index
-number_order : (fs : List Family) (d e : Entry) (m n : ℕ) → number_within fs d ≡ Some m → number_within fs e ≡ Some n → (d.family < e.family) ⊎ ((d.family ≡ e.family) × (d.index <ℤ e.index)) → m < n
+number_order : (fs : List Family) (d e : Entry) (m n : ℕ) → number_within fs d ≡ Some m → number_within fs e ≡ Some n → (d.family < e.family)
+    ⊎ ((d.family ≡ e.family) × (d.index <ℤ e.index)) → m < n
 number_order fs d e m n number_d number_e before =
     let at_d = entry_within-found 0 fs m d (number_is fs d m number_d) in
     let at_e = entry_within-found 0 fs n e (number_is fs e n number_e) in
@@ -71,16 +73,20 @@ record IsMadeSlot (before : List Event) (event : Event) (task : ℕ) (entry : En
   is : slot_count before + number ≡ slot
   newest : task ≡ task_count before
 
-made_parts : (before : List Event) (entry : Entry) (slot : ℕ) (o : Option Creation) → option_and_then (λ (c : Creation). option_map (λ n. slot_count before + n) (number_within c.families entry)) o ≡ Some slot → (c : Creation) × (n : ℕ) × (o ≡ Some c) × (number_within c.families entry ≡ Some n) × (slot_count before + n ≡ slot)
+made_parts : (before : List Event) (entry : Entry) (slot : ℕ) (o : Option Creation)
+    → option_and_then (λ (c : Creation). option_map (λ n. slot_count before + n) (number_within c.families entry)) o ≡ Some slot → (c : Creation) × (n : ℕ)
+    × (o ≡ Some c) × (number_within c.families entry ≡ Some n) × (slot_count before + n ≡ slot)
 made_parts before entry slot None made = absurd (none-some slot made)
 made_parts before entry slot (Some c) made =
     let (n, number, is) = option_map-some (λ n. slot_count before + n) (number_within c.families entry) slot made in
     (c, n, refl, number, is)
 
-is_made : (before : List Event) (event : Event) (task : ℕ) (entry : Entry) (slot : ℕ) → slot_made before event task entry ≡ Some slot → IsMadeSlot before event task entry slot
+is_made : (before : List Event) (event : Event) (task : ℕ) (entry : Entry) (slot : ℕ) → slot_made before event task entry ≡ Some slot
+    → IsMadeSlot before event task entry slot
 unfolding slot_made
 is_made before event task entry slot made =
-    let both = if_some (task == task_count before) (option_and_then (λ (c : Creation). option_map (λ n. slot_count before + n) (number_within c.families entry)) (creation_in event)) slot made in
+    let both = if_some (task == task_count before) (option_and_then (λ (c : Creation). option_map (λ n. slot_count before + n) (number_within c.families entry))
+    (creation_in event)) slot made in
     let (c, n, makes, number, is) = made_parts before entry slot (creation_in event) both.1 in
     record { creation = c; number = n; makes = makes; numbered = number; is = is; newest = eqb-true task (task_count before) both.0 }
 
@@ -92,19 +98,24 @@ has_task journal task entry slot found =
       | inr past ↦ absurd (none-some slot (sym (no_slot journal task entry past) ∙ found))
     ]
 
-in_family : (before : List Event) (event : Event) (a b : Place) (r s : ℕ) → IsMadeSlot before event a.task a.entry r → IsMadeSlot before event b.task b.entry s → (a.entry.family < b.entry.family) ⊎ ((a.entry.family ≡ b.entry.family) × (a.entry.index <ℤ b.entry.index)) → r < s
+in_family : (before : List Event) (event : Event) (a b : Place) (r s : ℕ) → IsMadeSlot before event a.task a.entry r → IsMadeSlot before event b.task b.entry s
+    → (a.entry.family < b.entry.family) ⊎ ((a.entry.family ≡ b.entry.family) × (a.entry.index <ℤ b.entry.index)) → r < s
 in_family before event a b r s made_a made_b order =
     let one : made_a.creation ≡ made_b.creation = same_Some made_a.creation made_b.creation (sym made_a.makes ∙ made_b.makes) in
-    let number_a : number_within made_b.creation.families a.entry ≡ Some made_a.number = ap (λ (c : Creation). number_within c.families a.entry) (sym one) ∙ made_a.numbered in
-    let less : made_a.number < made_b.number = number_order made_b.creation.families a.entry b.entry made_a.number made_b.number number_a made_b.numbered order in
+    let number_a : number_within made_b.creation.families a.entry ≡ Some made_a.number = ap (λ (c : Creation). number_within c.families a.entry) (sym one)
+    ∙ made_a.numbered in
+    let less : made_a.number < made_b.number = number_order made_b.creation.families a.entry b.entry made_a.number made_b.number number_a
+    made_b.numbered order in
     omega (arith, made_a.is, made_b.is)
 
-older_made : (before : List Event) (event : Event) (a b : Place) (r s : ℕ) → slot_of before a.task a.entry ≡ Some r → IsMadeSlot before event b.task b.entry s → r < s
+older_made : (before : List Event) (event : Event) (a b : Place) (r s : ℕ) → slot_of before a.task a.entry ≡ Some r
+    → IsMadeSlot before event b.task b.entry s → r < s
 older_made before event a b r s older made =
     let below : r < slot_count before = slots_are_numbered before a.task a.entry r older in
     omega (arith, made.is)
 
-made_older : (before : List Event) (event : Event) (a b : Place) (r s : ℕ) → IsMadeSlot before event a.task a.entry r → slot_of before b.task b.entry ≡ Some s → ComesBefore a b → ⊥
+made_older : (before : List Event) (event : Event) (a b : Place) (r s : ℕ) → IsMadeSlot before event a.task a.entry r → slot_of before b.task b.entry ≡ Some s
+    → ComesBefore a b → ⊥
 made_older before event a b r s made older (inl task) =
     let below : b.task < task_count before = has_task before b.task b.entry s older in
     omega (arith, made.newest)
@@ -115,7 +126,8 @@ made_older before event a b r s made older (inr (inr index)) =
     let below : b.task < task_count before = has_task before b.task b.entry s older in
     omega (arith, made.newest, index.0)
 
-both_made : (before : List Event) (event : Event) (a b : Place) (r s : ℕ) → IsMadeSlot before event a.task a.entry r → IsMadeSlot before event b.task b.entry s → ComesBefore a b → r < s
+both_made : (before : List Event) (event : Event) (a b : Place) (r s : ℕ) → IsMadeSlot before event a.task a.entry r → IsMadeSlot before event b.task b.entry s
+    → ComesBefore a b → r < s
 both_made before event a b r s made_a made_b (inl task) =
     let one : a.task ≡ task_count before = made_a.newest in
     let other : b.task ≡ task_count before = made_b.newest in

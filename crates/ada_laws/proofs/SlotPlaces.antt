@@ -1,5 +1,6 @@
 -- A slot and its entry belong together.
-use Rattle.std.proofs.Common.{◌≡◌, ℕ, ℤ, pos, zero, suc, ◌+◌, ◌-◌, ◌<◌, ◌≤◌, ◌+ℤ◌, ◌-ℤ◌, Bool, true, false, not, ◌||◌, cond, ltb, Option, Some, None, is_some, is_none, List, [], ◌∷◌, take, refl, sym, ap, ◌∙◌, arith, inl, inr}
+use Rattle.std.proofs.Common.{◌≡◌, ℕ, ℤ, pos, zero, suc, ◌+◌, ◌-◌, ◌<◌, ◌≤◌, ◌+ℤ◌, ◌-ℤ◌, Bool, true, false, not, ◌||◌, cond, ltb, Option, Some, None, is_some}
+use Rattle.std.proofs.Common.{is_none, List, [], ◌∷◌, take, refl, sym, ap, ◌∙◌, arith, inl, inr}
 use Rattle.std.specs.Prelude.{slice_get, unsigned_abs, int_le, ◌==◌}
 use Rattle.std.specs.Option.{option_map, option_map_or, option_and_then, option_or, option_len}
 use Rattle.std.specs.Bool.{then_some}
@@ -38,7 +39,8 @@ unfolding entries_in
 entries_in-cons g fs = sum_by-cons entry_count g fs
 
 -- an entry of some families, by its family's place and its offset there
-entry_within_at : (p : ℕ) (fs : List Family) (k offset : ℕ) (f : Family) → slice_get fs k ≡ Some f → offset < entry_count f → entry_within p fs (entries_in (take k fs) + offset) ≡ Some (record { family = p + k; index = f.low +ℤ pos offset })
+entry_within_at : (p : ℕ) (fs : List Family) (k offset : ℕ) (f : Family) → slice_get fs k ≡ Some f → offset < entry_count f
+    → entry_within p fs (entries_in (take k fs) + offset) ≡ Some (record { family = p + k; index = f.low +ℤ pos offset })
 unfolding entry_within entries_in
 entry_within_at p [] k offset f some below = absurd (none-some f some)
 entry_within_at p (g ∷ rest) zero offset f some below =
@@ -64,14 +66,16 @@ pub record IsEntryAt (p : ℕ) (fs : List Family) (n : ℕ) (e : Entry) : Type 0
   pub is : e ≡ record { family = p + place; index = family.low +ℤ pos offset }
   pub number : n ≡ entries_in (take place fs) + offset
 
-entry_later : (p : ℕ) (g : Family) (rest : List Family) (n : ℕ) (e : Entry) → entry_count g ≤ n → IsEntryAt (suc p) rest (n - entry_count g) e → IsEntryAt p (g ∷ rest) n e
+entry_later : (p : ℕ) (g : Family) (rest : List Family) (n : ℕ) (e : Entry) → entry_count g ≤ n → IsEntryAt (suc p) rest (n - entry_count g) e
+    → IsEntryAt p (g ∷ rest) n e
 entry_later p g rest n e past found = record {
   place = suc found.place;
   offset = found.offset;
   family = found.family;
   stands = found.stands;
   below = found.below;
-  is = found.is ∙ ap (λ k. record { family = k; index = found.family.low +ℤ pos found.offset }) (let s : suc p + found.place ≡ p + suc found.place = omega arith in s);
+  is = found.is ∙ ap (λ k. record { family = k; index = found.family.low +ℤ pos found.offset })
+      (let s : suc p + found.place ≡ p + suc found.place = omega arith in s);
   number = omega (arith, found.number, entries_in-cons g (take found.place rest));
 }
 
@@ -88,17 +92,21 @@ entry_within-found p (g ∷ rest) n e found =
             family = g;
             stands = refl;
             below = below;
-            is = sym (same_Some (record { family = p; index = g.low +ℤ pos n }) e here) ∙ ap (λ k. record { family = k; index = g.low +ℤ pos n }) (let s : p ≡ p + 0 = omega arith in s);
+            is = sym (same_Some (record { family = p; index = g.low +ℤ pos n }) e here)
+                ∙ ap (λ k. record { family = k; index = g.low +ℤ pos n }) (let s : p ≡ p + 0 = omega arith in s);
             number = omega arith;
           }
       | inr past ↦ entry_later p g rest n e past (entry_within-found (suc p) rest (n - entry_count g) e (rw (le-ltb n (entry_count g) past) at found))
     ]
 
-number_parts : (fs : List Family) (e : Entry) (n : ℕ) (o : Option Family) → slice_get fs e.family ≡ o → option_and_then (λ (f : Family). then_some (is_in_range f e.index) (entries_in (take e.family fs) + unsigned_abs (e.index -ℤ f.low))) o ≡ Some n → entry_within 0 fs n ≡ Some e
+number_parts : (fs : List Family) (e : Entry) (n : ℕ) (o : Option Family) → slice_get fs e.family ≡ o
+    → option_and_then (λ (f : Family). then_some (is_in_range f e.index) (entries_in (take e.family fs) + unsigned_abs (e.index -ℤ f.low))) o ≡ Some n
+    → entry_within 0 fs n ≡ Some e
 number_parts fs e n None some number = absurd (none-some n number)
 number_parts fs e n (Some f) some number =
     let both = then_some-some (is_in_range f e.index) (entries_in (take e.family fs) + unsigned_abs (e.index -ℤ f.low)) n number in
-    let here : entry_within 0 fs (entries_in (take e.family fs) + unsigned_abs (e.index -ℤ f.low)) ≡ Some (record { family = 0 + e.family; index = f.low +ℤ pos (unsigned_abs (e.index -ℤ f.low)) }) =
+    let here : entry_within 0 fs (entries_in (take e.family fs) + unsigned_abs (e.index -ℤ f.low))
+    ≡ Some (record { family = 0 + e.family; index = f.low +ℤ pos (unsigned_abs (e.index -ℤ f.low)) }) =
     entry_within_at 0 fs e.family (unsigned_abs (e.index -ℤ f.low)) f some (offset_below f e.index both.0) in
     let place : 0 + e.family ≡ e.family = omega arith in
     ap (entry_within 0 fs) (sym both.1) ∙ here
@@ -110,7 +118,8 @@ pub number_is : (fs : List Family) (e : Entry) (n : ℕ) → number_within fs e 
 unfolding number_within
 number_is fs e n number = number_parts fs e n (slice_get fs e.family) refl number
 
-number_of : (fs : List Family) (k offset n : ℕ) (f : Family) → slice_get fs k ≡ Some f → offset < entry_count f → n ≡ entries_in (take k fs) + offset → number_within fs (record { family = k; index = f.low +ℤ pos offset }) ≡ Some n
+number_of : (fs : List Family) (k offset n : ℕ) (f : Family) → slice_get fs k ≡ Some f → offset < entry_count f → n ≡ entries_in (take k fs) + offset
+    → number_within fs (record { family = k; index = f.low +ℤ pos offset }) ≡ Some n
 unfolding number_within
 number_of fs k offset n f some below is =
     rw (some, in_range_at f offset below, offset_back f offset) (ap Some (sym is))
@@ -124,7 +133,10 @@ entry_is fs e n found =
     ∙ number_of fs at.place at.offset n at.family at.stands at.below at.number
 
 -- the same of the task that an event makes
-made_entry : (before : List Event) (entry : Entry) (slot : ℕ) (o : Option Creation) → option_and_then (λ (c : Creation). option_map (λ n. slot_count before + n) (number_within c.families entry)) o ≡ Some slot → (slot_count before ≤ slot) × (option_and_then (λ (c : Creation). option_map {U = Place} (λ (e : Entry). record { task = task_count before; entry = e }) (entry_within 0 c.families (slot - slot_count before))) o ≡ Some (record { task = task_count before; entry = entry }))
+made_entry : (before : List Event) (entry : Entry) (slot : ℕ) (o : Option Creation)
+    → option_and_then (λ (c : Creation). option_map (λ n. slot_count before + n) (number_within c.families entry)) o ≡ Some slot → (slot_count before ≤ slot)
+    × (option_and_then (λ (c : Creation). option_map {U = Place} (λ (e : Entry). record { task = task_count before; entry = e })
+    (entry_within 0 c.families (slot - slot_count before))) o ≡ Some (record { task = task_count before; entry = entry }))
 made_entry before entry slot None made = absurd (none-some slot made)
 made_entry before entry slot (Some c) made =
     let (n, number, is) = option_map-some (λ n. slot_count before + n) (number_within c.families entry) slot made in
@@ -138,7 +150,8 @@ entries_stand_at_their_slots [] task entry slot found = absurd (none-some slot f
 entries_stand_at_their_slots (event ∷ before) task entry slot found =
     elim (option_or-some (slot_made before event task entry) (slot_of before task entry) slot found) [
       | inl made ↦
-          let parts = if_some (task == task_count before) (option_and_then (λ (c : Creation). option_map (λ n. slot_count before + n) (number_within c.families entry)) (creation_in event)) slot made in
+          let parts = if_some (task == task_count before)
+          (option_and_then (λ (c : Creation). option_map (λ n. slot_count before + n) (number_within c.families entry)) (creation_in event)) slot made in
           let same : task ≡ task_count before = eqb-true task (task_count before) parts.0 in
           let at = made_entry before entry slot (creation_in event) parts.1 in
           rw (le-ltb slot (slot_count before) at.0) (at.1 ∙ ap (λ t. Some (record { task = t; entry = entry })) (sym same))
@@ -147,12 +160,17 @@ entries_stand_at_their_slots (event ∷ before) task entry slot found =
           rw (lt-ltb slot (slot_count before) below) (entries_stand_at_their_slots before task entry slot there)
     ]
 
-made_slot : (before : List Event) (slot : ℕ) (place : Place) (o : Option Creation) → slot_count before ≤ slot → option_and_then (λ (c : Creation). option_map {U = Place} (λ (e : Entry). record { task = task_count before; entry = e }) (entry_within 0 c.families (slot - slot_count before))) o ≡ Some place → (place.task ≡ task_count before) × (option_and_then (λ (c : Creation). option_map (λ n. slot_count before + n) (number_within c.families place.entry)) o ≡ Some slot)
+made_slot : (before : List Event) (slot : ℕ) (place : Place) (o : Option Creation) → slot_count before ≤ slot
+    → option_and_then (λ (c : Creation). option_map {U = Place} (λ (e : Entry). record { task = task_count before; entry = e })
+    (entry_within 0 c.families (slot - slot_count before))) o ≡ Some place → (place.task ≡ task_count before)
+    × (option_and_then (λ (c : Creation). option_map (λ n. slot_count before + n) (number_within c.families place.entry)) o ≡ Some slot)
 made_slot before slot place None past made = absurd (none-some place made)
 made_slot before slot place (Some c) past made =
-    let (e, at, is) = option_map-some {B = Place} (λ (e : Entry). record { task = task_count before; entry = e }) (entry_within 0 c.families (slot - slot_count before)) place made in
+    let (e, at, is) = option_map-some {B = Place} (λ (e : Entry). record { task = task_count before; entry = e })
+    (entry_within 0 c.families (slot - slot_count before)) place made in
     let entry : e ≡ place.entry = ap (λ (p : Place). p.entry) is in
-    let number : number_within c.families place.entry ≡ Some (slot - slot_count before) = ap (number_within c.families) (sym entry) ∙ entry_is c.families e (slot - slot_count before) at in
+    let number : number_within c.families place.entry ≡ Some (slot - slot_count before) = ap (number_within c.families) (sym entry)
+    ∙ entry_is c.families e (slot - slot_count before) at in
     let whole : slot_count before + (slot - slot_count before) ≡ slot = omega arith in
     (ap (λ (p : Place). p.task) (sym is), rw number (ap Some whole))
 
@@ -196,14 +214,18 @@ some_mapped : {A B : Type 0} (f : A → B) (o : Option A) → is_some (option_ma
 some_mapped f None = refl
 some_mapped f (Some x) = refl
 
-some_made : (before : List Event) (slot : ℕ) (o : Option Creation) → slot_count before ≤ slot → is_some (option_and_then (λ (c : Creation). option_map {U = Place} (λ (e : Entry). record { task = task_count before; entry = e }) (entry_within 0 c.families (slot - slot_count before))) o) ≡ ltb slot (option_map_or (λ (c : Creation). entries_in c.families) o 0 + slot_count before)
+some_made : (before : List Event) (slot : ℕ) (o : Option Creation) → slot_count before ≤ slot
+    → is_some (option_and_then (λ (c : Creation). option_map {U = Place} (λ (e : Entry). record { task = task_count before; entry = e })
+    (entry_within 0 c.families (slot - slot_count before))) o) ≡ ltb slot (option_map_or (λ (c : Creation). entries_in c.families) o 0 + slot_count before)
 some_made before slot None past = sym (le-ltb slot (0 + slot_count before) (omega arith))
 some_made before slot (Some c) past =
     some_mapped {B = Place} (λ (e : Entry). record { task = task_count before; entry = e }) (entry_within 0 c.families (slot - slot_count before))
     ∙ some_within 0 c.families (slot - slot_count before)
     ∙ elim (cases_lt slot (entries_in c.families + slot_count before)) [
-      | inl within ↦ lt-ltb (slot - slot_count before) (entries_in c.families) (omega arith) ∙ sym (lt-ltb slot (entries_in c.families + slot_count before) within)
-      | inr behind ↦ le-ltb (slot - slot_count before) (entries_in c.families) (omega arith) ∙ sym (le-ltb slot (entries_in c.families + slot_count before) behind)
+      | inl within ↦ lt-ltb (slot - slot_count before) (entries_in c.families) (omega arith)
+          ∙ sym (lt-ltb slot (entries_in c.families + slot_count before) within)
+      | inr behind ↦ le-ltb (slot - slot_count before) (entries_in c.families) (omega arith)
+          ∙ sym (le-ltb slot (entries_in c.families + slot_count before) behind)
     ]
 
 pub slots_are_filled : SlotsAreFilled
@@ -218,7 +240,9 @@ slots_are_filled (event ∷ before) slot =
       | inr past ↦ rw (le-ltb slot (slot_count before) past) (some_made before slot (creation_in event) past)
     ]
 
-no_slot_made : (before : List Event) (task : ℕ) (entry : Entry) (b : Bool) (o : Option Creation) → (b ≡ true → o ≡ None) → slot_of before task entry ≡ None → option_or (cond b (option_and_then (λ (c : Creation). option_map (λ n. slot_count before + n) (number_within c.families entry)) o) None) (slot_of before task entry) ≡ None
+no_slot_made : (before : List Event) (task : ℕ) (entry : Entry) (b : Bool) (o : Option Creation) → (b ≡ true → o ≡ None) → slot_of before task entry ≡ None
+    → option_or (cond b (option_and_then (λ (c : Creation). option_map (λ n. slot_count before + n) (number_within c.families entry)) o) None)
+    (slot_of before task entry) ≡ None
 no_slot_made before task entry false o never older = older
 no_slot_made before task entry true None never older = older
 no_slot_made before task entry true (Some c) never older = absurd (none-some c (sym (never refl)))
@@ -238,7 +262,11 @@ no_slot (event ∷ before) task entry past =
     (λ same. none_made (creation_in event) (task_count before) task past same) (no_slot before task entry (omega arith))
 
 -- the slots of a task are those of its families
-slot_declared : (before : List Event) (task : ℕ) (entry : Entry) (b : Bool) (o : Option Creation) → (b ≡ true → slot_of before task entry ≡ None) → is_none (slot_of before task entry) ≡ is_none (number_within (families_of before task) entry) → is_none (option_or (cond b (option_and_then (λ (c : Creation). option_map (λ n. slot_count before + n) (number_within c.families entry)) o) None) (slot_of before task entry)) ≡ is_none (number_within (option_map_or (λ (c : Creation). c.families) (option_or (cond b o None) (creation_of before task)) []) entry)
+slot_declared : (before : List Event) (task : ℕ) (entry : Entry) (b : Bool) (o : Option Creation) → (b ≡ true → slot_of before task entry ≡ None)
+    → is_none (slot_of before task entry) ≡ is_none (number_within (families_of before task) entry)
+    → is_none (option_or (cond b (option_and_then (λ (c : Creation). option_map (λ n. slot_count before + n) (number_within c.families entry)) o) None)
+    (slot_of before task entry)) ≡ is_none (number_within
+    (option_map_or (λ (c : Creation). c.families) (option_or (cond b o None) (creation_of before task)) []) entry)
 unfolding families_of
 slot_declared before task entry false o new older = older
 slot_declared before task entry true None new older = older
@@ -248,7 +276,8 @@ slot_declared before task entry true (Some c) new older = rw (new refl) (one_num
     one_number None = refl
     one_number (Some n) = refl
 
-slots_declared : (journal : List Event) (task : ℕ) (entry : Entry) → is_none (slot_of journal task entry) ≡ is_none (number_within (families_of journal task) entry)
+slots_declared : (journal : List Event) (task : ℕ) (entry : Entry)
+    → is_none (slot_of journal task entry) ≡ is_none (number_within (families_of journal task) entry)
 unfolding slot_of slot_made families_of creation_of number_within
 slots_declared [] task entry = refl
 slots_declared (event ∷ before) task entry =
@@ -256,7 +285,9 @@ slots_declared (event ∷ before) task entry =
     (λ same. no_slot before task entry (let one : task ≡ task_count before = eqb-true task (task_count before) same in omega arith))
     (slots_declared before task entry)
 
-number_declared : (fs : List Family) (entry : Entry) (o : Option Family) → is_none (option_and_then (λ (f : Family). then_some (is_in_range f entry.index) (entries_in (take entry.family fs) + unsigned_abs (entry.index -ℤ f.low))) o) ≡ (is_none o || option_map_or (λ (f : Family). not (is_in_range f entry.index)) o false)
+number_declared : (fs : List Family) (entry : Entry) (o : Option Family)
+    → is_none (option_and_then (λ (f : Family). then_some (is_in_range f entry.index) (entries_in (take entry.family fs) + unsigned_abs (entry.index -ℤ f.low)))
+    o) ≡ (is_none o || option_map_or (λ (f : Family). not (is_in_range f entry.index)) o false)
 number_declared fs entry None = refl
 number_declared fs entry (Some f) = range_declared (is_in_range f entry.index) (entries_in (take entry.family fs) + unsigned_abs (entry.index -ℤ f.low))
   where

@@ -28,26 +28,35 @@ use Rattle.ada_laws.proofs.Rows.IsRow.{halts, fails, meets, cancels, passes, wak
 pub data Progress (journal : List Event) (event : Event) : Type 0 where
   completes : (task : ℕ) → task < task_count journal → has_ended journal task ≡ false → completed_in event ≡ Some task → Progress journal event
   releases : (position task : ℕ) → IsSuspendedAt journal task position → released_in event ≡ Some position → Progress journal event
-  terminates : (task : ℕ) → task < task_count journal → is_terminated journal task ≡ false → is_terminated (event ∷ journal) task ≡ true → Progress journal event
+  terminates : (task : ℕ) → task < task_count journal → is_terminated journal task ≡ false → is_terminated (event ∷ journal) task ≡ true
+      → Progress journal event
 
 pub record IsStep (journal : List Event) (event : Event) : Type 0 where
   pub progress : Progress journal event
   pub makes_none : creation_in event ≡ None
   pub holds_none : held_in event ≡ None
 
-pub pending_parts : (journal : List Event) (position task : ℕ) → is_pending journal position task ≡ true → (is_released journal position ≡ false) × (has_ended journal task ≡ false)
+pub pending_parts : (journal : List Event) (position task : ℕ) → is_pending journal position task ≡ true → (is_released journal position ≡ false)
+    × (has_ended journal task ≡ false)
 unfolding is_pending
 pending_parts journal position task pending =
     let both = and_parts (not (is_released journal position)) (not (has_ended journal task)) pending in
     (not-true (is_released journal position) both.0, not-true (has_ended journal task) both.1)
 
 -- the step that releases the position of a pending hold
-release : (journal : List Event) (position task : ℕ) (held event : Event) → event_at journal position ≡ Some held → held_in held ≡ Some task → (is_released journal position ≡ false) × (has_ended journal task ≡ false) → released_in event ≡ Some position → creation_in event ≡ None → held_in event ≡ None → IsStep journal event
+release : (journal : List Event) (position task : ℕ) (held event : Event) → event_at journal position ≡ Some held → held_in held ≡ Some task
+    → (is_released journal position ≡ false) × (has_ended journal task ≡ false) → released_in event ≡ Some position → creation_in event ≡ None
+    → held_in event ≡ None → IsStep journal event
 release journal position task held event at holds pending frees makes_none holds_none =
-    record { progress = releases position task (record { event = held; stands = at; holds = holds; unreleased = pending.0; live = pending.1 }) frees; makes_none = makes_none; holds_none = holds_none }
+    record {
+      progress = releases position task (record { event = held; stands = at; holds = holds; unreleased = pending.0; live = pending.1 }) frees;
+      makes_none = makes_none;
+      holds_none = holds_none;
+    }
 
 -- the step that releases an open call
-release_call : (journal : List Event) (position : ℕ) (held event : Event) → event_at journal position ≡ Some held → is_open_at journal position held ≡ true → released_in event ≡ Some position → creation_in event ≡ None → held_in event ≡ None → IsStep journal event
+release_call : (journal : List Event) (position : ℕ) (held event : Event) → event_at journal position ≡ Some held → is_open_at journal position held ≡ true
+    → released_in event ≡ Some position → creation_in event ≡ None → held_in event ≡ None → IsStep journal event
 unfolding is_open_at is_pending
 release_call journal position held event at opened frees makes_none holds_none =
     let (call, says, pending) = option_map_or-true (λ (c : Call). not (is_released journal position) && not (has_ended journal c.by)) (call_in held) opened in
@@ -66,7 +75,8 @@ unfolding is_queued_at
 queued_open journal position event queued = (and_parts (is_open_at journal position event) (not (is_met journal position)) queued).0
 
 -- some dependent of a master that quits isn't terminated
-quit-live : (journal : List Event) (m : Master) → is_to_quit journal m ≡ true → (u : ℕ) × (u < task_count journal) × (is_terminated journal u ≡ false) × (depends_on journal u m ≡ true)
+quit-live : (journal : List Event) (m : Master) → is_to_quit journal m ≡ true → (u : ℕ) × (u < task_count journal) × (is_terminated journal u ≡ false)
+    × (depends_on journal u m ≡ true)
 unfolding is_to_quit all_terminated
 quit-live journal m quit =
     let all = all_below (λ u. not (depends_on journal u m) || is_terminated journal u) (task_count journal) in
@@ -82,12 +92,14 @@ row-step journal event (halts u below halt) =
     let live = (three_parts (is_abnormal journal u) (has_ended journal u) (is_caller_in_rendezvous journal u) halt).1 in
     record { progress = completes u below live refl; makes_none = refl; holds_none = refl }
 row-step journal event (fails p e at fail) =
-    let opened = (and_parts (option_map_or (λ (c : Call). has_ended journal c.callee || is_abnormal journal c.callee) (call_in e) false) (is_open_at journal p e) fail).1 in
+    let opened = (and_parts (option_map_or (λ (c : Call). has_ended journal c.callee || is_abnormal journal c.callee) (call_in e) false)
+    (is_open_at journal p e) fail).1 in
     release_call journal p e (Failed p) at opened refl refl refl
 row-step journal event (meets p e wait call at says pending taken) =
     release journal p wait.by e (Met call p) at (held_in-wait e wait says) (pending_parts journal p wait.by pending) refl refl refl
 row-step journal event (cancels p e at cancel) =
-    let queued = (and_parts (option_map_or (λ (c : Call). is_conditional c.patience || is_due (moment journal) c.due) (call_in e) false) (is_queued_at journal p e) cancel).1 in
+    let queued = (and_parts (option_map_or (λ (c : Call). is_conditional c.patience || is_due (moment journal) c.due) (call_in e) false)
+    (is_queued_at journal p e) cancel).1 in
     release_call journal p e (Cancelled p) at (queued_open journal p e queued) refl refl refl
 row-step journal event (passes p e wait way at says pending taken) =
     release journal p wait.by e (Passed p way) at (held_in-wait e wait says) (pending_parts journal p wait.by pending) refl refl refl
@@ -97,7 +109,8 @@ row-step journal event (wakes p e delay at says wake) =
 row-step journal event (activates p e start ok at says pending done is_ok) =
     release journal p start.by e (Activated p ok) at (held_in-start e start says) (pending_parts journal p start.by pending) refl refl refl
 row-step journal event (goes u below go) =
-    let live = not-true (is_terminated journal u) (and_parts (not (is_terminated journal u)) (is_completed journal u && all_terminated journal (Body (task_no u)) || is_abandoned journal u) go).0 in
+    let live = not-true (is_terminated journal u) (and_parts (not (is_terminated journal u))
+    (is_completed journal u && all_terminated journal (Body (task_no u)) || is_abandoned journal u) go).0 in
     record { progress = terminates u below live (is_terminated-gone (Gone (task_no u)) journal u refl); makes_none = refl; holds_none = refl }
 row-step journal event (quits m quit) =
     let (u, below, live, depends) = quit-live journal m quit in

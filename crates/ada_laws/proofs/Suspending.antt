@@ -20,7 +20,8 @@ unfolding is_suspended
 is_suspended-from journal task position h =
     and_from (any_event (λ p e. is_number task (held_in e) && not (is_released journal p)) journal) (not (has_ended journal task))
     (any_event-from (λ p e. is_number task (held_in e) && not (is_released journal p)) journal position h.event h.stands
-    (and_from (is_number task (held_in h.event)) (not (is_released journal position)) (is_number-from task (held_in h.event) h.holds) (not_from_false (is_released journal position) h.unreleased)))
+    (and_from (is_number task (held_in h.event)) (not (is_released journal position)) (is_number-from task (held_in h.event) h.holds)
+    (not_from_false (is_released journal position) h.unreleased)))
     (not_from_false (has_ended journal task) h.live)
 
 pub is_suspended-at : (journal : List Event) (task : ℕ) → is_suspended journal task ≡ true → (position : ℕ) × IsSuspendedAt journal task position
@@ -40,7 +41,8 @@ is_suspended-at journal task suspended =
     )
 
 -- what a task is suspended at after one more event is that event, or it was suspended at it before
-pub suspended_cases : (event : Event) (before : List Event) (task position : ℕ) → IsSuspendedAt (event ∷ before) task position → ((position ≡ suc (length before)) × (held_in event ≡ Some task)) ⊎ IsSuspendedAt before task position
+pub suspended_cases : (event : Event) (before : List Event) (task position : ℕ) → IsSuspendedAt (event ∷ before) task position
+    → ((position ≡ suc (length before)) × (held_in event ≡ Some task)) ⊎ IsSuspendedAt before task position
 suspended_cases event before task position h =
     elim (event_at-cases event before position h.event h.stands) [
       | inl newest ↦ inl (newest.0, ap held_in newest.1 ∙ h.holds)
@@ -54,7 +56,8 @@ suspended_cases event before task position h =
     ]
 
 -- nobody is newly suspended by an event that holds nobody up
-pub suspended_before : (event : Event) (before : List Event) (task position : ℕ) → held_in event ≡ None → IsSuspendedAt (event ∷ before) task position → IsSuspendedAt before task position
+pub suspended_before : (event : Event) (before : List Event) (task position : ℕ) → held_in event ≡ None → IsSuspendedAt (event ∷ before) task position
+    → IsSuspendedAt before task position
 suspended_before event before task position none h =
     elim (suspended_cases event before task position h) [
       | inl newest ↦ absurd (none-some task (sym none ∙ newest.1))
@@ -67,7 +70,8 @@ asks journal event task asked holds =
     asker_exists journal asked.request task asked.accepted (held_in-asked journal asked.request task (ap held_in (sym asked.becomes) ∙ holds))
 
 -- and that task wasn't suspended
-asked_unsuspended : (journal : List Event) (event : Event) (task position : ℕ) → IsAsked journal event → held_in event ≡ Some task → IsSuspendedAt journal task position → ⊥
+asked_unsuspended : (journal : List Event) (event : Event) (task position : ℕ) → IsAsked journal event → held_in event ≡ Some task
+    → IsSuspendedAt journal task position → ⊥
 asked_unsuspended journal event task position asked holds h =
     let runs = asker_runs journal asked.request task asked.accepted (held_in-asked journal asked.request task (ap held_in (sym asked.becomes) ∙ holds)) in
     true≢false (sym (is_suspended-from journal task position h) ∙ running_free journal task runs)
@@ -92,7 +96,8 @@ suspended_exists (event ∷ before) task position lawful h =
     ]
 
 -- a task is suspended at the latest of all that held it up
-pub suspended_latest : (journal : List Event) (task position other : ℕ) (e : Event) → IsLawful journal → IsSuspendedAt journal task position → event_at journal other ≡ Some e → held_in e ≡ Some task → other ≤ position
+pub suspended_latest : (journal : List Event) (task position other : ℕ) (e : Event) → IsLawful journal → IsSuspendedAt journal task position
+    → event_at journal other ≡ Some e → held_in e ≡ Some task → other ≤ position
 unfolding event_at
 suspended_latest [] task position other e lawful h at holds = absurd (none-some e at)
 suspended_latest (event ∷ before) task position other e lawful h at holds =

@@ -28,7 +28,8 @@ unfolding work_left
 work_left-three journal = sum_below-bound (work_of journal) 3 (task_count journal) (work_of-three journal)
 
 -- nobody is newly suspended by an event that holds nobody up
-still_suspended : (event : Event) (before : List Event) (task : ℕ) → held_in event ≡ None → is_suspended (event ∷ before) task ≡ true → is_suspended before task ≡ true
+still_suspended : (event : Event) (before : List Event) (task : ℕ) → held_in event ≡ None → is_suspended (event ∷ before) task ≡ true
+    → is_suspended before task ≡ true
 still_suspended event before task none suspended =
     let (p, there) = is_suspended-at (event ∷ before) task suspended in
     is_suspended-from before task p (suspended_before event before task p none there)
@@ -38,10 +39,12 @@ live_before : (event : Event) (before : List Event) (task : ℕ) → not (has_en
 live_before event before task live =
     not_from_false (has_ended before task) (has_ended-before event before task (not-true (has_ended (event ∷ before) task) live))
 
-unterminated_before : (event : Event) (before : List Event) (task : ℕ) → not (is_terminated (event ∷ before) task) ≡ true → not (is_terminated before task) ≡ true
+unterminated_before : (event : Event) (before : List Event) (task : ℕ) → not (is_terminated (event ∷ before) task) ≡ true
+    → not (is_terminated before task) ≡ true
 unterminated_before event before task live =
     not_from_false (is_terminated before task)
-    (false_from_ne_true (is_terminated before task) (λ was. true≢false (sym (is_terminated-more event before task was) ∙ not-true (is_terminated (event ∷ before) task) live)))
+    (false_from_ne_true (is_terminated before task)
+    (λ was. true≢false (sym (is_terminated-more event before task was) ∙ not-true (is_terminated (event ∷ before) task) live)))
 
 -- no task has more work left after an event that holds nobody up
 work_of-le : (event : Event) (before : List Event) (task : ℕ) → held_in event ≡ None → work_of (event ∷ before) task ≤ work_of before task
@@ -53,23 +56,28 @@ work_of-le event before task none =
     omega arith
 
 -- a task has less work left once it is completed, terminated or released
-work_of-completed : (event : Event) (before : List Event) (task : ℕ) → held_in event ≡ None → has_ended before task ≡ false → has_ended (event ∷ before) task ≡ true → work_of (event ∷ before) task < work_of before task
+work_of-completed : (event : Event) (before : List Event) (task : ℕ) → held_in event ≡ None → has_ended before task ≡ false
+    → has_ended (event ∷ before) task ≡ true → work_of (event ∷ before) task < work_of before task
 unfolding work_of
 work_of-completed event before task none was now =
-    let a = one_if-lt (not (has_ended (event ∷ before) task)) (not (has_ended before task)) (not_from_true (has_ended (event ∷ before) task) now) (not_from_false (has_ended before task) was) in
+    let a = one_if-lt (not (has_ended (event ∷ before) task)) (not (has_ended before task)) (not_from_true (has_ended (event ∷ before) task) now)
+    (not_from_false (has_ended before task) was) in
     let b = one_if-le (not (is_terminated (event ∷ before) task)) (not (is_terminated before task)) (unterminated_before event before task) in
     let c = one_if-le (is_suspended (event ∷ before) task) (is_suspended before task) (still_suspended event before task none) in
     omega arith
 
-work_of-terminated : (event : Event) (before : List Event) (task : ℕ) → held_in event ≡ None → is_terminated before task ≡ false → is_terminated (event ∷ before) task ≡ true → work_of (event ∷ before) task < work_of before task
+work_of-terminated : (event : Event) (before : List Event) (task : ℕ) → held_in event ≡ None → is_terminated before task ≡ false
+    → is_terminated (event ∷ before) task ≡ true → work_of (event ∷ before) task < work_of before task
 unfolding work_of
 work_of-terminated event before task none was now =
     let a = one_if-le (not (has_ended (event ∷ before) task)) (not (has_ended before task)) (live_before event before task) in
-    let b = one_if-lt (not (is_terminated (event ∷ before) task)) (not (is_terminated before task)) (not_from_true (is_terminated (event ∷ before) task) now) (not_from_false (is_terminated before task) was) in
+    let b = one_if-lt (not (is_terminated (event ∷ before) task)) (not (is_terminated before task)) (not_from_true (is_terminated (event ∷ before) task) now)
+    (not_from_false (is_terminated before task) was) in
     let c = one_if-le (is_suspended (event ∷ before) task) (is_suspended before task) (still_suspended event before task none) in
     omega arith
 
-work_of-released : (event : Event) (before : List Event) (task : ℕ) → held_in event ≡ None → is_suspended before task ≡ true → is_suspended (event ∷ before) task ≡ false → work_of (event ∷ before) task < work_of before task
+work_of-released : (event : Event) (before : List Event) (task : ℕ) → held_in event ≡ None → is_suspended before task ≡ true
+    → is_suspended (event ∷ before) task ≡ false → work_of (event ∷ before) task < work_of before task
 unfolding work_of
 work_of-released event before task none was now =
     let a = one_if-le (not (has_ended (event ∷ before) task)) (not (has_ended before task)) (live_before event before task) in
@@ -78,7 +86,8 @@ work_of-released event before task none was now =
     omega arith
 
 -- the release of what a task is suspended at leaves it unsuspended
-released_free : (event : Event) (before : List Event) (task position : ℕ) → IsLawful before → held_in event ≡ None → IsSuspendedAt before task position → released_in event ≡ Some position → is_suspended (event ∷ before) task ≡ false
+released_free : (event : Event) (before : List Event) (task position : ℕ) → IsLawful before → held_in event ≡ None → IsSuspendedAt before task position
+    → released_in event ≡ Some position → is_suspended (event ∷ before) task ≡ false
 released_free event before task position lawful none held frees =
     false_from_ne_true (is_suspended (event ∷ before) task) (λ suspended.
     let (p, other) = is_suspended-at (event ∷ before) task suspended in
@@ -86,7 +95,8 @@ released_free event before task position lawful none held frees =
     true≢false (sym (is_released-now event before position frees) ∙ (ap (is_released (event ∷ before)) (sym same) ∙ other.unreleased)))
 
 -- some task that exists has less work left
-progress_lessens : (event : Event) (before : List Event) → IsLawful before → held_in event ≡ None → Progress before event → (task : ℕ) × (task < task_count before) × (work_of (event ∷ before) task < work_of before task)
+progress_lessens : (event : Event) (before : List Event) → IsLawful before → held_in event ≡ None → Progress before event → (task : ℕ)
+    × (task < task_count before) × (work_of (event ∷ before) task < work_of before task)
 progress_lessens event before lawful none (completes task below live says) =
     (task, below, work_of-completed event before task none live (has_ended-completed (event ∷ before) task (is_completed-now event before task says)))
 progress_lessens event before lawful none (releases position task held frees) = (

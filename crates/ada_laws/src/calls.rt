@@ -1,6 +1,7 @@
 //! Laws of entry calls (9.5).
 ghost use Rattle.ada_laws.specs.Laws.{OfEvery, OfLawful, OfSettled};
-ghost use Rattle.ada_laws.specs.Calls.{OneOpenCallEach, OpenCallsSuspend, CallsThatSuspendAreOpen, OpenCallsAreJoinedOrQueued, QueuesRise, FrontsAreMet, OneMeetingForAJoinedCall, NoOpenCallToAFinishedTask, NoAcceptorWaitsAtAQueuedChoice};
+ghost use Rattle.ada_laws.specs.Calls.{OneOpenCallEach, OpenCallsSuspend, CallsThatSuspendAreOpen, OpenCallsAreJoinedOrQueued, QueuesRise, FrontsAreMet};
+ghost use Rattle.ada_laws.specs.Calls.{OneMeetingForAJoinedCall, NoOpenCallToAFinishedTask, NoAcceptorWaitsAtAQueuedChoice};
 
 /// One open call each: a task has one open call at most, exactly where it is suspended at that call.
 /// An open call is joined in a rendezvous or stands in exactly one queue, that of its entry.

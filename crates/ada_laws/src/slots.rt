@@ -1,5 +1,6 @@
 //! Laws of slots and queues (9.5, 9.9).
-ghost use Rattle.ada_laws.specs.Slots.{SlotsAreFew, QueuesAreShort, QueuesHoldOneCallOfEach, SlotsAreNumbered, SlotsAreOfTasks, EntriesStandAtTheirSlots, SlotsAreOfTheirEntries, SlotsAreFilled, DeclaredEntriesHaveSlots, SlotsAreInOrder};
+ghost use Rattle.ada_laws.specs.Slots.{SlotsAreFew, QueuesAreShort, QueuesHoldOneCallOfEach, SlotsAreNumbered, SlotsAreOfTasks, EntriesStandAtTheirSlots};
+ghost use Rattle.ada_laws.specs.Slots.{SlotsAreOfTheirEntries, SlotsAreFilled, DeclaredEntriesHaveSlots, SlotsAreInOrder};
 
 /// A lawful journal has at most 1,024 entries over all tasks.
 #[tactic(auto, using(crate::proofs::SlotLaws::slots_are_few))]

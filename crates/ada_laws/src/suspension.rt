@@ -1,5 +1,6 @@
 //! What a task is suspended at.
-ghost use Rattle.ada_laws.specs.Suspension.{SuspendedAtSomePosition, SuspendedThere, SuspendedAtTheLatest, SuspendedAtOnePosition, SuspendedTasksExist, OneReleaseEach};
+ghost use Rattle.ada_laws.specs.Suspension.{SuspendedAtSomePosition, SuspendedThere, SuspendedAtTheLatest, SuspendedAtOnePosition, SuspendedTasksExist};
+ghost use Rattle.ada_laws.specs.Suspension.{OneReleaseEach};
 
 /// A task is suspended exactly where it is suspended at some position: at one at most, which is the
 /// latest of all that held it up. Only a task that exists is suspended.

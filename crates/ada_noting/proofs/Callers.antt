@@ -22,7 +22,8 @@ use Rattle.ada_noting.proofs.Additions.{noted}
 caller_said : (before : List Event) (at : ℕ) (c : Call) → IsCallAt before c at → option_map (λ (c : Call). c.by) (call_at before at) ≡ Some c.by
 caller_said before at c stands = ap (option_map (λ (c : Call). c.by)) (ap (option_and_then call_in) stands.stands ∙ stands.says)
 
-caller_key : (before : List Event) (new : List (List ℕ)) (at caller : ℕ) (row : Row) (key : ℕ) → option_map (λ (c : Call). c.by) (call_at before at) ≡ Some caller
+caller_key : (before : List Event) (new : List (List ℕ)) (at caller : ℕ) (row : Row) (key : ℕ)
+    → option_map (λ (c : Call). c.by) (call_at before at) ≡ Some caller
     → has_key new Halting caller ≡ true → AsCallerAt before at row key → has_key new row key ≡ true
 caller_key before new at caller row key is here (made c stands) =
     ap (has_key new Halting) (same_Some c.by caller (sym (caller_said before at c stands) ∙ is)) ∙ here

@@ -25,7 +25,8 @@ use Rattle.ada_forcing.specs.declared.row.Row.TheVariants.{Failing, Activating, 
 use Rattle.ada_touching.specs.Keeping.{has_key, IsAgendaOf}
 use Rattle.ada_touching.specs.Kinds.{quitting_row, quitting_key, IsOpenCallTo, OfElaboration, OfCompletion, OfTermination, OfQuit, Adds}
 use Rattle.ada_touching.specs.Kinds.OfElaboration.{activates as task_up}
-use Rattle.ada_touching.specs.Kinds.OfCompletion.{goes as task_goes, quits as body_quits, fails as call_fails, activates as start_ends, abandons as task_abandons}
+use Rattle.ada_touching.specs.Kinds.OfCompletion.{goes as task_goes, quits as body_quits, fails as call_fails, activates as start_ends}
+use Rattle.ada_touching.specs.Kinds.OfCompletion.{abandons as task_abandons}
 use Rattle.ada_touching.specs.Kinds.OfTermination.{fails as end_fails, activates as end_activates, goes as end_goes, quits as end_quits, leaves as end_leaves}
 use Rattle.ada_touching.specs.Kinds.OfQuit.{ends, abandons as quit_abandons}
 use Rattle.ada_touching.proofs.Acting.{created_exists}
@@ -88,7 +89,8 @@ CompletionKeys before task =
     Both (Both (Both (Both (AsKey Going task.0) (AsKey QuittingBody task.0)) (OfFirst (AsCaller before task.0) (task_count before))) (AsActivation before task))
     (OfFirst (AsUnstarted before) (task_count before))
 
-completion_key : (before : List Event) (task : TaskNo) (row : Row) (key : ℕ) → IsLawful before → OfCompletion before task row key → CompletionKeys before task row key
+completion_key : (before : List Event) (task : TaskNo) (row : Row) (key : ℕ) → IsLawful before → OfCompletion before task row key
+    → CompletionKeys before task row key
 completion_key before task row key lawful task_goes = inl (inl (inl (inl itself)))
 completion_key before task row key lawful body_quits = inl (inl (inl (inr itself)))
 completion_key before task row key lawful (call_fails p of) = inl (inl (inr (caller_key before task.0 p lawful of)))
@@ -137,7 +139,8 @@ termination_key before task row key lawful live (end_quits m depends) =
     inr (through by.holder m (quitting_row m) (quitting_key m) live depends by.held (quits m by.held))
 termination_key before task row key lawful live (end_leaves block p depends leaving) =
     let (k, below, is) = leaving.within in
-    inr (through leaving.closing.by (Block block) Leaving p live depends (has_contained (nest before leaving.closing.by) block k below is) (leaves p leaving.suspended))
+    inr (through leaving.closing.by (Block block) Leaving p live depends (has_contained (nest before leaving.closing.by) block k below is)
+    (leaves p leaving.suspended))
 
 pub termination_noted : (event : Event) (before : List Event) (old new : List (List ℕ)) (task : TaskNo) → IsLawful (event ∷ before) → IsAgendaOf old before
     → event ≡ Gone task → Puts old new (TerminationKeys before task) → IsAgendaOf new (event ∷ before)

@@ -139,7 +139,8 @@ outermost : (journal : List Event) (inner : ℕ) (m : Master) → IsLawful journ
 outermost journal inner m lawful live none depends =
     let (c, made) = made_by journal inner m lawful depends in
     let held = masters_are_held journal inner c lawful made live in
-    none-some held.holder (sym none ∙ (ap (option_and_then (λ (c : Creation). holder_of journal c.master)) made ∙ holder_found journal held.holder c.master held.held))
+    none-some held.holder (sym none ∙ (ap (option_and_then (λ (c : Creation). holder_of journal c.master)) made
+    ∙ holder_found journal held.holder c.master held.held))
 
 has_dependent : (journal : List Event) (task inner : ℕ) (old new : List (List ℕ)) (row : Row) (key : ℕ) → IsLawful journal
     → IsUnderWay journal task inner old new

@@ -77,7 +77,8 @@ has_held journal new at task p row key lawful is here (held q suspended) =
 
 pub held_put : (journal : List Event) (old new : List (List ℕ)) (at : Row) (task p : ℕ) → IsLawful journal → IsHeldAt journal task p → Grows old new
     → (0 < p → has_key new at p ≡ true) → Puts old new (AsHeld journal at task)
-held_put journal old new at task p lawful is grows here = record { grows = grows; here = λ row key of. has_held journal new at task p row key lawful is here of }
+held_put journal old new at task p lawful is grows here =
+    record { grows = grows; here = λ row key of. has_held journal new at task p row key lawful is here of }
 
 has_unstarted : (journal : List Event) (new : List (List ℕ)) (task : ℕ) (row : Row) (key : ℕ) → (has_start journal task ≡ false → has_key new Going task ≡ true)
     → AsUnstarted journal task row key → has_key new row key ≡ true

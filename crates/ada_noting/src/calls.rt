@@ -4,7 +4,8 @@ ghost use Rattle.std.specs.Prelude.{◌≡◌, ◌<◌, true, false, ◌∷◌, 
 ghost use Rattle.std.specs.Option.{option_map};
 ghost use Rattle.ada_events.specs.Lawful.{IsLawful};
 ghost use Rattle.ada_events.specs.Says.{Call, call_in, call_at};
-ghost use Rattle.ada_events.specs.declared.event.Event.TheVariants.{Cancelled as CancelledEvent, Ended as EndedEvent, Failed as FailedEvent, Waiting as WaitingEvent};
+ghost use Rattle.ada_events.specs.declared.event.Event.TheVariants.{Cancelled as CancelledEvent, Ended as EndedEvent, Failed as FailedEvent};
+ghost use Rattle.ada_events.specs.declared.event.Event.TheVariants.{Waiting as WaitingEvent};
 ghost use Rattle.ada_events.specs.declared.names.TaskNo.{TaskNo as Number};
 ghost use Rattle.ada_touching.specs.Keeping.{IsAgendaOf};
 ghost use Rattle.ada_events.specs.Termination as ending;
@@ -22,7 +23,8 @@ use ada_touching::keeping::{self, own_key};
 // The task that an event calls.
 #[tactic(auto, unfolding(ada_events::specs::Says::call_in))]
 fn callee_in(event: &Event) -> Option<TaskNo>
-    ensures { option_map (λ (t : Number). t.0) result ≡ option_map (λ (c : Call). c.callee) (call_in event.now) }
+    ensures { option_map (λ (t : Number). t.0) result
+        ≡ option_map (λ (c : Call). c.callee) (call_in event.now) }
 {
     match event {
         Event::Called { callee, .. } => Some(*callee),
@@ -32,7 +34,8 @@ fn callee_in(event: &Event) -> Option<TaskNo>
 
 // The task that the call at a position calls.
 fn callee_at(state: &State, at: u32) -> Option<TaskNo>
-    ensures { option_map (λ (t : Number). t.0) result ≡ option_map (λ (c : Call). c.callee) (call_at state.now at) }
+    ensures { option_map (λ (t : Number). t.0) result
+        ≡ option_map (λ (c : Call). c.callee) (call_at state.now at) }
 {
     match state.event(at) {
         Some(event) => callee_in(event),
@@ -65,7 +68,8 @@ pub fn note_cancellation(agenda: &mut Agenda, state: &State, _event: &Event, cal
 // The task that makes a call.
 #[tactic(auto, unfolding(ada_events::specs::Says::call_in))]
 fn caller_in(event: &Event) -> Option<TaskNo>
-    ensures { option_map (λ (t : Number). t.0) result ≡ option_map (λ (c : Call). c.by) (call_in event.now) }
+    ensures { option_map (λ (t : Number). t.0) result
+        ≡ option_map (λ (c : Call). c.by) (call_in event.now) }
 {
     match event {
         Event::Called { by, .. } => Some(*by),
@@ -75,7 +79,8 @@ fn caller_in(event: &Event) -> Option<TaskNo>
 
 // The task that made the call at a position.
 fn caller_at(state: &State, at: u32) -> Option<TaskNo>
-    ensures { option_map (λ (t : Number). t.0) result ≡ option_map (λ (c : Call). c.by) (call_at state.now at) }
+    ensures { option_map (λ (t : Number). t.0) result
+        ≡ option_map (λ (c : Call). c.by) (call_at state.now at) }
 {
     match state.event(at) {
         Some(event) => caller_in(event),
@@ -143,8 +148,8 @@ fn put_dependent_if(agenda: &mut Agenda, state: &State, task: TaskNo, so: bool)
     }
 }
 
-/// Notes that a task waits selectively (9.7.1): that it takes a call or passes, and with an open terminate alternative what
-/// the masters may force on which the task depends, may be forced.
+/// Notes that a task waits selectively (9.7.1): that it takes a call or passes, and with an open terminate alternative
+/// what the masters may force on which the task depends, may be forced.
 pub fn note_wait(
     agenda: &mut Agenda,
     state: &State,
@@ -165,8 +170,8 @@ pub fn note_wait(
     put_dependent_if(agenda, state, by, is_open_terminate(tail));
 }
 
-/// Notes that an entry of a task is called (9.5): that the call fails or is cancelled, and that the wait takes it at which
-/// the callee is suspended, may be forced.
+/// Notes that an entry of a task is called (9.5): that the call fails or is cancelled, and that the wait takes it at
+/// which the callee is suspended, may be forced.
 pub fn note_call(agenda: &mut Agenda, state: &State, event: &Event, callee: TaskNo)
     requires lawful { IsLawful (event.now ∷ state.now) }
     requires stands { IsAgendaOf agenda.old state.now }

@@ -6,7 +6,8 @@ ghost use Rattle.ada_events.specs.Lawful.{IsLawful};
 ghost use Rattle.ada_events.specs.Says.{Creation, creation_in};
 ghost use Rattle.ada_events.specs.Tasks.{creation_of};
 ghost use Rattle.ada_events.specs.declared.names.TaskNo.{TaskNo as Number};
-ghost use Rattle.ada_events.specs.declared.event.Event.TheVariants.{Completed as CompletedEvent, Elaborated as ElaboratedEvent, Halted as HaltedEvent, Gone as GoneEvent, Quit as QuitEvent};
+ghost use Rattle.ada_events.specs.declared.event.Event.TheVariants.{Completed as CompletedEvent, Elaborated as ElaboratedEvent, Halted as HaltedEvent};
+ghost use Rattle.ada_events.specs.declared.event.Event.TheVariants.{Gone as GoneEvent, Quit as QuitEvent};
 ghost use Rattle.ada_touching.specs.Keeping.{IsAgendaOf};
 ghost use Rattle.ada_touching.specs.Kinds.{OfCompletion};
 ghost use Rattle.ada_noting.specs.Keys.{Puts, AsActivation, AsCalleeAt};
@@ -22,7 +23,8 @@ use ada_rows::State;
 // The task that made another, by the other's creation.
 #[tactic(auto, unfolding(ada_events::specs::Says::creation_in))]
 fn maker_in(event: &Event) -> Option<TaskNo>
-    ensures { option_map (λ (t : Number). t.0) result ≡ option_map (λ (c : Creation). c.by) (creation_in event.now) }
+    ensures { option_map (λ (t : Number). t.0) result
+        ≡ option_map (λ (c : Creation). c.by) (creation_in event.now) }
 {
     match event {
         Event::Created { by, .. } => Some(*by),
@@ -32,7 +34,8 @@ fn maker_in(event: &Event) -> Option<TaskNo>
 
 // The task that made another; none for the main program and for no task.
 fn maker(state: &State, task: TaskNo) -> Option<TaskNo>
-    ensures { option_map (λ (t : Number). t.0) result ≡ option_map (λ (c : Creation). c.by) (creation_of state.now task.0) }
+    ensures { option_map (λ (t : Number). t.0) result
+        ≡ option_map (λ (c : Creation). c.by) (creation_of state.now task.0) }
 {
     match state.creation(task) {
         Some(event) => maker_in(event),
@@ -87,8 +90,8 @@ pub fn note_failed_activation(agenda: &mut Agenda, state: &State, _event: &Event
     put_completion(agenda, state, task);
 }
 
-/// Notes that an abnormal task is halted (9.10): what a completion may force, that dependents of blocks quit that the task
-/// is within, and what the masters may force on which the callee of its call depends, may be forced.
+/// Notes that an abnormal task is halted (9.10): what a completion may force, that dependents of blocks quit that the
+/// task is within, and what the masters may force on which the callee of its call depends, may be forced.
 pub fn note_halt(agenda: &mut Agenda, state: &State, _event: &Event, task: TaskNo)
     requires lawful { IsLawful (_event.now ∷ state.now) }
     requires stands { IsAgendaOf agenda.old state.now }
@@ -100,8 +103,8 @@ pub fn note_halt(agenda: &mut Agenda, state: &State, _event: &Event, task: TaskN
     put_callee(agenda, state, state.record(task).doing.at);
 }
 
-/// Notes that a task terminates by itself (9.4): that calls to it fail, that the activation ends that names it, and what
-/// the masters may force on which it depends, may be forced.
+/// Notes that a task terminates by itself (9.4): that calls to it fail, that the activation ends that names it, and
+/// what the masters may force on which it depends, may be forced.
 pub fn note_termination(agenda: &mut Agenda, state: &State, _event: &Event, task: TaskNo)
     requires lawful { IsLawful (_event.now ∷ state.now) }
     requires stands { IsAgendaOf agenda.old state.now }
@@ -113,8 +116,8 @@ pub fn note_termination(agenda: &mut Agenda, state: &State, _event: &Event, task
     put_dependent(agenda, state, task);
 }
 
-/// Notes that all that depend on a master terminate together (9.4): that a call fails, that an activation ends, and what
-/// masters may force may be forced.
+/// Notes that all that depend on a master terminate together (9.4): that a call fails, that an activation ends, and
+/// what masters may force may be forced.
 pub fn note_quit(agenda: &mut Agenda, state: &State, _event: &Event, _master: Master)
     requires lawful { IsLawful (_event.now ∷ state.now) }
     requires stands { IsAgendaOf agenda.old state.now }
@@ -126,7 +129,8 @@ pub fn note_quit(agenda: &mut Agenda, state: &State, _event: &Event, _master: Ma
     put_all_holders(agenda, state);
 }
 
-/// Notes that a task ends its activation without an exception (9.3): that the activation ends that names it may be forced.
+/// Notes that a task ends its activation without an exception (9.3): that the activation ends that names it may be
+/// forced.
 pub fn note_elaboration(agenda: &mut Agenda, state: &State, _event: &Event, task: TaskNo)
     requires lawful { IsLawful (_event.now ∷ state.now) }
     requires stands { IsAgendaOf agenda.old state.now }

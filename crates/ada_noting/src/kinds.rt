@@ -15,8 +15,8 @@ use ada_forcing::Row;
 use ada_rows::State;
 use ada_touching::keeping::own_key;
 
-/// Notes an event that can newly force nothing: an opening, the beginning of a rendezvous, the passing of a wait, the end
-/// of a delay or of an activation, or the leaving of a block (9.3 to 9.7).
+/// Notes an event that can newly force nothing: an opening, the beginning of a rendezvous, the passing of a wait, the
+/// end of a delay or of an activation, or the leaving of a block (9.3 to 9.7).
 #[tactic(auto, using(crate::proofs::Additions::nothing_noted))]
 pub fn note_nothing(_agenda: &mut Agenda, _state: &State, _event: &Event)
     requires lawful { IsLawful (_event.now ∷ _state.now) }
@@ -25,8 +25,8 @@ pub fn note_nothing(_agenda: &mut Agenda, _state: &State, _event: &Event)
     ensures { IsAgendaOf _agenda.new (_event.now ∷ _state.now) }
 {}
 
-/// Notes that a task closes a block (9.4): that it leaves the block, that the block's dependents quit, and that tasks go
-/// that were never started, may be forced.
+/// Notes that a task closes a block (9.4): that it leaves the block, that the block's dependents quit, and that tasks
+/// go that were never started, may be forced.
 pub fn note_close(agenda: &mut Agenda, state: &State, event: &Event, _by: TaskNo, block: u32)
     requires lawful { IsLawful (event.now ∷ state.now) }
     requires stands { IsAgendaOf agenda.old state.now }

@@ -21,7 +21,8 @@ use ada_rows::State;
 // The task that opened a block.
 #[tactic(auto, unfolding(ada_events::specs::Says::opening_in))]
 fn opener(state: &State, block: u32) -> Option<TaskNo>
-    ensures { option_map (λ (t : Number). t.0) result ≡ option_map (λ (o : Opening). o.by) (opening_at state.now block) }
+    ensures { option_map (λ (t : Number). t.0) result
+        ≡ option_map (λ (o : Opening). o.by) (opening_at state.now block) }
 {
     match state.event(block) {
         Some(Event::Opened { by, .. }) => Some(*by),
@@ -80,7 +81,8 @@ fn put_blocks(agenda: &mut Agenda, state: &State, task: TaskNo)
     requires lawful { IsLawful state.now }
     requires many { length agenda.old ≡ 11 }
     requires known { task.0 < task_count state.now }
-    ensures { Puts agenda.old agenda.new (OfFirst (AsBlock (nest state.now task.0)) (length (nest state.now task.0))) }
+    ensures { Puts agenda.old agenda.new
+        (OfFirst (AsBlock (nest state.now task.0)) (length (nest state.now task.0))) }
 {
     let layers = state.tables().nest(task);
     for place in 0..layers.len() {

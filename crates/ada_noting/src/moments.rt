@@ -98,15 +98,16 @@ fn put_due(agenda: &mut Agenda, state: &State, tick: &Event, task: TaskNo)
 fn put_all_due(agenda: &mut Agenda, state: &State, tick: &Event)
     requires lawful { IsLawful state.now }
     requires many { length agenda.old ≡ 11 }
-    ensures { Puts agenda.old agenda.new (OfFirst (AsDue state.now tick.now) (task_count state.now)) }
+    ensures { Puts agenda.old agenda.new
+        (OfFirst (AsDue state.now tick.now) (task_count state.now)) }
 {
     for number in 0..state.tables().tasks() {
         put_due(agenda, state, tick, TaskNo(number));
     }
 }
 
-/// Notes that the moment moves, in milliseconds (9.6): that timed calls are cancelled, that waits pass and that delays end
-/// may be forced. A tick that doesn't reach the next due moment adds nothing.
+/// Notes that the moment moves, in milliseconds (9.6): that timed calls are cancelled, that waits pass and that delays
+/// end may be forced. A tick that doesn't reach the next due moment adds nothing.
 pub fn note_tick(agenda: &mut Agenda, next: NextDue, state: &State, event: &Event, now: i64)
     requires lawful { IsLawful (event.now ∷ state.now) }
     requires stands { IsAgendaOf agenda.old state.now }

@@ -13,8 +13,8 @@ use ada_rows::State;
 use ada_waits::waits::{earlier, is_due};
 use std::marker::Model;
 
-/// A moment, in milliseconds, that bounds those after the journal's own for which a task is suspended (9.6), or none where
-/// no task is suspended until such a moment. Contracts see it as an optional moment.
+/// A moment, in milliseconds, that bounds those after the journal's own for which a task is suspended (9.6), or none
+/// where no task is suspended until such a moment. Contracts see it as an optional moment.
 #[derive(Clone, Copy)]
 pub struct NextDue(Option<i64>);
 
@@ -90,8 +90,8 @@ fn next_after_tick(next: NextDue, state: &State, _event: &Event, now: i64) -> Ne
     }
 }
 
-// Keeps the bound up with an event that is to be appended. Only a tick that reaches it looks at the tasks, and any other
-// event at no more than its own moments.
+// Keeps the bound up with an event that is to be appended. Only a tick that reaches it looks at the tasks, and any
+// other event at no more than its own moments.
 pub(crate) fn next_after_event(next: NextDue, state: &State, event: &Event) -> NextDue
     requires lawful { IsLawful (event.now ∷ state.now) }
     requires bound { IsDueBound state.now next }

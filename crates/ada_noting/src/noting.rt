@@ -63,8 +63,8 @@ fn note_keys(agenda: &mut Agenda, next: NextDue, state: &State, event: &Event)
     }
 }
 
-/// Keeps an agenda of a journal and the bound of what is due up with the event that is to be appended. Of the journal only
-/// kept positions are read, and no memory is taken.
+/// Keeps an agenda of a journal and the bound of what is due up with the event that is to be appended. Of the journal
+/// only kept positions are read, and no memory is taken.
 pub fn note(agenda: &mut Agenda, next: &mut NextDue, state: &State, event: &Event)
     requires lawful { IsLawful (event.now ∷ state.now) }
     requires stands { IsAgendaOf agenda.old state.now }

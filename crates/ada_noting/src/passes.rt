@@ -124,7 +124,8 @@ fn put_caller(agenda: &mut Agenda, state: &State, callee: TaskNo, task: TaskNo)
 pub(crate) fn put_all_callers(agenda: &mut Agenda, state: &State, callee: TaskNo)
     requires lawful { IsLawful state.now }
     requires many { length agenda.old ≡ 11 }
-    ensures { Puts agenda.old agenda.new (OfFirst (AsCaller state.now callee.0) (task_count state.now)) }
+    ensures { Puts agenda.old agenda.new
+        (OfFirst (AsCaller state.now callee.0) (task_count state.now)) }
 {
     for number in 0..state.tables().tasks() {
         put_caller(agenda, state, callee, TaskNo(number));

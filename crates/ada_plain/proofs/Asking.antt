@@ -12,5 +12,6 @@ use Rattle.ada_laws.proofs.Accepting.{is_accepted}
 pub few_tasks : (events journal : List Event) → reverse events ≡ journal → IsLawful journal → task_count (reverse events) ≤ 256
 few_tasks events journal same lawful = rw same (tasks_are_few journal lawful)
 
-pub in_time : (events journal : List Event) (request : Request) → reverse events ≡ journal → refusal journal request ≡ None → is_too_late (reverse events) request ≡ false
+pub in_time : (events journal : List Event) (request : Request) → reverse events ≡ journal → refusal journal request ≡ None
+    → is_too_late (reverse events) request ≡ false
 in_time events journal request same unrefused = rw same ((is_accepted journal request unrefused).in_time)

@@ -9,7 +9,8 @@ pub listed_all : {X : Type 0} (f : ℕ → X) (xs : List X) (n : ℕ) (d : X) �
 unfolding listed
 listed_all f xs n d long each = fill_by_all f xs n d long each
 
-pub filled_more : {X : Type 0} (f : ℕ → X) (xs : List X) (i at n : ℕ) (x d : X) → i < n → at ≡ i → x ≡ f i → (length xs ≡ n) × ((k : ℕ) → k < i → get_or xs k d ≡ f k) → (length (set xs at x) ≡ n) × ((k : ℕ) → k < i + 1 → get_or (set xs at x) k d ≡ f k)
+pub filled_more : {X : Type 0} (f : ℕ → X) (xs : List X) (i at n : ℕ) (x d : X) → i < n → at ≡ i → x ≡ f i → (length xs ≡ n)
+    × ((k : ℕ) → k < i → get_or xs k d ≡ f k) → (length (set xs at x) ≡ n) × ((k : ℕ) → k < i + 1 → get_or (set xs at x) k d ≡ f k)
 filled_more f xs i at n x d below there is before = (
   length-set xs at x ∙ before.0,
   λ k within.

@@ -8,7 +8,10 @@ use Rattle.ada_events.specs.Says.{released_in}
 use Rattle.ada_events.specs.Outcomes.{released_to, became, last_given}
 use Rattle.ada_plain.proofs.Loops.{journal_more, length_journal}
 
-pub became_more : (position : ℕ) (events : List Event) (i : ℕ) (d : Event) → i < length events → became (reverse (take (i + 1) events)) position ≡ (if is_number position (released_in (get_or events i d)) then released_to (reverse (take i events)) (get_or events i d) else became (reverse (take i events)) position)
+pub became_more : (position : ℕ) (events : List Event) (i : ℕ) (d : Event) → i < length events
+    → became (reverse (take (i + 1) events)) position
+    ≡ (if is_number position (released_in (get_or events i d)) then released_to (reverse (take i events)) (get_or events i d)
+    else became (reverse (take i events)) position)
 unfolding became
 became_more position events i d below = rw (journal_more events i d below) refl
 
@@ -17,7 +20,9 @@ option_or-assoc None b c = refl
 option_or-assoc (Some x) b c = refl
 
 -- going down a journal: what a later event gave, or this one, or what is found further down
-pub last_given_less : {A : Type 0} (later : Option A) (give : ℕ → Event → Option A) (events : List Event) (n : ℕ) (d : Event) → 0 < n → n ≤ length events → option_or later (last_given give (reverse (take n events))) ≡ option_or (option_or later (give n (get_or events (n - 1) d))) (last_given give (reverse (take (n - 1) events)))
+pub last_given_less : {A : Type 0} (later : Option A) (give : ℕ → Event → Option A) (events : List Event) (n : ℕ) (d : Event) → 0 < n → n ≤ length events
+    → option_or later (last_given give (reverse (take n events)))
+    ≡ option_or (option_or later (give n (get_or events (n - 1) d))) (last_given give (reverse (take (n - 1) events)))
 unfolding last_given
 last_given_less later give events n d low high =
     let e : n ≡ n - 1 + 1 = omega arith in

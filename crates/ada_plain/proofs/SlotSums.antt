@@ -7,6 +7,8 @@ use Rattle.ada_events.specs.Entries.{entries_in}
 use Rattle.ada_events.specs.Limits.{slot_count}
 use Rattle.ada_plain.proofs.Loops.{journal_more}
 
-pub slot_count_more : (events : List Event) (i : ℕ) (d : Event) → i < length events → slot_count (reverse (take (i + 1) events)) ≡ option_map_or (λ (c : Creation). entries_in c.families) (creation_in (get_or events i d)) 0 + slot_count (reverse (take i events))
+pub slot_count_more : (events : List Event) (i : ℕ) (d : Event) → i < length events
+    → slot_count (reverse (take (i + 1) events)) ≡ option_map_or (λ (c : Creation). entries_in c.families) (creation_in (get_or events i d)) 0 + slot_count
+    (reverse (take i events))
 unfolding slot_count
 slot_count_more events i d below = rw (journal_more events i d below) refl

@@ -37,7 +37,8 @@ pub fn is_finished(events: &[Event]) -> bool
 /// The outcome of a task that exists.
 pub fn known_outcome(events: &[Event], task: TaskNo) -> Option<Outcome>
     requires { length events.now < 2 ^ 32 }
-    ensures { result ≡ then_some (tasks.has_task (reverse events.now) task.0) (outcomes.outcome_of (reverse events.now) task.0) }
+    ensures { result ≡ then_some (tasks.has_task (reverse events.now) task.0)
+        (outcomes.outcome_of (reverse events.now) task.0) }
 {
     if has_task(events, task) {
         Some(outcome(events, task))
@@ -49,7 +50,8 @@ pub fn known_outcome(events: &[Event], task: TaskNo) -> Option<Outcome>
 /// CALLABLE of a task that exists.
 pub fn known_callable(events: &[Event], task: TaskNo) -> Option<bool>
     requires { length events.now < 2 ^ 32 }
-    ensures { result ≡ then_some (tasks.has_task (reverse events.now) task.0) (attributes.is_callable (reverse events.now) task.0) }
+    ensures { result ≡ then_some (tasks.has_task (reverse events.now) task.0)
+        (attributes.is_callable (reverse events.now) task.0) }
 {
     if has_task(events, task) {
         Some(is_callable(events, task))
@@ -61,7 +63,8 @@ pub fn known_callable(events: &[Event], task: TaskNo) -> Option<bool>
 /// TERMINATED of a task that exists.
 pub fn known_terminated(events: &[Event], task: TaskNo) -> Option<bool>
     requires { length events.now < 2 ^ 32 }
-    ensures { result ≡ then_some (tasks.has_task (reverse events.now) task.0) (phases.is_terminated (reverse events.now) task.0) }
+    ensures { result ≡ then_some (tasks.has_task (reverse events.now) task.0)
+        (phases.is_terminated (reverse events.now) task.0) }
 {
     if has_task(events, task) {
         Some(is_terminated(events, task))
@@ -73,7 +76,8 @@ pub fn known_terminated(events: &[Event], task: TaskNo) -> Option<bool>
 /// Whether a task that exists is running.
 pub fn known_running(events: &[Event], task: TaskNo) -> Option<bool>
     requires { length events.now < 2 ^ 32 }
-    ensures { result ≡ then_some (tasks.has_task (reverse events.now) task.0) (phases.is_running (reverse events.now) task.0) }
+    ensures { result ≡ then_some (tasks.has_task (reverse events.now) task.0)
+        (phases.is_running (reverse events.now) task.0) }
 {
     if has_task(events, task) {
         Some(is_running(events, task))
@@ -85,7 +89,8 @@ pub fn known_running(events: &[Event], task: TaskNo) -> Option<bool>
 // One where the event at a position is a call queued at the entry, else none.
 fn one_if_queued(events: &[Event], task: TaskNo, entry: Entry, position: u32, event: &Event) -> u64
     requires { length events.now < 2 ^ 32 }
-    ensures value { result ≡ option_len (then_some (calls.is_call_of task.0 entry event.now && calls.is_queued_at (reverse events.now) position event.now) position) }
+    ensures value { result ≡ option_len (then_some (calls.is_call_of task.0 entry event.now
+        && calls.is_queued_at (reverse events.now) position event.now) position) }
     ensures few { result ≤ 1 }
 {
     if is_queued_for(events, task, entry, position, event) {

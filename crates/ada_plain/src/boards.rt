@@ -53,7 +53,8 @@ fn shows_terminated(events: &[Event], task: u16, tasks: u16) -> bool
 fn shows_count(events: &[Event], slot: u16, slots: u16) -> u16
     requires short { length events.now < 2 ^ 32 }
     requires lawful { IsLawful (reverse events.now) }
-    ensures { result ≡ (if nat_lt slot slots then places.count_at (reverse events.now) slot else 0) }
+    ensures { result ≡ (if nat_lt slot slots then places.count_at (reverse events.now) slot
+        else 0) }
 {
     if slot < slots {
         count_at(events, slot)

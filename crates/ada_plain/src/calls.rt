@@ -73,7 +73,8 @@ pub fn is_open_call(events: &[Event], call: u32) -> bool
 
 fn is_joined_caller(events: &[Event], task: TaskNo, position: u32, event: &Event) -> bool
     requires { length events.now < 2 ^ 32 }
-    ensures { result ≡ (is_some_and (said.call_in event.now) (λ (c : said.Call). c.by == task.0) && calls.is_joined_at (reverse events.now) position event.now) }
+    ensures { result ≡ (is_some_and (said.call_in event.now) (λ (c : said.Call). c.by == task.0)
+        && calls.is_joined_at (reverse events.now) position event.now) }
 {
     is_call_by(task, event) && is_joined_at(events, position, event)
 }
@@ -128,7 +129,8 @@ pub fn is_queued_for(
     event: &Event,
 ) -> bool
     requires { length events.now < 2 ^ 32 }
-    ensures { result ≡ (calls.is_call_of task.0 entry event.now && calls.is_queued_at (reverse events.now) position event.now) }
+    ensures { result ≡ (calls.is_call_of task.0 entry event.now
+        && calls.is_queued_at (reverse events.now) position event.now) }
 {
     is_call_of(task, entry, event) && is_queued_at(events, position, event)
 }
@@ -142,7 +144,8 @@ fn queued_call(
     event: &Event,
 ) -> Option<u32>
     requires { length events.now < 2 ^ 32 }
-    ensures { result ≡ then_some (calls.is_call_of task.0 entry event.now && calls.is_queued_at (reverse events.now) position event.now) position }
+    ensures { result ≡ then_some (calls.is_call_of task.0 entry event.now
+        && calls.is_queued_at (reverse events.now) position event.now) position }
 {
     if is_queued_for(events, task, entry, position, event) {
         Some(position)
@@ -161,7 +164,8 @@ fn or_queued(
     event: &Event,
 ) -> Option<u32>
     requires { length events.now < 2 ^ 32 }
-    ensures { result ≡ option_or first (then_some (calls.is_call_of task.0 entry event.now && calls.is_queued_at (reverse events.now) position event.now) position) }
+    ensures { result ≡ option_or first (then_some (calls.is_call_of task.0 entry event.now
+        && calls.is_queued_at (reverse events.now) position event.now) position) }
 {
     match first {
         Some(call) => Some(call),

@@ -37,7 +37,8 @@ pub fn is_to_halt(events: &[Event], task: TaskNo) -> bool
 
 fn halted_task(events: &[Event], task: TaskNo) -> Option<Event>
     requires { length events.now < 2 ^ 32 }
-    ensures { result ≡ then_some (forced.is_to_halt (reverse events.now) task.0) (event_of.Halted task) }
+    ensures { result ≡ then_some (forced.is_to_halt (reverse events.now) task.0)
+        (event_of.Halted task) }
 {
     if is_to_halt(events, task) {
         Some(Event::Halted { task })
@@ -64,7 +65,8 @@ pub fn halted(events: &[Event]) -> Option<Event>
 
 fn is_lost(events: &[Event], callee: TaskNo) -> bool
     requires { length events.now < 2 ^ 32 }
-    ensures { result ≡ (phases.has_ended (reverse events.now) callee.0 || phases.is_abnormal (reverse events.now) callee.0) }
+    ensures { result ≡ (phases.has_ended (reverse events.now) callee.0
+        || phases.is_abnormal (reverse events.now) callee.0) }
 {
     has_ended(events, callee) || is_abnormal(events, callee)
 }
@@ -72,7 +74,9 @@ fn is_lost(events: &[Event], callee: TaskNo) -> bool
 #[tactic(auto, unfolding(ada_events::specs::Says::call_in))]
 fn calls_in_vain(events: &[Event], event: &Event) -> bool
     requires { length events.now < 2 ^ 32 }
-    ensures { result ≡ is_some_and (said.call_in event.now) (λ (c : said.Call). phases.has_ended (reverse events.now) c.callee || phases.is_abnormal (reverse events.now) c.callee) }
+    ensures { result ≡ is_some_and (said.call_in event.now)
+        (λ (c : said.Call). phases.has_ended (reverse events.now) c.callee
+        || phases.is_abnormal (reverse events.now) c.callee) }
 {
     match event {
         Event::Called { callee, .. } => is_lost(events, *callee),
@@ -90,7 +94,8 @@ fn is_to_fail(events: &[Event], position: u32, event: &Event) -> bool
 
 fn failed_call(events: &[Event], position: u32, event: &Event) -> Option<Event>
     requires { length events.now < 2 ^ 32 }
-    ensures { result ≡ then_some (forced.is_to_fail (reverse events.now) position event.now) (event_of.Failed position) }
+    ensures { result ≡ then_some (forced.is_to_fail (reverse events.now) position event.now)
+        (event_of.Failed position) }
 {
     if is_to_fail(events, position, event) {
         Some(Event::Failed { call: position })
@@ -123,7 +128,12 @@ fn met_wait(
 ) -> Option<Event>
     requires few { length choices.now ≤ MOST_CHOICES }
     requires short { length events.now < 2 ^ 32 }
-    ensures { result ≡ (if calls.is_pending (reverse events.now) position by.0 then option_map (λ call. event_of.Met call position) (option_and_then (waits.front_of (reverse events.now) by.0) (option_and_then (slice_get choices.now) (waits.picked pick (waits.numbers_from (waits.is_selectable (reverse events.now) by.0) 0 choices.now)))) else None) }
+    ensures { result ≡ (if calls.is_pending (reverse events.now) position by.0
+        then option_map (λ call.
+        event_of.Met call position) (option_and_then (waits.front_of (reverse events.now) by.0)
+        (option_and_then (slice_get choices.now)
+        (waits.picked pick (waits.numbers_from (waits.is_selectable (reverse events.now) by.0) 0
+        choices.now)))) else None) }
 {
     if !is_pending(events, position, by) {
         return None;
@@ -140,7 +150,8 @@ fn met_wait(
 #[tactic(auto, unfolding(ada_events::specs::Forced::met_at, ada_events::specs::Waits::taken_call, ada_events::specs::Waits::taken_choice, ada_events::specs::Says::wait_in))]
 fn met_at(events: &[Event], position: u32, event: &Event) -> Option<Event>
     requires { length events.now < 2 ^ 32 }
-    ensures { result ≡ option_and_then (forced.met_at (reverse events.now) position) (said.wait_in event.now) }
+    ensures { result ≡ option_and_then (forced.met_at (reverse events.now) position)
+        (said.wait_in event.now) }
 {
     match event {
         Event::Waiting {
@@ -186,7 +197,9 @@ fn is_over(now: i64, patience: Patience, due: Option<i64>) -> bool
 
 #[tactic(auto, unfolding(ada_events::specs::Says::call_in))]
 fn is_call_over(events: &[Event], event: &Event) -> bool
-    ensures { result ≡ is_some_and (said.call_in event.now) (λ (c : said.Call). forced.is_conditional c.patience || waits.is_due (moment_of (reverse events.now)) c.due) }
+    ensures { result ≡ is_some_and (said.call_in event.now)
+        (λ (c : said.Call). forced.is_conditional c.patience
+        || waits.is_due (moment_of (reverse events.now)) c.due) }
 {
     match event {
         Event::Called { patience, due, .. } => is_over(moment(events), *patience, *due),
@@ -204,7 +217,8 @@ fn is_to_cancel(events: &[Event], position: u32, event: &Event) -> bool
 
 fn cancelled_call(events: &[Event], position: u32, event: &Event) -> Option<Event>
     requires { length events.now < 2 ^ 32 }
-    ensures { result ≡ then_some (forced.is_to_cancel (reverse events.now) position event.now) (event_of.Cancelled position) }
+    ensures { result ≡ then_some (forced.is_to_cancel (reverse events.now) position event.now)
+        (event_of.Cancelled position) }
 {
     if is_to_cancel(events, position, event) {
         Some(Event::Cancelled { call: position })
@@ -237,7 +251,9 @@ fn passed_wait(
     tail: &EventTail,
 ) -> Option<Event>
     requires { length events.now < 2 ^ 32 }
-    ensures { result ≡ (if calls.is_pending (reverse events.now) position by.0 then option_map (event_of.Passed position) (waits.way_of (moment_of (reverse events.now)) choices.now pick tail.now) else None) }
+    ensures { result ≡ (if calls.is_pending (reverse events.now) position by.0
+        then option_map (event_of.Passed position)
+        (waits.way_of (moment_of (reverse events.now)) choices.now pick tail.now) else None) }
 {
     if !is_pending(events, position, by) {
         return None;
@@ -254,7 +270,8 @@ fn passed_wait(
 #[tactic(auto, unfolding(ada_events::specs::Forced::passed_at, ada_events::specs::Says::wait_in))]
 fn passed_at(events: &[Event], position: u32, event: &Event) -> Option<Event>
     requires { length events.now < 2 ^ 32 }
-    ensures { result ≡ option_and_then (forced.passed_at (reverse events.now) position) (said.wait_in event.now) }
+    ensures { result ≡ option_and_then (forced.passed_at (reverse events.now) position)
+        (said.wait_in event.now) }
 {
     match event {
         Event::Waiting {
@@ -284,7 +301,8 @@ pub fn passed(events: &[Event]) -> Option<Event>
 
 fn is_to_wake(events: &[Event], position: u32, by: TaskNo, due: i64) -> bool
     requires { length events.now < 2 ^ 32 }
-    ensures { result ≡ (int_le due (moment_of (reverse events.now)) && calls.is_pending (reverse events.now) position by.0) }
+    ensures { result ≡ (int_le due (moment_of (reverse events.now))
+        && calls.is_pending (reverse events.now) position by.0) }
 {
     due <= moment(events) && is_pending(events, position, by)
 }
@@ -292,7 +310,9 @@ fn is_to_wake(events: &[Event], position: u32, by: TaskNo, due: i64) -> bool
 #[tactic(auto, unfolding(ada_events::specs::Forced::is_to_wake, ada_events::specs::Says::delay_in))]
 fn woken_delay(events: &[Event], position: u32, event: &Event) -> Option<Event>
     requires { length events.now < 2 ^ 32 }
-    ensures { result ≡ option_and_then (λ (d : said.Delay). then_some (forced.is_to_wake (reverse events.now) position d) (event_of.Woken position)) (said.delay_in event.now) }
+    ensures { result ≡ option_and_then (λ (d : said.Delay). then_some
+        (forced.is_to_wake (reverse events.now) position d) (event_of.Woken position))
+        (said.delay_in event.now) }
 {
     match event {
         Event::Paused { by, due } => if is_to_wake(events, position, *by, *due) {
@@ -335,14 +355,16 @@ fn all_done_activating(events: &[Event], tasks: &[TaskNo]) -> bool
 }
 
 fn has_failed_one(events: &[Event], tasks: &[TaskNo]) -> bool
-    ensures { result ≡ list_any (λ (t : Task). phases.has_failed (reverse events.now) t.0) tasks.now }
+    ensures { result ≡ list_any (λ (t : Task).
+        phases.has_failed (reverse events.now) t.0) tasks.now }
 {
     tasks.iter().any(|task| has_failed(events, *task))
 }
 
 fn is_to_end_activation(events: &[Event], position: u32, by: TaskNo, tasks: &[TaskNo]) -> bool
     requires { length events.now < 2 ^ 32 }
-    ensures { result ≡ (calls.is_pending (reverse events.now) position by.0 && list_all (forced.is_done_activating (reverse events.now)) tasks.now) }
+    ensures { result ≡ (calls.is_pending (reverse events.now) position by.0
+        && list_all (forced.is_done_activating (reverse events.now)) tasks.now) }
 {
     is_pending(events, position, by) && all_done_activating(events, tasks)
 }
@@ -350,7 +372,8 @@ fn is_to_end_activation(events: &[Event], position: u32, by: TaskNo, tasks: &[Ta
 #[tactic(auto, unfolding(ada_events::specs::Forced::activated_at, ada_events::specs::Says::start_in))]
 fn activated_at(events: &[Event], position: u32, event: &Event) -> Option<Event>
     requires { length events.now < 2 ^ 32 }
-    ensures { result ≡ option_and_then (forced.activated_at (reverse events.now) position) (said.start_in event.now) }
+    ensures { result ≡ option_and_then (forced.activated_at (reverse events.now) position)
+        (said.start_in event.now) }
 {
     match event {
         Event::Started { by, tasks } => if is_to_end_activation(
@@ -388,7 +411,8 @@ pub fn activated(events: &[Event]) -> Option<Event>
 fn is_complete_body(events: &[Event], task: TaskNo) -> bool
     requires short { length events.now < 2 ^ 32 }
     requires few { count_of_tasks (reverse events.now) ≤ MOST_TASKS }
-    ensures { result ≡ (phases.is_completed (reverse events.now) task.0 && ending.all_terminated (reverse events.now) (Body task)) }
+    ensures { result ≡ (phases.is_completed (reverse events.now) task.0
+        && ending.all_terminated (reverse events.now) (Body task)) }
 {
     is_completed(events, task) && all_terminated(events, Master::Body(task))
 }
@@ -396,7 +420,9 @@ fn is_complete_body(events: &[Event], task: TaskNo) -> bool
 fn is_at_its_end(events: &[Event], task: TaskNo) -> bool
     requires short { length events.now < 2 ^ 32 }
     requires few { count_of_tasks (reverse events.now) ≤ MOST_TASKS }
-    ensures { result ≡ (phases.is_completed (reverse events.now) task.0 && ending.all_terminated (reverse events.now) (Body task) || ending.is_abandoned (reverse events.now) task.0) }
+    ensures { result ≡ (phases.is_completed (reverse events.now) task.0
+        && ending.all_terminated (reverse events.now) (Body task)
+        || ending.is_abandoned (reverse events.now) task.0) }
 {
     is_complete_body(events, task) || is_abandoned(events, task)
 }
@@ -414,7 +440,8 @@ pub fn is_to_go(events: &[Event], task: TaskNo) -> bool
 fn gone_task(events: &[Event], task: TaskNo) -> Option<Event>
     requires short { length events.now < 2 ^ 32 }
     requires few { count_of_tasks (reverse events.now) ≤ MOST_TASKS }
-    ensures { result ≡ then_some (forced.is_to_go (reverse events.now) task.0) (event_of.Gone task) }
+    ensures { result ≡ then_some (forced.is_to_go (reverse events.now) task.0)
+        (event_of.Gone task) }
 {
     if is_to_go(events, task) {
         Some(Event::Gone { task })
@@ -442,7 +469,8 @@ pub fn gone(events: &[Event]) -> Option<Event>
 fn quit_of(events: &[Event], master: Master) -> Option<Event>
     requires short { length events.now < 2 ^ 32 }
     requires few { count_of_tasks (reverse events.now) ≤ MOST_TASKS }
-    ensures { result ≡ then_some (forced.is_to_quit (reverse events.now) master) (event_of.Quit master) }
+    ensures { result ≡ then_some (forced.is_to_quit (reverse events.now) master)
+        (event_of.Quit master) }
 {
     if is_to_quit(events, master) {
         Some(Event::Quit { master })
@@ -471,7 +499,9 @@ pub fn quit_body(events: &[Event]) -> Option<Event>
 fn quit_at(events: &[Event], position: u32, event: &Event) -> Option<Event>
     requires short { length events.now < 2 ^ 32 }
     requires few { count_of_tasks (reverse events.now) ≤ MOST_TASKS }
-    ensures { result ≡ option_and_then (λ (_ : said.Opening). then_some (forced.is_to_quit (reverse events.now) (Block position)) (event_of.Quit (Block position))) (said.opening_in event.now) }
+    ensures { result ≡ option_and_then (λ (_ : said.Opening). then_some
+        (forced.is_to_quit (reverse events.now) (Block position)) (event_of.Quit (Block position)))
+        (said.opening_in event.now) }
 {
     match event {
         Event::Opened { .. } => quit_of(events, Master::Block(position)),
@@ -498,7 +528,8 @@ pub fn quit_block(events: &[Event]) -> Option<Event>
 fn is_to_leave(events: &[Event], position: u32, by: TaskNo, block: u32) -> bool
     requires short { length events.now < 2 ^ 32 }
     requires few { count_of_tasks (reverse events.now) ≤ MOST_TASKS }
-    ensures { result ≡ (calls.is_pending (reverse events.now) position by.0 && ending.all_terminated (reverse events.now) (Block block)) }
+    ensures { result ≡ (calls.is_pending (reverse events.now) position by.0
+        && ending.all_terminated (reverse events.now) (Block block)) }
 {
     is_pending(events, position, by) && all_terminated(events, Master::Block(block))
 }
@@ -507,7 +538,9 @@ fn is_to_leave(events: &[Event], position: u32, by: TaskNo, block: u32) -> bool
 fn left_at(events: &[Event], position: u32, event: &Event) -> Option<Event>
     requires short { length events.now < 2 ^ 32 }
     requires few { count_of_tasks (reverse events.now) ≤ MOST_TASKS }
-    ensures { result ≡ option_and_then (λ (c : said.Closing). then_some (forced.is_to_leave (reverse events.now) position c) (event_of.Left position)) (said.closing_in event.now) }
+    ensures { result ≡ option_and_then (λ (c : said.Closing). then_some
+        (forced.is_to_leave (reverse events.now) position c) (event_of.Left position))
+        (said.closing_in event.now) }
 {
     match event {
         Event::Closed { by, block } => if is_to_leave(events, position, *by, *block) {
@@ -538,7 +571,10 @@ pub fn left(events: &[Event]) -> Option<Event>
 // The steps that begin, end or fail a rendezvous, a wait, a call or a delay.
 fn communication(events: &[Event]) -> Option<Event>
     requires { length events.now < 2 ^ 32 }
-    ensures { result ≡ option_or (forced.failed (reverse events.now)) (option_or (forced.met (reverse events.now)) (option_or (forced.cancelled (reverse events.now)) (option_or (forced.passed (reverse events.now)) (forced.woken (reverse events.now))))) }
+    ensures { result ≡ option_or (forced.failed (reverse events.now))
+        (option_or (forced.met (reverse events.now))
+        (option_or (forced.cancelled (reverse events.now))
+        (option_or (forced.passed (reverse events.now)) (forced.woken (reverse events.now))))) }
 {
     if let Some(step) = failed(events) {
         return Some(step);
@@ -559,7 +595,10 @@ fn communication(events: &[Event]) -> Option<Event>
 fn ending(events: &[Event]) -> Option<Event>
     requires short { length events.now < 2 ^ 32 }
     requires few { count_of_tasks (reverse events.now) ≤ MOST_TASKS }
-    ensures { result ≡ option_or (forced.activated (reverse events.now)) (option_or (forced.gone (reverse events.now)) (option_or (forced.quit_body (reverse events.now)) (option_or (forced.quit_block (reverse events.now)) (forced.left (reverse events.now))))) }
+    ensures { result ≡ option_or (forced.activated (reverse events.now))
+        (option_or (forced.gone (reverse events.now))
+        (option_or (forced.quit_body (reverse events.now))
+        (option_or (forced.quit_block (reverse events.now)) (forced.left (reverse events.now))))) }
 {
     if let Some(step) = activated(events) {
         return Some(step);

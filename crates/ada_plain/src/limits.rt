@@ -30,7 +30,8 @@ fn is_open_too_late(now: i64, pause: Pause) -> bool
 
 /// An open delay alternative ends behind the last moment.
 pub fn has_open_too_late(now: i64, pauses: &[Pause]) -> bool
-    ensures { result ≡ list_any (λ (d : PauseValue). d.guard && limits.ends_too_late now d.duration) pauses.now }
+    ensures { result ≡ list_any (λ (d : PauseValue).
+        d.guard && limits.ends_too_late now d.duration) pauses.now }
 {
     pauses.iter().any(|pause| is_open_too_late(now, *pause))
 }
@@ -82,7 +83,8 @@ pub fn makes_too_many_tasks(events: &[Event], request: &Request) -> bool
 /// How many entries the task has that an event makes, at most 2^64 - 1.
 #[tactic(auto, unfolding(ada_events::specs::Says::creation_in))]
 pub fn slots_in(event: &Event) -> u64
-    ensures { result ≡ min (option_map_or (λ (c : said.Creation). entries.entries_in c.families) (said.creation_in event.now) 0) (2 ^ 64 - 1) }
+    ensures { result ≡ min (option_map_or (λ (c : said.Creation). entries.entries_in c.families)
+        (said.creation_in event.now) 0) (2 ^ 64 - 1) }
 {
     match event {
         Event::Created { families, .. } => Family::entries_in(families.as_slice()),

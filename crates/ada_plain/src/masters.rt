@@ -21,7 +21,8 @@ pub fn same_master(a: Master, b: Master) -> bool
 // The parent of a body where the event made it as the task of that number, else the body.
 #[tactic(auto, unfolding(ada_events::specs::Says::creation_in))]
 fn body_parent(event: &Event, task: TaskNo, count: u64) -> Master
-    ensures { result ≡ option_map_or (λ (c : says.Creation). if task.0 == count then c.master else Master.Body task) (says.creation_in event.now) (Master.Body task) }
+    ensures { result ≡ option_map_or (λ (c : says.Creation). if task.0 == count then c.master
+        else Master.Body task) (says.creation_in event.now) (Master.Body task) }
 {
     match event {
         Event::Created { master, .. } => if u64::from(task.0) == count {
@@ -36,7 +37,8 @@ fn body_parent(event: &Event, task: TaskNo, count: u64) -> Master
 // The parent of a block where the event at that position opened it, else the block.
 #[tactic(auto, unfolding(ada_events::specs::Says::opening_in))]
 fn block_parent(event: &Event, block: u32, position: u64) -> Master
-    ensures { result ≡ option_map_or (λ (o : says.Opening). if block == position then o.under else Master.Block block) (says.opening_in event.now) (Master.Block block) }
+    ensures { result ≡ option_map_or (λ (o : says.Opening). if block == position then o.under
+        else Master.Block block) (says.opening_in event.now) (Master.Block block) }
 {
     match event {
         Event::Opened { under, .. } => if u64::from(block) == position {
@@ -87,7 +89,9 @@ fn makes_dependent(
     master: Master,
 ) -> bool
     requires { length before.now < 2 ^ 32 }
-    ensures { result ≡ option_map_or (λ (c : says.Creation). (task.0 == count) && masters.reaches (reverse before.now) c.master master) (says.creation_in event.now) false }
+    ensures { result ≡ option_map_or (λ (c : says.Creation). (task.0 == count)
+        && masters.reaches (reverse before.now) c.master master)
+        (says.creation_in event.now) false }
 {
     match event {
         Event::Created { master: own, .. } => is_made_under(before, *own, task, count, master),

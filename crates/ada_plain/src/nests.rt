@@ -28,7 +28,9 @@ pub fn is_left_close(events: &[Event], close: u32) -> bool
 }
 
 fn leaves(events: &[Event], block: u32, position: u32, event: &Event) -> bool
-    ensures { result ≡ (is_some_and (said.closing_in event.now) (λ (c : said.Closing). c.block == block) && nests.is_left_close (reverse events.now) position) }
+    ensures { result ≡ (is_some_and (said.closing_in event.now)
+        (λ (c : said.Closing). c.block == block)
+        && nests.is_left_close (reverse events.now) position) }
 {
     is_close_of(block, event) && is_left_close(events, position)
 }
@@ -66,7 +68,8 @@ fn is_within_block(events: &[Event], task: TaskNo, by: TaskNo, block: u32) -> bo
 
 fn is_within_rendezvous(events: &[Event], task: TaskNo, call: u32, wait: u32) -> bool
     requires { length events.now < 2 ^ 32 }
-    ensures { result ≡ (nests.is_wait_of (reverse events.now) task.0 wait && calls.is_open_call (reverse events.now) call) }
+    ensures { result ≡ (nests.is_wait_of (reverse events.now) task.0 wait
+        && calls.is_open_call (reverse events.now) call) }
 {
     is_wait_of(events, task, wait) && is_open_call(events, call)
 }
@@ -183,7 +186,8 @@ pub fn is_in_rendezvous(events: &[Event], task: TaskNo) -> bool
 
 #[tactic(auto, unfolding(ada_events::specs::Says::call_in))]
 fn calls_family(event: &Event, family: u8) -> bool
-    ensures { result ≡ is_some_and (said.call_in event.now) (λ (c : said.Call). c.entry.family == family) }
+    ensures { result ≡ is_some_and (said.call_in event.now)
+        (λ (c : said.Call). c.entry.family == family) }
 {
     match event {
         Event::Called { entry, .. } => entry.family == family,
@@ -193,7 +197,8 @@ fn calls_family(event: &Event, family: u8) -> bool
 
 // The call at a position is for the family.
 fn has_call_for(events: &[Event], call: u32, family: u8) -> bool
-    ensures { result ≡ is_some_and (said.call_at (reverse events.now) call) (λ (c : said.Call). c.entry.family == family) }
+    ensures { result ≡ is_some_and (said.call_at (reverse events.now) call)
+        (λ (c : said.Call). c.entry.family == family) }
 {
     match event_in(events, call) {
         Some(event) => calls_family(event, family),
@@ -204,7 +209,8 @@ fn has_call_for(events: &[Event], call: u32, family: u8) -> bool
 #[tactic(auto, unfolding(ada_events::specs::Refusals::is_rendezvous_for))]
 fn is_some_rendezvous_for(events: &[Event], family: u8, member: Option<Member>) -> bool
     requires { length events.now < 2 ^ 32 }
-    ensures { result ≡ option_map_or (refusals.is_rendezvous_for (reverse events.now) family) member false }
+    ensures { result ≡ option_map_or (refusals.is_rendezvous_for (reverse events.now) family)
+        member false }
 {
     match member {
         Some(Member::Rendezvous(call)) => has_call_for(events, call, family),
@@ -217,7 +223,8 @@ fn is_some_rendezvous_for(events: &[Event], family: u8, member: Option<Member>) 
 #[tactic(auto, unfolding(ada_events::specs::Nests::nest, ada_events::specs::Search::gathered))]
 pub fn is_in_rendezvous_for(events: &[Event], task: TaskNo, family: u8) -> bool
     requires { length events.now < 2 ^ 32 }
-    ensures { result ≡ list_any (refusals.is_rendezvous_for (reverse events.now) family) (nests.nest (reverse events.now) task.0) }
+    ensures { result ≡ list_any (refusals.is_rendezvous_for (reverse events.now) family)
+        (nests.nest (reverse events.now) task.0) }
 {
     let mut found = false;
     for (i, event) in events.iter().enumerate() {

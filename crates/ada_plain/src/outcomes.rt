@@ -32,7 +32,8 @@ pub fn raised_in(event: &Event) -> Option<TaskNo>
 #[tactic(auto, unfolding(ada_events::specs::Waits::taken_choice, ada_events::specs::Says::wait_in))]
 fn choice_taken_in(events: &[Event], event: &Event) -> Option<u8>
     requires { length events.now < 2 ^ 32 }
-    ensures { result ≡ option_and_then (waits.taken_choice (reverse events.now)) (said.wait_in event.now) }
+    ensures { result ≡ option_and_then (waits.taken_choice (reverse events.now))
+        (said.wait_in event.now) }
 {
     match event {
         Event::Waiting {
@@ -94,7 +95,8 @@ pub fn released_to(before: &[Event], event: &Event) -> Outcome
 // What becomes of what is at a position by an event after these, else what became of it before.
 fn or_released(so_far: Outcome, before: &[Event], event: &Event, position: u32) -> Outcome
     requires { length before.now < 2 ^ 32 }
-    ensures { result ≡ (if is_number position (said.released_in event.now) then outcomes.released_to (reverse before.now) event.now else so_far) }
+    ensures { result ≡ (if is_number position (said.released_in event.now)
+        then outcomes.released_to (reverse before.now) event.now else so_far) }
 {
     if is_position(position, says::released_in(event)) {
         released_to(before, event)
@@ -140,7 +142,8 @@ fn or_outcome_at(
     event: &Event,
 ) -> Option<Outcome>
     requires { length events.now < 2 ^ 32 }
-    ensures { result ≡ option_or later (outcomes.outcome_at (reverse events.now) task.0 position event.now) }
+    ensures { result ≡ option_or later (outcomes.outcome_at (reverse events.now) task.0
+        position event.now) }
 {
     match later {
         Some(outcome) => Some(outcome),
@@ -152,7 +155,8 @@ fn or_outcome_at(
 #[tactic(auto, unfolding(ada_events::specs::Outcomes::last_given), using(crate::proofs::Latest::last_given_less))]
 pub fn latest_outcome(events: &[Event], task: TaskNo) -> Option<Outcome>
     requires { length events.now < 2 ^ 32 }
-    ensures { result ≡ outcomes.last_given (outcomes.outcome_at (reverse events.now) task.0) (reverse events.now) }
+    ensures { result ≡ outcomes.last_given (outcomes.outcome_at (reverse events.now) task.0)
+        (reverse events.now) }
 {
     let mut left = events.len();
     let mut latest = None;

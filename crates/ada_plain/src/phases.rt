@@ -45,7 +45,8 @@ pub fn is_elaborated(events: &[Event], task: TaskNo) -> bool
 }
 
 fn has_elaborated(events: &[Event], task: TaskNo) -> bool
-    ensures { result ≡ list_any (λ (e : EventValue). is_number task.0 (said.elaborated_in e)) (reverse events.now) }
+    ensures { result ≡ list_any (λ (e : EventValue).
+        is_number task.0 (said.elaborated_in e)) (reverse events.now) }
 {
     events
         .iter()
@@ -78,7 +79,8 @@ pub fn is_completed(events: &[Event], task: TaskNo) -> bool
 // The event terminates all that depend on a master, and the task is one of them.
 fn quits(before: &[Event], event: &Event, task: TaskNo) -> bool
     requires { length before.now < 2 ^ 32 }
-    ensures { result ≡ option_map_or (masters.depends_on (reverse before.now) task.0) (said.quit_in event.now) false }
+    ensures { result ≡ option_map_or (masters.depends_on (reverse before.now) task.0)
+        (said.quit_in event.now) false }
 {
     match says::quit_in(event) {
         Some(master) => depends_on(before, task, master),
@@ -88,7 +90,9 @@ fn quits(before: &[Event], event: &Event, task: TaskNo) -> bool
 
 fn terminates(before: &[Event], event: &Event, task: TaskNo) -> bool
     requires { length before.now < 2 ^ 32 }
-    ensures { result ≡ (is_number task.0 (said.gone_in event.now) || option_map_or (masters.depends_on (reverse before.now) task.0) (said.quit_in event.now) false) }
+    ensures { result ≡ (is_number task.0 (said.gone_in event.now)
+        || option_map_or (masters.depends_on (reverse before.now) task.0)
+        (said.quit_in event.now) false) }
 {
     is_task(task, says::gone_in(event)) || quits(before, event, task)
 }
@@ -117,7 +121,8 @@ pub fn has_ended(events: &[Event], task: TaskNo) -> bool
 
 fn is_reached_by(events: &[Event], named: TaskNo, task: TaskNo) -> bool
     requires { length events.now < 2 ^ 32 }
-    ensures { result ≡ (named.0 == task.0 || masters.depends_on (reverse events.now) task.0 (Body named)) }
+    ensures { result ≡ (named.0 == task.0
+        || masters.depends_on (reverse events.now) task.0 (Body named)) }
 {
     named.0 == task.0 || depends_on(events, task, Master::Body(named))
 }
@@ -125,7 +130,8 @@ fn is_reached_by(events: &[Event], named: TaskNo, task: TaskNo) -> bool
 // The abort of some tasks reaches the task.
 fn is_reached(events: &[Event], named: &[TaskNo], task: TaskNo) -> bool
     requires { length events.now < 2 ^ 32 }
-    ensures { result ≡ list_any (λ (t : Task). t.0 == task.0 || masters.depends_on (reverse events.now) task.0 (Body t)) named.now }
+    ensures { result ≡ list_any (λ (t : Task).
+        t.0 == task.0 || masters.depends_on (reverse events.now) task.0 (Body t)) named.now }
 {
     named
         .iter()
@@ -134,8 +140,11 @@ fn is_reached(events: &[Event], named: &[TaskNo], task: TaskNo) -> bool
 
 fn makes_abnormal(before: &[Event], event: &Event, task: TaskNo) -> bool
     requires { length before.now < 2 ^ 32 }
-    ensures { result ≡ (list_any (λ (t : Task). t.0 == task.0 || masters.depends_on (reverse before.now) task.0 (Body t)) (said.aborted_in event.now)
-        && nat_lt task.0 (count_of_tasks (reverse before.now)) && not (phases.is_terminated (reverse before.now) task.0)) }
+    ensures { result ≡ (list_any (λ (t : Task).
+        t.0 == task.0 || masters.depends_on (reverse before.now) task.0 (Body t))
+        (said.aborted_in event.now)
+        && nat_lt task.0 (count_of_tasks (reverse before.now))
+        && not (phases.is_terminated (reverse before.now) task.0)) }
 {
     is_reached(before, says::aborted_in(event), task)
         && u64::from(task.0) < task_count(before)
@@ -167,7 +176,8 @@ pub fn is_released(events: &[Event], position: u32) -> bool
 }
 
 fn holds_up(events: &[Event], task: TaskNo, position: u32, event: &Event) -> bool
-    ensures { result ≡ (is_number task.0 (said.held_in event.now) && not (phases.is_released (reverse events.now) position)) }
+    ensures { result ≡ (is_number task.0 (said.held_in event.now)
+        && not (phases.is_released (reverse events.now) position)) }
 {
     is_task(task, says::held_in(event)) && !is_released(events, position)
 }
@@ -176,7 +186,9 @@ fn holds_up(events: &[Event], task: TaskNo, position: u32, event: &Event) -> boo
 #[tactic(auto, unfolding(ada_events::specs::Search::any_event), using(crate::proofs::Loops::any_event_more))]
 fn is_held(events: &[Event], task: TaskNo) -> bool
     requires { length events.now < 2 ^ 32 }
-    ensures { result ≡ any_event (λ p e. is_number task.0 (said.held_in e) && not (phases.is_released (reverse events.now) p)) (reverse events.now) }
+    ensures { result ≡ any_event (λ p e.
+        is_number task.0 (said.held_in e)
+        && not (phases.is_released (reverse events.now) p)) (reverse events.now) }
 {
     let mut held = false;
     for (i, event) in events.iter().enumerate() {
@@ -196,7 +208,8 @@ pub fn is_suspended(events: &[Event], task: TaskNo) -> bool
 
 fn starts(before: &[Event], event: &Event, task: TaskNo) -> bool
     requires { length before.now < 2 ^ 32 }
-    ensures { result ≡ (phases.lists_task task.0 (said.started_in event.now) && not (phases.has_ended (reverse before.now) task.0)) }
+    ensures { result ≡ (phases.lists_task task.0 (said.started_in event.now)
+        && not (phases.has_ended (reverse before.now) task.0)) }
 {
     lists_task(says::started_in(event), task) && !has_ended(before, task)
 }

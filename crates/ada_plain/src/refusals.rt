@@ -66,7 +66,8 @@ fn is_unknown_body(count: u64, master: Master) -> bool
 
 #[tactic(auto, unfolding(ada_events::specs::Asks::named_tasks))]
 fn names_unknown(count: u64, request: &Request) -> bool
-    ensures { result ≡ list_any (λ (t : Task). not (nat_lt t.0 count)) (asks.named_tasks request.now) }
+    ensures { result ≡ list_any (λ (t : Task).
+        not (nat_lt t.0 count)) (asks.named_tasks request.now) }
 {
     match request {
         Request::Create { master, .. } => is_unknown_body(count, *master),
@@ -80,7 +81,8 @@ fn names_unknown(count: u64, request: &Request) -> bool
 }
 
 fn is_unknown_asker(count: u64, asker: Option<TaskNo>) -> bool
-    ensures { result ≡ is_some_and (option_map (λ (t : Task). t.0) asker) (λ t. not (nat_lt t count)) }
+    ensures { result ≡ is_some_and (option_map (λ (t : Task). t.0) asker) (λ t.
+        not (nat_lt t count)) }
 {
     match asker {
         Some(task) => !is_known(count, task),
@@ -99,7 +101,8 @@ fn names_unknown_task(events: &[Event], request: &Request) -> bool
 
 fn is_halted_asker(events: &[Event], asker: Option<TaskNo>) -> bool
     requires { length events.now < 2 ^ 32 }
-    ensures { result ≡ is_some_and (option_map (λ (t : Task). t.0) asker) (λ t. not (phases.is_running (reverse events.now) t)) }
+    ensures { result ≡ is_some_and (option_map (λ (t : Task). t.0) asker) (λ t.
+        not (phases.is_running (reverse events.now) t)) }
 {
     match asker {
         Some(task) => !is_running(events, task),
@@ -163,7 +166,8 @@ fn has_empty_list(request: &Request) -> bool
 
 fn is_made_by(events: &[Event], by: TaskNo, task: TaskNo) -> bool
     requires { length events.now < 2 ^ 32 }
-    ensures { result ≡ is_some_and (creation_of (reverse events.now) task.0) (λ (c : said.Creation). c.by == by.0) }
+    ensures { result ≡ is_some_and (creation_of (reverse events.now) task.0)
+        (λ (c : said.Creation). c.by == by.0) }
 {
     match making_of(events, task) {
         Some(making) => making.by.0 == by.0,
@@ -181,7 +185,8 @@ fn may_activate(events: &[Event], by: TaskNo, task: TaskNo) -> bool
 
 fn lists_anothers(events: &[Event], by: TaskNo, tasks: &[TaskNo]) -> bool
     requires { length events.now < 2 ^ 32 }
-    ensures { result ≡ list_any (λ (t : Task). not (refusals.may_activate (reverse events.now) by.0 t.0)) tasks.now }
+    ensures { result ≡ list_any (λ (t : Task).
+        not (refusals.may_activate (reverse events.now) by.0 t.0)) tasks.now }
 {
     tasks.iter().any(|task| !may_activate(events, by, *task))
 }
@@ -202,7 +207,9 @@ pub fn has_double_task(tasks: &[TaskNo]) -> bool
 
 fn is_not_to_activate(events: &[Event], by: TaskNo, tasks: &[TaskNo]) -> bool
     requires { length events.now < 2 ^ 32 }
-    ensures { result ≡ (list_any (λ (t : Task). not (refusals.may_activate (reverse events.now) by.0 t.0)) tasks.now || refusals.has_double_task tasks.now) }
+    ensures { result ≡ (list_any (λ (t : Task).
+        not (refusals.may_activate (reverse events.now) by.0 t.0)) tasks.now
+        || refusals.has_double_task tasks.now) }
 {
     lists_anothers(events, by, tasks) || has_double_task(tasks)
 }
@@ -239,7 +246,8 @@ pub fn lacks_family(events: &[Event], task: TaskNo, entry: Entry) -> bool
 
 fn lacks_some_family(events: &[Event], by: TaskNo, choices: &[Choice]) -> bool
     requires { length events.now < 2 ^ 32 }
-    ensures { result ≡ list_any (λ (c : ChoiceValue). refusals.lacks_family (reverse events.now) by.0 c.entry) choices.now }
+    ensures { result ≡ list_any (λ (c : ChoiceValue).
+        refusals.lacks_family (reverse events.now) by.0 c.entry) choices.now }
 {
     choices
         .iter()
@@ -272,14 +280,16 @@ pub fn is_outside(events: &[Event], task: TaskNo, entry: Entry) -> bool
 
 fn is_open_outside(events: &[Event], by: TaskNo, choice: Choice) -> bool
     requires { length events.now < 2 ^ 32 }
-    ensures { result ≡ (choice.guard && refusals.is_outside (reverse events.now) by.0 choice.entry) }
+    ensures { result ≡ (choice.guard && refusals.is_outside (reverse events.now) by.0
+        choice.entry) }
 {
     choice.guard && is_outside(events, by, choice.entry)
 }
 
 fn has_open_outside(events: &[Event], by: TaskNo, choices: &[Choice]) -> bool
     requires { length events.now < 2 ^ 32 }
-    ensures { result ≡ list_any (λ (c : ChoiceValue). c.guard && refusals.is_outside (reverse events.now) by.0 c.entry) choices.now }
+    ensures { result ≡ list_any (λ (c : ChoiceValue).
+        c.guard && refusals.is_outside (reverse events.now) by.0 c.entry) choices.now }
 {
     choices
         .iter()
@@ -300,7 +310,9 @@ fn breaks_constraint(events: &[Event], request: &Request) -> bool
 
 fn nests_some_family(events: &[Event], by: TaskNo, choices: &[Choice]) -> bool
     requires { length events.now < 2 ^ 32 }
-    ensures { result ≡ list_any (λ (c : ChoiceValue). list_any (refusals.is_rendezvous_for (reverse events.now) c.entry.family) (nests.nest (reverse events.now) by.0)) choices.now }
+    ensures { result ≡ list_any (λ (c : ChoiceValue).
+        list_any (refusals.is_rendezvous_for (reverse events.now) c.entry.family)
+        (nests.nest (reverse events.now) by.0)) choices.now }
 {
     choices.iter().any(|choice| is_in_rendezvous_for(events, by, choice.entry.family))
 }
@@ -388,7 +400,8 @@ fn aborts_main(request: &Request) -> bool
 #[tactic(auto, unfolding(ada_events::specs::Refusals::first_cause))]
 fn refused_name(events: &[Event], request: &Request) -> Option<Refusal>
     requires { length events.now < 2 ^ 32 }
-    ensures { result ≡ refusals.first_cause (refusals.causes_by_name (reverse events.now) request.now) }
+    ensures { result ≡ refusals.first_cause
+        (refusals.causes_by_name (reverse events.now) request.now) }
 {
     if names_unknown_task(events, request) {
         return Some(Refusal::UnknownTask);
@@ -415,7 +428,8 @@ fn refused_name(events: &[Event], request: &Request) -> Option<Refusal>
 #[tactic(auto, unfolding(ada_events::specs::Refusals::first_cause))]
 fn refused_entry(events: &[Event], request: &Request) -> Option<Refusal>
     requires { length events.now < 2 ^ 32 }
-    ensures { result ≡ refusals.first_cause (refusals.causes_by_entry (reverse events.now) request.now) }
+    ensures { result ≡ refusals.first_cause
+        (refusals.causes_by_entry (reverse events.now) request.now) }
 {
     if is_not_your_task(events, request) {
         return Some(Refusal::NotYourTask);
@@ -436,7 +450,8 @@ fn refused_entry(events: &[Event], request: &Request) -> Option<Refusal>
 #[tactic(auto, unfolding(ada_events::specs::Refusals::first_cause))]
 fn refused_nest(events: &[Event], request: &Request) -> Option<Refusal>
     requires { length events.now < 2 ^ 32 }
-    ensures { result ≡ refusals.first_cause (refusals.causes_by_nest (reverse events.now) request.now) }
+    ensures { result ≡ refusals.first_cause
+        (refusals.causes_by_nest (reverse events.now) request.now) }
 {
     if nests_same_family(events, request) {
         return Some(Refusal::SameFamilyNested);
@@ -460,7 +475,8 @@ fn refused_nest(events: &[Event], request: &Request) -> Option<Refusal>
 #[tactic(auto, unfolding(ada_events::specs::Refusals::first_cause))]
 fn refused_limit(events: &[Event], request: &Request) -> Option<Refusal>
     requires { length events.now < 2 ^ 32 }
-    ensures { result ≡ refusals.first_cause (refusals.causes_by_limit (reverse events.now) request.now) }
+    ensures { result ≡ refusals.first_cause
+        (refusals.causes_by_limit (reverse events.now) request.now) }
 {
     if aborts_main(request) {
         return Some(Refusal::MainTask);

@@ -161,7 +161,8 @@ pub fn left_in(event: &Event) -> Option<u32>
 /// With the call the event begins a rendezvous (9.5).
 #[tactic(auto, unfolding(ada_events::specs::Says::meeting_in))]
 pub fn is_meeting_of(call: u32, event: &Event) -> bool
-    ensures { result ≡ is_some_and (says.meeting_in event.now) (λ (m : says.Meeting). m.call == call) }
+    ensures { result ≡ is_some_and (says.meeting_in event.now)
+        (λ (m : says.Meeting). m.call == call) }
 {
     match event {
         Event::Met { call: met, .. } => *met == call,
@@ -183,7 +184,8 @@ pub fn is_call_by(task: TaskNo, event: &Event) -> bool
 /// The event is a call to the task (9.5).
 #[tactic(auto, unfolding(ada_events::specs::Says::call_in))]
 pub fn is_call_to(task: TaskNo, event: &Event) -> bool
-    ensures { result ≡ is_some_and (says.call_in event.now) (λ (c : says.Call). c.callee == task.0) }
+    ensures { result ≡ is_some_and (says.call_in event.now)
+        (λ (c : says.Call). c.callee == task.0) }
 {
     match event {
         Event::Called { callee, .. } => callee.0 == task.0,
@@ -205,7 +207,8 @@ pub fn is_wait_by(task: TaskNo, event: &Event) -> bool
 /// The event is a close of the block (9.4).
 #[tactic(auto, unfolding(ada_events::specs::Says::closing_in))]
 pub fn is_close_of(block: u32, event: &Event) -> bool
-    ensures { result ≡ is_some_and (says.closing_in event.now) (λ (c : says.Closing). c.block == block) }
+    ensures { result ≡ is_some_and (says.closing_in event.now)
+        (λ (c : says.Closing). c.block == block) }
 {
     match event {
         Event::Closed { block: closed, .. } => *closed == block,

@@ -25,7 +25,9 @@ pub struct TaskEntry {
 
 // The number of an entry of a family among all of that and of these before it, at most 2^64 - 1.
 fn number_in(before: &[Family], family: Family, index: i32) -> Option<u64>
-    ensures { result ≡ option_map capped (then_some (entries.is_in_range family index) (entries.entries_in before.now + unsigned_abs (index -ℤ family.low))) }
+    ensures { result ≡ option_map capped
+        (then_some (entries.is_in_range family index)
+        (entries.entries_in before.now + unsigned_abs (index -ℤ family.low))) }
 {
     if family.contains(index) {
         Some(Family::entries_in(before).saturating_add(family.offset(index)))
@@ -58,7 +60,9 @@ fn behind(first: u64, number: Option<u64>) -> Option<u64>
 // The slot of an entry of the task that an event makes, at most 2^64 - 1.
 #[tactic(auto, unfolding(ada_events::specs::Says::creation_in), using(crate::proofs::Places::capped_sum))]
 fn slot_in(before: &[Event], event: &Event, entry: Entry) -> Option<u64>
-    ensures { result ≡ option_map capped (option_and_then (λ (c : said.Creation). option_map (λ n. limits.slot_count (reverse before.now) + n) (places.number_within c.families entry)) (said.creation_in event.now)) }
+    ensures { result ≡ option_map capped (option_and_then (λ (c : said.Creation). option_map (λ n.
+        limits.slot_count (reverse before.now) + n) (places.number_within c.families entry))
+        (said.creation_in event.now)) }
 {
     match event {
         Event::Created { families, .. } => behind(
@@ -71,7 +75,10 @@ fn slot_in(before: &[Event], event: &Event, entry: Entry) -> Option<u64>
 
 // The slot of an entry of a task where the event makes it as the one of that number, at most 2^64 - 1.
 fn slot_made(before: &[Event], event: &Event, task: TaskNo, entry: Entry, count: u64) -> Option<u64>
-    ensures { result ≡ option_map capped (if task.0 == count then option_and_then (λ (c : said.Creation). option_map (λ n. limits.slot_count (reverse before.now) + n) (places.number_within c.families entry)) (said.creation_in event.now) else None) }
+    ensures { result ≡ option_map capped (if task.0 == count
+        then option_and_then (λ (c : said.Creation). option_map (λ n.
+        limits.slot_count (reverse before.now) + n) (places.number_within c.families entry))
+        (said.creation_in event.now) else None) }
 {
     if u64::from(task.0) == count {
         slot_in(before, event, entry)
@@ -148,7 +155,8 @@ pub fn entry_within(families: &[Family], number: u64) -> Option<Entry>
 }
 
 fn of_task(task: u64, entry: Option<Entry>) -> Option<TaskEntry>
-    ensures { option_map place_seen result ≡ option_map (λ (e : EntryValue). record { task = task; entry = e }) entry }
+    ensures { option_map place_seen result
+        ≡ option_map (λ (e : EntryValue). record { task = task; entry = e }) entry }
 {
     match entry {
         Some(entry) => Some(TaskEntry { task, entry }),
@@ -177,7 +185,9 @@ fn later_entry(
     slots: u64,
     slot: u64,
 ) -> Option<TaskEntry>
-    ensures { option_map place_seen result ≡ (if nat_lt slot slots then option_map place_seen found else place_made event.now task slots slot) }
+    ensures { option_map place_seen result
+        ≡ (if nat_lt slot slots then option_map place_seen found
+        else place_made event.now task slots slot) }
 {
     if slot < slots {
         found

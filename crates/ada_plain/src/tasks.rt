@@ -74,7 +74,8 @@ pub fn has_task(events: &[Event], task: TaskNo) -> bool
 
 /// The creation of the task of that number, if the event is its creation.
 fn making_at(event: &Event, task: TaskNo, count: u64) -> Option<Making<'_>>
-    ensures { option_map creation_seen result ≡ (if task.0 == count then creation_in event.now else None) }
+    ensures { option_map creation_seen result
+        ≡ (if task.0 == count then creation_in event.now else None) }
 {
     if u64::from(task.0) == count {
         making_in(event)

@@ -23,7 +23,8 @@ use ada_events::{Event, EventTail, Master, TaskNo};
 
 fn is_terminated_if_dependent(events: &[Event], task: TaskNo, master: Master) -> bool
     requires { length events.now < 2 ^ 32 }
-    ensures { result ≡ (not (masters.depends_on (reverse events.now) task.0 master) || phases.is_terminated (reverse events.now) task.0) }
+    ensures { result ≡ (not (masters.depends_on (reverse events.now) task.0 master)
+        || phases.is_terminated (reverse events.now) task.0) }
 {
     !depends_on(events, task, master) || is_terminated(events, task)
 }
@@ -44,7 +45,9 @@ pub fn all_terminated(events: &[Event], master: Master) -> bool
 
 // A close of the block is in the journal.
 fn has_close(events: &[Event], block: u32) -> bool
-    ensures { result ≡ list_any (λ (e : EventValue). is_some_and (said.closing_in e) (λ (c : said.Closing). c.block == block)) (reverse events.now) }
+    ensures { result ≡ list_any (λ (e : EventValue).
+        is_some_and (said.closing_in e) (λ (c : said.Closing). c.block == block))
+        (reverse events.now) }
 {
     events.iter().rev().any(|event| is_close_of(block, event))
 }
@@ -52,7 +55,8 @@ fn has_close(events: &[Event], block: u32) -> bool
 #[tactic(auto, unfolding(ada_events::specs::Says::opening_in))]
 fn is_by_ended(events: &[Event], event: &Event) -> bool
     requires { length events.now < 2 ^ 32 }
-    ensures { result ≡ is_some_and (said.opening_in event.now) (λ (o : said.Opening). phases.has_ended (reverse events.now) o.by) }
+    ensures { result ≡ is_some_and (said.opening_in event.now)
+        (λ (o : said.Opening). phases.has_ended (reverse events.now) o.by) }
 {
     match event {
         Event::Opened { by, .. } => has_ended(events, *by),
@@ -63,7 +67,8 @@ fn is_by_ended(events: &[Event], event: &Event) -> bool
 // The task of the block has ended.
 fn has_ended_task(events: &[Event], block: u32) -> bool
     requires { length events.now < 2 ^ 32 }
-    ensures { result ≡ is_some_and (said.opening_at (reverse events.now) block) (λ (o : said.Opening). phases.has_ended (reverse events.now) o.by) }
+    ensures { result ≡ is_some_and (said.opening_at (reverse events.now) block)
+        (λ (o : said.Opening). phases.has_ended (reverse events.now) o.by) }
 {
     match event_in(events, block) {
         Some(event) => is_by_ended(events, event),
@@ -94,7 +99,8 @@ pub fn is_complete(events: &[Event], master: Master) -> bool
 
 fn is_made_in_vain(events: &[Event], under: Master, by: TaskNo) -> bool
     requires { length events.now < 2 ^ 32 }
-    ensures { result ≡ (ending.is_complete (reverse events.now) under || phases.is_terminated (reverse events.now) by.0) }
+    ensures { result ≡ (ending.is_complete (reverse events.now) under
+        || phases.is_terminated (reverse events.now) by.0) }
 {
     is_complete(events, under) || is_terminated(events, by)
 }
@@ -102,7 +108,9 @@ fn is_made_in_vain(events: &[Event], under: Master, by: TaskNo) -> bool
 // What the task was made within is complete, or its maker is terminated.
 fn has_lost_its_maker(events: &[Event], task: TaskNo) -> bool
     requires { length events.now < 2 ^ 32 }
-    ensures { result ≡ is_some_and (creation_of (reverse events.now) task.0) (λ (c : said.Creation). ending.is_complete (reverse events.now) c.under || phases.is_terminated (reverse events.now) c.by) }
+    ensures { result ≡ is_some_and (creation_of (reverse events.now) task.0)
+        (λ (c : said.Creation). ending.is_complete (reverse events.now) c.under
+        || phases.is_terminated (reverse events.now) c.by) }
 {
     match making_of(events, task) {
         Some(making) => is_made_in_vain(events, making.under, making.by),
@@ -121,7 +129,8 @@ pub fn is_abandoned(events: &[Event], task: TaskNo) -> bool
 
 fn is_queued_call_to(events: &[Event], task: TaskNo, position: u32, event: &Event) -> bool
     requires { length events.now < 2 ^ 32 }
-    ensures { result ≡ (is_some_and (said.call_in event.now) (λ (c : said.Call). c.callee == task.0) && calls.is_queued_at (reverse events.now) position event.now) }
+    ensures { result ≡ (is_some_and (said.call_in event.now) (λ (c : said.Call). c.callee == task.0)
+        && calls.is_queued_at (reverse events.now) position event.now) }
 {
     is_call_to(task, event) && is_queued_at(events, position, event)
 }
@@ -130,7 +139,9 @@ fn is_queued_call_to(events: &[Event], task: TaskNo, position: u32, event: &Even
 #[tactic(auto, unfolding(ada_events::specs::Search::any_event), using(crate::proofs::Loops::any_event_more))]
 fn has_queued_call(events: &[Event], task: TaskNo) -> bool
     requires { length events.now < 2 ^ 32 }
-    ensures { result ≡ any_event (λ p e. is_some_and (said.call_in e) (λ (c : said.Call). c.callee == task.0) && calls.is_queued_at (reverse events.now) p e) (reverse events.now) }
+    ensures { result ≡ any_event (λ p e.
+        is_some_and (said.call_in e) (λ (c : said.Call). c.callee == task.0)
+        && calls.is_queued_at (reverse events.now) p e) (reverse events.now) }
 {
     let mut found = false;
     for (i, event) in events.iter().enumerate() {
@@ -156,7 +167,8 @@ fn is_quittable_by(task: TaskNo, by: TaskNo, tail: &EventTail) -> bool
 
 #[tactic(auto, unfolding(ada_events::specs::Says::wait_in))]
 fn is_quittable_wait(task: TaskNo, event: &Event) -> bool
-    ensures { result ≡ is_some_and (said.wait_in event.now) (λ (w : said.Wait). (w.by == task.0) && ending.is_open_terminate w.tail) }
+    ensures { result ≡ is_some_and (said.wait_in event.now) (λ (w : said.Wait). (w.by == task.0)
+        && ending.is_open_terminate w.tail) }
 {
     match event {
         Event::Waiting { by, tail, .. } => is_quittable_by(task, *by, tail),
@@ -165,7 +177,9 @@ fn is_quittable_wait(task: TaskNo, event: &Event) -> bool
 }
 
 fn is_held_at_terminate(events: &[Event], task: TaskNo, position: u32, event: &Event) -> bool
-    ensures { result ≡ (is_some_and (said.wait_in event.now) (λ (w : said.Wait). (w.by == task.0) && ending.is_open_terminate w.tail) && not (phases.is_released (reverse events.now) position)) }
+    ensures { result ≡ (is_some_and (said.wait_in event.now) (λ (w : said.Wait). (w.by == task.0)
+        && ending.is_open_terminate w.tail)
+        && not (phases.is_released (reverse events.now) position)) }
 {
     is_quittable_wait(task, event) && !is_released(events, position)
 }
@@ -174,7 +188,10 @@ fn is_held_at_terminate(events: &[Event], task: TaskNo, position: u32, event: &E
 #[tactic(auto, unfolding(ada_events::specs::Search::any_event), using(crate::proofs::Loops::any_event_more))]
 fn is_at_terminate(events: &[Event], task: TaskNo) -> bool
     requires { length events.now < 2 ^ 32 }
-    ensures { result ≡ any_event (λ p e. is_some_and (said.wait_in e) (λ (w : said.Wait). (w.by == task.0) && ending.is_open_terminate w.tail) && not (phases.is_released (reverse events.now) p)) (reverse events.now) }
+    ensures { result ≡ any_event (λ p e.
+        is_some_and (said.wait_in e) (λ (w : said.Wait). (w.by == task.0)
+        && ending.is_open_terminate w.tail)
+        && not (phases.is_released (reverse events.now) p)) (reverse events.now) }
 {
     let mut found = false;
     for (i, event) in events.iter().enumerate() {
@@ -195,7 +212,9 @@ pub fn is_ready_to_quit(events: &[Event], task: TaskNo) -> bool
 
 fn is_ready_if_dependent(events: &[Event], task: TaskNo, master: Master) -> bool
     requires { length events.now < 2 ^ 32 }
-    ensures { result ≡ (not (masters.depends_on (reverse events.now) task.0 master) || phases.is_terminated (reverse events.now) task.0 || ending.is_ready_to_quit (reverse events.now) task.0) }
+    ensures { result ≡ (not (masters.depends_on (reverse events.now) task.0 master)
+        || phases.is_terminated (reverse events.now) task.0
+        || ending.is_ready_to_quit (reverse events.now) task.0) }
 {
     !depends_on(events, task, master)
         || is_terminated(events, task)
@@ -207,7 +226,10 @@ fn is_ready_if_dependent(events: &[Event], task: TaskNo, master: Master) -> bool
 fn all_ready(events: &[Event], master: Master) -> bool
     requires short { length events.now < 2 ^ 32 }
     requires few { count_of_tasks (reverse events.now) ≤ MOST_TASKS }
-    ensures { result ≡ all_below (λ u. not (masters.depends_on (reverse events.now) u master) || phases.is_terminated (reverse events.now) u || ending.is_ready_to_quit (reverse events.now) u) (count_of_tasks (reverse events.now)) }
+    ensures { result ≡ all_below (λ u.
+        not (masters.depends_on (reverse events.now) u master)
+        || phases.is_terminated (reverse events.now) u
+        || ending.is_ready_to_quit (reverse events.now) u) (count_of_tasks (reverse events.now)) }
 {
     let mut all = true;
     for task in 0..task_count(events) as u16 {

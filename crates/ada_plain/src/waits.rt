@@ -35,7 +35,8 @@ pub fn is_selectable(events: &[Event], task: TaskNo, choice: Choice) -> bool
 pub fn selectable(events: &[Event], task: TaskNo, choices: &[Choice]) -> ChoiceNumbers
     requires few { length choices.now ≤ MOST_CHOICES }
     requires short { length events.now < 2 ^ 32 }
-    ensures { result ≡ waits.numbers_from (waits.is_selectable (reverse events.now) task.0) 0 choices.now }
+    ensures { result ≡ waits.numbers_from (waits.is_selectable (reverse events.now) task.0)
+        0 choices.now }
 {
     let mut numbers = ChoiceNumbers::new();
     for (i, choice) in choices.iter().enumerate() {
@@ -48,14 +49,16 @@ pub fn selectable(events: &[Event], task: TaskNo, choices: &[Choice]) -> ChoiceN
 pub fn taken_choice(events: &[Event], task: TaskNo, choices: &[Choice], pick: u32) -> Option<u8>
     requires few { length choices.now ≤ MOST_CHOICES }
     requires short { length events.now < 2 ^ 32 }
-    ensures { result ≡ waits.picked pick (waits.numbers_from (waits.is_selectable (reverse events.now) task.0) 0 choices.now) }
+    ensures { result ≡ waits.picked pick
+        (waits.numbers_from (waits.is_selectable (reverse events.now) task.0) 0 choices.now) }
 {
     picked(pick, selectable(events, task, choices).as_slice())
 }
 
 fn front_of_number(events: &[Event], task: TaskNo, choices: &[Choice], number: u8) -> Option<u32>
     requires { length events.now < 2 ^ 32 }
-    ensures { result ≡ option_and_then (waits.front_of (reverse events.now) task.0) (slice_get choices.now number) }
+    ensures { result ≡ option_and_then (waits.front_of (reverse events.now) task.0)
+        (slice_get choices.now number) }
 {
     match choices.get(number as usize) {
         Some(choice) => front_of(events, task, *choice),
@@ -67,7 +70,10 @@ fn front_of_number(events: &[Event], task: TaskNo, choices: &[Choice], number: u
 pub fn taken_call(events: &[Event], task: TaskNo, choices: &[Choice], pick: u32) -> Option<u32>
     requires few { length choices.now ≤ MOST_CHOICES }
     requires short { length events.now < 2 ^ 32 }
-    ensures { result ≡ option_and_then (waits.front_of (reverse events.now) task.0) (option_and_then (slice_get choices.now) (waits.picked pick (waits.numbers_from (waits.is_selectable (reverse events.now) task.0) 0 choices.now))) }
+    ensures { result ≡ option_and_then (waits.front_of (reverse events.now) task.0)
+        (option_and_then (slice_get choices.now)
+        (waits.picked pick (waits.numbers_from (waits.is_selectable (reverse events.now) task.0)
+        0 choices.now))) }
 {
     match taken_choice(events, task, choices, pick) {
         Some(number) => front_of_number(events, task, choices, number),

@@ -115,10 +115,13 @@ way_text ways.ProgramError = codes " program_error"
 -- ---- events
 
 abbrev pub created_text : Scope → ℕ → TaskNo → Master → List Family → List ℕ
-created_text names at by master families = task_text names by ++ codes " created " ++ made_text names at ++ codes " under " ++ master_text names master ++ families_text (families_in (bound_to names (bounds.Made at))) families
+created_text names at by master families =
+    task_text names by ++ codes " created " ++ made_text names at ++ codes " under " ++ master_text names master
+    ++ families_text (families_in (bound_to names (bounds.Made at))) families
 
 abbrev pub called_text : Scope → TaskNo → TaskNo → Entry → Patience → Option ℤ → List ℕ
-called_text names by callee entry patience due = task_text names by ++ call_verb patience ++ task_text names callee ++ codes "." ++ entry_text names callee entry ++ until_text due
+called_text names by callee entry patience due =
+    task_text names by ++ call_verb patience ++ task_text names callee ++ codes "." ++ entry_text names callee entry ++ until_text due
 
 abbrev pub waiting_text : Scope → TaskNo → List Choice → EventTail → ℕ → List ℕ
 waiting_text names by choices tail pick = task_text names by ++ codes " waits " ++ decimal pick ++ flat_map (choice_text names by) choices ++ tail_text tail

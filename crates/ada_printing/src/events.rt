@@ -4,7 +4,8 @@ ghost use Rattle.std.specs.Prelude.{◌≡◌, ◌++◌, OnOk, codes, decimal, i
 ghost use Rattle.std.specs.Fmt.{signed_decimal};
 ghost use Rattle.std.specs.List.{flat_map};
 ghost use Rattle.ada_printing.specs.Appending.{KeepsStarts};
-ghost use Rattle.ada_printing.specs.Texts.{task_text, master_text, listed_text, way_text, created_text, called_text, waiting_text, event_text, call_verb as verb_text};
+ghost use Rattle.ada_printing.specs.Texts.{task_text, master_text, listed_text, way_text, created_text, called_text, waiting_text, event_text};
+ghost use Rattle.ada_printing.specs.Texts.{call_verb as verb_text};
 ghost use Rattle.ada_events.specs.declared.event.Event.TheVariants as events;
 
 use crate::parts::{
@@ -24,7 +25,8 @@ fn put_opened(
     under: Master,
     names: &Names,
 ) -> Result<(), AllocError>
-    ensures text { OnOk result (out.new.items ≡ out.old.items ++ event_text names.now at (events.Opened by under)) }
+    ensures text { OnOk result (out.new.items ≡ out.old.items
+        ++ event_text names.now at (events.Opened by under)) }
     ensures starts { KeepsStarts out.old.items out.new.items }
 {
     put_task(out, by, names)?;
@@ -42,7 +44,8 @@ fn put_created(
     families: &FamilyList,
     names: &Names,
 ) -> Result<(), AllocError>
-    ensures text { OnOk result (out.new.items ≡ out.old.items ++ created_text names.now at by master families.now) }
+    ensures text { OnOk result (out.new.items ≡ out.old.items
+        ++ created_text names.now at by master families.now) }
     ensures starts { KeepsStarts out.old.items out.new.items }
 {
     put_task(out, by, names)?;
@@ -72,7 +75,8 @@ fn put_called(
     due: Option<i64>,
     names: &Names,
 ) -> Result<(), AllocError>
-    ensures text { OnOk result (out.new.items ≡ out.old.items ++ called_text names.now by callee entry patience due) }
+    ensures text { OnOk result (out.new.items ≡ out.old.items
+        ++ called_text names.now by callee entry patience due) }
     ensures starts { KeepsStarts out.old.items out.new.items }
 {
     put_task(out, by, names)?;
@@ -91,7 +95,8 @@ fn put_waiting(
     pick: u32,
     names: &Names,
 ) -> Result<(), AllocError>
-    ensures text { OnOk result (out.new.items ≡ out.old.items ++ waiting_text names.now by choices.now tail.now pick) }
+    ensures text { OnOk result (out.new.items ≡ out.old.items
+        ++ waiting_text names.now by choices.now tail.now pick) }
     ensures starts { KeepsStarts out.old.items out.new.items }
 {
     put_task(out, by, names)?;
@@ -103,7 +108,8 @@ fn put_waiting(
 
 /// Appends a task and what it did.
 fn put_deed(out: &mut Vec<u8>, by: TaskNo, deed: &[u8], names: &Names) -> Result<(), AllocError>
-    ensures text { OnOk result (out.new.items ≡ out.old.items ++ (task_text names.now by ++ deed.now)) }
+    ensures text { OnOk result (out.new.items ≡ out.old.items
+        ++ (task_text names.now by ++ deed.now)) }
     ensures starts { KeepsStarts out.old.items out.new.items }
 {
     put_task(out, by, names)?;
@@ -127,7 +133,8 @@ fn put_list(
     tasks: &TaskList,
     names: &Names,
 ) -> Result<(), AllocError>
-    ensures text { OnOk result (out.new.items ≡ out.old.items ++ (task_text names.now by ++ deed.now ++ flat_map (listed_text names.now) tasks.now)) }
+    ensures text { OnOk result (out.new.items ≡ out.old.items
+        ++ (task_text names.now by ++ deed.now ++ flat_map (listed_text names.now) tasks.now)) }
     ensures starts { KeepsStarts out.old.items out.new.items }
 {
     put_task(out, by, names)?;
@@ -136,7 +143,8 @@ fn put_list(
 }
 
 fn put_elaborated(out: &mut Vec<u8>, by: TaskNo, ok: bool, names: &Names) -> Result<(), AllocError>
-    ensures text { OnOk result (out.new.items ≡ out.old.items ++ event_text names.now 0 (events.Elaborated by ok)) }
+    ensures text { OnOk result (out.new.items ≡ out.old.items
+        ++ event_text names.now 0 (events.Elaborated by ok)) }
     ensures starts { KeepsStarts out.old.items out.new.items }
 {
     put_task(out, by, names)?;
@@ -148,7 +156,8 @@ fn put_elaborated(out: &mut Vec<u8>, by: TaskNo, ok: bool, names: &Names) -> Res
 }
 
 fn put_paused(out: &mut Vec<u8>, by: TaskNo, due: i64, names: &Names) -> Result<(), AllocError>
-    ensures text { OnOk result (out.new.items ≡ out.old.items ++ event_text names.now 0 (events.Paused by due)) }
+    ensures text { OnOk result (out.new.items ≡ out.old.items
+        ++ event_text names.now 0 (events.Paused by due)) }
     ensures starts { KeepsStarts out.old.items out.new.items }
 {
     put_task(out, by, names)?;
@@ -163,7 +172,8 @@ fn put_ended(
     raised: bool,
     names: &Names,
 ) -> Result<(), AllocError>
-    ensures text { OnOk result (out.new.items ≡ out.old.items ++ event_text names.now 0 (events.Ended by call raised)) }
+    ensures text { OnOk result (out.new.items ≡ out.old.items
+        ++ event_text names.now 0 (events.Ended by call raised)) }
     ensures starts { KeepsStarts out.old.items out.new.items }
 {
     put_task(out, by, names)?;
@@ -176,7 +186,8 @@ fn put_ended(
 }
 
 fn put_closed(out: &mut Vec<u8>, by: TaskNo, block: u32, names: &Names) -> Result<(), AllocError>
-    ensures text { OnOk result (out.new.items ≡ out.old.items ++ event_text names.now 0 (events.Closed by block)) }
+    ensures text { OnOk result (out.new.items ≡ out.old.items
+        ++ event_text names.now 0 (events.Closed by block)) }
     ensures starts { KeepsStarts out.old.items out.new.items }
 {
     put_task(out, by, names)?;
@@ -185,7 +196,8 @@ fn put_closed(out: &mut Vec<u8>, by: TaskNo, block: u32, names: &Names) -> Resul
 }
 
 fn put_ticked(out: &mut Vec<u8>, now: i64) -> Result<(), AllocError>
-    ensures text { OnOk result (out.new.items ≡ out.old.items ++ (codes "ticked " ++ signed_decimal now)) }
+    ensures text { OnOk result (out.new.items ≡ out.old.items
+        ++ (codes "ticked " ++ signed_decimal now)) }
     ensures starts { KeepsStarts out.old.items out.new.items }
 {
     put(out, b"ticked ")?;
@@ -194,7 +206,8 @@ fn put_ticked(out: &mut Vec<u8>, now: i64) -> Result<(), AllocError>
 
 /// Appends what happened to a task.
 fn put_fate(out: &mut Vec<u8>, fate: &[u8], task: TaskNo, names: &Names) -> Result<(), AllocError>
-    ensures text { OnOk result (out.new.items ≡ out.old.items ++ (fate.now ++ task_text names.now task)) }
+    ensures text { OnOk result (out.new.items ≡ out.old.items
+        ++ (fate.now ++ task_text names.now task)) }
     ensures starts { KeepsStarts out.old.items out.new.items }
 {
     put(out, fate)?;
@@ -202,7 +215,8 @@ fn put_fate(out: &mut Vec<u8>, fate: &[u8], task: TaskNo, names: &Names) -> Resu
 }
 
 fn put_met(out: &mut Vec<u8>, call: u32, wait: u32) -> Result<(), AllocError>
-    ensures text { OnOk result (out.new.items ≡ out.old.items ++ (codes "met " ++ decimal call ++ codes " " ++ decimal wait)) }
+    ensures text { OnOk result (out.new.items ≡ out.old.items
+        ++ (codes "met " ++ decimal call ++ codes " " ++ decimal wait)) }
     ensures starts { KeepsStarts out.old.items out.new.items }
 {
     put(out, b"met ")?;
@@ -212,7 +226,8 @@ fn put_met(out: &mut Vec<u8>, call: u32, wait: u32) -> Result<(), AllocError>
 }
 
 fn put_passed(out: &mut Vec<u8>, wait: u32, way: Way) -> Result<(), AllocError>
-    ensures text { OnOk result (out.new.items ≡ out.old.items ++ (codes "passed " ++ decimal wait ++ way_text way)) }
+    ensures text { OnOk result (out.new.items ≡ out.old.items
+        ++ (codes "passed " ++ decimal wait ++ way_text way)) }
     ensures starts { KeepsStarts out.old.items out.new.items }
 {
     put(out, b"passed ")?;
@@ -221,7 +236,8 @@ fn put_passed(out: &mut Vec<u8>, wait: u32, way: Way) -> Result<(), AllocError>
 }
 
 fn put_activated(out: &mut Vec<u8>, start: u32, ok: bool) -> Result<(), AllocError>
-    ensures text { OnOk result (out.new.items ≡ out.old.items ++ (codes "activated " ++ decimal start ++ (if ok then codes " ok" else codes " failed"))) }
+    ensures text { OnOk result (out.new.items ≡ out.old.items
+        ++ (codes "activated " ++ decimal start ++ (if ok then codes " ok" else codes " failed"))) }
     ensures starts { KeepsStarts out.old.items out.new.items }
 {
     put(out, b"activated ")?;
@@ -234,7 +250,8 @@ fn put_activated(out: &mut Vec<u8>, start: u32, ok: bool) -> Result<(), AllocErr
 }
 
 fn put_quit(out: &mut Vec<u8>, master: Master, names: &Names) -> Result<(), AllocError>
-    ensures text { OnOk result (out.new.items ≡ out.old.items ++ (codes "quit " ++ master_text names.now master)) }
+    ensures text { OnOk result (out.new.items ≡ out.old.items
+        ++ (codes "quit " ++ master_text names.now master)) }
     ensures starts { KeepsStarts out.old.items out.new.items }
 {
     put(out, b"quit ")?;
@@ -243,7 +260,8 @@ fn put_quit(out: &mut Vec<u8>, master: Master, names: &Names) -> Result<(), Allo
 
 /// Appends the text of the event at a position.
 pub fn put_event(out: &mut Vec<u8>, at: u32, event: &Event, names: &Names) -> Result<(), AllocError>
-    ensures text { OnOk result (out.new.items ≡ out.old.items ++ event_text names.now at event.now) }
+    ensures text { OnOk result (out.new.items ≡ out.old.items
+        ++ event_text names.now at event.now) }
     ensures starts { KeepsStarts out.old.items out.new.items }
 {
     match event {

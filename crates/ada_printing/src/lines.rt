@@ -42,7 +42,8 @@ fn put_event_line(
     event: &Event,
     names: &Names,
 ) -> Result<(), AllocError>
-    ensures text { OnOk result (out.new.items ≡ out.old.items ++ event_line names.now at event.now) }
+    ensures text { OnOk result (out.new.items ≡ out.old.items
+        ++ event_line names.now at event.now) }
     ensures starts { KeepsStarts out.old.items out.new.items }
 {
     put_number(out, at)?;

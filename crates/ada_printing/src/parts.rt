@@ -4,7 +4,8 @@ ghost use Rattle.std.specs.Prelude.{◌≡◌, ◌++◌, OnOk, decimal};
 ghost use Rattle.std.specs.Fmt.{signed_decimal};
 ghost use Rattle.std.specs.List.{flat_map};
 ghost use Rattle.ada_printing.specs.Appending.{KeepsStarts};
-ghost use Rattle.ada_printing.specs.Texts.{task_text, made_text, block_text, master_text, family_text, entry_text, listed_text, families_text, range_text, family_bounds_text, until_text, guard_text, choice_text, due_text, tail_text, way_text};
+ghost use Rattle.ada_printing.specs.Texts.{task_text, made_text, block_text, master_text, family_text, entry_text, listed_text, families_text, range_text};
+ghost use Rattle.ada_printing.specs.Texts.{family_bounds_text, until_text, guard_text, choice_text, due_text, tail_text, way_text};
 
 use ada_events::{
     Choice, ChoiceList, Dues, Entry, EventTail, Family, FamilyList, Master, TaskList, TaskNo, Way,
@@ -130,7 +131,8 @@ fn put_listed(out: &mut Vec<u8>, task: TaskNo, names: &Names) -> Result<(), Allo
 
 /// Appends tasks, each behind a space.
 pub fn put_tasks(out: &mut Vec<u8>, tasks: &TaskList, names: &Names) -> Result<(), AllocError>
-    ensures text { OnOk result (out.new.items ≡ out.old.items ++ flat_map (listed_text names.now) tasks.now) }
+    ensures text { OnOk result (out.new.items ≡ out.old.items
+        ++ flat_map (listed_text names.now) tasks.now) }
     ensures starts { KeepsStarts out.old.items out.new.items }
 {
     for task in tasks.as_slice() {
@@ -158,7 +160,8 @@ fn put_bounds(
     family: Family,
     families: &[Name],
 ) -> Result<(), AllocError>
-    ensures text { OnOk result (out.new.items ≡ out.old.items ++ family_bounds_text families.now place family) }
+    ensures text { OnOk result (out.new.items ≡ out.old.items
+        ++ family_bounds_text families.now place family) }
     ensures starts { KeepsStarts out.old.items out.new.items }
 {
     put(out, b" ")?;
@@ -172,7 +175,8 @@ pub fn put_families(
     families: &FamilyList,
     declared: &[Name],
 ) -> Result<(), AllocError>
-    ensures text { OnOk result (out.new.items ≡ out.old.items ++ families_text declared.now families.now) }
+    ensures text { OnOk result (out.new.items ≡ out.old.items
+        ++ families_text declared.now families.now) }
     ensures starts { KeepsStarts out.old.items out.new.items }
 {
     if families.as_slice().is_empty() {
@@ -229,7 +233,8 @@ pub fn put_choices(
     choices: &ChoiceList,
     names: &Names,
 ) -> Result<(), AllocError>
-    ensures text { OnOk result (out.new.items ≡ out.old.items ++ flat_map (choice_text names.now by) choices.now) }
+    ensures text { OnOk result (out.new.items ≡ out.old.items
+        ++ flat_map (choice_text names.now by) choices.now) }
     ensures starts { KeepsStarts out.old.items out.new.items }
 {
     for choice in choices.as_slice() {

@@ -30,21 +30,26 @@ abbrev answers : Option Refusal → ℕ → Result ℕ Refusal
 answers None count = Ok count
 answers (Some refused) count = Err refused
 
-refusal_is : (journal : List Event) (by : ℕ) (entry : Entry) → count_refusal journal by entry ≡ causes (has_task journal by) (is_running journal by) (lacks_family journal by entry) (is_outside journal by entry)
+refusal_is : (journal : List Event) (by : ℕ) (entry : Entry)
+    → count_refusal journal by entry ≡ causes (has_task journal by) (is_running journal by) (lacks_family journal by entry) (is_outside journal by entry)
 unfolding count_refusal
 refusal_is journal by entry = refl
 
-own_is : (journal : List Event) (by : ℕ) (entry : Entry) (known runs lacks outside : Bool) → has_task journal by ≡ known → is_running journal by ≡ runs → lacks_family journal by entry ≡ lacks → is_outside journal by entry ≡ outside → answers (causes known runs lacks outside) (count_of journal by entry) ≡ own_count journal by entry
+own_is : (journal : List Event) (by : ℕ) (entry : Entry) (known runs lacks outside : Bool) → has_task journal by ≡ known → is_running journal by ≡ runs
+    → lacks_family journal by entry ≡ lacks → is_outside journal by entry ≡ outside
+    → answers (causes known runs lacks outside) (count_of journal by entry) ≡ own_count journal by entry
 unfolding own_count
 own_is journal by entry known runs lacks outside k r l o = answered (count_refusal journal by entry) refused
   where
     refused : count_refusal journal by entry ≡ causes known runs lacks outside
     refused =
         refusal_is journal by entry ∙ ap (λ b. causes b (is_running journal by) (lacks_family journal by entry) (is_outside journal by entry)) k
-        ∙ ap (λ b. causes known b (lacks_family journal by entry) (is_outside journal by entry)) r ∙ ap (λ b. causes known runs b (is_outside journal by entry)) l
+        ∙ ap (λ b. causes known b (lacks_family journal by entry) (is_outside journal by entry)) r
+        ∙ ap (λ b. causes known runs b (is_outside journal by entry)) l
         ∙ ap (λ b. causes known runs lacks b) o
 
-    answered : (c : Option Refusal) → c ≡ causes known runs lacks outside → answers (causes known runs lacks outside) (count_of journal by entry) ≡ elim c [ None ↦ Ok (count_of journal by entry) | Some cause ↦ Err cause ]
+    answered : (c : Option Refusal) → c ≡ causes known runs lacks outside
+        → answers (causes known runs lacks outside) (count_of journal by entry) ≡ elim c [ None ↦ Ok (count_of journal by entry) | Some cause ↦ Err cause ]
     answered None is = ap (λ (x : Option Refusal). answers x (count_of journal by entry)) (sym is)
     answered (Some cause) is = ap (λ (x : Option Refusal). answers x (count_of journal by entry)) (sym is)
 
@@ -52,22 +57,27 @@ pub unknown_asks : (journal : List Event) (by : ℕ) (entry : Entry) → has_tas
 unfolding first_cause
 unknown_asks journal by entry unknown = own_is journal by entry false _ _ _ unknown refl refl refl
 
-pub suspended_asks : (journal : List Event) (by : ℕ) (entry : Entry) → has_task journal by ≡ true → is_running journal by ≡ false → Err NotRunning ≡ own_count journal by entry
+pub suspended_asks : (journal : List Event) (by : ℕ) (entry : Entry) → has_task journal by ≡ true → is_running journal by ≡ false
+    → Err NotRunning ≡ own_count journal by entry
 unfolding first_cause
 suspended_asks journal by entry known suspended = own_is journal by entry true false _ _ known suspended refl refl
 
-pub asks_no_family : (journal : List Event) (by : ℕ) (entry : Entry) → by < task_count journal → is_running journal by ≡ true → slice_get (families_of journal by) entry.family ≡ None → Err NoSuchFamily ≡ own_count journal by entry
+pub asks_no_family : (journal : List Event) (by : ℕ) (entry : Entry) → by < task_count journal → is_running journal by ≡ true
+    → slice_get (families_of journal by) entry.family ≡ None → Err NoSuchFamily ≡ own_count journal by entry
 unfolding first_cause lacks_family
 asks_no_family journal by entry known runs none =
     own_is journal by entry true true true _ (lt-ltb by (task_count journal) known) runs (ap is_none none) refl
 
-pub asks_outside : (journal : List Event) (by : ℕ) (entry : Entry) (family : Family) → by < task_count journal → is_running journal by ≡ true → slice_get (families_of journal by) entry.family ≡ Some family → is_in_range family entry.index ≡ false → Err ConstraintError ≡ own_count journal by entry
+pub asks_outside : (journal : List Event) (by : ℕ) (entry : Entry) (family : Family) → by < task_count journal → is_running journal by ≡ true
+    → slice_get (families_of journal by) entry.family ≡ Some family → is_in_range family entry.index ≡ false → Err ConstraintError ≡ own_count journal by entry
 unfolding first_cause lacks_family is_outside
 asks_outside journal by entry family known runs has outside =
     own_is journal by entry true true false true (lt-ltb by (task_count journal) known) runs (ap is_none has)
     (ap (λ (o : Option Family). is_some_and o (λ (f : Family). not (is_in_range f entry.index))) has ∙ ap not outside)
 
-pub asks_count : (journal : List Event) (by : ℕ) (entry : Entry) (family : Family) (count : ℕ) → by < task_count journal → is_running journal by ≡ true → slice_get (families_of journal by) entry.family ≡ Some family → is_in_range family entry.index ≡ true → count ≡ count_of journal by entry → Ok count ≡ own_count journal by entry
+pub asks_count : (journal : List Event) (by : ℕ) (entry : Entry) (family : Family) (count : ℕ) → by < task_count journal → is_running journal by ≡ true
+    → slice_get (families_of journal by) entry.family ≡ Some family → is_in_range family entry.index ≡ true → count ≡ count_of journal by entry
+    → Ok count ≡ own_count journal by entry
 unfolding first_cause lacks_family is_outside
 asks_count journal by entry family count known runs has within is =
     ap Ok is
@@ -75,11 +85,13 @@ asks_count journal by entry family count known runs has within is =
     (ap (λ (o : Option Family). is_some_and o (λ (f : Family). not (is_in_range f entry.index))) has ∙ ap not within)
 
 -- the families that tables hold of a task
-pub families_told : (tables : State) (journal : List Event) (task : ℕ) → StandFor tables journal → task < task_count journal → (task_at tables.tasks task).families ≡ families_of journal task
+pub families_told : (tables : State) (journal : List Event) (task : ℕ) → StandFor tables journal → task < task_count journal
+    → (task_at tables.tasks task).families ≡ families_of journal task
 families_told tables journal task stand known = ap (λ (f : Facts). f.families) (stand.tasks task known)
 
 -- an entry within the range of its family stands in the tables
-pub entry_stands : (tables : State) (journal : List Event) (task : ℕ) (entry : Entry) (family : Family) → StandFor tables journal → task < task_count journal → slice_get (families_of journal task) entry.family ≡ Some family → is_in_range family entry.index ≡ true → HasEntry tables.tasks task entry
+pub entry_stands : (tables : State) (journal : List Event) (task : ℕ) (entry : Entry) (family : Family) → StandFor tables journal → task < task_count journal
+    → slice_get (families_of journal task) entry.family ≡ Some family → is_in_range family entry.index ≡ true → HasEntry tables.tasks task entry
 unfolding number_within
 entry_stands tables journal task entry family stand known has within = record {
   known = subst (λ many. task < many) (sym stand.many) known;
@@ -87,7 +99,8 @@ entry_stands tables journal task entry family stand known has within = record {
 }
 
 -- the length of what tables hold is the count
-pub length_told : (tables : State) (journal : List Event) (task : ℕ) (entry : Entry) → StandFor tables journal → HasEntry tables.tasks task entry → length (queue_at tables.queues (slot_at tables.tasks task entry)) ≡ count_of journal task entry
+pub length_told : (tables : State) (journal : List Event) (task : ℕ) (entry : Entry) → StandFor tables journal → HasEntry tables.tasks task entry
+    → length (queue_at tables.queues (slot_at tables.tasks task entry)) ≡ count_of journal task entry
 unfolding count_of
 length_told tables journal task entry stand has =
     let calls = queue_at tables.queues (slot_at tables.tasks task entry) in

@@ -1,5 +1,6 @@
 -- The slots of a journal's entries, by what tables hold of its tasks.
-use Rattle.std.proofs.Common.{◌≡◌, ℕ, ◌+◌, ◌<◌, ◌≤◌, Bool, true, false, eqb, Option, Some, None, is_none, List, [], ◌∷◌, length, refl, sym, ap, ◌∙◌, arith, inl, inr}
+use Rattle.std.proofs.Common.{◌≡◌, ℕ, ◌+◌, ◌<◌, ◌≤◌, Bool, true, false, eqb, Option, Some, None, is_none, List, [], ◌∷◌, length, refl, sym, ap, ◌∙◌, arith, inl}
+use Rattle.std.proofs.Common.{inr}
 use Rattle.std.specs.Prelude.{slice_get, if◌then◌else◌}
 use Rattle.std.specs.Option.{option_or, option_map}
 use Rattle.std.proofs.lemmas.Bool.{cases_eq, eq-eqb, ne_eqb, lt-ltb, le-ltb}
@@ -19,7 +20,8 @@ use Rattle.ada_tables.specs.Queues.{queue_at}
 use Rattle.ada_tables.specs.Tables.{State, slot_at, slots_before, declared, HasEntry}
 use Rattle.ada_tables.specs.Standing.{StandFor}
 use Rattle.ada_counts.proofs.Entries.{families_stay}
-use Rattle.ada_counts.proofs.SlotsApart.{HaveFamilies, slots_counted, slots_held, slot_found, number_found, main_families, same_tasks, new_families, one_more_task}
+use Rattle.ada_counts.proofs.SlotsApart.{HaveFamilies, slots_counted, slots_held, slot_found, number_found, main_families, same_tasks, new_families}
+use Rattle.ada_counts.proofs.SlotsApart.{one_more_task}
 use Rattle.ada_queries.proofs.Counting.{length_told}
 
 -- the slot of a task's entry, by the slots before it and the task's families
@@ -46,17 +48,20 @@ other_made : (before : List Event) (event : Event) (task : ℕ) (entry : Entry) 
 unfolding slot_made
 other_made before event task entry other = rw other refl
 
-this_made : (before : List Event) (event : Event) (task : ℕ) (entry : Entry) (c : Creation) → eqb task (task_count before) ≡ true → creation_in event ≡ Some c → slot_made before event task entry ≡ option_map (λ n. slot_count before + n) (number_within c.families entry)
+this_made : (before : List Event) (event : Event) (task : ℕ) (entry : Entry) (c : Creation) → eqb task (task_count before) ≡ true → creation_in event ≡ Some c
+    → slot_made before event task entry ≡ option_map (λ n. slot_count before + n) (number_within c.families entry)
 unfolding slot_made
 this_made before event task entry c this makes = rw (this, makes) refl
 
 -- where tables hold a journal's families, they give the slot of each entry
-slot_is : (tasks : List Facts) (journal : List Event) (task : ℕ) (entry : Entry) → HaveFamilies tasks journal → task < task_count journal → slot_of journal task entry ≡ slot_by tasks task entry
+slot_is : (tasks : List Facts) (journal : List Event) (task : ℕ) (entry : Entry) → HaveFamilies tasks journal → task < task_count journal
+    → slot_of journal task entry ≡ slot_by tasks task entry
 unfolding slot_of task_count
 slot_is tasks [] task entry have known =
     let main : task ≡ 0 = omega arith in
     let none : (task_at tasks task).families ≡ [] = ap (λ t. (task_at tasks t).families) main ∙ (have 0 (omega arith)).1 ∙ main_families in
-    sym (ap (λ fs. option_map (λ n. slots_before (declared tasks) task + n) (number_within fs entry)) none ∙ ap (option_map (λ n. slots_before (declared tasks) task + n)) (no_number entry))
+    sym (ap (λ fs. option_map (λ n. slots_before (declared tasks) task + n) (number_within fs entry)) none
+    ∙ ap (option_map (λ n. slots_before (declared tasks) task + n)) (no_number entry))
 slot_is tasks (event ∷ before) task entry have known =
     by_creation (creation_in event) refl (λ below. slot_is tasks before task entry older below)
   where
@@ -65,7 +70,8 @@ slot_is tasks (event ∷ before) task entry have known =
         let now = have t (omega (arith, below)) in
         (now.0, now.1 ∙ families_stay event before t below)
 
-    by_creation : (o : Option Creation) → creation_in event ≡ o → (task < task_count before → slot_of before task entry ≡ slot_by tasks task entry) → option_or (slot_made before event task entry) (slot_of before task entry) ≡ slot_by tasks task entry
+    by_creation : (o : Option Creation) → creation_in event ≡ o → (task < task_count before → slot_of before task entry ≡ slot_by tasks task entry)
+        → option_or (slot_made before event task entry) (slot_of before task entry) ≡ slot_by tasks task entry
     by_creation None makes was =
         ap (λ (o : Option ℕ). option_or o (slot_of before task entry)) (none_made before event task entry makes)
         ∙ was (omega (arith, known, same_tasks event before makes))
@@ -89,7 +95,8 @@ held_families tables journal stand task known =
     (omega (arith, known, stand.many), ap (λ (f : Facts). f.families) (stand.tasks task known))
 
 -- the slot of an entry, where tables stand for the journal
-pub slot_told : (tables : State) (journal : List Event) (task : ℕ) (entry : Entry) → StandFor tables journal → HasEntry tables.tasks task entry → Some (slot_at tables.tasks task entry) ≡ slot_of journal task entry
+pub slot_told : (tables : State) (journal : List Event) (task : ℕ) (entry : Entry) → StandFor tables journal → HasEntry tables.tasks task entry
+    → Some (slot_at tables.tasks task entry) ≡ slot_of journal task entry
 slot_told tables journal task entry stand has =
     let found = number_found (task_at tables.tasks task).families entry has.declares in
     let known : task < task_count journal = omega (arith, has.known, stand.many) in
@@ -100,22 +107,26 @@ none_of None none = refl
 none_of (Some x) none = absurd (cc none)
 
 -- an entry of no family, and one outside the range of its family, have no slot
-pub no_family_slot : (journal : List Event) (task : ℕ) (entry : Entry) → slice_get (families_of journal task) entry.family ≡ None → None ≡ slot_of journal task entry
+pub no_family_slot : (journal : List Event) (task : ℕ) (entry : Entry) → slice_get (families_of journal task) entry.family ≡ None
+    → None ≡ slot_of journal task entry
 unfolding lacks_family
 no_family_slot journal task entry none =
     none_of (slot_of journal task entry) (declared_entries_have_slots journal task entry ∙ rw none refl)
 
-pub outside_slot : (journal : List Event) (task : ℕ) (entry : Entry) (family : Family) → slice_get (families_of journal task) entry.family ≡ Some family → is_in_range family entry.index ≡ false → None ≡ slot_of journal task entry
+pub outside_slot : (journal : List Event) (task : ℕ) (entry : Entry) (family : Family) → slice_get (families_of journal task) entry.family ≡ Some family
+    → is_in_range family entry.index ≡ false → None ≡ slot_of journal task entry
 unfolding lacks_family is_outside
 outside_slot journal task entry family has outside =
     none_of (slot_of journal task entry) (declared_entries_have_slots journal task entry ∙ rw (has, outside) refl)
 
 -- tables that stand for a journal have as many slots as it has entries
-pub slots_told : (tables : State) (journal : List Event) → StandFor tables journal → slots_before (declared tables.tasks) (length tables.tasks) ≡ slot_count journal
+pub slots_told : (tables : State) (journal : List Event) → StandFor tables journal
+    → slots_before (declared tables.tasks) (length tables.tasks) ≡ slot_count journal
 slots_told tables journal stand = slots_held tables.tasks journal (record { many = stand.many; facts = stand.tasks })
 
 -- the length of the queue at a slot is the count that a board shows there
-pub count_told : (tables : State) (journal : List Event) (slot : ℕ) → StandFor tables journal → slot < slots_before (declared tables.tasks) (length tables.tasks) → length (queue_at tables.queues slot) ≡ shows_count journal slot
+pub count_told : (tables : State) (journal : List Event) (slot : ℕ) → StandFor tables journal
+    → slot < slots_before (declared tables.tasks) (length tables.tasks) → length (queue_at tables.queues slot) ≡ shows_count journal slot
 unfolding shows_count count_at
 count_told tables journal slot stand below =
     let found = slot_found tables.tasks slot below in
@@ -125,6 +136,7 @@ count_told tables journal slot stand below =
     ∙ rw (lt-ltb slot (slot_count journal) within, entries_stand_at_their_slots journal found.task found.entry slot at) refl
 
 -- behind the last slot a board shows nothing
-pub none_told : (tables : State) (journal : List Event) (slot : ℕ) → StandFor tables journal → slots_before (declared tables.tasks) (length tables.tasks) ≤ slot → 0 ≡ shows_count journal slot
+pub none_told : (tables : State) (journal : List Event) (slot : ℕ) → StandFor tables journal → slots_before (declared tables.tasks) (length tables.tasks) ≤ slot
+    → 0 ≡ shows_count journal slot
 unfolding shows_count
 none_told tables journal slot stand past = rw (le-ltb slot (slot_count journal) (omega (arith, past, slots_told tables journal stand))) refl

@@ -30,8 +30,8 @@ pub(crate) fn known(state: &State<'_>, task: TaskNo) -> Option<Record>
     }
 }
 
-/// What became of the task's latest call, wait, delay, start or close, or that it has ended; none where there is no such
-/// task.
+/// What became of the task's latest call, wait, delay, start or close, or that it has ended; none where there is no
+/// such task.
 pub fn outcome(state: &State<'_>, task: TaskNo) -> Option<Outcome>
     ensures { result ≡ then_some (has_task state.now task.0) (outcome_of state.now task.0) }
 {

@@ -28,13 +28,15 @@ module _ {X : Type 0} (step : List X → List (List ℕ) → Read X) (spelled : 
   no_number before [] chain = refl
   no_number before (x ∷ more) chain = rw (flat_map-cons spelled x more) (starts before x (flat_map spelled more) chain.0).1
 
-  pub repeat_again : (room : ℕ) (before more : List X) → Chain P before more → length more ≤ room → repeat_at step room before (flat_map spelled more) ≡ Ok (before ++ more, [])
+  pub repeat_again : (room : ℕ) (before more : List X) → Chain P before more → length more ≤ room
+      → repeat_at step room before (flat_map spelled more) ≡ Ok (before ++ more, [])
   unfolding repeat_at
   repeat_again room before [] chain fits = ap (λ (xs : List X). Ok (xs, [])) (sym (append-nil before))
   repeat_again zero before (x ∷ more) chain fits = absurd (omega arith)
   repeat_again (suc room) before (x ∷ more) chain fits =
       let words = spelled x ++ flat_map spelled more in
-      let first : step before words ≡ Ok (x, flat_map spelled more) = again before x (flat_map spelled more) chain.0 (no_number (before ++ x ∷ []) more chain.1) in
+      let first : step before words ≡ Ok (x, flat_map spelled more) = again before x (flat_map spelled more) chain.0
+      (no_number (before ++ x ∷ []) more chain.1) in
       ap (repeat_at step (suc room) before) (flat_map-cons spelled x more)
       ∙ repeat_on room before words x (flat_map spelled more) (starts before x (flat_map spelled more) chain.0).0 first
       ∙ repeat_again room (before ++ x ∷ []) more chain.1 (omega arith)
@@ -50,14 +52,16 @@ pub tasks_again : (names : Scope) (tasks : List (List ℕ)) → AreTaskNames nam
 tasks_again names tasks known =
     ap (tasks_at names) (sym (flat_map-single tasks))
     ∙ repeat_again (λ before rest. task_at names rest) (λ task. task ∷ []) (λ before task. IsTaskName names task)
-    (λ before task rest p. (refl, name_begins task p.0)) (λ before task rest p next. task_again names task rest p) 256 [] tasks (chain_of_each (IsTaskName names) [] tasks known.1) known.0
+    (λ before task rest p. (refl, name_begins task p.0)) (λ before task rest p next. task_again names task rest p) 256 [] tasks
+    (chain_of_each (IsTaskName names) [] tasks known.1) known.0
 
 -- ---- families
 
 abbrev IsNextFamily : List Declaration → Declaration → Type 0
 IsNextFamily before family = IsFamily family × (list_any (λ other. bytes_eq family.name other.name) before ≡ false)
 
-family_again : (before : List Declaration) (family : Declaration) (rest : List (List ℕ)) → IsNextFamily before family → number_is_next rest ≡ false → family_at before (family_words family ++ rest) ≡ Ok (family, rest)
+family_again : (before : List Declaration) (family : Declaration) (rest : List (List ℕ)) → IsNextFamily before family → number_is_next rest ≡ false
+    → family_at before (family_words family ++ rest) ≡ Ok (family, rest)
 unfolding family_at
 family_again before family rest known next =
     rw (name_again family.name (bounds_words family.bounds ++ rest) known.0.0, known.1, bounds_again family.bounds rest known.0.1 next) refl
@@ -69,4 +73,5 @@ chain_of_families before (f ∷ more) each apart =
 
 pub families_again : (families : List Declaration) → AreFamilies families → families_at (flat_map family_words families) ≡ Ok (families, [])
 families_again families known =
-    repeat_again family_at family_words IsNextFamily (λ before family rest p. (refl, name_begins family.name p.0.0)) family_again 16 [] families (chain_of_families [] families known.1 known.2) known.0
+    repeat_again family_at family_words IsNextFamily (λ before family rest p. (refl, name_begins family.name p.0.0)) family_again 16 [] families
+    (chain_of_families [] families known.1 known.2) known.0

@@ -1,5 +1,6 @@
 -- What is spelled is read again: words, numbers, names and entries.
-use Rattle.std.proofs.Common.{◌≡◌, ℕ, suc, ◌^◌, ◌<◌, ◌≤◌, Bool, true, false, eqb, leb, ◌||◌, ◌&&◌, List, [], ◌∷◌, ◌++◌, length, get_or, Option, Some, None, Ok, ℤ, pos, negsuc, refl, sym, arith, inl, inr}
+use Rattle.std.proofs.Common.{◌≡◌, ℕ, suc, ◌^◌, ◌<◌, ◌≤◌, Bool, true, false, eqb, leb, ◌||◌, ◌&&◌, List, [], ◌∷◌, ◌++◌, length, get_or, Option, Some, None, Ok}
+use Rattle.std.proofs.Common.{ℤ, pos, negsuc, refl, sym, arith, inl, inr}
 use Rattle.std.specs.Prelude.{IsTrue, IfSome, decimal}
 use Rattle.std.specs.Fmt.{signed_decimal}
 use Rattle.std.specs.List.{list_all}
@@ -15,7 +16,8 @@ use Rattle.ada_statements.specs.Text.{is_name, is_digit, is_letter, is_name_byte
 use Rattle.ada_reading.specs.Number.{integer_of}
 use Rattle.ada_spelling.specs.Spelling.{index_words, entry_words, bounds_words}
 use Rattle.ada_statements.specs.Scope.{Scope, IsTaskName, IsMasterName, IsNewName, IsEntryName, IsIndex, IsMoment}
-use Rattle.ada_reading.specs.Reading.{keyword_at, moment_at, index_at, pick_at, begins_number, optional_index_at, number_is_next, bounds_at, name_at, task_at, master_at, new_name_at, entry_at}
+use Rattle.ada_reading.specs.Reading.{keyword_at, moment_at, index_at, pick_at, begins_number, optional_index_at, number_is_next, bounds_at, name_at, task_at}
+use Rattle.ada_reading.specs.Reading.{master_at, new_name_at, entry_at}
 use Rattle.ada_reading.proofs.Numbers.{natural_of-spelled, IsInteger}
 
 -- ---- words and names
@@ -61,7 +63,8 @@ pub number_begins : (limit : ℕ) (z : ℤ) → limit ≤ 2 ^ 63 → IsInteger l
 number_begins limit (pos n) small lt = decimal_begins n (omega arith)
 number_begins limit (negsuc n) small lt = refl
 
-natural_first : (limit n : ℕ) (word : List ℕ) → limit ≤ 2 ^ 63 → n < limit → word ≡ decimal n → 0 < length word → 48 ≤ get_or word 0 0 → integer_of limit word ≡ Some (pos n)
+natural_first : (limit n : ℕ) (word : List ℕ) → limit ≤ 2 ^ 63 → n < limit → word ≡ decimal n → 0 < length word → 48 ≤ get_or word 0 0
+    → integer_of limit word ≡ Some (pos n)
 unfolding integer_of
 natural_first limit n [] small lt e some digit = absurd (omega arith)
 natural_first limit n (b ∷ bytes) small lt e some digit =
@@ -98,19 +101,23 @@ pub pick_again : (n : ℕ) (rest : List (List ℕ)) → n < 2 ^ 32 → pick_at (
 unfolding pick_at
 pick_again n rest lt = rw (natural_of-spelled n (decimal n) (omega arith) refl, lt-ltb n (2 ^ 32) lt) refl
 
-pub optional_index_again : (index : Option ℤ) (rest : List (List ℕ)) → IfSome index IsIndex → number_is_next rest ≡ false → optional_index_at (index_words index ++ rest) ≡ Ok (index, rest)
+pub optional_index_again : (index : Option ℤ) (rest : List (List ℕ)) → IfSome index IsIndex → number_is_next rest ≡ false
+    → optional_index_at (index_words index ++ rest) ≡ Ok (index, rest)
 unfolding optional_index_at
 optional_index_again None rest fits next = rw next refl
 optional_index_again (Some z) rest fits next = rw (index_begins z fits, index_again z rest fits) refl
 
-pub bounds_again : (bounds : Option Family) (rest : List (List ℕ)) → IfSome bounds (λ b. IsIndex b.low × IsIndex b.high) → number_is_next rest ≡ false → bounds_at (bounds_words bounds ++ rest) ≡ Ok (bounds, rest)
+pub bounds_again : (bounds : Option Family) (rest : List (List ℕ)) → IfSome bounds (λ b. IsIndex b.low × IsIndex b.high) → number_is_next rest ≡ false
+    → bounds_at (bounds_words bounds ++ rest) ≡ Ok (bounds, rest)
 unfolding bounds_at
 bounds_again None rest fits next = rw next refl
-bounds_again (Some b) rest fits next = rw (index_begins b.low fits.0, index_again b.low (signed_decimal b.high ∷ rest) fits.0, index_again b.high rest fits.1) refl
+bounds_again (Some b) rest fits next =
+    rw (index_begins b.low fits.0, index_again b.low (signed_decimal b.high ∷ rest) fits.0, index_again b.high rest fits.1) refl
 
 -- ---- entries
 
-pub entry_again : (names : Scope) (task : List ℕ) (entry : EntryName) (rest : List (List ℕ)) → IsEntryName names task entry → number_is_next rest ≡ false → entry_at names task (entry_words entry ++ rest) ≡ Ok (entry, rest)
+pub entry_again : (names : Scope) (task : List ℕ) (entry : EntryName) (rest : List (List ℕ)) → IsEntryName names task entry → number_is_next rest ≡ false
+    → entry_at names task (entry_words entry ++ rest) ≡ Ok (entry, rest)
 unfolding entry_at
 entry_again names task entry rest fits next =
     rw (name_again entry.family (index_words entry.index ++ rest) fits.0, fits.1, optional_index_again entry.index rest fits.2 next) refl

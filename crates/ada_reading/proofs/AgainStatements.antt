@@ -10,13 +10,15 @@ use Rattle.ada_events.specs.declared.request.Tail.{Tail}
 use Rattle.ada_spelling.specs.declared.verb.Verb.{Verb}
 use Rattle.ada_spelling.specs.declared.verb.Verb.TheVariants as verbs
 use Rattle.ada_statements.specs.declared.statement.Statement.{Statement}
-use Rattle.ada_statements.specs.declared.statement.Statement.TheVariants.{Tick, Open, Create, Activate, Up, Fail, Call, CallWithin, Try, Accept, Select, End, Raise, Close, Delay, Complete, Abort, ShowCallable, ShowTerminated, ShowCount}
+use Rattle.ada_statements.specs.declared.statement.Statement.TheVariants.{Tick, Open, Create, Activate, Up, Fail, Call, CallWithin, Try, Accept, Select, End}
+use Rattle.ada_statements.specs.declared.statement.Statement.TheVariants.{Raise, Close, Delay, Complete, Abort, ShowCallable, ShowTerminated, ShowCount}
 use Rattle.ada_statements.specs.declared.statement.Declaration.{Declaration}
 use Rattle.ada_statements.specs.declared.statement.EntryName.{EntryName}
 use Rattle.ada_statements.specs.declared.statement.Alternative.{Alternative}
 use Rattle.ada_spelling.specs.Spelling.{speaker, entry_words, family_words, select_words, words_of}
 use Rattle.ada_statements.specs.Scope.{Scope, IsTaskName, IsEntryName, MayStand}
-use Rattle.ada_reading.specs.Reading.{entry_at, verb_at, tick_at, open_at, create_at, activate_at, abort_at, call_at, try_at, accept_at, delay_at, select_at, show_at, act_at, before_colon, speaker_of, speech_at, statement_at, statement_of}
+use Rattle.ada_reading.specs.Reading.{entry_at, verb_at, tick_at, open_at, create_at, activate_at, abort_at, call_at, try_at, accept_at, delay_at, select_at}
+use Rattle.ada_reading.specs.Reading.{show_at, act_at, before_colon, speaker_of, speech_at, statement_at, statement_of}
 use Rattle.ada_spelling.specs.Verbs.{verb_word, verb_of}
 use Rattle.ada_reading.proofs.AgainParts.{keyword_again, task_again, master_again, new_name_again, moment_again, pick_again, entry_again}
 use Rattle.ada_reading.proofs.AgainLists.{tasks_again, families_again}
@@ -81,7 +83,8 @@ module _ (names : Scope) where
   unfolding act_at open_at
   open_again by block stands = rw (new_name_again names block [] stands.1) refl
 
-  create_again : (by task under : List ℕ) (families : List Declaration) → MayStand names (Create by task under families) → ActAgain by verbs.Create (Create by task under families) (task ∷ codes "under" ∷ under ∷ flat_map family_words families)
+  create_again : (by task under : List ℕ) (families : List Declaration) → MayStand names (Create by task under families)
+      → ActAgain by verbs.Create (Create by task under families) (task ∷ codes "under" ∷ under ∷ flat_map family_words families)
   unfolding act_at create_at
   create_again by task under families stands =
       rw (
@@ -103,11 +106,13 @@ module _ (names : Scope) where
   entry_last : (task : List ℕ) (entry : EntryName) → IsEntryName names task entry → entry_at names task (entry_words entry) ≡ Ok (entry, [])
   entry_last task entry known = ap (entry_at names task) (sym (append-nil (entry_words entry))) ∙ entry_again names task entry [] known refl
 
-  call_again : (by callee : List ℕ) (entry : EntryName) → MayStand names (Call by callee entry) → ActAgain by verbs.Call (Call by callee entry) (callee ∷ entry_words entry)
+  call_again : (by callee : List ℕ) (entry : EntryName) → MayStand names (Call by callee entry)
+      → ActAgain by verbs.Call (Call by callee entry) (callee ∷ entry_words entry)
   unfolding act_at call_at
   call_again by callee entry stands = rw (task_again names callee (entry_words entry) stands.1, entry_last callee entry stands.2) refl
 
-  call_within_again : (by callee : List ℕ) (entry : EntryName) (duration : ℤ) → MayStand names (CallWithin by callee entry duration) → ActAgain by verbs.Call (CallWithin by callee entry duration) (callee ∷ (entry_words entry ++ codes "within" ∷ signed_decimal duration ∷ []))
+  call_within_again : (by callee : List ℕ) (entry : EntryName) (duration : ℤ) → MayStand names (CallWithin by callee entry duration)
+      → ActAgain by verbs.Call (CallWithin by callee entry duration) (callee ∷ (entry_words entry ++ codes "within" ∷ signed_decimal duration ∷ []))
   unfolding act_at call_at
   call_within_again by callee entry duration stands =
       rw (
@@ -117,7 +122,8 @@ module _ (names : Scope) where
         moment_again duration [] stands.3,
       ) refl
 
-  try_again : (by callee : List ℕ) (entry : EntryName) → MayStand names (Try by callee entry) → ActAgain by verbs.Try (Try by callee entry) (callee ∷ entry_words entry)
+  try_again : (by callee : List ℕ) (entry : EntryName) → MayStand names (Try by callee entry)
+      → ActAgain by verbs.Try (Try by callee entry) (callee ∷ entry_words entry)
   unfolding act_at try_at
   try_again by callee entry stands = rw (task_again names callee (entry_words entry) stands.1, entry_last callee entry stands.2) refl
 
@@ -129,25 +135,31 @@ module _ (names : Scope) where
   unfolding act_at delay_at
   delay_again by duration stands = rw (moment_again duration [] stands.1) refl
 
-  select_statement_again : (by : List ℕ) (pick : ℕ) (choices : List Alternative) (tail : Tail) → MayStand names (Select by pick choices tail) → ActAgain by verbs.Select (Select by pick choices tail) (decimal pick ∷ select_words choices tail)
+  select_statement_again : (by : List ℕ) (pick : ℕ) (choices : List Alternative) (tail : Tail) → MayStand names (Select by pick choices tail)
+      → ActAgain by verbs.Select (Select by pick choices tail) (decimal pick ∷ select_words choices tail)
   unfolding act_at select_at
-  select_statement_again by pick choices tail stands = rw (pick_again pick (select_words choices tail) stands.1, select_again names by choices tail stands.2 stands.3) refl
+  select_statement_again by pick choices tail stands = rw
+      (pick_again pick (select_words choices tail) stands.1, select_again names by choices tail stands.2 stands.3) refl
 
-  show_callable_again : (by task : List ℕ) → MayStand names (ShowCallable by task) → ActAgain by verbs.Show (ShowCallable by task) (codes "callable" ∷ task ∷ [])
+  show_callable_again : (by task : List ℕ) → MayStand names (ShowCallable by task)
+      → ActAgain by verbs.Show (ShowCallable by task) (codes "callable" ∷ task ∷ [])
   unfolding act_at show_at
   show_callable_again by task stands = rw (task_again names task [] stands.1) refl
 
-  show_terminated_again : (by task : List ℕ) → MayStand names (ShowTerminated by task) → ActAgain by verbs.Show (ShowTerminated by task) (codes "terminated" ∷ task ∷ [])
+  show_terminated_again : (by task : List ℕ) → MayStand names (ShowTerminated by task)
+      → ActAgain by verbs.Show (ShowTerminated by task) (codes "terminated" ∷ task ∷ [])
   unfolding act_at show_at
   show_terminated_again by task stands = rw (task_again names task [] stands.1) refl
 
-  show_count_again : (by : List ℕ) (entry : EntryName) → MayStand names (ShowCount by entry) → ActAgain by verbs.Show (ShowCount by entry) (codes "count" ∷ entry_words entry)
+  show_count_again : (by : List ℕ) (entry : EntryName) → MayStand names (ShowCount by entry)
+      → ActAgain by verbs.Show (ShowCount by entry) (codes "count" ∷ entry_words entry)
   unfolding act_at show_at
   show_count_again by entry stands = rw (entry_last by entry stands.1) refl
 
   -- ---- whole statements
 
-  speech_again : (by : List ℕ) (verb : Verb) (statement : Statement) (words : List (List ℕ)) → IsTaskName names by → ActAgain by verb statement words → statement_of names (speaker by ∷ verb_word verb ∷ words) ≡ Ok statement
+  speech_again : (by : List ℕ) (verb : Verb) (statement : Statement) (words : List (List ℕ)) → IsTaskName names by → ActAgain by verb statement words
+      → statement_of names (speaker by ∷ verb_word verb ∷ words) ≡ Ok statement
   unfolding statement_of statement_at speech_at
   speech_again by verb statement words known act = rw (no_tick by, speaker_again names by known, verb_again verb words, act) refl
 
@@ -159,15 +171,18 @@ module _ (names : Scope) where
   unfolding act_at
   statement_again (Tick now) stands = tick_again now stands
   statement_again (Open by block) stands = speech_again by verbs.Open (Open by block) _ stands.0 (open_again by block stands)
-  statement_again (Create by task under families) stands = speech_again by verbs.Create (Create by task under families) _ stands.0 (create_again by task under families stands)
+  statement_again (Create by task under families) stands = speech_again by verbs.Create (Create by task under families) _ stands.0
+      (create_again by task under families stands)
   statement_again (Activate by tasks) stands = speech_again by verbs.Activate (Activate by tasks) _ stands.0 (activate_again by tasks stands)
   statement_again (Up by) stands = speech_again by verbs.Up (Up by) [] stands refl
   statement_again (Fail by) stands = speech_again by verbs.Fail (Fail by) [] stands refl
   statement_again (Call by callee entry) stands = speech_again by verbs.Call (Call by callee entry) _ stands.0 (call_again by callee entry stands)
-  statement_again (CallWithin by callee entry duration) stands = speech_again by verbs.Call (CallWithin by callee entry duration) _ stands.0 (call_within_again by callee entry duration stands)
+  statement_again (CallWithin by callee entry duration) stands = speech_again by verbs.Call (CallWithin by callee entry duration) _ stands.0
+      (call_within_again by callee entry duration stands)
   statement_again (Try by callee entry) stands = speech_again by verbs.Try (Try by callee entry) _ stands.0 (try_again by callee entry stands)
   statement_again (Accept by entry) stands = speech_again by verbs.Accept (Accept by entry) _ stands.0 (accept_again by entry stands)
-  statement_again (Select by pick choices tail) stands = speech_again by verbs.Select (Select by pick choices tail) _ stands.0 (select_statement_again by pick choices tail stands)
+  statement_again (Select by pick choices tail) stands = speech_again by verbs.Select (Select by pick choices tail) _ stands.0
+      (select_statement_again by pick choices tail stands)
   statement_again (End by) stands = speech_again by verbs.End (End by) [] stands refl
   statement_again (Raise by) stands = speech_again by verbs.Raise (Raise by) [] stands refl
   statement_again (Close by) stands = speech_again by verbs.Close (Close by) [] stands refl

@@ -8,24 +8,28 @@ use Rattle.ada_statements.specs.Scope.{Scope}
 use Rattle.ada_reading.specs.Reading.{branch_at, choice_at, choices_at, tail_from, with_tail, is_accept}
 
 module _ (names : Scope) (by : List ℕ) where
-  pub choices_fail : (room : ℕ) (before : List Alternative) (words : List (List ℕ)) (e : Fault) → branch_at words ≡ Err e → choices_at names by room before words ≡ Err e
+  pub choices_fail : (room : ℕ) (before : List Alternative) (words : List (List ℕ)) (e : Fault) → branch_at words ≡ Err e
+      → choices_at names by room before words ≡ Err e
   unfolding choices_at
   choices_fail zero before words e reads = rw reads refl
   choices_fail (suc room) before words e reads = rw reads refl
 
-  pub choices_end : (room : ℕ) (before : List Alternative) (words : List (List ℕ)) (guard : Bool) (branch : Branch) (rest : List (List ℕ)) → branch_at words ≡ Ok ((guard, branch), rest) → is_accept branch ≡ false
+  pub choices_end : (room : ℕ) (before : List Alternative) (words : List (List ℕ)) (guard : Bool) (branch : Branch) (rest : List (List ℕ))
+      → branch_at words ≡ Ok ((guard, branch), rest) → is_accept branch ≡ false
       → choices_at names by room before words ≡ with_tail before (tail_from branch guard rest)
   unfolding choices_at
   choices_end zero before words guard branch rest reads other = rw reads refl
   choices_end (suc room) before words guard branch rest reads other = rw (reads, other) refl
 
-  pub choices_full : (room : ℕ) (before : List Alternative) (words : List (List ℕ)) (guard : Bool) (branch : Branch) (rest : List (List ℕ)) → branch_at words ≡ Ok ((guard, branch), rest) → room ≡ 0
+  pub choices_full : (room : ℕ) (before : List Alternative) (words : List (List ℕ)) (guard : Bool) (branch : Branch) (rest : List (List ℕ))
+      → branch_at words ≡ Ok ((guard, branch), rest) → room ≡ 0
       → choices_at names by room before words ≡ with_tail before (tail_from branch guard rest)
   unfolding choices_at
   choices_full zero before words guard branch rest reads none = rw reads refl
   choices_full (suc room) before words guard branch rest reads none = absurd (omega arith)
 
-  module _ (room : ℕ) (before : List Alternative) (words : List (List ℕ)) (guard : Bool) (branch : Branch) (rest : List (List ℕ)) (reads : branch_at words ≡ Ok ((guard, branch), rest)) (accept : is_accept branch ≡ true) where
+  module _ (room : ℕ) (before : List Alternative) (words : List (List ℕ)) (guard : Bool) (branch : Branch) (rest : List (List ℕ))
+      (reads : branch_at words ≡ Ok ((guard, branch), rest)) (accept : is_accept branch ≡ true) where
     pub choice_fails : (e : Fault) → choice_at names by guard rest ≡ Err e → choices_at names by (suc room) before words ≡ Err e
     unfolding choices_at
     choice_fails e fails = rw (reads, accept, fails) refl

@@ -1,5 +1,6 @@
 -- The first part of some bytes, and the words behind it.
-use Rattle.std.proofs.Common.{◌≡◌, ◌≢◌, ℕ, zero, suc, ◌+◌, ◌-◌, add-one, length-drop, ◌<◌, false, cond, eqb, List, [], ◌∷◌, length, get_or, take, drop, ap, ◌∙◌, arith, inl, inr}
+use Rattle.std.proofs.Common.{◌≡◌, ◌≢◌, ℕ, zero, suc, ◌+◌, ◌-◌, add-one, length-drop, ◌<◌, false, cond, eqb, List, [], ◌∷◌, length, get_or, take, drop, ap, ◌∙◌}
+use Rattle.std.proofs.Common.{arith, inl, inr}
 use Rattle.std.proofs.lemmas.Bool.{eq-eqb, true≢false}
 use Rattle.std.proofs.lemmas.Bool.Decides.{eqb_tells}
 use Rattle.std.proofs.Math.Seq.{take-length}
@@ -14,7 +15,8 @@ parts_of-cons separator b bytes ne =
     ]
 
 -- up to the first byte that separates
-pub parts_of-cut : (separator : ℕ) (bytes : List ℕ) (i : ℕ) → i < length bytes → ((k : ℕ) → k < i → get_or bytes k 0 ≡ separator → ⊥) → get_or bytes i 0 ≡ separator
+pub parts_of-cut : (separator : ℕ) (bytes : List ℕ) (i : ℕ) → i < length bytes → ((k : ℕ) → k < i → get_or bytes k 0 ≡ separator → ⊥)
+    → get_or bytes i 0 ≡ separator
     → parts_of separator bytes ≡ take i bytes ∷ parts_of separator (drop (suc i) bytes)
 parts_of-cut separator [] i within none found = absurd (omega arith)
 parts_of-cut separator (b ∷ bytes) zero within none found =
@@ -25,13 +27,15 @@ parts_of-cut separator (b ∷ bytes) (suc i) within none found =
     parts_of-cons separator b bytes (none 0 (omega arith)) ∙ ap (with_first b) rest
 
 -- all of them where none separates
-pub parts_of-last : (separator : ℕ) (b : ℕ) (bytes : List ℕ) → ((k : ℕ) → k < length (b ∷ bytes) → get_or (b ∷ bytes) k 0 ≡ separator → ⊥) → parts_of separator (b ∷ bytes) ≡ (b ∷ bytes) ∷ []
+pub parts_of-last : (separator : ℕ) (b : ℕ) (bytes : List ℕ) → ((k : ℕ) → k < length (b ∷ bytes) → get_or (b ∷ bytes) k 0 ≡ separator → ⊥)
+    → parts_of separator (b ∷ bytes) ≡ (b ∷ bytes) ∷ []
 parts_of-last separator b [] none = parts_of-cons separator b [] (none 0 (omega arith))
 parts_of-last separator b (c ∷ bytes) none =
     parts_of-cons separator b (c ∷ bytes) (none 0 (omega arith)) ∙ ap (with_first b) (parts_of-last separator c bytes (λ k lt. none (suc k) (omega arith)))
 
 -- the same, as a slice gives what is behind
-pub parts_behind : (separator : ℕ) (bytes : List ℕ) (i : ℕ) → i < length bytes → ((k : ℕ) → k < i → get_or bytes k 0 ≡ separator → ⊥) → get_or bytes i 0 ≡ separator
+pub parts_behind : (separator : ℕ) (bytes : List ℕ) (i : ℕ) → i < length bytes → ((k : ℕ) → k < i → get_or bytes k 0 ≡ separator → ⊥)
+    → get_or bytes i 0 ≡ separator
     → parts_of separator bytes ≡ take i bytes ∷ parts_of separator (take (length bytes - (i + 1)) (drop (i + 1) bytes))
 parts_behind separator bytes i within none found =
     let all : take (length bytes - (i + 1)) (drop (i + 1) bytes) ≡ drop (i + 1) bytes = rw (← length-drop (i + 1) bytes) (take-length (drop (i + 1) bytes)) in

@@ -1,5 +1,6 @@
 -- Numbers and their spellings.
-use Rattle.std.proofs.Common.{◌≡◌, ℕ, zero, suc, ◌^◌, ◌<◌, ◌&&◌, Bool, true, false, cond, ltb, List, [], ◌∷◌, Option, Some, None, Result, Ok, Err, ℤ, pos, negsuc, FitsSigned, to_z, of_z, w32, w64, refl, sym, ap, subst, ◌∙◌, arith, inl, inr}
+use Rattle.std.proofs.Common.{◌≡◌, ℕ, zero, suc, ◌^◌, ◌<◌, ◌&&◌, Bool, true, false, cond, ltb, List, [], ◌∷◌, Option, Some, None, Result, Ok, Err, ℤ, pos}
+use Rattle.std.proofs.Common.{negsuc, FitsSigned, to_z, of_z, w32, w64, refl, sym, ap, subst, ◌∙◌, arith, inl, inr}
 use Rattle.std.specs.Prelude.{MatchOption, IfSome, decimal, option_and_then}
 use Rattle.std.specs.Fmt.{signed_decimal}
 use Rattle.std.specs.Str.{bytes_eq}
@@ -29,7 +30,8 @@ module _ {E : Type 0} where
       absurd cc
 
   -- nor is what parses to a number that is spelled otherwise
-  pub spelled_otherwise : (word text out : List ℕ) (r : Result ℕ E) (number : ℕ) → text ≡ word → r ≡ Ok number → ParsesUnsigned 64 10 text r → out ≡ decimal number → bytes_eq out word ≡ false
+  pub spelled_otherwise : (word text out : List ℕ) (r : Result ℕ E) (number : ℕ) → text ≡ word → r ≡ Ok number → ParsesUnsigned 64 10 text r
+      → out ≡ decimal number → bytes_eq out word ≡ false
       → (n : ℕ) → n < 2 ^ 64 → decimal n ≡ word → ⊥
   spelled_otherwise word text out r number same ok h written differs n lt e =
       let parsed : r ≡ Ok n = parse-decimal {E = E} 64 n text r lt lt (same ∙ sym e) h in
@@ -87,7 +89,8 @@ wider : (z : ℤ) → IsInteger (2 ^ 31) z → IsInteger (2 ^ 63) z
 wider (pos n) lt = omega arith
 wider (negsuc n) lt = omega arith
 
-positive_reads : (limit : ℕ) (word : List ℕ) (z : ℤ) → option_and_then (positive limit) (natural_of word) ≡ Some z → IsInteger limit z × (signed_decimal z ≡ word)
+positive_reads : (limit : ℕ) (word : List ℕ) (z : ℤ) → option_and_then (positive limit) (natural_of word) ≡ Some z → IsInteger limit z
+    × (signed_decimal z ≡ word)
 positive_reads limit word z e = by (natural_of word) refl e
   where
     by : (found : Option ℕ) → natural_of word ≡ found → option_and_then (positive limit) found ≡ Some z → IsInteger limit z × (signed_decimal z ≡ word)
@@ -96,9 +99,11 @@ positive_reads limit word z e = by (natural_of word) refl e
       where
         chosen : (small : Bool) → ltb n limit ≡ small → cond small (Some (pos n)) None ≡ Some z → IsInteger limit z × (signed_decimal z ≡ word)
         chosen false q e = absurd cc
-        chosen true q e = let is : pos n ≡ z = cc in subst (λ y. IsInteger limit y × (signed_decimal y ≡ word)) is (ltb-true _ _ q, (natural_of-reads word n p).1)
+        chosen true q e = let is : pos n ≡ z = cc in subst (λ y. IsInteger limit y × (signed_decimal y ≡ word)) is
+            (ltb-true _ _ q, (natural_of-reads word n p).1)
 
-negative_reads : (limit : ℕ) (digits : List ℕ) (z : ℤ) → option_and_then (negative limit) (natural_of digits) ≡ Some z → IsInteger limit z × (signed_decimal z ≡ 45 ∷ digits)
+negative_reads : (limit : ℕ) (digits : List ℕ) (z : ℤ) → option_and_then (negative limit) (natural_of digits) ≡ Some z → IsInteger limit z
+    × (signed_decimal z ≡ 45 ∷ digits)
 negative_reads limit digits z e = by (natural_of digits) refl e
   where
     by : (found : Option ℕ) → natural_of digits ≡ found → option_and_then (negative limit) found ≡ Some z → IsInteger limit z × (signed_decimal z ≡ 45 ∷ digits)
@@ -108,7 +113,8 @@ negative_reads limit digits z e = by (natural_of digits) refl e
       where
         chosen : (small : Bool) → ltb n limit ≡ small → cond small (Some (negsuc n)) None ≡ Some z → IsInteger limit z × (signed_decimal z ≡ 45 ∷ digits)
         chosen false q e = absurd cc
-        chosen true q e = let is : negsuc n ≡ z = cc in subst (λ y. IsInteger limit y × (signed_decimal y ≡ 45 ∷ digits)) is (ltb-true _ _ q, ap (λ (ds : List ℕ). 45 ∷ ds) (natural_of-reads digits (suc n) p).1)
+        chosen true q e = let is : negsuc n ≡ z = cc in subst (λ y. IsInteger limit y × (signed_decimal y ≡ 45 ∷ digits)) is
+            (ltb-true _ _ q, ap (λ (ds : List ℕ). 45 ∷ ds) (natural_of-reads digits (suc n) p).1)
 
 -- what is read as a number is spelled so
 pub integer_of-reads : (limit : ℕ) (word : List ℕ) (z : ℤ) → integer_of limit word ≡ Some z → IsInteger limit z × (signed_decimal z ≡ word)

@@ -6,7 +6,8 @@ use Rattle.ada_reading.specs.declared.fault.Fault.TheVariants.{BadStatement}
 use Rattle.ada_reading.specs.Reading.{Read, repeat_at, is_over}
 
 module _ {X : Type 0} (step : List X → List (List ℕ) → Read X) where
-  pub repeat_step : (limit : ℕ) (before : List X) (words : List (List ℕ)) (x : X) (rest : List (List ℕ)) → is_over words ≡ false → length before < limit → step before words ≡ Ok (x, rest)
+  pub repeat_step : (limit : ℕ) (before : List X) (words : List (List ℕ)) (x : X) (rest : List (List ℕ)) → is_over words ≡ false → length before < limit
+      → step before words ≡ Ok (x, rest)
       → repeat_at step (limit - length before) before words ≡ repeat_at step (limit - length (before ++ x ∷ [])) (before ++ x ∷ []) rest
   unfolding repeat_at
   repeat_step limit before [] x rest some room reads = absurd (true≢false some)
@@ -14,7 +15,8 @@ module _ {X : Type 0} (step : List X → List (List ℕ) → Read X) where
       let one : limit - length before ≡ suc (limit - length (before ++ x ∷ [])) = omega (arith, length-append before (x ∷ [])) in
       rw (one, reads) refl
 
-  pub repeat_fails : (limit : ℕ) (before : List X) (words : List (List ℕ)) (e : Fault) → is_over words ≡ false → length before < limit → step before words ≡ Err e
+  pub repeat_fails : (limit : ℕ) (before : List X) (words : List (List ℕ)) (e : Fault) → is_over words ≡ false → length before < limit
+      → step before words ≡ Err e
       → repeat_at step (limit - length before) before words ≡ Err e
   unfolding repeat_at
   repeat_fails limit before [] e some room reads = absurd (true≢false some)
@@ -22,7 +24,8 @@ module _ {X : Type 0} (step : List X → List (List ℕ) → Read X) where
       let one : limit - length before ≡ suc (limit - length before - 1) = omega arith in
       rw (one, reads) refl
 
-  pub repeat_full : (limit : ℕ) (before : List X) (words : List (List ℕ)) → is_over words ≡ false → length before ≡ limit → repeat_at step (limit - length before) before words ≡ Err BadStatement
+  pub repeat_full : (limit : ℕ) (before : List X) (words : List (List ℕ)) → is_over words ≡ false → length before ≡ limit
+      → repeat_at step (limit - length before) before words ≡ Err BadStatement
   unfolding repeat_at
   repeat_full limit before [] some full = absurd (true≢false some)
   repeat_full limit before (word ∷ words) some full =

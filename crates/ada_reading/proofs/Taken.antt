@@ -1,5 +1,6 @@
 -- What is read is spelled so, and has its form.
-use Rattle.std.proofs.Common.{◌≡◌, ℕ, ◌^◌, ◌<◌, Bool, true, false, cond, ltb, List, [], ◌∷◌, ◌++◌, Option, Some, None, Result, Ok, Err, ℤ, refl, ap, subst, ◌∙◌, inl, inr, ◌⊎◌}
+use Rattle.std.proofs.Common.{◌≡◌, ℕ, ◌^◌, ◌<◌, Bool, true, false, cond, ltb, List, [], ◌∷◌, ◌++◌, Option, Some, None, Result, Ok, Err, ℤ, refl, ap, subst, ◌∙◌}
+use Rattle.std.proofs.Common.{inl, inr, ◌⊎◌}
 use Rattle.std.specs.Prelude.{IsTrue, IfSome, decimal}
 use Rattle.std.specs.Fmt.{signed_decimal}
 use Rattle.std.specs.Str.{bytes_eq}
@@ -12,7 +13,8 @@ use Rattle.ada_statements.specs.Text.{is_name}
 use Rattle.ada_reading.specs.Number.{natural_of, integer_of}
 use Rattle.ada_spelling.specs.Spelling.{index_words, entry_words, bounds_words}
 use Rattle.ada_statements.specs.Scope.{Scope, is_task, is_declared, has_entry, IsTaskName, IsMasterName, IsNewName, IsEntryName, IsIndex, IsMoment}
-use Rattle.ada_reading.specs.Reading.{◌>>=◌, word_at, keyword_at, number_from, moment_at, index_at, below_2_32, pick_at, optional_index_at, number_is_next, bounds_at, name_at, task_at, master_at, new_name_at, entry_at}
+use Rattle.ada_reading.specs.Reading.{◌>>=◌, word_at, keyword_at, number_from, moment_at, index_at, below_2_32, pick_at, optional_index_at, number_is_next}
+use Rattle.ada_reading.specs.Reading.{bounds_at, name_at, task_at, master_at, new_name_at, entry_at}
 use Rattle.ada_reading.proofs.Numbers.{integer_of-reads, natural_of-reads, FitsSigned-32, FitsSigned-64}
 
 -- the value of a step that did not fail
@@ -103,7 +105,8 @@ module _ (names : Scope) where
 
 -- ---- numbers
 
-number_reads : {N : Type 0} (number : Option N) (words : List (List ℕ)) (x : N × List (List ℕ)) → number_from number words ≡ Ok x → (number ≡ Some x.0) × (words ≡ x.1)
+number_reads : {N : Type 0} (number : Option N) (words : List (List ℕ)) (x : N × List (List ℕ)) → number_from number words ≡ Ok x → (number ≡ Some x.0)
+    × (words ≡ x.1)
 number_reads None words x e = absurd cc
 number_reads {N} (Some n) words x e =
     let same = ok_is (n, words) x e in
@@ -169,7 +172,8 @@ bounds_reads words x e =
           let b = bind_ok (index_at a.0.1) _ x a.2 in
           let low = index_reads words a.0 a.1 in
           let high = index_reads a.0.1 b.0 b.1 in
-          subst (BoundsRead words) (ok_is (Some (record { low = a.0.0; high = b.0.0 }), b.0.1) x b.2) (low.0 ∙ ap (λ (r : List (List ℕ)). signed_decimal a.0.0 ∷ r) high.0, (low.1, high.1))
+          subst (BoundsRead words) (ok_is (Some (record { low = a.0.0; high = b.0.0 }), b.0.1) x b.2)
+          (low.0 ∙ ap (λ (r : List (List ℕ)). signed_decimal a.0.0 ∷ r) high.0, (low.1, high.1))
       | inr absent ↦ subst (BoundsRead words) (ok_is (None, words) x absent.1) (refl, tt)
     ]
 
@@ -178,7 +182,8 @@ bounds_reads words x e =
 abbrev pub EntryRead : Scope → List ℕ → List (List ℕ) → EntryName × List (List ℕ) → Type 0
 EntryRead names task words x = (words ≡ entry_words x.0 ++ x.1) × IsEntryName names task x.0
 
-pub entry_reads : (names : Scope) (task : List ℕ) (words : List (List ℕ)) (x : EntryName × List (List ℕ)) → entry_at names task words ≡ Ok x → EntryRead names task words x
+pub entry_reads : (names : Scope) (task : List ℕ) (words : List (List ℕ)) (x : EntryName × List (List ℕ)) → entry_at names task words ≡ Ok x
+    → EntryRead names task words x
 unfolding entry_at
 entry_reads names task words x e =
     let a = bind_ok (name_at words) _ x e in
@@ -186,4 +191,5 @@ entry_reads names task words x e =
     let d = bind_ok (optional_index_at a.0.1) _ x b.1 in
     let name = name_reads words a.0 a.1 in
     let index = optional_index_reads a.0.1 d.0 d.1 in
-    subst (EntryRead names task words) (ok_is (record { family = a.0.0; index = d.0.0 }, d.0.1) x d.2) (name.0 ∙ ap (λ (r : List (List ℕ)). a.0.0 ∷ r) index.0, (name.1, b.0, index.1))
+    subst (EntryRead names task words) (ok_is (record { family = a.0.0; index = d.0.0 }, d.0.1) x d.2)
+    (name.0 ∙ ap (λ (r : List (List ℕ)). a.0.0 ∷ r) index.0, (name.1, b.0, index.1))

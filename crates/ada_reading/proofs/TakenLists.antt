@@ -27,10 +27,12 @@ module _ {X : Type 0} (step : List X → List (List ℕ) → Read X) (spelled : 
     pub chain : Chain P before more
     pub fits : length more ≤ room
 
-  pub repeat_reads : (room : ℕ) (before : List X) (words : List (List ℕ)) (x : List X × List (List ℕ)) → repeat_at step room before words ≡ Ok x → Repeats room before words x
+  pub repeat_reads : (room : ℕ) (before : List X) (words : List (List ℕ)) (x : List X × List (List ℕ)) → repeat_at step room before words ≡ Ok x
+      → Repeats room before words x
   unfolding repeat_at
   repeat_reads room before [] x e =
-      subst (Repeats room before []) (ok_is (before, []) x e) (record { more = []; all = sym (append-nil before); words_are = refl; over = refl; chain = tt; fits = omega arith })
+      subst (Repeats room before []) (ok_is (before, []) x e)
+      (record { more = []; all = sym (append-nil before); words_are = refl; over = refl; chain = tt; fits = omega arith })
   repeat_reads zero before (word ∷ words) x e = absurd cc
   repeat_reads (suc room) before (word ∷ words) x e =
       let a = bind_ok (step before (word ∷ words)) _ x e in
@@ -60,7 +62,8 @@ TasksRead names words x = (words ≡ x.0) × (x.1 ≡ []) × AreTaskNames names 
 
 pub tasks_read : (names : Scope) (words : List (List ℕ)) (x : List (List ℕ) × List (List ℕ)) → tasks_at names words ≡ Ok x → TasksRead names words x
 tasks_read names words x e =
-    let r = repeat_reads (λ before rest. task_at names rest) (λ task. task ∷ []) (λ before task. IsTaskName names task) (λ before rest y found. task_reads names rest y found) 256 [] words x e in
+    let r = repeat_reads (λ before rest. task_at names rest) (λ task. task ∷ []) (λ before task. IsTaskName names task)
+    (λ before rest y found. task_reads names rest y found) 256 [] words x e in
     let all : x.0 ≡ r.more = r.all in
     (r.words_are ∙ flat_map-single r.more ∙ sym all, r.over, rw all (r.fits, each_of_chain (IsTaskName names) [] r.more r.chain))
 
@@ -80,13 +83,16 @@ family_reads before words x e =
     let d = bind_ok (bounds_at a.0.1) _ x b.1 in
     let name = name_reads words a.0 a.1 in
     let bounds = bounds_reads a.0.1 d.0 d.1 in
-    subst (FamilyRead before words) (ok_is (record { name = a.0.0; bounds = d.0.0 }, d.0.1) x d.2) (name.0 ∙ ap (λ (r : List (List ℕ)). a.0.0 ∷ r) bounds.0, ((name.1, bounds.1), b.0))
+    subst (FamilyRead before words) (ok_is (record { name = a.0.0; bounds = d.0.0 }, d.0.1) x d.2)
+    (name.0 ∙ ap (λ (r : List (List ℕ)). a.0.0 ∷ r) bounds.0, ((name.1, bounds.1), b.0))
 
-pub list_any-names : (name : List ℕ) (families : List Declaration) → list_any (bytes_eq name) (map (λ f. f.name) families) ≡ list_any (λ other. bytes_eq name other.name) families
+pub list_any-names : (name : List ℕ) (families : List Declaration)
+    → list_any (bytes_eq name) (map (λ f. f.name) families) ≡ list_any (λ other. bytes_eq name other.name) families
 list_any-names name [] = refl
 list_any-names name (f ∷ fs) = rw (list_any-names name fs) refl
 
-pub map-push : (families : List Declaration) (family : Declaration) → map (λ f. f.name) (families ++ family ∷ []) ≡ map (λ f. f.name) families ++ family.name ∷ []
+pub map-push : (families : List Declaration) (family : Declaration)
+    → map (λ f. f.name) (families ++ family ∷ []) ≡ map (λ f. f.name) families ++ family.name ∷ []
 map-push [] family = refl
 map-push (f ∷ fs) family = ap (λ (ns : List (List ℕ)). f.name ∷ ns) (map-push fs family)
 

@@ -1,5 +1,6 @@
 -- A statement that is read is spelled so, and may stand there.
-use Rattle.std.proofs.Common.{◌≡◌, ℕ, ◌-◌, cond, List, [], ◌∷◌, ◌++◌, length, take, get_or, eqb, Option, Some, None, Ok, refl, sym, ap, subst, ◌∙◌, arith, append_assoc, inl, inr}
+use Rattle.std.proofs.Common.{◌≡◌, ℕ, ◌-◌, cond, List, [], ◌∷◌, ◌++◌, length, take, get_or, eqb, Option, Some, None, Ok, refl, sym, ap, subst, ◌∙◌, arith}
+use Rattle.std.proofs.Common.{append_assoc, inl, inr}
 use Rattle.std.specs.Prelude.{codes, decimal}
 use Rattle.std.specs.Fmt.{signed_decimal}
 use Rattle.std.specs.List.{flat_map}
@@ -10,14 +11,19 @@ use Rattle.std.proofs.lemmas.Slice.Eq.{bytes_eq-Decides}
 use Rattle.ada_spelling.specs.declared.verb.Verb.{Verb}
 use Rattle.ada_spelling.specs.declared.verb.Verb.TheVariants as verbs
 use Rattle.ada_statements.specs.declared.statement.Statement.{Statement}
-use Rattle.ada_statements.specs.declared.statement.Statement.TheVariants.{Tick, Open, Create, Activate, Up, Fail, Call, CallWithin, Try, Accept, Select, End, Raise, Close, Delay, Complete, Abort, ShowCallable, ShowTerminated, ShowCount}
+use Rattle.ada_statements.specs.declared.statement.Statement.TheVariants.{Tick, Open, Create, Activate, Up, Fail, Call, CallWithin, Try, Accept, Select, End}
+use Rattle.ada_statements.specs.declared.statement.Statement.TheVariants.{Raise, Close, Delay, Complete, Abort, ShowCallable, ShowTerminated, ShowCount}
 use Rattle.ada_statements.specs.Text.{is_name}
 use Rattle.ada_spelling.specs.Spelling.{speaker, entry_words, family_words, words_of}
 use Rattle.ada_statements.specs.Scope.{Scope, is_task, IsTaskName, MayStand}
-use Rattle.ada_reading.specs.Reading.{word_at, end_at, keyword_at, moment_at, pick_at, task_at, new_name_at, master_at, entry_at, tasks_at, families_at, alternatives_at, is_over, verb_from, verb_at, tick_at, open_at, create_at, activate_at, abort_at, call_at, try_at, accept_at, delay_at, select_at, show_at, act_at, before_colon, speaker_from, speaker_of, speech_at, statement_at, statement_of}
+use Rattle.ada_reading.specs.Reading.{word_at, end_at, keyword_at, moment_at, pick_at, task_at, new_name_at, master_at, entry_at, tasks_at, families_at}
+use Rattle.ada_reading.specs.Reading.{alternatives_at, is_over, verb_from, verb_at, tick_at, open_at, create_at, activate_at, abort_at, call_at, try_at}
+use Rattle.ada_reading.specs.Reading.{accept_at, delay_at, select_at, show_at, act_at, before_colon, speaker_from, speaker_of, speech_at, statement_at}
+use Rattle.ada_reading.specs.Reading.{statement_of}
 use Rattle.ada_spelling.specs.Verbs.{verb_word, all_verbs, verb_of}
 use Rattle.ada_statements.proofs.Found.{found_passes}
-use Rattle.ada_reading.proofs.Taken.{bind_ok, if_ok, chosen, ok_is, done, word_reads, keyword_reads, moment_reads, pick_reads, task_reads, master_reads, new_name_reads, entry_reads}
+use Rattle.ada_reading.proofs.Taken.{bind_ok, if_ok, chosen, ok_is, done, word_reads, keyword_reads, moment_reads, pick_reads, task_reads, master_reads}
+use Rattle.ada_reading.proofs.Taken.{new_name_reads, entry_reads}
 use Rattle.ada_reading.proofs.TakenLists.{tasks_read, families_read}
 use Rattle.ada_reading.proofs.TakenSelect.{select_reads}
 
@@ -73,10 +79,14 @@ module _ (names : Scope) (by : List ℕ) (known : IsTaskName names by) where
       let under = master_reads names b.0.1 d.0 d.1 in
       let families = families_read d.0.1 f.0 f.1 in
       let spelled : words ≡ a.0.0 ∷ codes "under" ∷ d.0.0 ∷ flat_map family_words f.0.0 =
-      task.0 ∙ ap (λ (r : List (List ℕ)). a.0.0 ∷ r) (keyword ∙ ap (λ (r : List (List ℕ)). codes "under" ∷ r) (under.0 ∙ ap (λ (r : List (List ℕ)). d.0.0 ∷ r) families.0)) in
+      task.0 ∙ ap (λ (r : List (List ℕ)). a.0.0 ∷ r)
+      (keyword ∙ ap (λ (r : List (List ℕ)). codes "under" ∷ r) (under.0 ∙ ap (λ (r : List (List ℕ)). d.0.0 ∷ r) families.0)) in
       let made = Create by a.0.0 d.0.0 f.0.0 in
-      subst (ActRead names by verbs.Create words) (ok_is (made, f.0.1) x f.2)
-      (behind verbs.Create words _ spelled ∙ sym (append-nil (words_of made)) ∙ ap (λ (r : List (List ℕ)). words_of made ++ r) (sym families.1), (known, task.1, under.1, families.2))
+      subst (ActRead names by verbs.Create words) (ok_is (made, f.0.1) x f.2) (
+        behind verbs.Create words _ spelled ∙ sym (append-nil (words_of made))
+            ∙ ap (λ (r : List (List ℕ)). words_of made ++ r) (sym families.1),
+        (known, task.1, under.1, families.2),
+      )
 
   activate_reads : (words : List (List ℕ)) (x : Statement × List (List ℕ)) → activate_at names by words ≡ Ok x → ActRead names by verbs.Activate words x
   unfolding activate_at
@@ -84,8 +94,11 @@ module _ (names : Scope) (by : List ℕ) (known : IsTaskName names by) where
       let a = bind_ok (tasks_at names words) _ x e in
       let tasks = tasks_read names words a.0 a.1 in
       let made = Activate by a.0.0 in
-      subst (ActRead names by verbs.Activate words) (ok_is (made, a.0.1) x a.2)
-      (behind verbs.Activate words _ tasks.0 ∙ sym (append-nil (words_of made)) ∙ ap (λ (r : List (List ℕ)). words_of made ++ r) (sym tasks.1), (known, tasks.2))
+      subst (ActRead names by verbs.Activate words) (ok_is (made, a.0.1) x a.2) (
+        behind verbs.Activate words _ tasks.0 ∙ sym (append-nil (words_of made))
+            ∙ ap (λ (r : List (List ℕ)). words_of made ++ r) (sym tasks.1),
+        (known, tasks.2),
+      )
 
   abort_reads : (words : List (List ℕ)) (x : Statement × List (List ℕ)) → abort_at names by words ≡ Ok x → ActRead names by verbs.Abort words x
   unfolding abort_at
@@ -105,7 +118,8 @@ module _ (names : Scope) (by : List ℕ) (known : IsTaskName names by) where
       let entry = entry_reads names a.0.0 a.0.1 b.0 b.1 in
       let spelled : words ≡ a.0.0 ∷ (entry_words b.0.0 ++ b.0.1) = callee.0 ∙ ap (λ (r : List (List ℕ)). a.0.0 ∷ r) entry.0 in
       elim (chosen (is_over b.0.1) _ _ (done x) b.2) [
-        | inl over ↦ subst (ActRead names by verbs.Call words) (ok_is (Call by a.0.0 b.0.0, b.0.1) x over.1) (behind verbs.Call words _ spelled, (known, callee.1, entry.1))
+        | inl over ↦ subst (ActRead names by verbs.Call words) (ok_is (Call by a.0.0 b.0.0, b.0.1) x over.1)
+            (behind verbs.Call words _ spelled, (known, callee.1, entry.1))
         | inr more ↦
             let d = bind_ok (keyword_at (codes "within") b.0.1) _ x more.1 in
             let f = bind_ok (moment_at d.0.1) _ x d.2 in
@@ -113,8 +127,10 @@ module _ (names : Scope) (by : List ℕ) (known : IsTaskName names by) where
             let duration = moment_reads d.0.1 f.0 f.1 in
             let tail : b.0.1 ≡ (codes "within" ∷ signed_decimal f.0.0 ∷ []) ++ f.0.1 = keyword ∙ ap (λ (r : List (List ℕ)). codes "within" ∷ r) duration.0 in
             let timed : words ≡ a.0.0 ∷ ((entry_words b.0.0 ++ (codes "within" ∷ signed_decimal f.0.0 ∷ [])) ++ f.0.1) =
-            spelled ∙ ap (λ (r : List (List ℕ)). a.0.0 ∷ (entry_words b.0.0 ++ r)) tail ∙ ap (λ (r : List (List ℕ)). a.0.0 ∷ r) (sym (append_assoc (entry_words b.0.0) (codes "within" ∷ signed_decimal f.0.0 ∷ []) f.0.1)) in
-            subst (ActRead names by verbs.Call words) (ok_is (CallWithin by a.0.0 b.0.0 f.0.0, f.0.1) x f.2) (behind verbs.Call words _ timed, (known, callee.1, entry.1, duration.1))
+            spelled ∙ ap (λ (r : List (List ℕ)). a.0.0 ∷ (entry_words b.0.0 ++ r)) tail
+            ∙ ap (λ (r : List (List ℕ)). a.0.0 ∷ r) (sym (append_assoc (entry_words b.0.0) (codes "within" ∷ signed_decimal f.0.0 ∷ []) f.0.1)) in
+            subst (ActRead names by verbs.Call words) (ok_is (CallWithin by a.0.0 b.0.0 f.0.0, f.0.1) x f.2)
+            (behind verbs.Call words _ timed, (known, callee.1, entry.1, duration.1))
       ]
 
   try_reads : (words : List (List ℕ)) (x : Statement × List (List ℕ)) → try_at names by words ≡ Ok x → ActRead names by verbs.Try words x
@@ -124,7 +140,8 @@ module _ (names : Scope) (by : List ℕ) (known : IsTaskName names by) where
       let b = bind_ok (entry_at names a.0.0 a.0.1) _ x a.2 in
       let callee = task_reads names words a.0 a.1 in
       let entry = entry_reads names a.0.0 a.0.1 b.0 b.1 in
-      subst (ActRead names by verbs.Try words) (ok_is (Try by a.0.0 b.0.0, b.0.1) x b.2) (behind verbs.Try words _ (callee.0 ∙ ap (λ (r : List (List ℕ)). a.0.0 ∷ r) entry.0), (known, callee.1, entry.1))
+      subst (ActRead names by verbs.Try words) (ok_is (Try by a.0.0 b.0.0, b.0.1) x b.2)
+      (behind verbs.Try words _ (callee.0 ∙ ap (λ (r : List (List ℕ)). a.0.0 ∷ r) entry.0), (known, callee.1, entry.1))
 
   accept_reads : (words : List (List ℕ)) (x : Statement × List (List ℕ)) → accept_at names by words ≡ Ok x → ActRead names by verbs.Accept words x
   unfolding accept_at
@@ -160,19 +177,28 @@ module _ (names : Scope) (by : List ℕ) (known : IsTaskName names by) where
             let d = bind_ok (task_at names a.0.1) _ x b.1 in
             let task = task_reads names a.0.1 d.0 d.1 in
             let attribute = (bytes_eq-Decides a.0.0 (codes "callable")).0 b.0 in
-            subst (ActRead names by verbs.Show words) (ok_is (ShowCallable by d.0.0, d.0.1) x d.2) (behind verbs.Show words _ (word ∙ ap (λ (w : List ℕ). w ∷ a.0.1) attribute ∙ ap (λ (r : List (List ℕ)). codes "callable" ∷ r) task.0), (known, task.1))
+            subst (ActRead names by verbs.Show words) (ok_is (ShowCallable by d.0.0, d.0.1) x d.2) (
+              behind verbs.Show words _ (word ∙ ap (λ (w : List ℕ). w ∷ a.0.1) attribute ∙ ap (λ (r : List (List ℕ)). codes "callable" ∷ r) task.0),
+              (known, task.1),
+            )
         | inr b ↦ elim (chosen (bytes_eq a.0.0 (codes "terminated")) _ _ (done x) b.1) [
           | inl f ↦
               let d = bind_ok (task_at names a.0.1) _ x f.1 in
               let task = task_reads names a.0.1 d.0 d.1 in
               let attribute = (bytes_eq-Decides a.0.0 (codes "terminated")).0 f.0 in
-              subst (ActRead names by verbs.Show words) (ok_is (ShowTerminated by d.0.0, d.0.1) x d.2) (behind verbs.Show words _ (word ∙ ap (λ (w : List ℕ). w ∷ a.0.1) attribute ∙ ap (λ (r : List (List ℕ)). codes "terminated" ∷ r) task.0), (known, task.1))
+              subst (ActRead names by verbs.Show words) (ok_is (ShowTerminated by d.0.0, d.0.1) x d.2) (
+                behind verbs.Show words _ (word ∙ ap (λ (w : List ℕ). w ∷ a.0.1) attribute ∙ ap (λ (r : List (List ℕ)). codes "terminated" ∷ r) task.0),
+                (known, task.1),
+              )
           | inr f ↦
               let g = if_ok (bytes_eq a.0.0 (codes "count")) _ _ x f.1 in
               let d = bind_ok (entry_at names by a.0.1) _ x g.1 in
               let entry = entry_reads names by a.0.1 d.0 d.1 in
               let attribute = (bytes_eq-Decides a.0.0 (codes "count")).0 g.0 in
-              subst (ActRead names by verbs.Show words) (ok_is (ShowCount by d.0.0, d.0.1) x d.2) (behind verbs.Show words _ (word ∙ ap (λ (w : List ℕ). w ∷ a.0.1) attribute ∙ ap (λ (r : List (List ℕ)). codes "count" ∷ r) entry.0), (known, entry.1))
+              subst (ActRead names by verbs.Show words) (ok_is (ShowCount by d.0.0, d.0.1) x d.2) (
+                behind verbs.Show words _ (word ∙ ap (λ (w : List ℕ). w ∷ a.0.1) attribute ∙ ap (λ (r : List (List ℕ)). codes "count" ∷ r) entry.0),
+                (known, entry.1),
+              )
         ]
       ]
 
@@ -209,7 +235,8 @@ before_colon_reads (first ∷ others) name e =
     elim (chosen (eqb (get_or (first ∷ others) (length others) 0) 58) _ _ (Some name) there) [
       | inl colon ↦
           let front : take (length others) (first ∷ others) ≡ name = cc in
-          last_apart first others ∙ ap (λ (b : ℕ). take (length others) (first ∷ others) ++ b ∷ []) (eqb-true _ _ colon.0) ∙ ap (λ (r : List ℕ). r ++ 58 ∷ []) front
+          last_apart first others ∙ ap (λ (b : ℕ). take (length others) (first ∷ others) ++ b ∷ []) (eqb-true _ _ colon.0)
+          ∙ ap (λ (r : List ℕ). r ++ 58 ∷ []) front
       | inr none ↦ absurd cc
     ]
 
@@ -237,7 +264,8 @@ tick_reads names words x e =
     let now = moment_reads words a.0 a.1 in
     subst (StatementRead names (codes "tick" ∷ words)) (ok_is (Tick a.0.0, a.0.1) x a.2) (ap (λ (r : List (List ℕ)). codes "tick" ∷ r) now.0, now.1)
 
-speech_reads : (names : Scope) (first : List ℕ) (words : List (List ℕ)) (x : Statement × List (List ℕ)) → speech_at names first words ≡ Ok x → StatementRead names (first ∷ words) x
+speech_reads : (names : Scope) (first : List ℕ) (words : List (List ℕ)) (x : Statement × List (List ℕ)) → speech_at names first words ≡ Ok x
+    → StatementRead names (first ∷ words) x
 unfolding speech_at
 speech_reads names first words x e =
     let a = bind_ok (speaker_of names first) _ x e in
@@ -263,7 +291,8 @@ end_reads : (words : List (List ℕ)) (x : Unit {0} × List (List ℕ)) → end_
 end_reads [] x e = refl
 end_reads (word ∷ words) x e = absurd cc
 
-pub statement_reads : (names : Scope) (words : List (List ℕ)) (statement : Statement) → statement_of names words ≡ Ok statement → MayStand names statement × (words_of statement ≡ words)
+pub statement_reads : (names : Scope) (words : List (List ℕ)) (statement : Statement) → statement_of names words ≡ Ok statement → MayStand names statement
+    × (words_of statement ≡ words)
 unfolding statement_of
 statement_reads names words statement e =
     let a = bind_ok (statement_at names words) _ statement e in

@@ -19,4 +19,5 @@ negative limit (suc n) = if nat_lt n limit then Some (negsuc n) else None
 -- the number from -limit to limit - 1 whose spelling this is
 unfoldable pub integer_of : ℕ → List ℕ → Option ℤ
 integer_of limit [] = None
-integer_of limit (b ∷ bytes) = if b == 45 then option_and_then (negative limit) (natural_of bytes) else option_and_then (positive limit) (natural_of (b ∷ bytes))
+integer_of limit (b ∷ bytes) =
+    if b == 45 then option_and_then (negative limit) (natural_of bytes) else option_and_then (positive limit) (natural_of (b ∷ bytes))

@@ -1,6 +1,7 @@
 -- How the words of a line are read, from left to right, with the first fault that is met. What a statement's
 -- words are and where it may stand, the spelling and the scope say; this stands for nothing by itself.
-use Rattle.std.specs.Prelude.{◌≡◌, ◌⊎◌, ℕ, zero, suc, ℤ, ◌^◌, Bool, true, false, ◌||◌, ◌==◌, nat_lt, if◌then◌else◌, List, [], ◌∷◌, ◌++◌, length, take, slice_index, not, ◌-◌, find, Option, Some, None, Result, Ok, Err, codes}
+use Rattle.std.specs.Prelude.{◌≡◌, ◌⊎◌, ℕ, zero, suc, ℤ, ◌^◌, Bool, true, false, ◌||◌, ◌==◌, nat_lt, if◌then◌else◌, List, [], ◌∷◌, ◌++◌, length, take}
+use Rattle.std.specs.Prelude.{slice_index, not, ◌-◌, find, Option, Some, None, Result, Ok, Err, codes}
 use Rattle.std.specs.Borrow.{Bor}
 use Rattle.std.specs.List.{list_any}
 use Rattle.std.specs.Str.{bytes_eq}
@@ -17,7 +18,8 @@ use Rattle.ada_spelling.specs.Verbs.{verb_of}
 use Rattle.ada_reading.specs.declared.select.Branch.{Branch}
 use Rattle.ada_reading.specs.declared.select.Branch.TheVariants as branches
 use Rattle.ada_statements.specs.declared.statement.Statement.{Statement}
-use Rattle.ada_statements.specs.declared.statement.Statement.TheVariants.{Tick, Open, Create, Activate, Up, Fail, Call, CallWithin, Try, Accept, Select, End, Raise, Close, Delay, Complete, Abort, ShowCallable, ShowTerminated, ShowCount}
+use Rattle.ada_statements.specs.declared.statement.Statement.TheVariants.{Tick, Open, Create, Activate, Up, Fail, Call, CallWithin, Try, Accept, Select, End}
+use Rattle.ada_statements.specs.declared.statement.Statement.TheVariants.{Raise, Close, Delay, Complete, Abort, ShowCallable, ShowTerminated, ShowCount}
 use Rattle.ada_statements.specs.declared.statement.Declaration.{Declaration}
 use Rattle.ada_statements.specs.declared.statement.EntryName.{EntryName}
 use Rattle.ada_statements.specs.declared.statement.Alternative.{Alternative}
@@ -163,7 +165,8 @@ tasks_at names words = repeat_at (λ before rest. task_at names rest) MOST_TASKS
 unfoldable pub family_at : List Declaration → List (List ℕ) → Read Declaration
 family_at before words = do
   name ← name_at words
-  if list_any (λ family. bytes_eq name.0 family.name) before then Err DoubleName else (bounds_at name.1 >>= λ bounds. Ok (record { name = name.0; bounds = bounds.0 }, bounds.1))
+  if list_any (λ family. bytes_eq name.0 family.name) before then Err DoubleName
+      else (bounds_at name.1 >>= λ bounds. Ok (record { name = name.0; bounds = bounds.0 }, bounds.1))
 
 abbrev pub families_at : List (List ℕ) → Read (List Declaration)
 families_at words = repeat_at family_at MOST_FAMILIES [] words
@@ -242,7 +245,9 @@ passed_over keyword [] = (false, [])
 passed_over keyword (word ∷ words) = if bytes_eq word keyword then (true, words) else (false, word ∷ words)
 
 unfoldable pub kind_of : List ℕ → Result Branch Fault
-kind_of word = if bytes_eq word (codes "accept") then Ok branches.Accept else (if bytes_eq word (codes "delay") then Ok branches.Delay else (if bytes_eq word (codes "terminate") then Ok branches.Terminate else Err BadStatement))
+kind_of word =
+    if bytes_eq word (codes "accept") then Ok branches.Accept
+    else (if bytes_eq word (codes "delay") then Ok branches.Delay else (if bytes_eq word (codes "terminate") then Ok branches.Terminate else Err BadStatement))
 
 -- the guard of an alternative, and which it is
 unfoldable pub branch_at : List (List ℕ) → Read (Bool × Branch)
@@ -313,11 +318,14 @@ choices_at names by zero before words = do
   with_tail before (tail_from branch.0.1 branch.0.0 branch.1)
 choices_at names by (suc room) before words = do
   branch ← branch_at words
-  if is_accept branch.0.1 then (choice_at names by branch.0.0 branch.1 >>= λ choice. ended_by choice.0.1 (before ++ choice.0.0 ∷ []) choice.1 (choices_at names by room (before ++ choice.0.0 ∷ []) choice.1)) else with_tail before (tail_from branch.0.1 branch.0.0 branch.1)
+  if is_accept branch.0.1 then (choice_at names by branch.0.0 branch.1 >>= λ choice. ended_by choice.0.1 (before ++ choice.0.0 ∷ []) choice.1
+      (choices_at names by room (before ++ choice.0.0 ∷ []) choice.1)) else with_tail before (tail_from branch.0.1 branch.0.0 branch.1)
 
 unfoldable pub alternatives_at : Scope → List ℕ → List (List ℕ) → Read (List Alternative × Tail)
 alternatives_at names by words =
-    if is_over words then Ok (([], tails.Nothing), words) else (if (passed_over (codes "else") words).0 then Ok (([], tails.Otherwise), (passed_over (codes "else") words).1) else choices_at names by MOST_CHOICES [] (passed_over (codes "else") words).1)
+    if is_over words then Ok (([], tails.Nothing), words)
+    else (if (passed_over (codes "else") words).0 then Ok (([], tails.Otherwise), (passed_over (codes "else") words).1)
+    else choices_at names by MOST_CHOICES [] (passed_over (codes "else") words).1)
 
 unfoldable pub select_at : Scope → List ℕ → List (List ℕ) → Read Statement
 select_at names by words = do
@@ -340,7 +348,9 @@ show_count_at names by words = do
 unfoldable pub show_at : Scope → List ℕ → List (List ℕ) → Read Statement
 show_at names by words = do
   word ← word_at words
-  if bytes_eq word.0 (codes "callable") then show_task_at names (λ task. ShowCallable by task) word.1 else (if bytes_eq word.0 (codes "terminated") then show_task_at names (λ task. ShowTerminated by task) word.1 else (if bytes_eq word.0 (codes "count") then show_count_at names by word.1 else Err BadStatement))
+  if bytes_eq word.0 (codes "callable") then show_task_at names (λ task. ShowCallable by task) word.1
+      else (if bytes_eq word.0 (codes "terminated") then show_task_at names (λ task. ShowTerminated by task) word.1
+      else (if bytes_eq word.0 (codes "count") then show_count_at names by word.1 else Err BadStatement))
 
 unfoldable pub tick_at : List (List ℕ) → Read Statement
 tick_at words = do

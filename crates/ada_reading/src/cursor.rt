@@ -118,7 +118,8 @@ impl<'a> Words<'a> {
 
     /// The next word, which is left where it is.
     pub fn peek(&self) -> Option<&'a [u8]>
-        ensures { MatchOption result (self.now ≡ []) (λ word. (rest : List (List ℕ)) × (self.now ≡ word.now ∷ rest)) }
+        ensures { MatchOption result (self.now ≡ []) (λ word. (rest : List (List ℕ))
+            × (self.now ≡ word.now ∷ rest)) }
     {
         let (word, _) = self.next?;
         Some(word)

@@ -9,7 +9,8 @@ use std::str;
 /// The number whose spelling the word is.
 fn spelled(word: &[u8]) -> Option<u64>
     ensures fits { IfSome result (λ n. n < 2 ^ 64) }
-    ensures spelling { MatchOption result ((n : ℕ) → n < 2 ^ 64 → decimal n ≡ word.now → ⊥) (λ n. decimal n ≡ word.now) }
+    ensures spelling { MatchOption result ((n : ℕ) → n < 2 ^ 64 → decimal n ≡ word.now
+        → ⊥) (λ n. decimal n ≡ word.now) }
 {
     let Ok(text) = str::from_utf8(word) else {
         return None;

@@ -4,7 +4,8 @@ ghost use Rattle.std.specs.Prelude.{◌≡◌, ◌≤◌, length, IfOk, IsTrue};
 ghost use Rattle.std.specs.List.{list_all};
 ghost use Rattle.ada_statements.specs.Scope.{is_task, is_declared, has_entry};
 ghost use Rattle.ada_statements.specs.Text.{is_name as name_form, is_name_byte as name_byte};
-ghost use Rattle.ada_reading.specs.Reading.{Gives, GivesWord, word_at, end_at, keyword_at, moment_at, index_at, pick_at, below_2_32 as low_number, begins_number, number_is_next, optional_index_at, bounds_at, name_at, task_at, master_at, new_name_at, entry_at};
+ghost use Rattle.ada_reading.specs.Reading.{Gives, GivesWord, word_at, end_at, keyword_at, moment_at, index_at, pick_at, below_2_32 as low_number};
+ghost use Rattle.ada_reading.specs.Reading.{begins_number, number_is_next, optional_index_at, bounds_at, name_at, task_at, master_at, new_name_at, entry_at};
 
 use crate::cursor::Words;
 use crate::fault::Fault;

@@ -1,7 +1,8 @@
 //! Reading selective waits.
 
 ghost use Rattle.std.specs.Prelude.{◌≡◌, ◌⊎◌, [], Ok, Err, IfOk, IfErr};
-ghost use Rattle.ada_reading.specs.Reading.{Gives, GivesInMemory, passed_over, kind_of, branch_at, tail_of, link_at, pause_at, next_pause_at, pauses_at, choice_at, tail_from, choices_at, alternatives_at};
+ghost use Rattle.ada_reading.specs.Reading.{Gives, GivesInMemory, passed_over, kind_of, branch_at, tail_of, link_at, pause_at, next_pause_at, pauses_at};
+ghost use Rattle.ada_reading.specs.Reading.{choice_at, tail_from, choices_at, alternatives_at};
 ghost use Rattle.ada_events.specs.declared.limits.TheConstants.{MOST_CHOICES};
 
 use crate::cursor::Words;
@@ -182,7 +183,8 @@ fn read_choices(
     by: &Name,
     words: &mut Words,
 ) -> Result<(Alternatives, Stored<Tail>), Fault>
-    ensures { GivesInMemory result words.new (choices_at names.now by.now MOST_CHOICES [] words.old) }
+    ensures { GivesInMemory result words.new
+        (choices_at names.now by.now MOST_CHOICES [] words.old) }
 {
     let mut choices = Alternatives::new(alloc);
     'alternatives: loop {

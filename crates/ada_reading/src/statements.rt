@@ -1,7 +1,8 @@
 //! Reading the statements.
 
 ghost use Rattle.std.specs.Prelude.{◌≡◌, ◌⊎◌, Ok, Err, option_copied, OnOk, IfErr};
-ghost use Rattle.ada_reading.specs.Reading.{Gives, Writes, verb_at, open_at, create_at, activate_at, abort_at, call_at, try_at, accept_at, delay_at, tick_at, select_at, show_at, act_at, before_colon, speaker_of, speech_at, statement_at, statement_of};
+ghost use Rattle.ada_reading.specs.Reading.{Gives, Writes, verb_at, open_at, create_at, activate_at, abort_at, call_at, try_at, accept_at, delay_at, tick_at};
+ghost use Rattle.ada_reading.specs.Reading.{select_at, show_at, act_at, before_colon, speaker_of, speech_at, statement_at, statement_of};
 
 use crate::cursor::Words;
 use crate::fault::Fault;

@@ -36,7 +36,8 @@ use Rattle.ada_records.proofs.Queues.{ends}
 use Rattle.ada_records.proofs.Saying.{not_both}
 
 -- who was ever held up was started
-pub held_started : (journal : List Event) (p task : ℕ) (e : Event) → IsLawful journal → event_at journal p ≡ Some e → held_in e ≡ Some task → is_started journal task ≡ true
+pub held_started : (journal : List Event) (p task : ℕ) (e : Event) → IsLawful journal → event_at journal p ≡ Some e → held_in e ≡ Some task
+    → is_started journal task ≡ true
 unfolding event_at
 held_started [] p task e lawful at holds = absurd (none-some e at)
 held_started (event ∷ before) p task e lawful at holds =
@@ -56,8 +57,10 @@ held_started (event ∷ before) p task e lawful at holds =
 pub joined_caller : (journal : List Event) (c : Call) (p : ℕ) → IsOpenCallAt journal c p → is_met journal p ≡ true → is_caller_in_rendezvous journal c.by ≡ true
 unfolding is_caller_in_rendezvous is_joined_at
 joined_caller journal c p opened met =
-    any_event-from (λ p e. is_some_and (call_in e) (λ (d : Call). eqb d.by c.by) && (is_open_at journal p e && is_met journal p)) journal p opened.stands.event opened.stands.stands
-    (and_from (is_some_and (call_in opened.stands.event) (λ (d : Call). eqb d.by c.by)) (is_open_at journal p opened.stands.event && is_met journal p) (rw opened.stands.says (eq-eqb c.by c.by refl))
+    any_event-from (λ p e. is_some_and (call_in e) (λ (d : Call). eqb d.by c.by) && (is_open_at journal p e && is_met journal p)) journal p opened.stands.event
+    opened.stands.stands
+    (and_from (is_some_and (call_in opened.stands.event) (λ (d : Call). eqb d.by c.by)) (is_open_at journal p opened.stands.event && is_met journal p)
+    (rw opened.stands.says (eq-eqb c.by c.by refl))
     (and_from (is_open_at journal p opened.stands.event) (is_met journal p) (is_open_at-from journal c p opened) met))
 
 row_completes : (journal : List Event) (event : Event) (u : ℕ) → IsRow journal event → completed_in event ≡ Some u → is_to_halt journal u ≡ true
@@ -73,10 +76,12 @@ asked_completes journal (request.Elaborated by true) u says = absurd (none-some 
 asked_completes journal _ u says = absurd (none-some u says)
 
 -- who is completed while a call of the task is open isn't within its rendezvous
-completed_unmet : (event : Event) (before : List Event) (c : Call) (p : ℕ) → MayFollow before event → IsOpenCallAt before c p → completed_in event ≡ Some c.by → is_met before p ≡ false
+completed_unmet : (event : Event) (before : List Event) (c : Call) (p : ℕ) → MayFollow before event → IsOpenCallAt before c p → completed_in event ≡ Some c.by
+    → is_met before p ≡ false
 unfolding is_to_halt
 completed_unmet event before c p (inl forces) opened says =
-    let halt = three_parts (is_abnormal before c.by) (has_ended before c.by) (is_caller_in_rendezvous before c.by) (row_completes before event c.by (forced-row before event forces) says) in
+    let halt = three_parts (is_abnormal before c.by) (has_ended before c.by) (is_caller_in_rendezvous before c.by)
+    (row_completes before event c.by (forced-row before event forces) says) in
     false_from_ne_true (is_met before p) (λ met. true≢false (sym (joined_caller before c p opened met) ∙ halt.2))
 completed_unmet event before c p (inr asked) opened says =
     let asks = asked_completes before asked.request c.by (ap completed_in (sym asked.becomes) ∙ says) in
@@ -87,7 +92,8 @@ completed_unmet event before c p (inr asked) opened says =
 open_stays : (journal : List Event) (c : Call) (p : ℕ) → IsLawful journal → IsOpenCallAt journal c p → is_to_go journal c.by ≡ true → ⊥
 unfolding is_to_go
 open_stays journal c p lawful opened go =
-    let ways = (and_parts (not (is_terminated journal c.by)) (is_completed journal c.by && all_terminated journal (Body (task_no c.by)) || is_abandoned journal c.by) go).1 in
+    let ways = (and_parts (not (is_terminated journal c.by))
+    (is_completed journal c.by && all_terminated journal (Body (task_no c.by)) || is_abandoned journal c.by) go).1 in
     elim (or_cases (is_completed journal c.by && all_terminated journal (Body (task_no c.by))) (is_abandoned journal c.by) ways) [
       | inl both ↦
           let completed = (and_parts (is_completed journal c.by) (all_terminated journal (Body (task_no c.by))) both).0 in
@@ -112,7 +118,8 @@ pub record IsAtTerminate (journal : List Event) (task : ℕ) : Type 0 where
 
 pub at_terminate : (journal : List Event) (task : ℕ) → is_at_open_terminate journal task ≡ true → has_ended journal task ≡ false → IsAtTerminate journal task
 at_terminate journal task at live =
-    let (p, e, stands, passes) = any_event-found (λ p e. is_some_and (wait_in e) (λ (w : Wait). eqb w.by task && is_open_terminate w.tail) && not (is_released journal p)) journal at in
+    let (p, e, stands, passes) = any_event-found (λ p e. is_some_and (wait_in e) (λ (w : Wait). eqb w.by task && is_open_terminate w.tail)
+    && not (is_released journal p)) journal at in
     let both = and_parts (is_some_and (wait_in e) (λ (w : Wait). eqb w.by task && is_open_terminate w.tail)) (not (is_released journal p)) passes in
     let (w, says, mine) = option_map_or-true (λ (w : Wait). eqb w.by task && is_open_terminate w.tail) (wait_in e) both.0 in
     let parts = and_parts (eqb w.by task) (is_open_terminate w.tail) mine in
@@ -120,7 +127,14 @@ at_terminate journal task at live =
       at = p;
       wait = w;
       waits = record { event = e; stands = stands; says = says };
-      suspended = record { event = e; stands = stands; holds = held_in-wait e w says ∙ ap Some (eqb-true w.by task parts.0); unreleased = not-true (is_released journal p) both.1; live = live };
+      suspended = record {
+        event = e;
+        stands = stands;
+        holds = held_in-wait e w says
+            ∙ ap Some (eqb-true w.by task parts.0);
+        unreleased = not-true (is_released journal p) both.1;
+        live = live;
+      };
       terminates = parts.1;
     }
 
@@ -140,22 +154,29 @@ quitting event before m (inl forces) says = row_quits before event m (forced-row
 quitting event before m (inr asked) says = absurd (none-some m (sym (ap quit_in asked.becomes ∙ quit_in-asked before asked.request) ∙ says))
 
 -- who depends on a master that quits is terminated or ready to quit
-pub quits_ready : (journal : List Event) (m : Master) (u : ℕ) → is_to_quit journal m ≡ true → depends_on journal u m ≡ true → is_terminated journal u ≡ false → is_ready_to_quit journal u ≡ true
+pub quits_ready : (journal : List Event) (m : Master) (u : ℕ) → is_to_quit journal m ≡ true → depends_on journal u m ≡ true → is_terminated journal u ≡ false
+    → is_ready_to_quit journal u ≡ true
 unfolding is_to_quit
 quits_ready journal m u quit depends live =
-    let all = (and_parts (is_complete journal m && not (all_terminated journal m)) (all_below (λ u. not (depends_on journal u m) || is_terminated journal u || is_ready_to_quit journal u) (task_count journal)) quit).1 in
-    let here = all_below-holds (λ u. not (depends_on journal u m) || is_terminated journal u || is_ready_to_quit journal u) (task_count journal) u all (depends_exists journal u m depends) in
+    let all = (and_parts (is_complete journal m && not (all_terminated journal m))
+    (all_below (λ u. not (depends_on journal u m) || is_terminated journal u || is_ready_to_quit journal u) (task_count journal)) quit).1 in
+    let here = all_below-holds (λ u. not (depends_on journal u m) || is_terminated journal u || is_ready_to_quit journal u) (task_count journal) u all
+    (depends_exists journal u m depends) in
     (rw (depends, live) at here)
 
 -- so no call of such a task is open
-open_remains : (journal : List Event) (c : Call) (p : ℕ) (m : Master) → IsLawful journal → IsOpenCallAt journal c p → is_to_quit journal m ≡ true → depends_on journal c.by m ≡ true → ⊥
+open_remains : (journal : List Event) (c : Call) (p : ℕ) (m : Master) → IsLawful journal → IsOpenCallAt journal c p → is_to_quit journal m ≡ true
+    → depends_on journal c.by m ≡ true → ⊥
 unfolding is_ready_to_quit
 open_remains journal c p m lawful opened quit depends =
-    let live : is_terminated journal c.by ≡ false = false_from_ne_true (is_terminated journal c.by) (λ ended. true≢false (sym (has_ended-terminated journal c.by ended) ∙ opened.live)) in
-    let ready = and_parts (is_at_open_terminate journal c.by && not (has_ended journal c.by)) (has_empty_queues journal c.by) (quits_ready journal m c.by quit depends live) in
+    let live : is_terminated journal c.by ≡ false = false_from_ne_true (is_terminated journal c.by)
+    (λ ended. true≢false (sym (has_ended-terminated journal c.by ended) ∙ opened.live)) in
+    let ready = and_parts (is_at_open_terminate journal c.by && not (has_ended journal c.by)) (has_empty_queues journal c.by)
+    (quits_ready journal m c.by quit depends live) in
     let is = at_terminate journal c.by (and_parts (is_at_open_terminate journal c.by) (not (has_ended journal c.by)) ready.0).0 opened.live in
     let same = suspended_once journal c.by is.at p lawful is.suspended (open_call_suspends journal c p opened) in
-    let one : is.waits.event ≡ opened.stands.event = same_Some is.waits.event opened.stands.event (sym is.waits.stands ∙ ap (event_at journal) same ∙ opened.stands.stands) in
+    let one : is.waits.event ≡ opened.stands.event = same_Some is.waits.event opened.stands.event
+    (sym is.waits.stands ∙ ap (event_at journal) same ∙ opened.stands.stands) in
     not_both opened.stands.event c is.wait opened.stands.says (ap wait_in (sym one) ∙ is.waits.says)
 
 -- the event completes the caller of an open call, with which no rendezvous began
@@ -163,9 +184,11 @@ pub record CompletesCaller (event : Event) (before : List Event) (c : Call) (p :
   pub completes : completed_in event ≡ Some c.by
   pub unmet : is_met before p ≡ false
 
-pub end_of_caller : (event : Event) (before : List Event) (c : Call) (p : ℕ) → IsLawful (event ∷ before) → IsOpenCallAt before c p → ends event before c.by ≡ true → CompletesCaller event before c p
+pub end_of_caller : (event : Event) (before : List Event) (c : Call) (p : ℕ) → IsLawful (event ∷ before) → IsOpenCallAt before c p
+    → ends event before c.by ≡ true → CompletesCaller event before c p
 end_of_caller event before c p lawful opened ended =
-    elim (or_cases (is_number c.by (completed_in event)) (is_number c.by (gone_in event) || option_map_or (depends_on before c.by) (quit_in event) false) ended) [
+    elim (or_cases (is_number c.by (completed_in event))
+    (is_number c.by (gone_in event) || option_map_or (depends_on before c.by) (quit_in event) false) ended) [
       | inl completes ↦
           let says = is_number-some c.by (completed_in event) completes in
           record { completes = says; unmet = completed_unmet event before c p lawful.1 opened says }
@@ -179,11 +202,13 @@ end_of_caller event before c p lawful opened ended =
     ]
 
 -- the caller of a joined call isn't ended
-pub joined_caller_stays : (event : Event) (before : List Event) (c : Call) (p : ℕ) → IsLawful (event ∷ before) → IsOpenCallAt before c p → is_met before p ≡ true → ends event before c.by ≡ false
+pub joined_caller_stays : (event : Event) (before : List Event) (c : Call) (p : ℕ) → IsLawful (event ∷ before) → IsOpenCallAt before c p
+    → is_met before p ≡ true → ends event before c.by ≡ false
 joined_caller_stays event before c p lawful opened met =
     false_from_ne_true (ends event before c.by) (λ ended. true≢false (sym met ∙ (end_of_caller event before c p lawful opened ended).unmet))
 
 -- nor is that of any open call by an event that completes nobody
-pub caller_stays : (event : Event) (before : List Event) (c : Call) (p : ℕ) → IsLawful (event ∷ before) → IsOpenCallAt before c p → completed_in event ≡ None → ends event before c.by ≡ false
+pub caller_stays : (event : Event) (before : List Event) (c : Call) (p : ℕ) → IsLawful (event ∷ before) → IsOpenCallAt before c p → completed_in event ≡ None
+    → ends event before c.by ≡ false
 caller_stays event before c p lawful opened none =
     false_from_ne_true (ends event before c.by) (λ ended. none-some c.by (sym none ∙ (end_of_caller event before c p lawful opened ended).completes))

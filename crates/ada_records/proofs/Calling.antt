@@ -1,5 +1,6 @@
 -- What a call touches: itself, and the wait of the task that it calls.
-use Rattle.std.proofs.Common.{◌≡◌, ℕ, suc, Bool, true, false, not, ◌&&◌, ◌||◌, Option, Some, None, List, [], ◌∷◌, length, sym, refl, ap, ◌∙◌, inl, inr, eqb, if◌then◌else◌}
+use Rattle.std.proofs.Common.{◌≡◌, ℕ, suc, Bool, true, false, not, ◌&&◌, ◌||◌, Option, Some, None, List, [], ◌∷◌, length, sym, refl, ap, ◌∙◌, inl, inr, eqb}
+use Rattle.std.proofs.Common.{if◌then◌else◌}
 use Rattle.std.specs.Option.{option_map_or, option_or, option_and_then}
 use Rattle.std.specs.List.{list_any}
 use Rattle.std.proofs.lemmas.Bool.{and_parts, or_parts, not-true, or_cases, not_from_false, true≢false, both_ways}
@@ -21,9 +22,11 @@ use Rattle.ada_laws.proofs.Searching.{event_at-newest}
 use Rattle.ada_laws.proofs.Saying.{held_in-call}
 use Rattle.ada_forcing.specs.Rows.{goes_by_task, at_event, step_at}
 use Rattle.ada_forcing.specs.declared.row.Row.{Row}
-use Rattle.ada_forcing.specs.declared.row.Row.TheVariants.{Halting, Failing, Taking, Cancelling, Passing, Waking, Activating, Going, QuittingBody, QuittingBlock, Leaving}
+use Rattle.ada_forcing.specs.declared.row.Row.TheVariants.{Halting, Failing, Taking, Cancelling, Passing, Waking, Activating, Going, QuittingBody}
+use Rattle.ada_forcing.specs.declared.row.Row.TheVariants.{QuittingBlock, Leaving}
 use Rattle.ada_forcing.specs.Touching.{is_lost, is_idle, IsNewlyBelow, MayQuit, Touches}
-use Rattle.ada_forcing.specs.Touching.Touches.{newest, task_made, aborts, frees, loses, calls, moves, elaborates, completes, abandons, ends_below, body_quits, block_quits, ends_within}
+use Rattle.ada_forcing.specs.Touching.Touches.{newest, task_made, aborts, frees, loses, calls, moves, elaborates, completes, abandons, ends_below, body_quits}
+use Rattle.ada_forcing.specs.Touching.Touches.{block_quits, ends_within}
 use Rattle.ada_forcing.specs.Touching.MayQuit.{complete, idle, made}
 use Rattle.ada_records.proofs.Holding.{IsQuiet, OnlyHolds, hold_only, quiet_ends, quiet_ended}
 use Rattle.ada_records.proofs.Queues.{ends_caller, queued-more}
@@ -47,7 +50,8 @@ pub record SaysCall (e : Event) : Type 0 where
 
 says_call : (e : Event) (call : Call) → call_in e ≡ Some call → SaysCall e
 unfolding call_in wait_in delay_in start_in closing_in opening_in started_in moment_in
-says_call (event.Called by callee entry patience due) call says = record { waits = refl; delays = refl; starts = refl; closes = refl; opens = refl; started = refl; moment = refl }
+says_call (event.Called by callee entry patience due) call says =
+    record { waits = refl; delays = refl; starts = refl; closes = refl; opens = refl; started = refl; moment = refl }
 says_call _ call says = absurd (none-some call says)
 
 pub same_terminated : (e : Event) (before : List Event) (u : ℕ) → IsQuiet e → is_terminated (e ∷ before) u ≡ is_terminated before u
@@ -70,14 +74,17 @@ and_false : (b : Bool) → (b && false) ≡ false
 and_false true = refl
 and_false false = refl
 
-pub same_complete : (e : Event) (before : List Event) (m : Master) → IsQuiet e → closing_in e ≡ None → opening_in e ≡ None → is_complete (e ∷ before) m ≡ is_complete before m
+pub same_complete : (e : Event) (before : List Event) (m : Master) → IsQuiet e → closing_in e ≡ None → opening_in e ≡ None
+    → is_complete (e ∷ before) m ≡ is_complete before m
 unfolding is_complete is_complete_block
 same_complete e before (Body t) quiet closes opens = same_completed e before t.0 quiet
 same_complete e before (Block p) quiet closes opens =
     rw (closes, given_same opening_in e before p opens)
-    (ap (λ b. list_any (λ (e : Event). is_some_and (closing_in e) (λ (c : Closing). eqb c.block p)) before || b) (of_opening (option_and_then opening_in (event_at before p))))
+    (ap (λ b. list_any (λ (e : Event). is_some_and (closing_in e) (λ (c : Closing). eqb c.block p)) before || b)
+    (of_opening (option_and_then opening_in (event_at before p))))
   where
-    of_opening : (o : Option Opening) → option_map_or (λ (o : Opening). has_ended (e ∷ before) o.by) o false ≡ option_map_or (λ (o : Opening). has_ended before o.by) o false
+    of_opening : (o : Option Opening) → option_map_or (λ (o : Opening). has_ended (e ∷ before) o.by) o false
+        ≡ option_map_or (λ (o : Opening). has_ended before o.by) o false
     of_opening None = refl
     of_opening (Some o) = quiet_ended e before o.by quiet
 
@@ -91,7 +98,8 @@ same_abandoned e before u quiet says =
     rw (quiet.makes, no_creation (eqb u (task_count before)) (creation_of before u), says.started)
     (ap (λ b. b && not (list_any (λ (e : Event). lists_task u (started_in e)) before)) (of_creation (creation_of before u)))
   where
-    of_creation : (o : Option Creation) → option_map_or (λ (c : Creation). is_complete (e ∷ before) c.under || is_terminated (e ∷ before) c.by) o false ≡ option_map_or (λ (c : Creation). is_complete before c.under || is_terminated before c.by) o false
+    of_creation : (o : Option Creation) → option_map_or (λ (c : Creation). is_complete (e ∷ before) c.under || is_terminated (e ∷ before) c.by) o false
+        ≡ option_map_or (λ (c : Creation). is_complete before c.under || is_terminated before c.by) o false
     of_creation None = refl
     of_creation (Some c) = rw (same_complete e before c.under quiet says.closes says.opens, same_terminated e before c.by quiet) refl
 
@@ -112,23 +120,28 @@ waits_ready journal v p f = option_map_or (λ (w : Wait). eqb w.by v && is_open_
 abbrev calls_it : List Event → ℕ → ℕ → Event → Bool
 calls_it journal v p f = is_some_and (call_in f) (λ (c : Call). eqb c.callee v) && is_queued_at journal p f
 
-same_waits : (e : Event) (before : List Event) (v : ℕ) → OnlyHolds e → wait_in e ≡ None → any_event (waits_ready (e ∷ before) v) (e ∷ before) ≡ any_event (waits_ready before v) before
+same_waits : (e : Event) (before : List Event) (v : ℕ) → OnlyHolds e → wait_in e ≡ None
+    → any_event (waits_ready (e ∷ before) v) (e ∷ before) ≡ any_event (waits_ready before v) before
 unfolding any_event is_released
 same_waits e before v only waits = rw waits (any_event-agree (waits_ready (e ∷ before) v) (waits_ready before v) before (λ p f at. rw only.releases refl))
 
 same_calls : (e : Event) (before : List Event) (v : ℕ) → OnlyHolds e → any_event (calls_it (e ∷ before) v) before ≡ any_event (calls_it before v) before
 same_calls e before v only =
     any_event-agree (calls_it (e ∷ before) v) (calls_it before v) before
-    (λ p f at. ap (λ b. is_some_and (call_in f) (λ (c : Call). eqb c.callee v) && b) (queued-more e before p f ∙ rw (only.releases, quiet_caller e before (call_in f) only.quiet, only.meets) (and_true (is_queued_at before p f))))
+    (λ p f at. ap (λ b. is_some_and (call_in f) (λ (c : Call). eqb c.callee v) && b)
+    (queued-more e before p f ∙ rw (only.releases, quiet_caller e before (call_in f) only.quiet, only.meets) (and_true (is_queued_at before p f))))
 
-fewer_calls : (e : Event) (before : List Event) (v : ℕ) → not (any_event (calls_it (e ∷ before) v) (e ∷ before)) ≡ true → not (any_event (calls_it (e ∷ before) v) before) ≡ true
+fewer_calls : (e : Event) (before : List Event) (v : ℕ) → not (any_event (calls_it (e ∷ before) v) (e ∷ before)) ≡ true
+    → not (any_event (calls_it (e ∷ before) v) before) ≡ true
 unfolding any_event
 fewer_calls e before v empty = later_part (calls_it (e ∷ before) v (suc (length before)) e) (any_event (calls_it (e ∷ before) v) before) empty
 
-ready_before : (e : Event) (before : List Event) (v : ℕ) → OnlyHolds e → wait_in e ≡ None → is_ready_to_quit (e ∷ before) v ≡ true → is_ready_to_quit before v ≡ true
+ready_before : (e : Event) (before : List Event) (v : ℕ) → OnlyHolds e → wait_in e ≡ None → is_ready_to_quit (e ∷ before) v ≡ true
+    → is_ready_to_quit before v ≡ true
 unfolding is_ready_to_quit has_empty_queues
 ready_before e before v only waits ready =
-    let first = and_parts (any_event (waits_ready (e ∷ before) v) (e ∷ before) && not (has_ended (e ∷ before) v)) (not (any_event (calls_it (e ∷ before) v) (e ∷ before))) ready in
+    let first = and_parts (any_event (waits_ready (e ∷ before) v) (e ∷ before) && not (has_ended (e ∷ before) v))
+    (not (any_event (calls_it (e ∷ before) v) (e ∷ before))) ready in
     let both = and_parts (any_event (waits_ready (e ∷ before) v) (e ∷ before)) (not (has_ended (e ∷ before) v)) first.0 in
     let waiting : any_event (waits_ready before v) before ≡ true = sym (same_waits e before v only waits) ∙ both.0 in
     let live : not (has_ended before v) ≡ true = ap not (sym (quiet_ended e before v only.quiet)) ∙ both.1 in
@@ -156,40 +169,54 @@ pub not_done : (e : Event) (before : List Event) (t : TaskNo) → IsQuiet e → 
 unfolding is_done_activating
 not_done e before t quiet = rw (same_elaborated e before t.0 quiet, quiet_ended e before t.0 quiet) refl
 
-pub nothing_said : (e step : Event) (before : List Event) (give : Event → Option Event) → give e ≡ None → option_and_then give (event_at (e ∷ before) (suc (length before))) ≡ Some step → ⊥
+pub nothing_said : (e step : Event) (before : List Event) (give : Event → Option Event) → give e ≡ None
+    → option_and_then give (event_at (e ∷ before) (suc (length before))) ≡ Some step → ⊥
 nothing_said e step before give none gives = none-some step (sym none ∙ (rw (event_at-newest e before) at gives))
 
 -- at its own position a call may fail or be cancelled
-itself : (e : Event) (before : List Event) (call : Call) (row : Row) (step : Event) → SaysCall e → goes_by_task row ≡ false → step_at (e ∷ before) row (suc (length before)) ≡ Some step → CalledKey before call row (suc (length before))
+itself : (e : Event) (before : List Event) (call : Call) (row : Row) (step : Event) → SaysCall e → goes_by_task row ≡ false
+    → step_at (e ∷ before) row (suc (length before)) ≡ Some step → CalledKey before call row (suc (length before))
 unfolding step_at
 itself e before call Failing step says by gives = may_fail
 itself e before call Cancelling step says by gives = may_cancel
-itself e before call Taking step says by gives = absurd (nothing_said e step before (at_event (e ∷ before) Taking (suc (length before))) (rw says.waits refl) gives)
-itself e before call Passing step says by gives = absurd (nothing_said e step before (at_event (e ∷ before) Passing (suc (length before))) (rw says.waits refl) gives)
-itself e before call Waking step says by gives = absurd (nothing_said e step before (at_event (e ∷ before) Waking (suc (length before))) (rw says.delays refl) gives)
-itself e before call Activating step says by gives = absurd (nothing_said e step before (at_event (e ∷ before) Activating (suc (length before))) (rw says.starts refl) gives)
-itself e before call QuittingBlock step says by gives = absurd (nothing_said e step before (at_event (e ∷ before) QuittingBlock (suc (length before))) (rw says.opens refl) gives)
-itself e before call Leaving step says by gives = absurd (nothing_said e step before (at_event (e ∷ before) Leaving (suc (length before))) (rw says.closes refl) gives)
+itself e before call Taking step says by gives =
+    absurd (nothing_said e step before (at_event (e ∷ before) Taking (suc (length before))) (rw says.waits refl) gives)
+itself e before call Passing step says by gives =
+    absurd (nothing_said e step before (at_event (e ∷ before) Passing (suc (length before))) (rw says.waits refl) gives)
+itself e before call Waking step says by gives =
+    absurd (nothing_said e step before (at_event (e ∷ before) Waking (suc (length before))) (rw says.delays refl) gives)
+itself e before call Activating step says by gives =
+    absurd (nothing_said e step before (at_event (e ∷ before) Activating (suc (length before))) (rw says.starts refl) gives)
+itself e before call QuittingBlock step says by gives =
+    absurd (nothing_said e step before (at_event (e ∷ before) QuittingBlock (suc (length before))) (rw says.opens refl) gives)
+itself e before call Leaving step says by gives =
+    absurd (nothing_said e step before (at_event (e ∷ before) Leaving (suc (length before))) (rw says.closes refl) gives)
 itself e before call Halting step says by gives = absurd (true≢false by)
 itself e before call Going step says by gives = absurd (true≢false by)
 itself e before call QuittingBody step says by gives = absurd (true≢false by)
 
 -- a call touches itself and the wait of the task that it calls, and nothing else
-pub called_touches : (e : Event) (before : List Event) (call : Call) (row : Row) (key : ℕ) (step : Event) → call_in e ≡ Some call → step_at (e ∷ before) row key ≡ Some step → Touches e before row key → CalledKey before call row key
+pub called_touches : (e : Event) (before : List Event) (call : Call) (row : Row) (key : ℕ) (step : Event) → call_in e ≡ Some call
+    → step_at (e ∷ before) row key ≡ Some step → Touches e before row key → CalledKey before call row key
 called_touches e before call row key step named gives touched =
     by_touch (hold_only e call.by (held_in-call e call named)) (says_call e call named) row key gives touched
   where
-    by_touch : OnlyHolds e → SaysCall e → (row : Row) (key : ℕ) → step_at (e ∷ before) row key ≡ Some step → Touches e before row key → CalledKey before call row key
+    by_touch : OnlyHolds e → SaysCall e → (row : Row) (key : ℕ) → step_at (e ∷ before) row key ≡ Some step → Touches e before row key
+        → CalledKey before call row key
     by_touch only says row key gives (newest same by) = itself e before call row step says by gives
     by_touch only says row key gives (task_made same c by makes) = absurd (none-some c (sym only.quiet.makes ∙ makes))
     by_touch only says row key gives (aborts u was now) = absurd (both_ways (is_abnormal before u) was (sym (same_abnormal e before u only.quiet) ∙ now))
     by_touch only says row key gives (frees u p c released at by) = absurd (none-some p (sym only.releases ∙ released))
-    by_touch only says row key gives (loses p c at was now) = absurd (both_ways (is_lost before c.callee) was (sym (rw (quiet_ended e before c.callee only.quiet, same_abnormal e before c.callee only.quiet) refl) ∙ now))
-    by_touch only says row key gives (calls p wait at of) = may_meet p wait at (sym of.of ∙ ap (λ (c : Call). c.callee) (same_Some of.call call (sym of.says ∙ named)))
+    by_touch only says row key gives (loses p c at was now) = absurd
+        (both_ways (is_lost before c.callee) was (sym (rw (quiet_ended e before c.callee only.quiet, same_abnormal e before c.callee only.quiet) refl) ∙ now))
+    by_touch only says row key gives (calls p wait at of) = may_meet p wait at
+        (sym of.of ∙ ap (λ (c : Call). c.callee) (same_Some of.call call (sym of.says ∙ named)))
     by_touch only says row key gives (moves same p timed some) = absurd (some says.moment)
-    by_touch only says row key gives (elaborates p f start t at starts among was now) = absurd (both_ways (is_done_activating before t) was (sym (not_done e before t only.quiet) ∙ now))
+    by_touch only says row key gives (elaborates p f start t at starts among was now) = absurd
+        (both_ways (is_done_activating before t) was (sym (not_done e before t only.quiet) ∙ now))
     by_touch only says row key gives (completes u ends) = absurd (none-some u (sym only.quiet.completes ∙ ends))
-    by_touch only says row key gives (abandons u was now) = absurd (both_ways (is_abandoned before u) was (sym (same_abandoned e before u only.quiet says) ∙ now))
+    by_touch only says row key gives (abandons u was now) = absurd
+        (both_ways (is_abandoned before u) was (sym (same_abandoned e before u only.quiet says) ∙ now))
     by_touch only says row key gives (ends_below u below) = absurd (no_end e before _ only.quiet below)
     by_touch only says row key gives (body_quits u may) = absurd (no_quit e before _ only says may)
     by_touch only says row key gives (block_quits p may) = absurd (no_quit e before _ only says may)

@@ -1,5 +1,6 @@
 -- No member stands in a nest twice.
-use Rattle.std.proofs.Common.{◌≡◌, ℕ, suc, ◌≤◌, true, not, ◌&&◌, eqb, Option, Some, None, List, [], ◌∷◌, ◌++◌, length, sym, refl, ap, subst, ◌∙◌, arith, inl, inr, append-nil}
+use Rattle.std.proofs.Common.{◌≡◌, ℕ, suc, ◌≤◌, true, not, ◌&&◌, eqb, Option, Some, None, List, [], ◌∷◌, ◌++◌, length, sym, refl, ap, subst, ◌∙◌, arith, inl}
+use Rattle.std.proofs.Common.{inr, append-nil}
 use Rattle.std.specs.Option.{option_map_or, option_to_list}
 use Rattle.std.specs.Bool.{then_some}
 use Rattle.std.specs.List.{Contains}
@@ -34,20 +35,24 @@ distinct_push {A = A} (y ∷ ys) x distinct absent = (
 )
 
 -- what each position gives at most once is gathered once
-gathered_distinct : {A : Type 0} (give : ℕ → Event → Option A) (journal : List Event) → ((p q : ℕ) (e f : Event) (x : A) → event_at journal p ≡ Some e → event_at journal q ≡ Some f → give p e ≡ Some x → give q f ≡ Some x → p ≡ q) → AreDistinct (gathered give journal)
+gathered_distinct : {A : Type 0} (give : ℕ → Event → Option A) (journal : List Event)
+    → ((p q : ℕ) (e f : Event) (x : A) → event_at journal p ≡ Some e → event_at journal q ≡ Some f → give p e ≡ Some x → give q f ≡ Some x → p ≡ q)
+    → AreDistinct (gathered give journal)
 unfolding gathered
 gathered_distinct {A = A} give [] once = tt
 gathered_distinct {A = A} give (event ∷ before) once =
     by_newest (give (suc (length before)) event) refl
     (gathered_distinct give before (λ p q e f x at_p at_q. once p q e f x (event_at-older event before p e at_p) (event_at-older event before q f at_q)))
   where
-    by_newest : (o : Option A) → give (suc (length before)) event ≡ o → AreDistinct (gathered give before) → AreDistinct (gathered give before ++ option_to_list o)
+    by_newest : (o : Option A) → give (suc (length before)) event ≡ o → AreDistinct (gathered give before)
+        → AreDistinct (gathered give before ++ option_to_list o)
     by_newest None is older = rw (append-nil (gathered give before)) older
     by_newest (Some x) is older =
         distinct_push (gathered give before) x older (λ has.
         let (p, e, at, gives) = gathered-found give before x has in
         let within : p ≤ length before = event_at-within before p e at in
-        let same : p ≡ suc (length before) = once p (suc (length before)) e event x (event_at-older event before p e at) (event_at-newest event before) gives is in
+        let same : p ≡ suc (length before) = once p (suc (length before)) e event x (event_at-older event before p e at) (event_at-newest event before)
+        gives is in
         omega (arith, within, same))
 
 -- a block stands where it was opened
@@ -62,13 +67,15 @@ block_place journal task p b e gives =
       | inr met ↦ absurd (by_meeting (meeting_in e) met)
     ]
   where
-    by_opening : (o : Option Opening) → option_map_or (λ (o : Opening). then_some (eqb o.by task && not (is_left journal p)) (Block p)) o None ≡ Some (Block b) → p ≡ b
+    by_opening : (o : Option Opening) → option_map_or (λ (o : Opening). then_some (eqb o.by task && not (is_left journal p)) (Block p)) o None
+        ≡ Some (Block b) → p ≡ b
     by_opening None gives = absurd (none-some (Block b) gives)
     by_opening (Some o) gives =
         let found = then_some-some (eqb o.by task && not (is_left journal p)) (Block p) (Block b) gives in
         cc (found.1)
 
-    by_meeting : (m : Option Meeting) → option_map_or (λ (m : Meeting). then_some (is_wait_of journal task m.wait && is_open_call journal m.call) (Rendezvous m.call)) m None ≡ Some (Block b) → ⊥
+    by_meeting : (m : Option Meeting) → option_map_or
+        (λ (m : Meeting). then_some (is_wait_of journal task m.wait && is_open_call journal m.call) (Rendezvous m.call)) m None ≡ Some (Block b) → ⊥
     by_meeting None gives = none-some (Block b) gives
     by_meeting (Some m) gives =
         let found = then_some-some (is_wait_of journal task m.wait && is_open_call journal m.call) (Rendezvous m.call) (Block b) gives in
@@ -81,7 +88,8 @@ pub record IsEntered (journal : List Event) (task call : ℕ) (e : Event) : Type
   pub with_call : meeting.call ≡ call
   pub by_task : is_wait_of journal task meeting.wait ≡ true
 
-pub rendezvous_place : (journal : List Event) (task p call : ℕ) (e : Event) → member_at journal task p e ≡ Some (Rendezvous call) → IsEntered journal task call e
+pub rendezvous_place : (journal : List Event) (task p call : ℕ) (e : Event) → member_at journal task p e ≡ Some (Rendezvous call)
+    → IsEntered journal task call e
 unfolding member_at
 rendezvous_place journal task p call e gives =
     elim (option_or-some
@@ -92,19 +100,29 @@ rendezvous_place journal task p call e gives =
       | inr met ↦ by_meeting (meeting_in e) refl met
     ]
   where
-    by_opening : (o : Option Opening) → option_map_or (λ (o : Opening). then_some (eqb o.by task && not (is_left journal p)) (Block p)) o None ≡ Some (Rendezvous call) → ⊥
+    by_opening : (o : Option Opening) → option_map_or (λ (o : Opening). then_some (eqb o.by task && not (is_left journal p)) (Block p)) o None
+        ≡ Some (Rendezvous call) → ⊥
     by_opening None gives = none-some (Rendezvous call) gives
     by_opening (Some o) gives =
         let found = then_some-some (eqb o.by task && not (is_left journal p)) (Block p) (Rendezvous call) gives in
         cc (found.1)
 
-    by_meeting : (m : Option Meeting) → meeting_in e ≡ m → option_map_or (λ (m : Meeting). then_some (is_wait_of journal task m.wait && is_open_call journal m.call) (Rendezvous m.call)) m None ≡ Some (Rendezvous call) → IsEntered journal task call e
+    by_meeting : (m : Option Meeting) → meeting_in e ≡ m
+        → option_map_or (λ (m : Meeting). then_some (is_wait_of journal task m.wait && is_open_call journal m.call) (Rendezvous m.call)) m None
+        ≡ Some (Rendezvous call) → IsEntered journal task call e
     by_meeting None says gives = absurd (none-some (Rendezvous call) gives)
     by_meeting (Some m) says gives =
         let found = then_some-some (is_wait_of journal task m.wait && is_open_call journal m.call) (Rendezvous m.call) (Rendezvous call) gives in
-        record { meeting = m; says = says; with_call = cc (found.1); by_task = (and_parts (is_wait_of journal task m.wait) (is_open_call journal m.call) found.0).0 }
+        record {
+          meeting = m;
+          says = says;
+          with_call = cc (found.1);
+          by_task =
+              (and_parts (is_wait_of journal task m.wait) (is_open_call journal m.call) found.0).0;
+        }
 
-one_place : (journal : List Event) (task p q : ℕ) (e f : Event) (x : Member) → IsLawful journal → event_at journal p ≡ Some e → event_at journal q ≡ Some f → member_at journal task p e ≡ Some x → member_at journal task q f ≡ Some x → p ≡ q
+one_place : (journal : List Event) (task p q : ℕ) (e f : Event) (x : Member) → IsLawful journal → event_at journal p ≡ Some e → event_at journal q ≡ Some f
+    → member_at journal task p e ≡ Some x → member_at journal task q f ≡ Some x → p ≡ q
 one_place journal task p q e f (Block b) lawful at_p at_q gives also = block_place journal task p b e gives ∙ sym (block_place journal task q b f also)
 one_place journal task p q e f (Rendezvous call) lawful at_p at_q gives also =
     let one = rendezvous_place journal task p call e gives in

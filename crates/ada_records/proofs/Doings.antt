@@ -1,5 +1,6 @@
 -- What becomes of what is kept of a task's latest doing by one more event.
-use Rattle.std.proofs.Common.{◌≡◌, ℕ, zero, suc, ◌<◌, Bool, true, false, not, ◌&&◌, eqb, Option, Some, None, List, ◌∷◌, length, sym, refl, ap, ◌∙◌, subst, arith, inl, inr, ◌||◌}
+use Rattle.std.proofs.Common.{◌≡◌, ℕ, zero, suc, ◌<◌, Bool, true, false, not, ◌&&◌, eqb, Option, Some, None, List, ◌∷◌, length, sym, refl, ap, ◌∙◌, subst}
+use Rattle.std.proofs.Common.{arith, inl, inr, ◌||◌}
 use Rattle.std.specs.Option.{option_map_or}
 use Rattle.std.proofs.lemmas.Bool.{and_from, and_parts, not-true, not_from_false, eq-eqb, false_from_ne_true, true≢false, cases_Bool, or_cases}
 use Rattle.std.proofs.lemmas.Option.{none-some, same_Some}
@@ -40,7 +41,8 @@ quits journal task = is_at_open_terminate journal task && not (has_ended journal
 terminate_at : (journal : List Event) (task : ℕ) → IsAtTerminate journal task → quits journal task ≡ true
 terminate_at journal task is =
     and_from (is_at_open_terminate journal task) (not (has_ended journal task))
-    (any_event-from (λ p e. is_some_and (wait_in e) (λ (w : Wait). eqb w.by task && is_open_terminate w.tail) && not (is_released journal p)) journal is.at is.waits.event is.waits.stands
+    (any_event-from (λ p e. is_some_and (wait_in e) (λ (w : Wait). eqb w.by task && is_open_terminate w.tail) && not (is_released journal p)) journal is.at
+    is.waits.event is.waits.stands
     (and_from (is_some_and (wait_in is.waits.event) (λ (w : Wait). eqb w.by task && is_open_terminate w.tail)) (not (is_released journal is.at))
     (rw is.waits.says (and_from (eqb is.wait.by task) (is_open_terminate is.wait.tail) (eq-eqb is.wait.by task by_task) is.terminates))
     (not_from_false (is_released journal is.at) is.suspended.unreleased)))
@@ -57,12 +59,14 @@ no_terminate journal task never =
     let parts = and_parts (is_at_open_terminate journal task) (not (has_ended journal task)) both in
     never (at_terminate journal task parts.0 (not-true (has_ended journal task) parts.1)))
 
-terminate_later : (event : Event) (before : List Event) (task : ℕ) → is_number task (held_in event) ≡ false → IsAtTerminate (event ∷ before) task → IsAtTerminate before task
+terminate_later : (event : Event) (before : List Event) (task : ℕ) → is_number task (held_in event) ≡ false → IsAtTerminate (event ∷ before) task
+    → IsAtTerminate before task
 terminate_later event before task other is =
     elim (suspended_cases event before task is.at is.suspended) [
       | inl newest ↦ absurd (true≢false (sym (is_number-from task (held_in event) newest.1) ∙ other))
       | inr older ↦
-          let one : older.event ≡ is.waits.event = same_Some older.event is.waits.event (sym (event_at-older event before is.at older.event older.stands) ∙ is.waits.stands) in
+          let one : older.event ≡ is.waits.event = same_Some older.event is.waits.event
+          (sym (event_at-older event before is.at older.event older.stands) ∙ is.waits.stands) in
           record {
             at = is.at;
             wait = is.wait;
@@ -73,7 +77,8 @@ terminate_later event before task other is =
     ]
 
 -- whether a task may quit stays the same where the event neither holds it up, nor releases it, nor ends it
-same_quits : (event : Event) (before : List Event) (task at : ℕ) → IsLawful before → IsHeldAt before task at → is_number task (held_in event) ≡ false → is_number at (released_in event) ≡ false → ends event before task ≡ false → quits before task ≡ quits (event ∷ before) task
+same_quits : (event : Event) (before : List Event) (task at : ℕ) → IsLawful before → IsHeldAt before task at → is_number task (held_in event) ≡ false
+    → is_number at (released_in event) ≡ false → ends event before task ≡ false → quits before task ≡ quits (event ∷ before) task
 same_quits event before task at lawful kept other stays lives =
     elim (cases_Bool (quits before task)) [
       | inl here ↦
@@ -88,12 +93,16 @@ same_quits event before task at lawful kept other stays lives =
             suspended = suspended_later event before task is.at is.suspended (subst (λ (n : ℕ). is_number n (released_in event) ≡ false) there stays) lives;
             terminates = is.terminates;
           }))
-      | inr not_here ↦ not_here ∙ sym (no_terminate (event ∷ before) task (λ is. true≢false (sym (terminate_at before task (terminate_later event before task other is)) ∙ not_here)))
+      | inr not_here ↦ not_here ∙ sym (no_terminate (event ∷ before) task
+          (λ is. true≢false (sym (terminate_at before task (terminate_later event before task other is)) ∙ not_here)))
     ]
 
 -- a task's latest doing stays what it is where the event neither holds it up, nor releases it, nor ends it, but for
 -- what becomes of a call with which a rendezvous begins, and for an exception that ends one
-pub doing_later : (event : Event) (before : List Event) (task : ℕ) (kept : Doing) (joined : Bool) (outcome : Outcome) → IsLawful (event ∷ before) → IsDoingOf before task kept → is_number task (held_in event) ≡ false → is_number kept.at (released_in event) ≡ false → ends event before task ≡ false → (0 < kept.at → joined ≡ is_met (event ∷ before) kept.at) → outcome ≡ latest_outcome (event ∷ before) task → IsDoingOf (event ∷ before) task (record kept { joined = joined; outcome = outcome })
+pub doing_later : (event : Event) (before : List Event) (task : ℕ) (kept : Doing) (joined : Bool) (outcome : Outcome) → IsLawful (event ∷ before)
+    → IsDoingOf before task kept → is_number task (held_in event) ≡ false → is_number kept.at (released_in event) ≡ false → ends event before task ≡ false
+    → (0 < kept.at → joined ≡ is_met (event ∷ before) kept.at) → outcome ≡ latest_outcome (event ∷ before) task
+    → IsDoingOf (event ∷ before) task (record kept { joined = joined; outcome = outcome })
 doing_later event before task kept joined outcome lawful old other stays lives joins becomes = record {
   at = held_same event before task kept.at old.at other stays lives;
   joined = joins;
@@ -104,19 +113,24 @@ doing_later event before task kept joined outcome lawful old other stays lives j
 not_some : (n : ℕ) (o : Option ℕ) → is_number n o ≡ false → o ≡ Some n → ⊥
 not_some n o other is = true≢false (sym (is_number-from n o is) ∙ other)
 
-pub same_outcome : (event : Event) (before : List Event) (task at : ℕ) → IsLawful (event ∷ before) → IsHeldAt before task at → is_number task (held_in event) ≡ false → is_number task (raised_in event) ≡ false → is_number at (released_in event) ≡ false → latest_outcome before task ≡ latest_outcome (event ∷ before) task
+pub same_outcome : (event : Event) (before : List Event) (task at : ℕ) → IsLawful (event ∷ before) → IsHeldAt before task at
+    → is_number task (held_in event) ≡ false → is_number task (raised_in event) ≡ false → is_number at (released_in event) ≡ false
+    → latest_outcome before task ≡ latest_outcome (event ∷ before) task
 same_outcome event before task at lawful kept other unraised stays =
     sym (others_keep_outcomes event before task lawful (not_some task (held_in event) other) (not_some task (raised_in event) unraised)
     (λ p frees held. not_some at (released_in event) stays (frees ∙ ap Some (sym (held_there before task at p lawful.0 kept held)))))
 
 -- an event that doesn't touch a task leaves its latest doing
-pub doing_same : (event : Event) (before : List Event) (task : ℕ) (kept : Doing) → IsLawful (event ∷ before) → IsDoingOf before task kept → is_number task (held_in event) ≡ false → is_number task (raised_in event) ≡ false → is_number kept.at (released_in event) ≡ false → is_some_and (meeting_in event) (λ (m : Meeting). eqb m.call kept.at) ≡ false → ends event before task ≡ false → IsDoingOf (event ∷ before) task kept
+pub doing_same : (event : Event) (before : List Event) (task : ℕ) (kept : Doing) → IsLawful (event ∷ before) → IsDoingOf before task kept
+    → is_number task (held_in event) ≡ false → is_number task (raised_in event) ≡ false → is_number kept.at (released_in event) ≡ false
+    → is_some_and (meeting_in event) (λ (m : Meeting). eqb m.call kept.at) ≡ false → ends event before task ≡ false → IsDoingOf (event ∷ before) task kept
 doing_same event before task kept lawful old other unraised stays unmet lives =
     doing_later event before task kept kept.joined kept.outcome lawful old other stays lives
     (λ some. old.joined some ∙ sym (unmet_same event before kept.at unmet))
     (old.outcome ∙ same_outcome event before task kept.at lawful old.at other unraised stays)
 
-newest_quits : (event : Event) (before : List Event) (task : ℕ) → IsLawful (event ∷ before) → held_in event ≡ Some task → may_terminate event ≡ quits (event ∷ before) task
+newest_quits : (event : Event) (before : List Event) (task : ℕ) → IsLawful (event ∷ before) → held_in event ≡ Some task
+    → may_terminate event ≡ quits (event ∷ before) task
 newest_quits event before task lawful holds =
     elim (cases_Bool (may_terminate event)) [
       | inl here ↦
@@ -132,14 +146,17 @@ newest_quits event before task lawful holds =
       | inr not_here ↦
           not_here
           ∙ sym (no_terminate (event ∷ before) task (λ is.
-          let place : suc (length before) ≡ is.at = held_there (event ∷ before) task (suc (length before)) is.at lawful (held_newest event before task lawful holds) is.suspended in
-          let one : is.waits.event ≡ event = same_Some is.waits.event event (sym is.waits.stands ∙ ap (event_at (event ∷ before)) (sym place) ∙ event_at-newest event before) in
+          let place : suc (length before) ≡ is.at = held_there (event ∷ before) task (suc (length before)) is.at lawful
+          (held_newest event before task lawful holds) is.suspended in
+          let one : is.waits.event ≡ event = same_Some is.waits.event event
+          (sym is.waits.stands ∙ ap (event_at (event ∷ before)) (sym place) ∙ event_at-newest event before) in
           let says : wait_in event ≡ Some is.wait = ap wait_in (sym one) ∙ is.waits.says in
           true≢false (sym is.terminates ∙ option_map_or-false (λ (w : Wait). is_open_terminate w.tail) (wait_in event) is.wait not_here says)))
     ]
 
 -- who is held up by the newest event is suspended at it
-pub doing_held : (event : Event) (before : List Event) (task : ℕ) → IsLawful (event ∷ before) → held_in event ≡ Some task → IsDoingOf (event ∷ before) task (record { at = suc (length before); joined = false; quittable = may_terminate event; outcome = Held })
+pub doing_held : (event : Event) (before : List Event) (task : ℕ) → IsLawful (event ∷ before) → held_in event ≡ Some task
+    → IsDoingOf (event ∷ before) task (record { at = suc (length before); joined = false; quittable = may_terminate event; outcome = Held })
 doing_held event before task lawful holds = record {
   at = held_newest event before task lawful holds;
   joined = λ some. sym (next_unmet event before (suc (length before)) (hold_only event task holds).meets refl lawful);
@@ -152,7 +169,9 @@ unsuspended_quits journal task free =
     no_terminate journal task (λ is. true≢false (sym (is_suspended-from journal task is.at is.suspended) ∙ free.free refl))
 
 -- what a task is suspended at is released
-pub doing_released : (event : Event) (before : List Event) (task position : ℕ) → IsLawful (event ∷ before) → IsSuspendedAt before task position → released_in event ≡ Some position → IsDoingOf (event ∷ before) task (record { at = 0; joined = false; quittable = false; outcome = released_to before event })
+pub doing_released : (event : Event) (before : List Event) (task position : ℕ) → IsLawful (event ∷ before) → IsSuspendedAt before task position
+    → released_in event ≡ Some position → IsDoingOf (event ∷ before) task
+    (record { at = 0; joined = false; quittable = false; outcome = released_to before event })
 doing_released event before task position lawful held frees =
     let free = held_released event before task position lawful held frees (release_only event position frees).holds in
     record {
@@ -189,7 +208,8 @@ quits_only _ m says = absurd (none-some m says)
 
 pub ends_only : (event : Event) (before : List Event) (task : ℕ) → ends event before task ≡ true → OnlyEnds event
 ends_only event before task ended =
-    elim (or_cases (is_number task (completed_in event)) (is_number task (gone_in event) || option_map_or (depends_on before task) (quit_in event) false) ended) [
+    elim (or_cases (is_number task (completed_in event))
+    (is_number task (gone_in event) || option_map_or (depends_on before task) (quit_in event) false) ended) [
       | inl completes ↦ completes_only event task (is_number-some task (completed_in event) completes)
       | inr terminates ↦
           elim (or_cases (is_number task (gone_in event)) (option_map_or (depends_on before task) (quit_in event) false) terminates) [
@@ -201,7 +221,8 @@ ends_only event before task ended =
     ]
 
 -- a task has ended
-pub doing_ended : (event : Event) (before : List Event) (task : ℕ) (kept : Doing) → IsLawful (event ∷ before) → IsDoingOf before task kept → ends event before task ≡ true → IsDoingOf (event ∷ before) task (record { at = 0; joined = false; quittable = false; outcome = kept.outcome })
+pub doing_ended : (event : Event) (before : List Event) (task : ℕ) (kept : Doing) → IsLawful (event ∷ before) → IsDoingOf before task kept
+    → ends event before task ≡ true → IsDoingOf (event ∷ before) task (record { at = 0; joined = false; quittable = false; outcome = kept.outcome })
 doing_ended event before task kept lawful old ended =
     let only = ends_only event before task ended in
     let free = held_ended event before task ended in
@@ -211,5 +232,6 @@ doing_ended event before task kept lawful old ended =
       quittable = sym (unsuspended_quits (event ∷ before) task free);
       outcome =
           old.outcome
-          ∙ same_outcome event before task kept.at lawful old.at (number_none task (held_in event) only.holds) (number_none task (raised_in event) only.raises) (number_none kept.at (released_in event) only.releases);
+          ∙ same_outcome event before task kept.at lawful old.at (number_none task (held_in event) only.holds) (number_none task (raised_in event) only.raises)
+          (number_none kept.at (released_in event) only.releases);
     }

@@ -1,5 +1,6 @@
 -- Whom an event names exists.
-use Rattle.std.proofs.Common.{◌≡◌, ℕ, zero, suc, ◌<◌, true, false, not, ◌||◌, eqb, Some, None, List, [], ◌∷◌, length, get_or, ap, sym, ◌∙◌, subst, refl, arith, inl, inr}
+use Rattle.std.proofs.Common.{◌≡◌, ℕ, zero, suc, ◌<◌, true, false, not, ◌||◌, eqb, Some, None, List, [], ◌∷◌, length, get_or, ap, sym, ◌∙◌, subst, refl, arith}
+use Rattle.std.proofs.Common.{inl, inr}
 use Rattle.std.specs.Option.{option_map_or}
 use Rattle.std.specs.List.{list_any}
 use Rattle.std.proofs.lemmas.Bool.{or_cases, or_parts, not-false, false≢true, eqb-true, ltb-true}
@@ -89,10 +90,12 @@ unfolding started_in
 row_starts journal event (halts v below halt) = refl
 row_starts journal event _ = refl
 
-asked_starts : (journal : List Event) (r : Request) → refusal journal r ≡ None → list_any (λ (t : TaskNo). not (has_task journal t.0)) (started_in (asked_event journal r)) ≡ false
+asked_starts : (journal : List Event) (r : Request) → refusal journal r ≡ None
+    → list_any (λ (t : TaskNo). not (has_task journal t.0)) (started_in (asked_event journal r)) ≡ false
 unfolding started_in asked_event names_unknown_task named_tasks
 asked_starts journal (request.Activate by tasks) accepted =
-    (or_parts (is_some_and (asker (request.Activate by tasks)) (λ t. not (has_task journal t))) (list_any (λ (t : TaskNo). not (has_task journal t.0)) tasks) (is_accepted journal (request.Activate by tasks) accepted).tasks_known).1
+    (or_parts (is_some_and (asker (request.Activate by tasks)) (λ t. not (has_task journal t))) (list_any (λ (t : TaskNo). not (has_task journal t.0)) tasks)
+    (is_accepted journal (request.Activate by tasks) accepted).tasks_known).1
 asked_starts journal _ accepted = refl
 
 -- the tasks that a start names exist
@@ -101,22 +104,28 @@ starts_known event before (inl forces) = rw (row_starts before event (forced-row
 starts_known event before (inr asked) =
     ap (λ (e : Event). list_any (λ (t : TaskNo). not (has_task before t.0)) (started_in e)) asked.becomes ∙ asked_starts before asked.request asked.accepted
 
-known_at : (journal : List Event) (tasks : List TaskNo) (k : ℕ) (d : TaskNo) → list_any (λ (t : TaskNo). not (has_task journal t.0)) tasks ≡ false → k < length tasks → (get_or tasks k d).0 < task_count journal
+known_at : (journal : List Event) (tasks : List TaskNo) (k : ℕ) (d : TaskNo) → list_any (λ (t : TaskNo). not (has_task journal t.0)) tasks ≡ false
+    → k < length tasks → (get_or tasks k d).0 < task_count journal
 known_at journal [] k d known below = absurd (omega (arith, below))
 known_at journal (t ∷ rest) zero d known below =
-    ltb-true t.0 (task_count journal) (not-false (has_task journal t.0) (or_parts (not (has_task journal t.0)) (list_any (λ (u : TaskNo). not (has_task journal u.0)) rest) known).0)
+    ltb-true t.0 (task_count journal) (not-false (has_task journal t.0)
+    (or_parts (not (has_task journal t.0)) (list_any (λ (u : TaskNo). not (has_task journal u.0)) rest) known).0)
 known_at journal (t ∷ rest) (suc k) d known below =
-    known_at journal rest k d (or_parts (not (has_task journal t.0)) (list_any (λ (u : TaskNo). not (has_task journal u.0)) rest) known).1 (omega (arith, below))
+    known_at journal rest k d (or_parts (not (has_task journal t.0)) (list_any (λ (u : TaskNo). not (has_task journal u.0)) rest) known).1
+    (omega (arith, below))
 
-pub started_at_exists : (event : Event) (before : List Event) (k : ℕ) (d : TaskNo) → MayFollow before event → k < length (started_in event) → (get_or (started_in event) k d).0 < task_count before
+pub started_at_exists : (event : Event) (before : List Event) (k : ℕ) (d : TaskNo) → MayFollow before event → k < length (started_in event)
+    → (get_or (started_in event) k d).0 < task_count before
 started_at_exists event before k d follows below = known_at before (started_in event) k d (starts_known event before follows) below
 
-known_listed : (journal : List Event) (tasks : List TaskNo) (u : ℕ) → list_any (λ (t : TaskNo). not (has_task journal t.0)) tasks ≡ false → lists_task u tasks ≡ true → u < task_count journal
+known_listed : (journal : List Event) (tasks : List TaskNo) (u : ℕ) → list_any (λ (t : TaskNo). not (has_task journal t.0)) tasks ≡ false
+    → lists_task u tasks ≡ true → u < task_count journal
 known_listed journal [] u known lists = absurd (false≢true lists)
 known_listed journal (t ∷ rest) u known lists =
     let parts = or_parts (not (has_task journal t.0)) (list_any (λ (v : TaskNo). not (has_task journal v.0)) rest) known in
     elim (or_cases (eqb t.0 u) (lists_task u rest) lists) [
-      | inl same ↦ subst (λ (n : ℕ). n < task_count journal) (eqb-true t.0 u same) (ltb-true t.0 (task_count journal) (not-false (has_task journal t.0) parts.0))
+      | inl same ↦ subst (λ (n : ℕ). n < task_count journal) (eqb-true t.0 u same)
+          (ltb-true t.0 (task_count journal) (not-false (has_task journal t.0) parts.0))
       | inr later ↦ known_listed journal rest u parts.1 later
     ]
 

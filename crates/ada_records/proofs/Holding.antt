@@ -37,11 +37,36 @@ pub record OnlyHolds (event : Event) : Type 0 where
 
 pub hold_only : (e : Event) (task : ℕ) → held_in e ≡ Some task → OnlyHolds e
 unfolding held_in completed_in gone_in quit_in aborted_in elaborated_in failed_in creation_in released_in meeting_in
-hold_only (event.Called by callee entry patience due) task holds = record { quiet = record { completes = refl; goes = refl; quits = refl; aborts = refl; elaborates = refl; fails = refl; makes = refl }; releases = refl; meets = refl }
-hold_only (event.Waiting by choices tail pick) task holds = record { quiet = record { completes = refl; goes = refl; quits = refl; aborts = refl; elaborates = refl; fails = refl; makes = refl }; releases = refl; meets = refl }
-hold_only (event.Paused by due) task holds = record { quiet = record { completes = refl; goes = refl; quits = refl; aborts = refl; elaborates = refl; fails = refl; makes = refl }; releases = refl; meets = refl }
-hold_only (event.Started by tasks) task holds = record { quiet = record { completes = refl; goes = refl; quits = refl; aborts = refl; elaborates = refl; fails = refl; makes = refl }; releases = refl; meets = refl }
-hold_only (event.Closed by block) task holds = record { quiet = record { completes = refl; goes = refl; quits = refl; aborts = refl; elaborates = refl; fails = refl; makes = refl }; releases = refl; meets = refl }
+hold_only (event.Called by callee entry patience due) task holds =
+    record {
+      quiet = record { completes = refl; goes = refl; quits = refl; aborts = refl; elaborates = refl; fails = refl; makes = refl };
+      releases = refl;
+      meets = refl;
+    }
+hold_only (event.Waiting by choices tail pick) task holds =
+    record {
+      quiet = record { completes = refl; goes = refl; quits = refl; aborts = refl; elaborates = refl; fails = refl; makes = refl };
+      releases = refl;
+      meets = refl;
+    }
+hold_only (event.Paused by due) task holds =
+    record {
+      quiet = record { completes = refl; goes = refl; quits = refl; aborts = refl; elaborates = refl; fails = refl; makes = refl };
+      releases = refl;
+      meets = refl;
+    }
+hold_only (event.Started by tasks) task holds =
+    record {
+      quiet = record { completes = refl; goes = refl; quits = refl; aborts = refl; elaborates = refl; fails = refl; makes = refl };
+      releases = refl;
+      meets = refl;
+    }
+hold_only (event.Closed by block) task holds =
+    record {
+      quiet = record { completes = refl; goes = refl; quits = refl; aborts = refl; elaborates = refl; fails = refl; makes = refl };
+      releases = refl;
+      meets = refl;
+    }
 hold_only _ task holds = absurd (none-some task holds)
 
 -- a quiet event ends nobody
@@ -52,7 +77,8 @@ pub quiet_ended : (event : Event) (before : List Event) (task : ℕ) → IsQuiet
 quiet_ended event before task quiet = rw (has_ended-more event before task, quiet_ends event before task quiet) refl
 
 -- who is held up ran before
-pub holder_ran : (event : Event) (before : List Event) (task : ℕ) → IsLawful (event ∷ before) → held_in event ≡ Some task → (task < task_count before) × (has_ended before task ≡ false) × (is_suspended before task ≡ false)
+pub holder_ran : (event : Event) (before : List Event) (task : ℕ) → IsLawful (event ∷ before) → held_in event ≡ Some task → (task < task_count before)
+    × (has_ended before task ≡ false) × (is_suspended before task ≡ false)
 holder_ran event before task lawful holds =
     elim lawful.1 [
       | inl forces ↦ absurd (none-some task (sym (forced-step before event forces).holds_none ∙ holds))
@@ -63,7 +89,8 @@ holder_ran event before task lawful holds =
     ]
 
 -- who is held up by the newest event is suspended at it
-pub held_newest : (event : Event) (before : List Event) (task : ℕ) → IsLawful (event ∷ before) → held_in event ≡ Some task → IsHeldAt (event ∷ before) task (suc (length before))
+pub held_newest : (event : Event) (before : List Event) (task : ℕ) → IsLawful (event ∷ before) → held_in event ≡ Some task
+    → IsHeldAt (event ∷ before) task (suc (length before))
 held_newest event before task lawful holds =
     let ran = holder_ran event before task lawful holds in
     record {
@@ -78,7 +105,8 @@ held_newest event before task lawful holds =
     }
 
 -- a task stays suspended where it is, unless the newest event releases that or ends the task
-pub suspended_later : (event : Event) (before : List Event) (task at : ℕ) → IsSuspendedAt before task at → is_number at (released_in event) ≡ false → ends event before task ≡ false → IsSuspendedAt (event ∷ before) task at
+pub suspended_later : (event : Event) (before : List Event) (task at : ℕ) → IsSuspendedAt before task at → is_number at (released_in event) ≡ false
+    → ends event before task ≡ false → IsSuspendedAt (event ∷ before) task at
 unfolding is_released
 suspended_later event before task at h stays lives = record {
   event = h.event;
@@ -89,7 +117,8 @@ suspended_later event before task at h stays lives = record {
 }
 
 -- nobody else is held up
-free_later : (event : Event) (before : List Event) (task : ℕ) → is_number task (held_in event) ≡ false → is_suspended before task ≡ false → is_suspended (event ∷ before) task ≡ false
+free_later : (event : Event) (before : List Event) (task : ℕ) → is_number task (held_in event) ≡ false → is_suspended before task ≡ false
+    → is_suspended (event ∷ before) task ≡ false
 free_later event before task other free =
     false_from_ne_true (is_suspended (event ∷ before) task) (λ suspended.
     let (p, h) = is_suspended-at (event ∷ before) task suspended in
@@ -98,14 +127,16 @@ free_later event before task other free =
       | inr older ↦ true≢false (sym (is_suspended-from before task p older) ∙ free)
     ])
 
-pub held_same : (event : Event) (before : List Event) (task at : ℕ) → IsHeldAt before task at → is_number task (held_in event) ≡ false → is_number at (released_in event) ≡ false → ends event before task ≡ false → IsHeldAt (event ∷ before) task at
+pub held_same : (event : Event) (before : List Event) (task at : ℕ) → IsHeldAt before task at → is_number task (held_in event) ≡ false
+    → is_number at (released_in event) ≡ false → ends event before task ≡ false → IsHeldAt (event ∷ before) task at
 held_same event before task at was other stays lives = record {
   free = λ none. free_later event before task other (was.free none);
   held = λ some. suspended_later event before task at (was.held some) stays lives;
 }
 
 -- what a task is suspended at is released
-pub held_released : (event : Event) (before : List Event) (task at : ℕ) → IsLawful (event ∷ before) → IsSuspendedAt before task at → released_in event ≡ Some at → held_in event ≡ None → IsHeldAt (event ∷ before) task 0
+pub held_released : (event : Event) (before : List Event) (task at : ℕ) → IsLawful (event ∷ before) → IsSuspendedAt before task at → released_in event ≡ Some at
+    → held_in event ≡ None → IsHeldAt (event ∷ before) task 0
 held_released event before task at lawful was frees holds_none = record {
   free = λ _.
       false_from_ne_true (is_suspended (event ∷ before) task) (λ suspended.

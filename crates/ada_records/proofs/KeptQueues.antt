@@ -13,7 +13,8 @@ use Rattle.ada_records.proofs.QueueKinds.{no_newest}
 use Rattle.ada_records.proofs.Queues.{ends_caller, queue_more, queued-more, filter_all}
 
 -- the caller of a queued call isn't ended
-queued_stays : (event : Event) (before : List Event) (p : ℕ) (e : Event) → IsLawful (event ∷ before) → completed_in event ≡ None → event_at before p ≡ Some e → is_queued_at before p e ≡ true → ends_caller event before (call_in e) ≡ false
+queued_stays : (event : Event) (before : List Event) (p : ℕ) (e : Event) → IsLawful (event ∷ before) → completed_in event ≡ None → event_at before p ≡ Some e
+    → is_queued_at before p e ≡ true → ends_caller event before (call_in e) ≡ false
 unfolding is_queued_at
 queued_stays event before p e lawful completes at queued =
     let (c, says, opened) = is_open_at-call before p e at (and_parts (is_open_at before p e) (not (is_met before p)) queued).0 in

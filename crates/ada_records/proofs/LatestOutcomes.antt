@@ -46,16 +46,23 @@ caller_there journal call opened =
     let (c, says, is) = is_open_at-call journal call e at here in
     (c.by, open_call_suspends journal c call is)
 
-innermost_caller : (journal : List Event) (task : ℕ) (o : Option Member) → innermost (nest journal task) ≡ o → is_some_and o is_rendezvous ≡ true → (u : ℕ) × IsSuspendedAt journal u (member_position o)
+innermost_caller : (journal : List Event) (task : ℕ) (o : Option Member) → innermost (nest journal task) ≡ o → is_some_and o is_rendezvous ≡ true → (u : ℕ)
+    × IsSuspendedAt journal u (member_position o)
 innermost_caller journal task None is served = absurd (false≢true served)
 innermost_caller journal task (Some (Block p)) is served = absurd (false≢true served)
 innermost_caller journal task (Some (Rendezvous call)) is served =
     let place = length (nest journal task) - 1 in
     caller_there journal call
-    (nest_open journal task call (place, slice_get_within (nest journal task) place (Rendezvous call) is, get_or_from_slice_get (nest journal task) place (Rendezvous call) (Rendezvous call) is))
+    (nest_open journal task call (
+      place,
+      slice_get_within (nest journal task) place (Rendezvous call) is,
+      get_or_from_slice_get (nest journal task) place
+          (Rendezvous call) (Rendezvous call) is,
+    ))
 
 -- a request releases the call of the rendezvous that it ends
-asked_holder : (journal : List Event) (r : Request) (p : ℕ) → refusal journal r ≡ None → released_in (asked_event journal r) ≡ Some p → (task : ℕ) × IsSuspendedAt journal task p
+asked_holder : (journal : List Event) (r : Request) (p : ℕ) → refusal journal r ≡ None → released_in (asked_event journal r) ≡ Some p → (task : ℕ)
+    × IsSuspendedAt journal task p
 unfolding asked_event released_in is_not_in_accept
 asked_holder journal (request.End by raised) p accepted frees =
     let within = not-false (is_some_and (innermost (nest journal by.0)) is_rendezvous) (is_accepted journal (request.End by raised) accepted).in_accept in
@@ -71,11 +78,16 @@ what_is_released_held event before p lawful frees =
     ]
 
 -- searches that give the same at each event find the same
-last_given-agree : {A : Type 0} (give more : ℕ → Event → Option A) (journal : List Event) → ((p : ℕ) (e : Event) → event_at journal p ≡ Some e → more p e ≡ give p e) → last_given more journal ≡ last_given give journal
+last_given-agree : {A : Type 0} (give more : ℕ → Event → Option A) (journal : List Event)
+    → ((p : ℕ) (e : Event) → event_at journal p ≡ Some e → more p e ≡ give p e) → last_given more journal ≡ last_given give journal
 unfolding last_given
 last_given-agree give more [] same = refl
 last_given-agree give more (event ∷ before) same =
-    rw (same (suc (length before)) event (event_at-newest event before), last_given-agree give more before (λ p e at. same p e (event_at-older event before p e at))) refl
+    rw (
+      same (suc (length before)) event (event_at-newest event before),
+      last_given-agree give more before
+          (λ p e at. same p e (event_at-older event before p e at)),
+    ) refl
 
 pub holds_are_held : HoldsAreHeld
 unfolding last_given outcome_at
@@ -84,7 +96,8 @@ holds_are_held event before task lawful holds =
     (became-held (event ∷ before) (suc (length before)) (next_unreleased event before lawful))
 
 -- a suspended task does nothing new
-nothing_new : (event : Event) (before : List Event) (task position : ℕ) → IsLawful (event ∷ before) → IsSuspendedAt before task position → outcome_at (event ∷ before) task (suc (length before)) event ≡ None
+nothing_new : (event : Event) (before : List Event) (task position : ℕ) → IsLawful (event ∷ before) → IsSuspendedAt before task position
+    → outcome_at (event ∷ before) task (suc (length before)) event ≡ None
 unfolding outcome_at
 nothing_new event before task position lawful held =
     rw (unraised event before task position lawful held, unheld event before task position lawful held) refl
@@ -100,7 +113,12 @@ same_fate event before p unfreed = rw unfreed refl
 pub releases_decide : ReleasesDecide
 unfolding last_given
 releases_decide event before task position lawful frees held =
-    rw (nothing_new event before task position lawful held, suspended_given (event ∷ before) before task position lawful.0 held, decided event before position frees) refl
+    rw (
+      nothing_new event before task position lawful held,
+      suspended_given (event ∷ before) before task position lawful.0 held,
+      decided event before position
+          frees,
+    ) refl
 
 pub raisers_have_raised : RaisersHaveRaised
 unfolding last_given outcome_at
@@ -124,7 +142,9 @@ others_keep_outcomes event before task lawful holds raises unheld_there =
         let same : u ≡ task = same_Some u task (sym held.holds ∙ ap held_in one ∙ holds_e) in
         unheld_there p frees (subst (λ (v : ℕ). IsSuspendedAt before v p) same held))
 
-    by_holder : (p : ℕ) (e : Event) → event_at before p ≡ Some e → (b : Bool) → is_number task (held_in e) ≡ b → cond (is_number task (raised_in e)) (Some Raised) (cond (is_number task (held_in e)) (Some (became (event ∷ before) p)) None) ≡ cond (is_number task (raised_in e)) (Some Raised) (cond (is_number task (held_in e)) (Some (became before p)) None)
+    by_holder : (p : ℕ) (e : Event) → event_at before p ≡ Some e → (b : Bool) → is_number task (held_in e) ≡ b
+        → cond (is_number task (raised_in e)) (Some Raised) (cond (is_number task (held_in e)) (Some (became (event ∷ before) p)) None)
+        ≡ cond (is_number task (raised_in e)) (Some Raised) (cond (is_number task (held_in e)) (Some (became before p)) None)
     by_holder p e at true is =
         ap (λ (o : Outcome). cond (is_number task (raised_in e)) (Some Raised) (cond (is_number task (held_in e)) (Some o) None))
         (same_fate event before p (unfreed p e at (is_number-some task (held_in e) is)))

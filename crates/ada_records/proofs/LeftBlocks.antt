@@ -18,8 +18,10 @@ unfolding is_left is_left_close
 left_more event before p left =
     let (q, e, at, passes) = any_event-found (λ q e. is_some_and (closing_in e) (λ (c : Closing). eqb c.block p) && is_left_close before q) before left in
     let both = and_parts (is_some_and (closing_in e) (λ (c : Closing). eqb c.block p)) (is_left_close before q) passes in
-    any_event-from (λ q e. is_some_and (closing_in e) (λ (c : Closing). eqb c.block p) && is_left_close (event ∷ before) q) (event ∷ before) q e (event_at-older event before q e at)
-    (and_from (is_some_and (closing_in e) (λ (c : Closing). eqb c.block p)) (is_left_close (event ∷ before) q) both.0 (or_right (is_number q (left_in event)) (is_left_close before q) both.1))
+    any_event-from (λ q e. is_some_and (closing_in e) (λ (c : Closing). eqb c.block p) && is_left_close (event ∷ before) q) (event ∷ before) q e
+    (event_at-older event before q e at)
+    (and_from (is_some_and (closing_in e) (λ (c : Closing). eqb c.block p)) (is_left_close (event ∷ before) q) both.0
+    (or_right (is_number q (left_in event)) (is_left_close before q) both.1))
 
 pub unleft_before : (event : Event) (before : List Event) (p : ℕ) → is_left (event ∷ before) p ≡ false → is_left before p ≡ false
 unleft_before event before p unleft =
@@ -36,7 +38,8 @@ unfolding is_left_close is_released
 close_released [] c left = absurd (false≢true left)
 close_released (e ∷ before) c left =
     elim (or_cases (is_number c (left_in e)) (is_left_close before c) left) [
-      | inl now ↦ or_left (is_number c (released_in e)) (is_released before c) (is_number-from c (released_in e) (left_frees e c (is_number-some c (left_in e) now)))
+      | inl now ↦ or_left (is_number c (released_in e)) (is_released before c)
+          (is_number-from c (released_in e) (left_frees e c (is_number-some c (left_in e) now)))
       | inr was ↦ or_right (is_number c (released_in e)) (is_released before c) (close_released before c was)
     ]
 
@@ -50,20 +53,32 @@ pub record Leaves (event : Event) (before : List Event) (p : ℕ) : Type 0 where
   pub says : closing_in closed ≡ Some closing
   pub block : closing.block ≡ p
 
-pub left_cases : (event : Event) (before : List Event) (p : ℕ) → IsLawful (event ∷ before) → is_left (event ∷ before) p ≡ true → Leaves event before p ⊎ (is_left before p ≡ true)
+pub left_cases : (event : Event) (before : List Event) (p : ℕ) → IsLawful (event ∷ before) → is_left (event ∷ before) p ≡ true → Leaves event before p
+    ⊎ (is_left before p ≡ true)
 unfolding is_left is_left_close
 left_cases event before p lawful left =
-    let (q, e, at, passes) = any_event-found (λ q e. is_some_and (closing_in e) (λ (c : Closing). eqb c.block p) && is_left_close (event ∷ before) q) (event ∷ before) left in
+    let (q, e, at, passes) = any_event-found (λ q e. is_some_and (closing_in e) (λ (c : Closing). eqb c.block p) && is_left_close (event ∷ before) q)
+    (event ∷ before) left in
     let both = and_parts (is_some_and (closing_in e) (λ (c : Closing). eqb c.block p)) (is_left_close (event ∷ before) q) passes in
     let (k, says, closes) = option_map_or-true (λ (c : Closing). eqb c.block p) (closing_in e) both.0 in
     let block = eqb-true k.block p closes in
     elim (event_at-cases event before q e at) [
       | inl newest ↦
-          let freed : is_released (event ∷ before) (suc (length before)) ≡ true = close_released (event ∷ before) (suc (length before)) (subst (λ (n : ℕ). is_left_close (event ∷ before) n ≡ true) newest.0 both.1) in
+          let freed : is_released (event ∷ before) (suc (length before))
+          ≡ true = close_released (event ∷ before) (suc (length before)) (subst (λ (n : ℕ). is_left_close (event ∷ before) n ≡ true) newest.0 both.1) in
           absurd (true≢false (sym freed ∙ next_unreleased event before lawful))
       | inr older ↦
           elim (or_cases (is_number q (left_in event)) (is_left_close before q) both.1) [
-            | inl now ↦ inl (record { at = q; closed = e; closing = k; leaves = is_number-some q (left_in event) now; stands = older; says = says; block = block })
-            | inr was ↦ inr (any_event-from (λ q e. is_some_and (closing_in e) (λ (c : Closing). eqb c.block p) && is_left_close before q) before q e older (and_from (is_some_and (closing_in e) (λ (c : Closing). eqb c.block p)) (is_left_close before q) both.0 was))
+            | inl now ↦ inl (record {
+              at = q;
+              closed = e;
+              closing = k;
+              leaves = is_number-some q (left_in event) now;
+              stands = older;
+              says = says;
+              block = block;
+            })
+            | inr was ↦ inr (any_event-from (λ q e. is_some_and (closing_in e) (λ (c : Closing). eqb c.block p) && is_left_close before q) before q e older
+                (and_from (is_some_and (closing_in e) (λ (c : Closing). eqb c.block p)) (is_left_close before q) both.0 was))
           ]
     ]

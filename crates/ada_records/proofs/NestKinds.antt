@@ -1,5 +1,6 @@
 -- What each kind of event changes in what a task is within.
-use Rattle.std.proofs.Common.{◌≡◌, ℕ, suc, ◌-◌, ◌≤◌, Bool, true, false, not, ◌&&◌, eqb, Option, Some, None, List, [], ◌∷◌, ◌++◌, length, sym, refl, ap, ◌∙◌, subst, arith, inl, inr, append-nil}
+use Rattle.std.proofs.Common.{◌≡◌, ℕ, suc, ◌-◌, ◌≤◌, Bool, true, false, not, ◌&&◌, eqb, Option, Some, None, List, [], ◌∷◌, ◌++◌, length, sym, refl, ap, ◌∙◌}
+use Rattle.std.proofs.Common.{subst, arith, inl, inr, append-nil}
 use Rattle.std.specs.Option.{option_map_or, option_or, option_to_list}
 use Rattle.std.specs.Bool.{then_some}
 use Rattle.std.specs.List.{filter, Contains, list_any}
@@ -21,7 +22,8 @@ use Rattle.ada_events.specs.Asks.{asked_event, member_position}
 use Rattle.ada_events.specs.Refusals.{refusal, has_no_block, is_rendezvous}
 use Rattle.ada_events.specs.Lawful.{IsLawful}
 use Rattle.ada_laws.specs.Calls.{IsOpenCallAt}
-use Rattle.ada_laws.proofs.Searching.{event_at-older, event_at-other, event_at-within, event_at-cases, any_event-found, any_event-from, option_or-some, then_some-some, option_map_or-true, is_number-some, is_number-from}
+use Rattle.ada_laws.proofs.Searching.{event_at-older, event_at-other, event_at-within, event_at-cases, any_event-found, any_event-from, option_or-some}
+use Rattle.ada_laws.proofs.Searching.{then_some-some, option_map_or-true, is_number-some, is_number-from}
 use Rattle.ada_laws.proofs.Gathering.{gathered-found, Contains-first, Contains-later}
 use Rattle.ada_laws.proofs.Growing.{is_released-before, has_ended-before}
 use Rattle.ada_laws.proofs.Accepting.{is_accepted}
@@ -42,7 +44,8 @@ stays event before (Block p) = not (is_left (event ∷ before) p)
 stays event before (Rendezvous call) = is_open_call (event ∷ before) call
 
 -- a call that is open was open before
-open_before : (event : Event) (before : List Event) (call : ℕ) → call ≤ length before → is_open_call (event ∷ before) call ≡ true → is_open_call before call ≡ true
+open_before : (event : Event) (before : List Event) (call : ℕ) → call ≤ length before → is_open_call (event ∷ before) call ≡ true
+    → is_open_call before call ≡ true
 unfolding is_open_call
 open_before event before call within opened =
     let (e, at, here) = option_map_or-true (is_open_at (event ∷ before) call) (event_at (event ∷ before) call) opened in
@@ -59,22 +62,29 @@ older_wait : (event : Event) (before : List Event) (task wait : ℕ) → wait �
 unfolding is_wait_of
 older_wait event before task wait within = rw (event_at-other event before wait (λ same. omega (arith, same, within))) refl
 
-of_opening : (event : Event) (before : List Event) (task p : ℕ) (o : Opening) → option_map_or (λ (o : Opening). then_some (eqb o.by task && not (is_left (event ∷ before) p)) (Block p)) (Some o) None ≡ kept (stays event before) (option_map_or (λ (o : Opening). then_some (eqb o.by task && not (is_left before p)) (Block p)) (Some o) None)
+of_opening : (event : Event) (before : List Event) (task p : ℕ) (o : Opening)
+    → option_map_or (λ (o : Opening). then_some (eqb o.by task && not (is_left (event ∷ before) p)) (Block p)) (Some o) None
+    ≡ kept (stays event before) (option_map_or (λ (o : Opening). then_some (eqb o.by task && not (is_left before p)) (Block p)) (Some o) None)
 of_opening event before task p o = bits (eqb o.by task) (is_left before p) (is_left (event ∷ before) p) refl (left_more event before p)
   where
-    bits : (mine old new : Bool) → is_left (event ∷ before) p ≡ new → (old ≡ true → new ≡ true) → then_some (mine && not new) (Block p) ≡ kept (stays event before) (then_some (mine && not old) (Block p))
+    bits : (mine old new : Bool) → is_left (event ∷ before) p ≡ new → (old ≡ true → new ≡ true)
+        → then_some (mine && not new) (Block p) ≡ kept (stays event before) (then_some (mine && not old) (Block p))
     bits false old new is more = refl
     bits true true true is more = refl
     bits true true false is more = absurd (cc (more refl))
     bits true false true is more = rw is refl
     bits true false false is more = rw is refl
 
-of_meeting : (event : Event) (before : List Event) (task : ℕ) (m : Meeting) → m.wait ≤ length before → m.call ≤ length before → option_map_or (λ (m : Meeting). then_some (is_wait_of (event ∷ before) task m.wait && is_open_call (event ∷ before) m.call) (Rendezvous m.call)) (Some m) None ≡ kept (stays event before) (option_map_or (λ (m : Meeting). then_some (is_wait_of before task m.wait && is_open_call before m.call) (Rendezvous m.call)) (Some m) None)
+of_meeting : (event : Event) (before : List Event) (task : ℕ) (m : Meeting) → m.wait ≤ length before → m.call ≤ length before
+    → option_map_or (λ (m : Meeting). then_some (is_wait_of (event ∷ before) task m.wait && is_open_call (event ∷ before) m.call) (Rendezvous m.call)) (Some m)
+    None ≡ kept (stays event before) (option_map_or
+    (λ (m : Meeting). then_some (is_wait_of before task m.wait && is_open_call before m.call) (Rendezvous m.call)) (Some m) None)
 of_meeting event before task m wait call =
     rw (older_wait event before task m.wait wait)
     (bits (is_wait_of before task m.wait) (is_open_call before m.call) (is_open_call (event ∷ before) m.call) refl (open_before event before m.call call))
   where
-    bits : (mine old new : Bool) → is_open_call (event ∷ before) m.call ≡ new → (new ≡ true → old ≡ true) → then_some (mine && new) (Rendezvous m.call) ≡ kept (stays event before) (then_some (mine && old) (Rendezvous m.call))
+    bits : (mine old new : Bool) → is_open_call (event ∷ before) m.call ≡ new → (new ≡ true → old ≡ true)
+        → then_some (mine && new) (Rendezvous m.call) ≡ kept (stays event before) (then_some (mine && old) (Rendezvous m.call))
     bits false old new is fewer = refl
     bits true true true is fewer = rw is refl
     bits true true false is fewer = rw is refl
@@ -87,11 +97,15 @@ opens_meets_none (Opened by under) o says = refl
 opens_meets_none _ o says = absurd (none-some o says)
 
 -- what an older event puts into a nest stays there or not
-older_member : (event : Event) (before : List Event) (task p : ℕ) (e : Event) → IsLawful (event ∷ before) → event_at before p ≡ Some e → member_at (event ∷ before) task p e ≡ kept (stays event before) (member_at before task p e)
+older_member : (event : Event) (before : List Event) (task p : ℕ) (e : Event) → IsLawful (event ∷ before) → event_at before p ≡ Some e
+    → member_at (event ∷ before) task p e ≡ kept (stays event before) (member_at before task p e)
 unfolding member_at
 older_member event before task p e lawful at = by_opening (opening_in e) (meeting_in e) refl refl
   where
-    by_meeting : (m : Option Meeting) → meeting_in e ≡ m → option_map_or (λ (m : Meeting). then_some (is_wait_of (event ∷ before) task m.wait && is_open_call (event ∷ before) m.call) (Rendezvous m.call)) m None ≡ kept (stays event before) (option_map_or (λ (m : Meeting). then_some (is_wait_of before task m.wait && is_open_call before m.call) (Rendezvous m.call)) m None)
+    by_meeting : (m : Option Meeting) → meeting_in e ≡ m
+        → option_map_or (λ (m : Meeting). then_some (is_wait_of (event ∷ before) task m.wait && is_open_call (event ∷ before) m.call) (Rendezvous m.call)) m
+        None ≡ kept (stays event before) (option_map_or
+        (λ (m : Meeting). then_some (is_wait_of before task m.wait && is_open_call before m.call) (Rendezvous m.call)) m None)
     by_meeting None says = refl
     by_meeting (Some m) says =
         let is = meeting_at before m.call m.wait p lawful.0 (at ∙ ap Some (meeting_in-met e m says)) in
@@ -103,20 +117,28 @@ older_member event before task p e lawful at = by_opening (opening_in e) (meetin
     without None = refl
     without (Some x) = refl
 
-    by_opening : (o : Option Opening) (m : Option Meeting) → opening_in e ≡ o → meeting_in e ≡ m → option_or (option_map_or (λ (o : Opening). then_some (eqb o.by task && not (is_left (event ∷ before) p)) (Block p)) o None) (option_map_or (λ (m : Meeting). then_some (is_wait_of (event ∷ before) task m.wait && is_open_call (event ∷ before) m.call) (Rendezvous m.call)) m None) ≡ kept (stays event before) (option_or (option_map_or (λ (o : Opening). then_some (eqb o.by task && not (is_left before p)) (Block p)) o None) (option_map_or (λ (m : Meeting). then_some (is_wait_of before task m.wait && is_open_call before m.call) (Rendezvous m.call)) m None))
+    by_opening : (o : Option Opening) (m : Option Meeting) → opening_in e ≡ o → meeting_in e ≡ m
+        → option_or (option_map_or (λ (o : Opening). then_some (eqb o.by task && not (is_left (event ∷ before) p)) (Block p)) o None)
+        (option_map_or (λ (m : Meeting). then_some (is_wait_of (event ∷ before) task m.wait && is_open_call (event ∷ before) m.call) (Rendezvous m.call)) m
+        None) ≡ kept (stays event before) (option_or (option_map_or (λ (o : Opening). then_some (eqb o.by task && not (is_left before p)) (Block p)) o None)
+        (option_map_or (λ (m : Meeting). then_some (is_wait_of before task m.wait && is_open_call before m.call) (Rendezvous m.call)) m None))
     by_opening None m says meets = by_meeting m meets
     by_opening (Some o) None says meets =
         without (option_map_or (λ (o : Opening). then_some (eqb o.by task && not (is_left (event ∷ before) p)) (Block p)) (Some o) None)
         ∙ of_opening event before task p o
-        ∙ ap (kept (stays event before)) (sym (without (option_map_or (λ (o : Opening). then_some (eqb o.by task && not (is_left before p)) (Block p)) (Some o) None)))
+        ∙ ap (kept (stays event before)) (sym (without
+        (option_map_or (λ (o : Opening). then_some (eqb o.by task && not (is_left before p)) (Block p)) (Some o) None)))
     by_opening (Some o) (Some m) says meets = absurd (none-some m (sym (opens_meets_none e o says) ∙ meets))
 
 -- a nest after one more event: what stays of it, and what the event puts into it
-pub nest_more : (event : Event) (before : List Event) (task : ℕ) → IsLawful (event ∷ before) → nest (event ∷ before) task ≡ filter (stays event before) (nest before task) ++ option_to_list (member_at (event ∷ before) task (suc (length before)) event)
+pub nest_more : (event : Event) (before : List Event) (task : ℕ) → IsLawful (event ∷ before)
+    → nest (event ∷ before) task ≡ filter (stays event before) (nest before task)
+    ++ option_to_list (member_at (event ∷ before) task (suc (length before)) event)
 unfolding nest gathered
 nest_more event before task lawful =
     ap (λ xs. xs ++ option_to_list (member_at (event ∷ before) task (suc (length before)) event))
-    (gathered-filtered (member_at before task) (member_at (event ∷ before) task) (stays event before) before (λ p e at. older_member event before task p e lawful at))
+    (gathered-filtered (member_at before task) (member_at (event ∷ before) task) (stays event before) before
+    (λ p e at. older_member event before task p e lawful at))
 
 -- tests that agree on the elements of a list keep the same of it
 filter_alike : {A : Type 0} (f g : A → Bool) (xs : List A) → ((x : A) → Contains xs x → f x ≡ g x) → filter f xs ≡ filter g xs
@@ -146,13 +168,16 @@ nest_member journal task x lawful contains =
       | inr met ↦ by_meeting q e at (meeting_in e) refl met
     ]
   where
-    by_opening : (q : ℕ) (o : Option Opening) → option_map_or (λ (o : Opening). then_some (eqb o.by task && not (is_left journal q)) (Block q)) o None ≡ Some x → IsMember journal task x
+    by_opening : (q : ℕ) (o : Option Opening) → option_map_or (λ (o : Opening). then_some (eqb o.by task && not (is_left journal q)) (Block q)) o None ≡ Some x
+        → IsMember journal task x
     by_opening q None gives = absurd (none-some x gives)
     by_opening q (Some o) gives =
         let found = then_some-some (eqb o.by task && not (is_left journal q)) (Block q) x gives in
         subst (IsMember journal task) found.1 (of_block q (not-true (is_left journal q) (and_parts (eqb o.by task) (not (is_left journal q)) found.0).1))
 
-    by_meeting : (q : ℕ) (e : Event) → event_at journal q ≡ Some e → (m : Option Meeting) → meeting_in e ≡ m → option_map_or (λ (m : Meeting). then_some (is_wait_of journal task m.wait && is_open_call journal m.call) (Rendezvous m.call)) m None ≡ Some x → IsMember journal task x
+    by_meeting : (q : ℕ) (e : Event) → event_at journal q ≡ Some e → (m : Option Meeting) → meeting_in e ≡ m
+        → option_map_or (λ (m : Meeting). then_some (is_wait_of journal task m.wait && is_open_call journal m.call) (Rendezvous m.call)) m None ≡ Some x
+        → IsMember journal task x
     by_meeting q e at None says gives = absurd (none-some x gives)
     by_meeting q e at (Some m) says gives =
         let found = then_some-some (is_wait_of journal task m.wait && is_open_call journal m.call) (Rendezvous m.call) x gives in
@@ -162,7 +187,8 @@ nest_member journal task x lawful contains =
         subst (IsMember journal task) found.1 (of_rendezvous m.call c is (is_met-from journal m.call m.wait q (at ∙ ap Some (meeting_in-met e m says))))
 
 -- a rendezvous stays in a nest unless its call is released
-rendezvous_stays : (event : Event) (before : List Event) (call : ℕ) (c : Call) → IsLawful (event ∷ before) → IsOpenCallAt before c call → is_met before call ≡ true → is_open_call (event ∷ before) call ≡ not (is_number call (released_in event))
+rendezvous_stays : (event : Event) (before : List Event) (call : ℕ) (c : Call) → IsLawful (event ∷ before) → IsOpenCallAt before c call
+    → is_met before call ≡ true → is_open_call (event ∷ before) call ≡ not (is_number call (released_in event))
 unfolding is_open_call is_released
 rendezvous_stays event before call c lawful opened met = by_release (is_number call (released_in event)) refl
   where
@@ -183,7 +209,8 @@ rendezvous_stays event before call c lawful opened met = by_release (is_number c
         }))
 
 -- a block stays in a nest unless the event leaves one
-block_stays : (event : Event) (before : List Event) (p : ℕ) → IsLawful (event ∷ before) → left_in event ≡ None → is_left before p ≡ false → is_left (event ∷ before) p ≡ false
+block_stays : (event : Event) (before : List Event) (p : ℕ) → IsLawful (event ∷ before) → left_in event ≡ None → is_left before p ≡ false
+    → is_left (event ∷ before) p ≡ false
 block_stays event before p lawful leaves unleft =
     false_from_ne_true (is_left (event ∷ before) p) (λ left.
     elim (left_cases event before p lawful left) [
@@ -199,7 +226,8 @@ leaves_none event frees = by_case (left_in event) refl
     by_case (Some c) says = absurd (none-some c (sym frees ∙ left_frees event c says))
 
 -- an event that releases nothing takes nothing out of a nest
-all_stay : (event : Event) (before : List Event) (task : ℕ) → IsLawful (event ∷ before) → released_in event ≡ None → filter (stays event before) (nest before task) ≡ nest before task
+all_stay : (event : Event) (before : List Event) (task : ℕ) → IsLawful (event ∷ before) → released_in event ≡ None
+    → filter (stays event before) (nest before task) ≡ nest before task
 all_stay event before task lawful frees =
     filter_whole (stays event before) (nest before task) (λ x has. by_member x (nest_member before task x lawful.0 has))
   where
@@ -218,23 +246,32 @@ unfolding opening_in meeting_in released_in closing_in
 opening_only (Opened by under) o says = (refl, refl, refl)
 opening_only _ o says = absurd (none-some o says)
 
-block_within : (journal : List Event) (task b : ℕ) (o : Option Member) → innermost (nest journal task) ≡ o → option_map_or is_rendezvous o true ≡ false → member_position o ≡ b → b ≤ length journal
+block_within : (journal : List Event) (task b : ℕ) (o : Option Member) → innermost (nest journal task) ≡ o → option_map_or is_rendezvous o true ≡ false
+    → member_position o ≡ b → b ≤ length journal
 block_within journal task b None is block same = absurd (true≢false block)
 block_within journal task b (Some (Rendezvous call)) is block same = absurd (true≢false block)
 block_within journal task b (Some (Block p)) is block same =
     let place = length (nest journal task) - 1 in
-    let own = nest_block journal task p (place, slice_get_within (nest journal task) place (Block p) is, get_or_from_slice_get (nest journal task) place (Block p) (Block p) is) in
+    let own = nest_block journal task p (
+      place,
+      slice_get_within (nest journal task) place (Block p) is,
+      get_or_from_slice_get (nest journal task) place
+          (Block p) (Block p) is,
+    ) in
     let within : p ≤ length journal = event_at-within journal p own.event own.stands in
     omega (arith, within, same)
 
-asked_within : (journal : List Event) (r : Request) (k : Closing) → refusal journal r ≡ None → closing_in (asked_event journal r) ≡ Some k → k.block ≤ length journal
+asked_within : (journal : List Event) (r : Request) (k : Closing) → refusal journal r ≡ None → closing_in (asked_event journal r) ≡ Some k
+    → k.block ≤ length journal
 unfolding asked_event closing_in has_no_block
 asked_within journal (request.Close by) k accepted says =
-    block_within journal by.0 k.block (innermost (nest journal by.0)) refl (is_accepted journal (request.Close by) accepted).in_block (ap (λ (x : Closing). x.block) (same_Some _ k says))
+    block_within journal by.0 k.block (innermost (nest journal by.0)) refl (is_accepted journal (request.Close by) accepted).in_block
+    (ap (λ (x : Closing). x.block) (same_Some _ k says))
 asked_within journal _ k accepted says = absurd (none-some k says)
 
 -- what is closed was opened before
-closing_within : (journal : List Event) (p : ℕ) (e : Event) (k : Closing) → IsLawful journal → event_at journal p ≡ Some e → closing_in e ≡ Some k → k.block ≤ length journal
+closing_within : (journal : List Event) (p : ℕ) (e : Event) (k : Closing) → IsLawful journal → event_at journal p ≡ Some e → closing_in e ≡ Some k
+    → k.block ≤ length journal
 unfolding event_at
 closing_within [] p e k lawful at says = absurd (none-some e at)
 closing_within (event ∷ before) p e k lawful at says =
@@ -253,15 +290,18 @@ closing_within (event ∷ before) p e k lawful at says =
     ]
 
 -- what was just opened isn't left
-newest_unleft : (event : Event) (before : List Event) (o : Opening) → IsLawful (event ∷ before) → opening_in event ≡ Some o → is_left (event ∷ before) (suc (length before)) ≡ false
+newest_unleft : (event : Event) (before : List Event) (o : Opening) → IsLawful (event ∷ before) → opening_in event ≡ Some o
+    → is_left (event ∷ before) (suc (length before)) ≡ false
 unfolding is_left
 newest_unleft event before o lawful says =
     false_from_ne_true (is_left (event ∷ before) (suc (length before))) (λ left.
     elim (left_cases event before (suc (length before)) lawful left) [
       | inl gone ↦ none-some gone.at (sym (leaves_none event (opening_only event o says).1) ∙ gone.leaves)
       | inr was ↦
-          let (q, e, at, passes) = any_event-found (λ q e. is_some_and (closing_in e) (λ (c : Closing). eqb c.block (suc (length before))) && is_left_close before q) before was in
-          let (k, closes, same) = option_map_or-true (λ (c : Closing). eqb c.block (suc (length before))) (closing_in e) (and_parts (is_some_and (closing_in e) (λ (c : Closing). eqb c.block (suc (length before)))) (is_left_close before q) passes).0 in
+          let (q, e, at, passes) = any_event-found (λ q e. is_some_and (closing_in e) (λ (c : Closing). eqb c.block (suc (length before)))
+          && is_left_close before q) before was in
+          let (k, closes, same) = option_map_or-true (λ (c : Closing). eqb c.block (suc (length before))) (closing_in e)
+          (and_parts (is_some_and (closing_in e) (λ (c : Closing). eqb c.block (suc (length before)))) (is_left_close before q) passes).0 in
           let within : k.block ≤ length before = closing_within before q e k lawful.0 at closes in
           omega (arith, within, eqb-true k.block (suc (length before)) same)
     ])
@@ -296,12 +336,14 @@ unfolding call_in
 closed_calls_none by block = refl
 
 -- the block whose close is left is left, and no other newly
-left_now : (event : Event) (before : List Event) (p close block : ℕ) (by : TaskNo) → IsLawful (event ∷ before) → left_in event ≡ Some close → event_at before close ≡ Some (Closed by block) → is_left before p ≡ false → is_left (event ∷ before) p ≡ eqb p block
+left_now : (event : Event) (before : List Event) (p close block : ℕ) (by : TaskNo) → IsLawful (event ∷ before) → left_in event ≡ Some close
+    → event_at before close ≡ Some (Closed by block) → is_left before p ≡ false → is_left (event ∷ before) p ≡ eqb p block
 unfolding is_left is_left_close
 left_now event before p close block by lawful leaves at unleft = elim (cases_eq p block) [
   | inl same ↦
       rw (eq-eqb p block same)
-      (any_event-from (λ q e. is_some_and (closing_in e) (λ (c : Closing). eqb c.block p) && is_left_close (event ∷ before) q) (event ∷ before) close (Closed by block) (event_at-older event before close (Closed by block) at)
+      (any_event-from (λ q e. is_some_and (closing_in e) (λ (c : Closing). eqb c.block p) && is_left_close (event ∷ before) q) (event ∷ before) close
+      (Closed by block) (event_at-older event before close (Closed by block) at)
       (and_from (is_some_and (closing_in (Closed by block)) (λ (c : Closing). eqb c.block p)) (is_left_close (event ∷ before) close)
       (rw (closed_says by block) (eq-eqb block p (sym same)))
       (or_left (is_number close (left_in event)) (list_any (λ (e : Event). is_number close (left_in e)) before) (is_number-from close (left_in event) leaves))))
@@ -330,7 +372,8 @@ blocks_are_left event before task close block by lawful leaves at =
     not_released call c opened =
         false_from_ne_true (is_number call (released_in event)) (λ frees.
         let place : call ≡ close = same_Some call close (sym (is_number-some call (released_in event) frees) ∙ left_frees event close leaves) in
-        let one : opened.stands.event ≡ Closed by block = same_Some opened.stands.event (Closed by block) (sym opened.stands.stands ∙ ap (event_at before) place ∙ at) in
+        let one : opened.stands.event ≡ Closed by block = same_Some opened.stands.event (Closed by block)
+        (sym opened.stands.stands ∙ ap (event_at before) place ∙ at) in
         none-some c (sym (closed_calls_none by block) ∙ ap call_in (sym one) ∙ opened.stands.says))
 
     by_member : (x : Member) → IsMember before task x → stays event before x ≡ is_beside_block block x

@@ -1,5 +1,6 @@
 -- What one more event changes in the records where it changes those of a few tasks.
-use Rattle.std.proofs.Common.{eqb, ◌≡◌, ◌≢◌, ℕ, suc, ◌+◌, ◌<◌, true, false, Some, None, List, ◌∷◌, length, set, sym, refl, ap, subst, ◌∙◌, arith, inl, inr, zero}
+use Rattle.std.proofs.Common.{eqb, ◌≡◌, ◌≢◌, ℕ, suc, ◌+◌, ◌<◌, true, false, Some, None, List, ◌∷◌, length, set, sym, refl, ap, subst, ◌∙◌, arith, inl, inr}
+use Rattle.std.proofs.Common.{zero}
 use Rattle.std.specs.Option.{option_map}
 use Rattle.std.proofs.lemmas.Bool.{cases_eq, true≢false}
 use Rattle.std.proofs.lemmas.List.{length-set, get_or-set_same, get_or-set_other}
@@ -22,10 +23,12 @@ use Rattle.ada_laws.proofs.OutcomeLaws.{raises_none, unraised}
 use Rattle.ada_records.specs.declared.record.Doing.{Doing}
 use Rattle.ada_records.specs.declared.record.Record.{Record}
 use Rattle.ada_records.specs.declared.record.Stage.{Stage}
-use Rattle.ada_records.specs.Records.{no_record, record_at, IsDoingOf, IsStageOf, IsRecordOf, AreRecords, HoldsSomebody, IsPlainHold, IsPlainRelease, freed, may_terminate}
+use Rattle.ada_records.specs.Records.{no_record, record_at, IsDoingOf, IsStageOf, IsRecordOf, AreRecords, HoldsSomebody, IsPlainHold, IsPlainRelease, freed}
+use Rattle.ada_records.specs.Records.{may_terminate}
 use Rattle.ada_records.proofs.Holding.{hold_only, quiet_ends, holder_ran}
 use Rattle.ada_records.proofs.Queues.{ends}
-use Rattle.ada_records.proofs.Saying.{IsPlain, number_none, number_other, no_meeting, other_call, release_only, held_apart, met_frees, call_not_wait, is_met-now, unmet_same, met_says}
+use Rattle.ada_records.proofs.Saying.{IsPlain, number_none, number_other, no_meeting, other_call, release_only, held_apart, met_frees, call_not_wait}
+use Rattle.ada_records.proofs.Saying.{is_met-now, unmet_same, met_says}
 use Rattle.ada_records.proofs.Doings.{held_there, doing_held, doing_released, doing_later, doing_same, doing_ended, same_outcome}
 use Rattle.ada_records.proofs.LatestOutcomes.{what_is_released_held, raisers_have_raised}
 use Rattle.ada_records.proofs.Existing.{positive, raiser_exists}
@@ -39,14 +42,16 @@ pub record IsUntouched (event : Event) (before : List Event) (task at : ℕ) : T
   pub meets : is_some_and (meeting_in event) (λ (m : Meeting). eqb m.call at) ≡ false
   pub ends : ends event before task ≡ false
 
-pub untouched : (event : Event) (before : List Event) (task : ℕ) (kept : Record) → IsLawful (event ∷ before) → IsRecordOf before task kept → IsUntouched event before task kept.doing.at → stage_after event before task kept.stage ≡ kept.stage → IsRecordOf (event ∷ before) task kept
+pub untouched : (event : Event) (before : List Event) (task : ℕ) (kept : Record) → IsLawful (event ∷ before) → IsRecordOf before task kept
+    → IsUntouched event before task kept.doing.at → stage_after event before task kept.stage ≡ kept.stage → IsRecordOf (event ∷ before) task kept
 untouched event before task kept lawful old apart same = record {
   doing = doing_same event before task kept.doing lawful old.doing apart.holds apart.raises apart.frees apart.meets apart.ends;
   stage = subst (IsStageOf (event ∷ before) task) same (stage_more event before task kept.stage old.stage);
 }
 
 -- a record with another latest doing, where the event changes nothing else
-pub doing_only : (event : Event) (before : List Event) (task : ℕ) (was now : Record) (doing : Doing) → IsPlain event → IsRecordOf before task was → IsDoingOf (event ∷ before) task doing → now ≡ record was { doing = doing } → IsRecordOf (event ∷ before) task now
+pub doing_only : (event : Event) (before : List Event) (task : ℕ) (was now : Record) (doing : Doing) → IsPlain event → IsRecordOf before task was
+    → IsDoingOf (event ∷ before) task doing → now ≡ record was { doing = doing } → IsRecordOf (event ∷ before) task now
 doing_only event before task was now doing plain old right is =
     subst (IsRecordOf (event ∷ before) task) (sym is) (record {
       doing = right;
@@ -54,31 +59,43 @@ doing_only event before task was now doing plain old right is =
     })
 
 -- the records with one changed
-pub one_changed : (event : Event) (before : List Event) (records : List Record) (task : ℕ) (now : Record) → creation_in event ≡ None → AreRecords records before → task < length records → IsRecordOf (event ∷ before) task now → ((other : ℕ) → other < length records → other ≢ task → IsRecordOf (event ∷ before) other (record_at records other)) → AreRecords (set records task now) (event ∷ before)
+pub one_changed : (event : Event) (before : List Event) (records : List Record) (task : ℕ) (now : Record) → creation_in event ≡ None → AreRecords records before
+    → task < length records → IsRecordOf (event ∷ before) task now
+    → ((other : ℕ) → other < length records → other ≢ task → IsRecordOf (event ∷ before) other (record_at records other))
+    → AreRecords (set records task now) (event ∷ before)
 one_changed event before records task now makes old within changed others = record {
   many = length-set records task now ∙ old.many ∙ sym (task_count-same event before makes);
   each = λ other below.
       let known : other < length records = omega (arith, length-set records task now) in
       elim (cases_eq other task) [
-        | inl same ↦ subst (λ (n : ℕ). IsRecordOf (event ∷ before) n (record_at (set records task now) n)) (sym same) (rw (get_or-set_same records task now no_record within) changed)
+        | inl same ↦ subst (λ (n : ℕ). IsRecordOf (event ∷ before) n (record_at (set records task now) n)) (sym same)
+            (rw (get_or-set_same records task now no_record within) changed)
         | inr differs ↦ rw (get_or-set_other records task other now no_record differs) (others other known differs)
       ];
 }
 
 -- the records with two changed
-pub two_changed : (event : Event) (before : List Event) (records : List Record) (one two : ℕ) (first second : Record) → creation_in event ≡ None → AreRecords records before → one < length records → two < length records → two ≢ one → IsRecordOf (event ∷ before) one first → IsRecordOf (event ∷ before) two second → ((other : ℕ) → other < length records → other ≢ one → other ≢ two → IsRecordOf (event ∷ before) other (record_at records other)) → AreRecords (set (set records one first) two second) (event ∷ before)
+pub two_changed : (event : Event) (before : List Event) (records : List Record) (one two : ℕ) (first second : Record) → creation_in event ≡ None
+    → AreRecords records before → one < length records → two < length records → two ≢ one → IsRecordOf (event ∷ before) one first
+    → IsRecordOf (event ∷ before) two second → ((other : ℕ) → other < length records → other ≢ one → other ≢ two
+    → IsRecordOf (event ∷ before) other (record_at records other)) → AreRecords (set (set records one first) two second) (event ∷ before)
 two_changed event before records one two first second makes old has_one has_two differs right_first right_second others = record {
   many = length-set (set records one first) two second ∙ length-set records one first ∙ old.many ∙ sym (task_count-same event before makes);
   each = λ other below.
       let within : two < length (set records one first) = omega (arith, has_two, length-set records one first) in
       let known : other < length records = omega (arith, length-set (set records one first) two second, length-set records one first) in
       elim (cases_eq other two) [
-        | inl same ↦ subst (λ (n : ℕ). IsRecordOf (event ∷ before) n (record_at (set (set records one first) two second) n)) (sym same) (rw (get_or-set_same (set records one first) two second no_record within) right_second)
+        | inl same ↦ subst (λ (n : ℕ). IsRecordOf (event ∷ before) n (record_at (set (set records one first) two second) n)) (sym same)
+            (rw (get_or-set_same (set records one first) two second no_record within) right_second)
         | inr not_two ↦
             elim (cases_eq other one) [
               | inl same ↦
                   subst (λ (n : ℕ). IsRecordOf (event ∷ before) n (record_at (set (set records one first) two second) n)) (sym same)
-                  (rw (get_or-set_other (set records one first) two one second no_record (λ same. differs (sym same)), get_or-set_same records one first no_record has_one) right_first)
+                  (rw (
+                    get_or-set_other (set records one first) two one second no_record (λ same. differs (sym same)),
+                    get_or-set_same records one first
+                        no_record has_one,
+                  ) right_first)
               | inr not_one ↦
                   rw (get_or-set_other (set records one first) two other second no_record not_two, get_or-set_other records one other first no_record not_one)
                   (others other known not_one not_two)
@@ -90,7 +107,10 @@ abbrev pub doing_at : List Record → ℕ → ℕ
 doing_at records task = (record_at records task).doing.at
 
 -- the records after an event that holds a task up
-pub records_hold : (event : Event) (before : List Event) (records : List Record) (task : ℕ) (now : Record) → IsLawful (event ∷ before) → AreRecords records before → IsPlainHold event task → now ≡ record (record_at records task) { doing = record { at = length before + 1; joined = false; quittable = may_terminate event; outcome = Held } } → AreRecords (set records task now) (event ∷ before)
+pub records_hold : (event : Event) (before : List Event) (records : List Record) (task : ℕ) (now : Record) → IsLawful (event ∷ before)
+    → AreRecords records before → IsPlainHold event task
+    → now ≡ record (record_at records task) { doing = record { at = length before + 1; joined = false; quittable = may_terminate event; outcome = Held } }
+    → AreRecords (set records task now) (event ∷ before)
 records_hold event before records task now lawful old hold is =
     let only = hold_only event task hold.holds in
     let plain : IsPlain event = record { quiet = only.quiet; starts = hold.starts } in
@@ -98,8 +118,10 @@ records_hold event before records task now lawful old hold is =
     let within : task < length records = omega (arith, ran.0, old.many) in
     let next : length before + 1 ≡ suc (length before) = omega arith in
     one_changed event before records task now only.quiet.makes old within
-    (doing_only event before task (record_at records task) now (record { at = length before + 1; joined = false; quittable = may_terminate event; outcome = Held }) plain (old.each task within)
-    (subst (λ (n : ℕ). IsDoingOf (event ∷ before) task (record { at = n; joined = false; quittable = may_terminate event; outcome = Held })) (sym next) (doing_held event before task lawful hold.holds)) is)
+    (doing_only event before task (record_at records task) now
+    (record { at = length before + 1; joined = false; quittable = may_terminate event; outcome = Held }) plain (old.each task within)
+    (subst (λ (n : ℕ). IsDoingOf (event ∷ before) task (record { at = n; joined = false; quittable = may_terminate event; outcome = Held })) (sym next)
+    (doing_held event before task lawful hold.holds)) is)
     (λ other known differs.
     untouched event before other (record_at records other) lawful (old.each other known)
     (record {
@@ -112,12 +134,16 @@ records_hold event before records task now lawful old hold is =
     (stage_plain event before other (record_at records other).stage plain))
 
 -- who is suspended elsewhere is kept so
-pub elsewhere : (journal : List Event) (records : List Record) (u v p : ℕ) → AreRecords records journal → u < length records → u ≢ v → 0 < p → IsSuspendedAt journal v p → doing_at records u ≢ p
+pub elsewhere : (journal : List Event) (records : List Record) (u v p : ℕ) → AreRecords records journal → u < length records → u ≢ v → 0 < p
+    → IsSuspendedAt journal v p → doing_at records u ≢ p
 elsewhere journal records u v p stand below differs some held = λ same.
     differs (held_apart journal u v p (subst (λ n. IsSuspendedAt journal u n) same ((stand.each u below).doing.at.held (omega arith))) held)
 
 -- a task that an event which releases another's position neither raises anything in nor meets is untouched
-unreleased : (event : Event) (before : List Event) (records : List Record) (task other p : ℕ) → IsLawful (event ∷ before) → AreRecords records before → other < length records → other ≢ task → 0 < p → IsSuspendedAt before task p → released_in event ≡ Some p → is_number other (raised_in event) ≡ false → is_some_and (meeting_in event) (λ (m : Meeting). eqb m.call (doing_at records other)) ≡ false → IsRecordOf (event ∷ before) other (record_at records other)
+unreleased : (event : Event) (before : List Event) (records : List Record) (task other p : ℕ) → IsLawful (event ∷ before) → AreRecords records before
+    → other < length records → other ≢ task → 0 < p → IsSuspendedAt before task p → released_in event ≡ Some p → is_number other (raised_in event) ≡ false
+    → is_some_and (meeting_in event) (λ (m : Meeting). eqb m.call (doing_at records other)) ≡ false
+    → IsRecordOf (event ∷ before) other (record_at records other)
 unreleased event before records task other p lawful old known differs some held frees raises meets =
     let only = release_only event p frees in
     untouched event before other (record_at records other) lawful (old.each other known)
@@ -141,7 +167,8 @@ some_position : (journal : List Event) (p : ℕ) (e : Event) → event_at journa
 some_position journal zero e at = absurd (positive journal e at)
 some_position journal (suc n) e at = omega arith
 
-pub kept_at : (journal : List Event) (records : List Record) (task position : ℕ) → IsLawful journal → AreRecords records journal → IsSuspendedAt journal task position → IsKeptAt journal records task position
+pub kept_at : (journal : List Event) (records : List Record) (task position : ℕ) → IsLawful journal → AreRecords records journal
+    → IsSuspendedAt journal task position → IsKeptAt journal records task position
 kept_at journal records task position lawful stand held =
     let within : task < length records = omega (arith, suspended_exists journal task position lawful held, stand.many) in
     record {
@@ -152,23 +179,28 @@ kept_at journal records task position lawful stand held =
     }
 
 -- somebody is suspended at what an event releases
-pub release_holds : (event : Event) (before : List Event) (position : ℕ) → IsLawful (event ∷ before) → released_in event ≡ Some position → HoldsSomebody before position
+pub release_holds : (event : Event) (before : List Event) (position : ℕ) → IsLawful (event ∷ before) → released_in event ≡ Some position
+    → HoldsSomebody before position
 release_holds event before position lawful frees =
     let (task, held) = what_is_released_held event before position lawful frees in
     record { task = task; held = held }
 
 -- the records after an event that releases what a task is suspended at, otherwise than by a rendezvous or an exception
-pub records_release : (event : Event) (before : List Event) (records : List Record) (task position : ℕ) (now : Record) → IsLawful (event ∷ before) → AreRecords records before → IsPlainRelease event position → IsSuspendedAt before task position → now ≡ record (record_at records task) { doing = freed (released_to before event) } → AreRecords (set records task now) (event ∷ before)
+pub records_release : (event : Event) (before : List Event) (records : List Record) (task position : ℕ) (now : Record) → IsLawful (event ∷ before)
+    → AreRecords records before → IsPlainRelease event position → IsSuspendedAt before task position
+    → now ≡ record (record_at records task) { doing = freed (released_to before event) } → AreRecords (set records task now) (event ∷ before)
 records_release event before records task position now lawful old frees held is =
     let kept = kept_at before records task position lawful.0 old held in
     let only = release_only event position frees.releases in
     one_changed event before records task now only.plain.quiet.makes old kept.within
-    (doing_only event before task (record_at records task) now (freed (released_to before event)) only.plain (old.each task kept.within) (doing_released event before task position lawful held frees.releases) is)
+    (doing_only event before task (record_at records task) now (freed (released_to before event)) only.plain (old.each task kept.within)
+    (doing_released event before task position lawful held frees.releases) is)
     (λ other known differs.
     unreleased event before records task other position lawful old known differs kept.some held frees.releases
     (number_none other (raised_in event) frees.raises) (no_meeting event (doing_at records other) frees.meets))
 
-raising_says : (e : Event) (by : TaskNo) (call : ℕ) → e ≡ Ended by call true → (released_in e ≡ Some call) × (raised_in e ≡ Some by.0) × (meeting_in e ≡ None) × ((before : List Event) → released_to before e ≡ Raised)
+raising_says : (e : Event) (by : TaskNo) (call : ℕ) → e ≡ Ended by call true → (released_in e ≡ Some call) × (raised_in e ≡ Some by.0) × (meeting_in e ≡ None)
+    × ((before : List Event) → released_to before e ≡ Raised)
 unfolding released_in raised_in meeting_in released_to
 raising_says e by call is = (ap released_in is, ap raised_in is, ap meeting_in is, λ before. ap (released_to before) is)
 
@@ -184,7 +216,8 @@ unfolding released_to
 met_becomes before call wait = refl
 
 -- the task exists that ends a rendezvous by an exception
-pub raiser_within : (event : Event) (before : List Event) (records : List Record) (by : TaskNo) (call : ℕ) → IsLawful (event ∷ before) → AreRecords records before → event ≡ Ended by call true → by.0 < length records
+pub raiser_within : (event : Event) (before : List Event) (records : List Record) (by : TaskNo) (call : ℕ) → IsLawful (event ∷ before)
+    → AreRecords records before → event ≡ Ended by call true → by.0 < length records
 raiser_within event before records by call lawful old raising =
     omega (arith, raiser_exists event before by.0 lawful.1 (raising_says event by call raising).1, old.many)
 
@@ -192,7 +225,11 @@ pub within_set : (records : List Record) (i n : ℕ) (now : Record) → n < leng
 within_set records i n now below = omega (arith, below, length-set records i now)
 
 -- the records after a task ended a rendezvous by an exception
-pub records_raised : (event : Event) (before : List Event) (records : List Record) (by : TaskNo) (caller call : ℕ) (calls raises : Record) → IsLawful (event ∷ before) → AreRecords records before → event ≡ Ended by call true → IsSuspendedAt before caller call → calls ≡ record (record_at records caller) { doing = freed Raised } → raises ≡ record (record_at (set records caller calls) by.0) { doing = record (record_at (set records caller calls) by.0).doing { outcome = Raised } } → AreRecords (set (set records caller calls) by.0 raises) (event ∷ before)
+pub records_raised : (event : Event) (before : List Event) (records : List Record) (by : TaskNo) (caller call : ℕ) (calls raises : Record)
+    → IsLawful (event ∷ before) → AreRecords records before → event ≡ Ended by call true → IsSuspendedAt before caller call
+    → calls ≡ record (record_at records caller) { doing = freed Raised }
+    → raises ≡ record (record_at (set records caller calls) by.0) { doing = record (record_at (set records caller calls) by.0).doing { outcome = Raised } }
+    → AreRecords (set (set records caller calls) by.0 raises) (event ∷ before)
 records_raised event before records by caller p calls raises lawful old raising held calls_is raises_is =
     let kept = kept_at before records caller p lawful.0 old held in
     let has_by = raiser_within event before records by p lawful old raising in
@@ -218,7 +255,8 @@ records_raised event before records by caller p calls raises lawful old raising 
     (number_other other by.0 (raised_in event) says.1 not_by) (no_meeting event (doing_at records other) says.2))
 
 -- the call and the wait between which a rendezvous begins hold somebody up
-pub met_holds : (event : Event) (before : List Event) (call wait : ℕ) → IsLawful (event ∷ before) → event ≡ Met call wait → HoldsSomebody before call × HoldsSomebody before wait
+pub met_holds : (event : Event) (before : List Event) (call wait : ℕ) → IsLawful (event ∷ before) → event ≡ Met call wait → HoldsSomebody before call
+    × HoldsSomebody before wait
 met_holds event before call wait lawful met =
     let taking = met_taking before event (record { call = call; wait = wait }) lawful.1 (ap meeting_in met ∙ met_says call wait) in
     let (choice, queued) = taken_queued before call wait taking in (
@@ -227,28 +265,39 @@ met_holds event before call wait lawful met =
     )
 
 -- the records after a rendezvous began
-pub records_met : (event : Event) (before : List Event) (records : List Record) (caller acceptor call wait choice : ℕ) (waits calls : Record) → IsLawful (event ∷ before) → AreRecords records before → event ≡ Met call wait → IsSuspendedAt before caller call → IsSuspendedAt before acceptor wait → choice ≡ choice_met before wait → waits ≡ record (record_at records acceptor) { doing = freed (Accepted call choice) } → calls ≡ record (record_at (set records acceptor waits) caller) { doing = record (record_at (set records acceptor waits) caller).doing { joined = true } } → AreRecords (set (set records acceptor waits) caller calls) (event ∷ before)
+pub records_met : (event : Event) (before : List Event) (records : List Record) (caller acceptor call wait choice : ℕ) (waits calls : Record)
+    → IsLawful (event ∷ before) → AreRecords records before → event ≡ Met call wait → IsSuspendedAt before caller call → IsSuspendedAt before acceptor wait
+    → choice ≡ choice_met before wait → waits ≡ record (record_at records acceptor) { doing = freed (Accepted call choice) }
+    → calls ≡ record (record_at (set records acceptor waits) caller) { doing = record (record_at (set records acceptor waits) caller).doing { joined = true } }
+    → AreRecords (set (set records acceptor waits) caller calls) (event ∷ before)
 records_met event before records caller acceptor call wait choice waits calls lawful old met at_call at_wait chosen waits_is calls_is =
     let calling = kept_at before records caller call lawful.0 old at_call in
     let waiting = kept_at before records acceptor wait lawful.0 old at_wait in
     let frees : released_in event ≡ Some wait = ap released_in met ∙ (met_frees call wait).0 in
-    let meets : option_map (λ (m : Meeting). m.call) (meeting_in event) ≡ Some call = ap (λ e. option_map (λ (m : Meeting). m.call) (meeting_in e)) met ∙ (met_frees call wait).1 in
+    let meets : option_map (λ (m : Meeting). m.call) (meeting_in event) ≡ Some call = ap (λ e. option_map (λ (m : Meeting). m.call) (meeting_in e)) met
+    ∙ (met_frees call wait).1 in
     let only = release_only event wait frees in
     let raises : raised_in event ≡ None = ap raised_in met ∙ met_raises_none call wait in
     let apart : call ≢ wait = call_not_wait event before call wait lawful met in
     let differs : caller ≢ acceptor = λ same. apart (sym calling.at ∙ ap (λ n. doing_at records n) same ∙ waiting.at) in
-    let becomes : released_to before event ≡ Accepted call choice = ap (released_to before) met ∙ met_becomes before call wait ∙ ap (Accepted call) (sym chosen) in
-    let unfreed : is_number (doing_at records caller) (released_in event) ≡ false = number_other (doing_at records caller) wait (released_in event) frees (λ same. apart (sym calling.at ∙ same)) in
+    let becomes : released_to before event ≡ Accepted call choice = ap (released_to before) met ∙ met_becomes before call wait
+    ∙ ap (Accepted call) (sym chosen) in
+    let unfreed : is_number (doing_at records caller) (released_in event)
+    ≡ false = number_other (doing_at records caller) wait (released_in event) frees (λ same. apart (sym calling.at ∙ same)) in
     let is : calls ≡ record (record_at records caller) { doing = record (record_at records caller).doing { joined = true } } =
     calls_is ∙ ap (λ (r : Record). record r { doing = record r.doing { joined = true } }) (get_or-set_other records acceptor caller waits no_record differs) in
     two_changed event before records acceptor caller waits calls only.plain.quiet.makes old waiting.within calling.within differs
     (doing_only event before acceptor (record_at records acceptor) waits (freed (Accepted call choice)) only.plain (old.each acceptor waiting.within)
     (subst (λ (o : Outcome). IsDoingOf (event ∷ before) acceptor (freed o)) becomes (doing_released event before acceptor wait lawful at_wait frees)) waits_is)
-    (doing_only event before caller (record_at records caller) calls (record (record_at records caller).doing { joined = true }) only.plain (old.each caller calling.within)
-    (doing_later event before caller (record_at records caller).doing true (record_at records caller).doing.outcome lawful (old.each caller calling.within).doing
+    (doing_only event before caller (record_at records caller) calls (record (record_at records caller).doing { joined = true }) only.plain
+    (old.each caller calling.within)
+    (doing_later event before caller (record_at records caller).doing true (record_at records caller).doing.outcome lawful
+    (old.each caller calling.within).doing
     (number_none caller (held_in event) only.holds) unfreed (quiet_ends event before caller only.plain.quiet)
     (λ some. sym (is_met-now event before (doing_at records caller) (meets ∙ ap Some (sym calling.at))))
-    ((old.each caller calling.within).doing.outcome ∙ same_outcome event before caller (doing_at records caller) lawful (old.each caller calling.within).doing.at (number_none caller (held_in event) only.holds) (number_none caller (raised_in event) raises) unfreed)) is)
+    ((old.each caller calling.within).doing.outcome
+    ∙ same_outcome event before caller (doing_at records caller) lawful (old.each caller calling.within).doing.at
+    (number_none caller (held_in event) only.holds) (number_none caller (raised_in event) raises) unfreed)) is)
     (λ other known not_acceptor not_caller.
     unreleased event before records acceptor other wait lawful old known not_acceptor waiting.some at_wait frees
     (number_none other (raised_in event) raises)
@@ -265,7 +314,9 @@ pub record TouchesOne (event : Event) (before : List Event) (task : ℕ) : Type 
   pub stage : (other : ℕ) (kept : Stage) → other ≢ task → stage_after event before other kept ≡ kept
 
 -- the records after an event that touches one task
-pub records_one : (event : Event) (before : List Event) (records : List Record) (task : ℕ) (now : Record) → IsLawful (event ∷ before) → AreRecords records before → TouchesOne event before task → task < length records → IsRecordOf (event ∷ before) task now → AreRecords (set records task now) (event ∷ before)
+pub records_one : (event : Event) (before : List Event) (records : List Record) (task : ℕ) (now : Record) → IsLawful (event ∷ before)
+    → AreRecords records before → TouchesOne event before task → task < length records → IsRecordOf (event ∷ before) task now
+    → AreRecords (set records task now) (event ∷ before)
 records_one event before records task now lawful old only within right =
     one_changed event before records task now only.makes old within right
     (λ other known differs.
@@ -280,7 +331,10 @@ records_one event before records task now lawful old only within right =
     (only.stage other (record_at records other).stage differs))
 
 -- the records after an event that ends one task
-pub records_end : (event : Event) (before : List Event) (records : List Record) (task : ℕ) (now : Record) → IsLawful (event ∷ before) → AreRecords records before → TouchesOne event before task → task < length records → ends event before task ≡ true → now ≡ record { doing = freed (record_at records task).doing.outcome; stage = stage_after event before task (record_at records task).stage } → AreRecords (set records task now) (event ∷ before)
+pub records_end : (event : Event) (before : List Event) (records : List Record) (task : ℕ) (now : Record) → IsLawful (event ∷ before)
+    → AreRecords records before → TouchesOne event before task → task < length records → ends event before task ≡ true
+    → now ≡ record { doing = freed (record_at records task).doing.outcome; stage = stage_after event before task (record_at records task).stage }
+    → AreRecords (set records task now) (event ∷ before)
 records_end event before records task now lawful old only within ended is =
     records_one event before records task now lawful old only within
     (subst (IsRecordOf (event ∷ before) task) (sym is) (record {

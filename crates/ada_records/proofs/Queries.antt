@@ -1,11 +1,13 @@
 -- What a record tells of its task, and the record of the main program.
-use Rattle.std.proofs.Common.{◌≡◌, ℕ, zero, suc, ◌<◌, Bool, true, false, cond, not, ◌&&◌, ◌||◌, eqb, List, [], ◌∷◌, length, sym, refl, ap, ◌∙◌, arith, Some, subst}
+use Rattle.std.proofs.Common.{◌≡◌, ℕ, zero, suc, ◌<◌, Bool, true, false, cond, not, ◌&&◌, ◌||◌, eqb, List, [], ◌∷◌, length, sym, refl, ap, ◌∙◌, arith, Some}
+use Rattle.std.proofs.Common.{subst}
 use Rattle.std.proofs.lemmas.Bool.{ne_eqb}
 use Rattle.ada_events.specs.declared.event.Event.{Event}
 use Rattle.ada_events.specs.declared.outcome.Outcome.TheVariants.{Dead, Done, Nothing}
 use Rattle.ada_events.specs.Search.{any_event, event_at}
 use Rattle.ada_events.specs.Tasks.{task_count}
-use Rattle.ada_events.specs.Phases.{has_start, is_started, is_elaborated, has_failed, is_completed, has_ended, is_abnormal, is_terminated, is_suspended, is_running}
+use Rattle.ada_events.specs.Phases.{has_start, is_started, is_elaborated, has_failed, is_completed, has_ended, is_abnormal, is_terminated, is_suspended}
+use Rattle.ada_events.specs.Phases.{is_running}
 use Rattle.ada_events.specs.Calls.{is_met}
 use Rattle.ada_events.specs.Termination.{is_at_open_terminate}
 use Rattle.ada_events.specs.Attributes.{is_callable}
@@ -41,7 +43,8 @@ main_records r is = record { many = refl; each = λ task below. of_task task bel
     of_task zero below = rw is main_is
     of_task (suc n) below = absurd (omega (arith, below))
 
-tells_ended : (journal : List Event) (task : ℕ) (kept : Record) → IsRecordOf journal task kept → (kept.stage.completed || kept.stage.terminated) ≡ has_ended journal task
+tells_ended : (journal : List Event) (task : ℕ) (kept : Record) → IsRecordOf journal task kept
+    → (kept.stage.completed || kept.stage.terminated) ≡ has_ended journal task
 unfolding has_ended
 tells_ended journal task kept is = rw (is.stage.completed, is.stage.terminated) refl
 
@@ -55,7 +58,8 @@ running_bits : (s e z : Bool) → (s && not e && z) ≡ (s && not e && not (not 
 running_bits s e true = refl
 running_bits s e false = refl
 
-tells_running : (journal : List Event) (task : ℕ) (kept : Record) (ended : Bool) → IsRecordOf journal task kept → ended ≡ has_ended journal task → (kept.stage.started && not ended && eqb kept.doing.at 0) ≡ is_running journal task
+tells_running : (journal : List Event) (task : ℕ) (kept : Record) (ended : Bool) → IsRecordOf journal task kept → ended ≡ has_ended journal task
+    → (kept.stage.started && not ended && eqb kept.doing.at 0) ≡ is_running journal task
 unfolding is_running
 tells_running journal task kept ended is same =
     rw (same, is.stage.started, tells_suspended journal task kept.doing.at is.doing.at)
@@ -65,12 +69,14 @@ callable_bits : (e a : Bool) → (not e && not a) ≡ not (e || a)
 callable_bits true a = refl
 callable_bits false a = refl
 
-tells_callable : (journal : List Event) (task : ℕ) (kept : Record) (ended : Bool) → IsRecordOf journal task kept → ended ≡ has_ended journal task → (not ended && not kept.stage.abnormal) ≡ is_callable journal task
+tells_callable : (journal : List Event) (task : ℕ) (kept : Record) (ended : Bool) → IsRecordOf journal task kept → ended ≡ has_ended journal task
+    → (not ended && not kept.stage.abnormal) ≡ is_callable journal task
 unfolding is_callable
 tells_callable journal task kept ended is same =
     rw (same, is.stage.abnormal) (callable_bits (has_ended journal task) (is_abnormal journal task))
 
-tells_outcome : (journal : List Event) (task : ℕ) (kept : Record) → IsRecordOf journal task kept → cond kept.stage.terminated Dead (cond kept.stage.completed Done kept.doing.outcome) ≡ outcome_of journal task
+tells_outcome : (journal : List Event) (task : ℕ) (kept : Record) → IsRecordOf journal task kept
+    → cond kept.stage.terminated Dead (cond kept.stage.completed Done kept.doing.outcome) ≡ outcome_of journal task
 unfolding outcome_of
 tells_outcome journal task kept is = rw (is.stage.terminated, is.stage.completed, is.doing.outcome) refl
 
@@ -87,8 +93,23 @@ pub record_exists : (journal : List Event) (task : ℕ) → (r : Record) × IsRe
 record_exists journal task =
     let (at, held) = place (is_suspended journal task) refl in (
       record {
-        doing = record { at = at; joined = is_met journal at; quittable = is_at_open_terminate journal task && not (has_ended journal task); outcome = latest_outcome journal task };
-        stage = record { named = has_start journal task; started = is_started journal task; elaborated = is_elaborated journal task; failed = has_failed journal task; completed = is_completed journal task; abnormal = is_abnormal journal task; terminated = is_terminated journal task };
+        doing = record {
+          at = at;
+          joined = is_met journal at;
+          quittable = is_at_open_terminate journal task
+              && not (has_ended journal task);
+          outcome = latest_outcome journal task;
+        };
+        stage = record {
+          named = has_start journal task;
+          started = is_started journal task;
+          elaborated = is_elaborated journal task;
+          failed = has_failed journal
+              task;
+          completed = is_completed journal task;
+          abnormal = is_abnormal journal task;
+          terminated = is_terminated journal task;
+        };
       },
       record {
         doing = record { at = held; joined = λ some. refl; quittable = refl; outcome = refl };
@@ -99,5 +120,11 @@ record_exists journal task =
     place : (b : Bool) → is_suspended journal task ≡ b → (at : ℕ) × IsHeldAt journal task at
     place false free = (0, record { free = λ _. free; held = λ some. absurd (omega (arith, some)) })
     place true suspended =
-        let (p, held) = is_suspended-at journal task suspended in
-        (p, record { free = λ none. absurd (positive journal held.event (subst (λ (n : ℕ). event_at journal n ≡ Some held.event) none held.stands)); held = λ some. held })
+        let (p, held) = is_suspended-at journal task suspended in (
+          p,
+          record {
+            free = λ none. absurd (positive journal held.event (subst (λ (n : ℕ). event_at journal n ≡ Some held.event) none held.stands));
+            held =
+                λ some. held;
+          },
+        )

@@ -1,5 +1,6 @@
 -- What each kind of event changes in the queue of an entry.
-use Rattle.std.proofs.Common.{◌≡◌, ℕ, suc, Bool, true, false, not, ◌&&◌, ◌||◌, Option, Some, None, List, [], ◌∷◌, ◌++◌, length, sym, refl, ap, ◌∙◌, subst, inl, inr, eqb, append-nil}
+use Rattle.std.proofs.Common.{◌≡◌, ℕ, suc, Bool, true, false, not, ◌&&◌, ◌||◌, Option, Some, None, List, [], ◌∷◌, ◌++◌, length, sym, refl, ap, ◌∙◌, subst, inl}
+use Rattle.std.proofs.Common.{inr, eqb, append-nil}
 use Rattle.std.specs.Option.{option_to_list}
 use Rattle.std.specs.Bool.{then_some}
 use Rattle.std.specs.List.{filter}
@@ -43,14 +44,16 @@ unfolding is_call_of
 no_newest event before task entry none = rw none refl
 
 -- a queue after an event that makes no call, releases nothing, meets nobody and ends nobody
-pub queue_same : (event : Event) (before : List Event) (task : ℕ) (entry : Entry) → IsQuiet event → released_in event ≡ None → meeting_in event ≡ None → call_in event ≡ None → queue (event ∷ before) task entry ≡ queue before task entry
+pub queue_same : (event : Event) (before : List Event) (task : ℕ) (entry : Entry) → IsQuiet event → released_in event ≡ None → meeting_in event ≡ None
+    → call_in event ≡ None → queue (event ∷ before) task entry ≡ queue before task entry
 queue_same event before task entry quiet frees_none meets_none calls_none =
     queue_more event before task entry (λ _. true)
     (λ p e at. queued-more event before p e ∙ rw (frees_none, quiet_callers event before (call_in e) quiet, meets_none) refl)
     ∙ rw (no_newest event before task entry calls_none, filter_all (queue before task entry), append-nil (queue before task entry)) refl
 
 -- a queue after a call: the call comes last in the queue of its entry
-pub newest_is : (event : Event) (before : List Event) (task : ℕ) (entry : Entry) (call : Call) → IsLawful (event ∷ before) → call_in event ≡ Some call → newest_call event before task entry ≡ option_to_list (then_some (eqb call.callee task && same_entry call.entry entry) (suc (length before)))
+pub newest_is : (event : Event) (before : List Event) (task : ℕ) (entry : Entry) (call : Call) → IsLawful (event ∷ before) → call_in event ≡ Some call
+    → newest_call event before task entry ≡ option_to_list (then_some (eqb call.callee task && same_entry call.entry entry) (suc (length before)))
 unfolding is_call_of is_queued_at is_open_at is_pending
 newest_is event before task entry call lawful says =
     let holds = held_in-call event call says in
@@ -59,7 +62,9 @@ newest_is event before task entry call lawful says =
     rw (says, next_unreleased event before lawful, live, next_unmet event before (suc (length before)) only.meets refl lawful)
     (ap (λ b. option_to_list (then_some b (suc (length before)))) (sym (and_true (eqb call.callee task && same_entry call.entry entry))))
 
-pub queue_called : (event : Event) (before : List Event) (task : ℕ) (entry : Entry) (call : Call) → IsLawful (event ∷ before) → call_in event ≡ Some call → queue (event ∷ before) task entry ≡ queue before task entry ++ option_to_list (then_some (eqb call.callee task && same_entry call.entry entry) (suc (length before)))
+pub queue_called : (event : Event) (before : List Event) (task : ℕ) (entry : Entry) (call : Call) → IsLawful (event ∷ before) → call_in event ≡ Some call
+    → queue (event ∷ before) task entry ≡ queue before task entry
+    ++ option_to_list (then_some (eqb call.callee task && same_entry call.entry entry) (suc (length before)))
 queue_called event before task entry call lawful says =
     let only = hold_only event call.by (held_in-call event call says) in
     queue_more event before task entry (λ _. true)
@@ -67,11 +72,13 @@ queue_called event before task entry call lawful says =
     ∙ rw (newest_is event before task entry call lawful says, filter_all (queue before task entry)) refl
 
 -- a queue after an event that releases something otherwise than by a rendezvous: that leaves it
-pub queue_released : (event : Event) (before : List Event) (task : ℕ) (entry : Entry) (position : ℕ) → released_in event ≡ Some position → meeting_in event ≡ None → call_in event ≡ None → queue (event ∷ before) task entry ≡ filter (λ p. not (eqb p position)) (queue before task entry)
+pub queue_released : (event : Event) (before : List Event) (task : ℕ) (entry : Entry) (position : ℕ) → released_in event ≡ Some position
+    → meeting_in event ≡ None → call_in event ≡ None → queue (event ∷ before) task entry ≡ filter (λ p. not (eqb p position)) (queue before task entry)
 queue_released event before task entry position frees meets_none calls_none =
     let quiet = (release_only event position frees).plain.quiet in
     queue_more event before task entry (λ p. not (eqb p position))
-    (λ p e at. queued-more event before p e ∙ rw (frees, quiet_callers event before (call_in e) quiet, meets_none) (both_true (is_queued_at before p e) (not (eqb p position))))
+    (λ p e at. queued-more event before p e ∙ rw (frees, quiet_callers event before (call_in e) quiet, meets_none)
+    (both_true (is_queued_at before p e) (not (eqb p position))))
     ∙ rw (no_newest event before task entry calls_none) (append-nil (filter (λ p. not (eqb p position)) (queue before task entry)))
   where
     both_true : (a b : Bool) → (a && (b && true && true)) ≡ (a && b)
@@ -105,7 +112,8 @@ eqb_swap a b = elim (cases_eq a b) [
 ]
 
 -- a queue after a rendezvous began: its call leaves it
-pub queue_met : (e : Event) (before : List Event) (task : ℕ) (entry : Entry) (call wait : ℕ) → IsLawful (e ∷ before) → e ≡ event.Met call wait → queue (e ∷ before) task entry ≡ filter (λ p. not (eqb p call)) (queue before task entry)
+pub queue_met : (e : Event) (before : List Event) (task : ℕ) (entry : Entry) (call wait : ℕ) → IsLawful (e ∷ before) → e ≡ event.Met call wait
+    → queue (e ∷ before) task entry ≡ filter (λ p. not (eqb p call)) (queue before task entry)
 queue_met e before task entry call wait lawful is =
     let frees : released_in e ≡ Some wait = ap released_in is ∙ (met_frees call wait).0 in
     let joins = ap meeting_in is ∙ met_says call wait in
@@ -118,7 +126,8 @@ queue_met e before task entry call wait lawful is =
     (drop_wait (is_queued_at before p older) (not (eqb p wait)) (not (eqb p call)) (λ same.
     let here : p ≡ wait = eqb-true p wait (not-false (eqb p wait) same) in
     let one : older ≡ taking.stands.event = same_Some older taking.stands.event (sym at ∙ ap (event_at before) here ∙ taking.stands.stands) in
-    not_queued before p older (no_call_there older (call_in older) refl (λ c says. not_both taking.stands.event c taking.wait (ap call_in (sym one) ∙ says) taking.stands.says)))))
+    not_queued before p older (no_call_there older (call_in older) refl
+    (λ c says. not_both taking.stands.event c taking.wait (ap call_in (sym one) ∙ says) taking.stands.says)))))
     ∙ rw (no_newest e before task entry (met_calls_none e call wait is)) (append-nil (filter (λ p. not (eqb p call)) (queue before task entry)))
 
 -- a queue after an event that completes a task: the call at which it was suspended leaves it
@@ -127,7 +136,8 @@ same_side true true b same = rw (← same refl) refl
 same_side true false b same = rw (← same refl) refl
 same_side false a b same = refl
 
-completes_only : (e : Event) (task u : ℕ) (before : List Event) → completed_in e ≡ Some task → (released_in e ≡ None) × (meeting_in e ≡ None) × (call_in e ≡ None) × (ends e before u ≡ eqb u task)
+completes_only : (e : Event) (task u : ℕ) (before : List Event) → completed_in e ≡ Some task → (released_in e ≡ None) × (meeting_in e ≡ None)
+    × (call_in e ≡ None) × (ends e before u ≡ eqb u task)
 unfolding completed_in released_in meeting_in call_in gone_in quit_in
 completes_only (event.Completed by) task u before says = (refl, refl, refl, rw (same_Some _ task says) (or_false (eqb u task)))
 completes_only (event.Elaborated by false) task u before says = (refl, refl, refl, rw (same_Some _ task says) (or_false (eqb u task)))
@@ -135,7 +145,8 @@ completes_only (event.Elaborated by true) task u before says = absurd (none-some
 completes_only (event.Halted t) task u before says = (refl, refl, refl, rw (same_Some _ task says) (or_false (eqb u task)))
 completes_only _ task u before says = absurd (none-some task says)
 
-pub queue_completed : (event : Event) (before : List Event) (task : ℕ) (entry : Entry) (u at : ℕ) → IsLawful before → completed_in event ≡ Some u → IsSuspendedAt before u at → queue (event ∷ before) task entry ≡ filter (λ p. not (eqb p at)) (queue before task entry)
+pub queue_completed : (event : Event) (before : List Event) (task : ℕ) (entry : Entry) (u at : ℕ) → IsLawful before → completed_in event ≡ Some u
+    → IsSuspendedAt before u at → queue (event ∷ before) task entry ≡ filter (λ p. not (eqb p at)) (queue before task entry)
 queue_completed event before task entry u at lawful says held =
     let none = completes_only event u u before says in
     queue_more event before task entry (λ p. not (eqb p at))

@@ -26,14 +26,17 @@ filter_one : (keep : ℕ → Bool) (p : ℕ) (o : Option ℕ) → ((q : ℕ) →
 filter_one keep p None itself = none_kept (keep p)
 filter_one keep p (Some q) itself = rw (itself q refl) (one_kept (keep p) p)
 
-pub gathered-kept : (give more : ℕ → Event → Option ℕ) (keep : ℕ → Bool) (journal : List Event) → ((p q : ℕ) (e : Event) → give p e ≡ Some q → q ≡ p) → ((p : ℕ) (e : Event) → event_at journal p ≡ Some e → more p e ≡ cond (keep p) (give p e) None) → gathered more journal ≡ filter keep (gathered give journal)
+pub gathered-kept : (give more : ℕ → Event → Option ℕ) (keep : ℕ → Bool) (journal : List Event) → ((p q : ℕ) (e : Event) → give p e ≡ Some q → q ≡ p)
+    → ((p : ℕ) (e : Event) → event_at journal p ≡ Some e → more p e ≡ cond (keep p) (give p e) None)
+    → gathered more journal ≡ filter keep (gathered give journal)
 unfolding gathered
 gathered-kept give more keep [] itself same = refl
 gathered-kept give more keep (event ∷ before) itself same =
     let older = gathered-kept give more keep before itself (λ p e at. same p e (event_at-older event before p e at)) in
     let newest = same (suc (length before)) event (event_at-newest event before) in
     rw (older, newest, filter-append keep (gathered give before) (option_to_list (give (suc (length before)) event)))
-    (ap (λ xs. filter keep (gathered give before) ++ xs) (filter_one keep (suc (length before)) (give (suc (length before)) event) (λ q gives. itself (suc (length before)) q event gives)))
+    (ap (λ xs. filter keep (gathered give before) ++ xs)
+    (filter_one keep (suc (length before)) (give (suc (length before)) event) (λ q gives. itself (suc (length before)) q event gives)))
 
 abbrev gives_call : List Event → ℕ → Entry → ℕ → Event → Option ℕ
 gives_call journal task entry p e = then_some (is_call_of task entry e && is_queued_at journal p e) p
@@ -55,7 +58,9 @@ newest_call event before task entry = option_to_list (gives_call (event ∷ befo
 
 -- the queue of an entry after one more event: what stays of it, and the newest call where it is one of that
 -- entry
-pub queue_more : (event : Event) (before : List Event) (task : ℕ) (entry : Entry) (keep : ℕ → Bool) → ((p : ℕ) (e : Event) → event_at before p ≡ Some e → is_queued_at (event ∷ before) p e ≡ (is_queued_at before p e && keep p)) → queue (event ∷ before) task entry ≡ filter keep (queue before task entry) ++ newest_call event before task entry
+pub queue_more : (event : Event) (before : List Event) (task : ℕ) (entry : Entry) (keep : ℕ → Bool)
+    → ((p : ℕ) (e : Event) → event_at before p ≡ Some e → is_queued_at (event ∷ before) p e ≡ (is_queued_at before p e && keep p))
+    → queue (event ∷ before) task entry ≡ filter keep (queue before task entry) ++ newest_call event before task entry
 unfolding queue gathered
 queue_more event before task entry keep stays =
     rw (gathered-kept (gives_call before task entry) (gives_call (event ∷ before) task entry) keep before (gives_itself before task entry)
@@ -108,15 +113,21 @@ abbrev pub ends_caller : Event → List Event → Option Call → Bool
 ends_caller event before None = false
 ends_caller event before (Some c) = ends event before c.by
 
-queued_by : (event : Event) (before : List Event) (p : ℕ) (o : Option Call) → (option_map_or (λ (c : Call). not (is_released (event ∷ before) p) && not (has_ended (event ∷ before) c.by)) o false && not (is_met (event ∷ before) p)) ≡ ((option_map_or (λ (c : Call). not (is_released before p) && not (has_ended before c.by)) o false && not (is_met before p)) && (not (is_number p (released_in event)) && not (ends_caller event before o) && not (meets event p)))
+queued_by : (event : Event) (before : List Event) (p : ℕ) (o : Option Call)
+    → (option_map_or (λ (c : Call). not (is_released (event ∷ before) p) && not (has_ended (event ∷ before) c.by)) o false && not (is_met (event ∷ before) p))
+    ≡ ((option_map_or (λ (c : Call). not (is_released before p) && not (has_ended before c.by)) o false && not (is_met before p))
+    && (not (is_number p (released_in event)) && not (ends_caller event before o) && not (meets event p)))
 unfolding is_released is_met
 queued_by event before p None = refl
 queued_by event before p (Some c) =
     rw (has_ended-more event before c.by)
-    (both_kept (list_any (λ (e : Event). is_number p (released_in e)) before) (has_ended before c.by) (list_any (λ (e : Event). is_some_and (meeting_in e) (λ (m : Meeting). eqb m.call p)) before)
+    (both_kept (list_any (λ (e : Event). is_number p (released_in e)) before) (has_ended before c.by)
+    (list_any (λ (e : Event). is_some_and (meeting_in e) (λ (m : Meeting). eqb m.call p)) before)
     (is_number p (released_in event)) (ends event before c.by) (meets event p))
 
 -- an older call stays queued unless the event releases it, meets it or ends its caller
-pub queued-more : (event : Event) (before : List Event) (p : ℕ) (e : Event) → is_queued_at (event ∷ before) p e ≡ (is_queued_at before p e && (not (is_number p (released_in event)) && not (ends_caller event before (call_in e)) && not (meets event p)))
+pub queued-more : (event : Event) (before : List Event) (p : ℕ) (e : Event)
+    → is_queued_at (event ∷ before) p e ≡ (is_queued_at before p e
+    && (not (is_number p (released_in event)) && not (ends_caller event before (call_in e)) && not (meets event p)))
 unfolding is_queued_at is_open_at is_pending
 queued-more event before p e = queued_by event before p (call_in e)

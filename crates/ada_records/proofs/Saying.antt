@@ -6,7 +6,8 @@ use Rattle.std.proofs.lemmas.Option.{same_Some, none-some}
 use Rattle.ada_events.specs.declared.event.Event.{Event}
 use Rattle.ada_events.specs.declared.event.Event.TheVariants as event
 use Rattle.ada_events.specs.Search.{is_number, event_at, is_some_and}
-use Rattle.ada_events.specs.Says.{Call, Wait, Meeting, call_in, wait_in, held_in, released_in, completed_in, gone_in, quit_in, started_in, aborted_in, elaborated_in, failed_in, meeting_in, creation_in}
+use Rattle.ada_events.specs.Says.{Call, Wait, Meeting, call_in, wait_in, held_in, released_in, completed_in, gone_in, quit_in, started_in, aborted_in}
+use Rattle.ada_events.specs.Says.{elaborated_in, failed_in, meeting_in, creation_in}
 use Rattle.ada_events.specs.Calls.{is_met}
 use Rattle.ada_events.specs.Lawful.{IsLawful}
 use Rattle.ada_laws.specs.Suspension.{IsSuspendedAt}
@@ -20,7 +21,8 @@ pub record IsPlain (event : Event) : Type 0 where
   pub starts : started_in event ≡ []
 
 -- the event meets no call at that position
-pub unmet_same : (event : Event) (before : List Event) (p : ℕ) → is_some_and (meeting_in event) (λ (m : Meeting). eqb m.call p) ≡ false → is_met (event ∷ before) p ≡ is_met before p
+pub unmet_same : (event : Event) (before : List Event) (p : ℕ) → is_some_and (meeting_in event) (λ (m : Meeting). eqb m.call p) ≡ false
+    → is_met (event ∷ before) p ≡ is_met before p
 unfolding is_met
 unmet_same event before p none = rw none refl
 
@@ -34,12 +36,14 @@ number_other n m o some differs = rw (some, ne_eqb n m differs) refl
 pub no_meeting : (event : Event) (p : ℕ) → meeting_in event ≡ None → is_some_and (meeting_in event) (λ (m : Meeting). eqb m.call p) ≡ false
 no_meeting event p none = rw none refl
 
-pub other_call : (o : Option Meeting) (p call : ℕ) → option_map (λ (m : Meeting). m.call) o ≡ Some call → p ≢ call → is_some_and o (λ (m : Meeting). eqb m.call p) ≡ false
+pub other_call : (o : Option Meeting) (p call : ℕ) → option_map (λ (m : Meeting). m.call) o ≡ Some call → p ≢ call
+    → is_some_and o (λ (m : Meeting). eqb m.call p) ≡ false
 other_call None p call joins differs = absurd (none-some call joins)
 other_call (Some m) p call joins differs = ne_eqb m.call p (λ same. differs (sym same ∙ same_Some m.call call joins))
 
 -- no rendezvous began with what comes next
-pub next_unmet : (event : Event) (before : List Event) (p : ℕ) → meeting_in event ≡ None → p ≡ suc (length before) → IsLawful (event ∷ before) → is_met (event ∷ before) p ≡ false
+pub next_unmet : (event : Event) (before : List Event) (p : ℕ) → meeting_in event ≡ None → p ≡ suc (length before) → IsLawful (event ∷ before)
+    → is_met (event ∷ before) p ≡ false
 next_unmet event before p none here lawful =
     unmet_same event before p (no_meeting event p none)
     ∙ false_from_ne_true (is_met before p) (λ met.
@@ -53,14 +57,70 @@ pub record OnlyReleases (event : Event) : Type 0 where
 
 pub release_only : (e : Event) (p : ℕ) → released_in e ≡ Some p → OnlyReleases e
 unfolding held_in completed_in gone_in quit_in aborted_in elaborated_in failed_in creation_in released_in started_in
-release_only (event.Ended by call raised) p frees = record { plain = record { quiet = record { completes = refl; goes = refl; quits = refl; aborts = refl; elaborates = refl; fails = refl; makes = refl }; starts = refl }; holds = refl }
-release_only (event.Failed call) p frees = record { plain = record { quiet = record { completes = refl; goes = refl; quits = refl; aborts = refl; elaborates = refl; fails = refl; makes = refl }; starts = refl }; holds = refl }
-release_only (event.Met call wait) p frees = record { plain = record { quiet = record { completes = refl; goes = refl; quits = refl; aborts = refl; elaborates = refl; fails = refl; makes = refl }; starts = refl }; holds = refl }
-release_only (event.Cancelled call) p frees = record { plain = record { quiet = record { completes = refl; goes = refl; quits = refl; aborts = refl; elaborates = refl; fails = refl; makes = refl }; starts = refl }; holds = refl }
-release_only (event.Passed wait way) p frees = record { plain = record { quiet = record { completes = refl; goes = refl; quits = refl; aborts = refl; elaborates = refl; fails = refl; makes = refl }; starts = refl }; holds = refl }
-release_only (event.Woken pause) p frees = record { plain = record { quiet = record { completes = refl; goes = refl; quits = refl; aborts = refl; elaborates = refl; fails = refl; makes = refl }; starts = refl }; holds = refl }
-release_only (event.Activated start ok) p frees = record { plain = record { quiet = record { completes = refl; goes = refl; quits = refl; aborts = refl; elaborates = refl; fails = refl; makes = refl }; starts = refl }; holds = refl }
-release_only (event.Left close) p frees = record { plain = record { quiet = record { completes = refl; goes = refl; quits = refl; aborts = refl; elaborates = refl; fails = refl; makes = refl }; starts = refl }; holds = refl }
+release_only (event.Ended by call raised) p frees =
+    record {
+      plain = record {
+        quiet = record { completes = refl; goes = refl; quits = refl; aborts = refl; elaborates = refl; fails = refl; makes = refl };
+        starts = refl;
+      };
+      holds = refl;
+    }
+release_only (event.Failed call) p frees =
+    record {
+      plain = record {
+        quiet = record { completes = refl; goes = refl; quits = refl; aborts = refl; elaborates = refl; fails = refl; makes = refl };
+        starts = refl;
+      };
+      holds = refl;
+    }
+release_only (event.Met call wait) p frees =
+    record {
+      plain = record {
+        quiet = record { completes = refl; goes = refl; quits = refl; aborts = refl; elaborates = refl; fails = refl; makes = refl };
+        starts = refl;
+      };
+      holds = refl;
+    }
+release_only (event.Cancelled call) p frees =
+    record {
+      plain = record {
+        quiet = record { completes = refl; goes = refl; quits = refl; aborts = refl; elaborates = refl; fails = refl; makes = refl };
+        starts = refl;
+      };
+      holds = refl;
+    }
+release_only (event.Passed wait way) p frees =
+    record {
+      plain = record {
+        quiet = record { completes = refl; goes = refl; quits = refl; aborts = refl; elaborates = refl; fails = refl; makes = refl };
+        starts = refl;
+      };
+      holds = refl;
+    }
+release_only (event.Woken pause) p frees =
+    record {
+      plain = record {
+        quiet = record { completes = refl; goes = refl; quits = refl; aborts = refl; elaborates = refl; fails = refl; makes = refl };
+        starts = refl;
+      };
+      holds = refl;
+    }
+release_only (event.Activated start ok) p frees =
+    record {
+      plain = record {
+        quiet = record { completes = refl; goes = refl; quits = refl; aborts = refl; elaborates = refl; fails = refl; makes = refl };
+        starts = refl;
+      };
+      holds = refl;
+    }
+release_only (event.Left close) p frees =
+    record {
+      plain = record {
+        quiet = record { completes = refl; goes = refl; quits = refl; aborts = refl; elaborates = refl; fails = refl; makes = refl };
+        starts = refl;
+      };
+      holds = refl;
+    }
 release_only _ p frees = absurd (none-some p frees)
 
 -- two tasks aren't suspended at one position
@@ -87,7 +147,8 @@ call_not_wait e before call wait lawful is = λ same.
     same_Some queued.opened.stands.event taking.stands.event (sym queued.opened.stands.stands ∙ ap (event_at before) same ∙ taking.stands.stands) in
     not_both taking.stands.event queued.call taking.wait (ap call_in (sym one) ∙ queued.opened.stands.says) taking.stands.says
 
-pub met_frees : (call wait : ℕ) → (released_in (event.Met call wait) ≡ Some wait) × (option_map (λ (m : Meeting). m.call) (meeting_in (event.Met call wait)) ≡ Some call)
+pub met_frees : (call wait : ℕ) → (released_in (event.Met call wait) ≡ Some wait)
+    × (option_map (λ (m : Meeting). m.call) (meeting_in (event.Met call wait)) ≡ Some call)
 unfolding meeting_in released_in
 met_frees call wait = (refl, refl)
 
@@ -95,6 +156,7 @@ with_call : (o : Option Meeting) (p : ℕ) → option_map (λ (m : Meeting). m.c
 with_call None p none = absurd (none-some p none)
 with_call (Some m) p same = eq-eqb m.call p (same_Some m.call p same)
 
-pub is_met-now : (event : Event) (before : List Event) (p : ℕ) → option_map (λ (m : Meeting). m.call) (meeting_in event) ≡ Some p → is_met (event ∷ before) p ≡ true
+pub is_met-now : (event : Event) (before : List Event) (p : ℕ) → option_map (λ (m : Meeting). m.call) (meeting_in event) ≡ Some p
+    → is_met (event ∷ before) p ≡ true
 unfolding is_met
 is_met-now event before p meets = rw (with_call (meeting_in event) p meets) refl

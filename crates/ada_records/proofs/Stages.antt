@@ -28,7 +28,8 @@ or_swap true true c = refl
 or_swap true false c = refl
 or_swap false b c = refl
 
-pub stage_more : (event : Event) (before : List Event) (task : ℕ) (kept : Stage) → IsStageOf before task kept → IsStageOf (event ∷ before) task (stage_after event before task kept)
+pub stage_more : (event : Event) (before : List Event) (task : ℕ) (kept : Stage) → IsStageOf before task kept
+    → IsStageOf (event ∷ before) task (stage_after event before task kept)
 unfolding has_start is_started is_elaborated has_failed is_completed has_ended is_abnormal is_terminated
 stage_more event before task kept old = record {
   named = ap (λ (b : Bool). lists_task task (started_in event) || b) old.named;

@@ -1,5 +1,6 @@
 -- What the start of an activation changes in the records.
-use Rattle.std.proofs.Common.{◌≡◌, ◌≢◌, ℕ, suc, ◌+◌, ◌<◌, ◌≤◌, Bool, true, false, not, ◌||◌, eqb, List, ◌∷◌, length, get_or, set, take, sym, refl, ap, ◌∙◌, subst, arith, inl, inr}
+use Rattle.std.proofs.Common.{◌≡◌, ◌≢◌, ℕ, suc, ◌+◌, ◌<◌, ◌≤◌, Bool, true, false, not, ◌||◌, eqb, List, ◌∷◌, length, get_or, set, take, sym, refl, ap, ◌∙◌}
+use Rattle.std.proofs.Common.{subst, arith, inl, inr}
 use Rattle.std.proofs.lemmas.Bool.{cases_eq, eq-eqb, ne_eqb}
 use Rattle.std.proofs.lemmas.List.{length-set, get_or-set_same, get_or-set_other, take_all}
 use Rattle.std.proofs.lemmas.List.Folds.{list_any_more}
@@ -7,7 +8,8 @@ use Rattle.ada_events.specs.declared.event.Event.{Event}
 use Rattle.ada_events.specs.declared.event.Event.TheVariants.{Started}
 use Rattle.ada_events.specs.declared.names.TaskNo.{TaskNo}
 use Rattle.ada_events.specs.declared.outcome.Outcome.TheVariants.{Held}
-use Rattle.ada_events.specs.Says.{wait_in, held_in, released_in, completed_in, gone_in, quit_in, started_in, aborted_in, elaborated_in, failed_in, meeting_in, creation_in}
+use Rattle.ada_events.specs.Says.{wait_in, held_in, released_in, completed_in, gone_in, quit_in, started_in, aborted_in, elaborated_in, failed_in, meeting_in}
+use Rattle.ada_events.specs.Says.{creation_in}
 use Rattle.ada_events.specs.Tasks.{task_count}
 use Rattle.ada_events.specs.Phases.{lists_task}
 use Rattle.ada_events.specs.Outcomes.{raised_in}
@@ -25,18 +27,22 @@ use Rattle.ada_records.proofs.Stages.{stage_more}
 abbrev pub starting : List Event → Doing
 starting before = record { at = length before + 1; joined = false; quittable = false; outcome = Held }
 
-starter_doing : (before : List Event) (by : TaskNo) (tasks : List TaskNo) → IsLawful (Started by tasks ∷ before) → IsDoingOf (Started by tasks ∷ before) by.0 (starting before)
+starter_doing : (before : List Event) (by : TaskNo) (tasks : List TaskNo) → IsLawful (Started by tasks ∷ before)
+    → IsDoingOf (Started by tasks ∷ before) by.0 (starting before)
 unfolding held_in wait_in
 starter_doing before by tasks lawful =
     let next : suc (length before) ≡ length before + 1 = omega arith in
-    subst (λ (n : ℕ). IsDoingOf (Started by tasks ∷ before) by.0 (record { at = n; joined = false; quittable = false; outcome = Held })) next (doing_held (Started by tasks) before by.0 lawful refl)
+    subst (λ (n : ℕ). IsDoingOf (Started by tasks ∷ before) by.0 (record { at = n; joined = false; quittable = false; outcome = Held })) next
+    (doing_held (Started by tasks) before by.0 lawful refl)
 
-other_doing : (before : List Event) (by : TaskNo) (tasks : List TaskNo) (task : ℕ) (kept : Doing) → IsLawful (Started by tasks ∷ before) → IsDoingOf before task kept → task ≢ by.0 → IsDoingOf (Started by tasks ∷ before) task kept
+other_doing : (before : List Event) (by : TaskNo) (tasks : List TaskNo) (task : ℕ) (kept : Doing) → IsLawful (Started by tasks ∷ before)
+    → IsDoingOf before task kept → task ≢ by.0 → IsDoingOf (Started by tasks ∷ before) task kept
 unfolding held_in released_in completed_in gone_in quit_in meeting_in raised_in
 other_doing before by tasks task kept lawful old differs =
     doing_same (Started by tasks) before task kept lawful old (ne_eqb task by.0 differs) refl refl refl refl
 
-start_stage : (before : List Event) (by : TaskNo) (tasks : List TaskNo) (task : ℕ) (kept : Record) → IsStageOf before task kept.stage → IsStageOf (Started by tasks ∷ before) task (start_record (lists_task task tasks) kept).stage
+start_stage : (before : List Event) (by : TaskNo) (tasks : List TaskNo) (task : ℕ) (kept : Record) → IsStageOf before task kept.stage
+    → IsStageOf (Started by tasks ∷ before) task (start_record (lists_task task tasks) kept).stage
 unfolding completed_in gone_in quit_in started_in aborted_in elaborated_in failed_in
 start_stage before by tasks task kept old = stage_more (Started by tasks) before task kept.stage old
 
@@ -51,17 +57,21 @@ named_none first tasks = record { same = refl; each = λ task below. refl }
 start_twice : (before : Bool) (r : Record) → start_record true (start_record before r) ≡ start_record true r
 start_twice true r = twice (not (r.stage.completed || r.stage.terminated)) r.stage.started
   where
-    twice : (a b : Bool) → record r { stage = record r.stage { named = true; started = (a || (a || b)) } } ≡ record r { stage = record r.stage { named = true; started = (a || b) } }
+    twice : (a b : Bool) → record r { stage = record r.stage { named = true; started = (a || (a || b)) } }
+        ≡ record r { stage = record r.stage { named = true; started = (a || b) } }
     twice true b = refl
     twice false b = refl
 start_twice false r = refl
 
-pub named_more : (first now : List Record) (tasks : List TaskNo) (i : ℕ) (d : TaskNo) (new : Record) → HaveStarted first now tasks i → i < length tasks → (get_or tasks i d).0 < length first → new ≡ start_record true (record_at now (get_or tasks i d).0) → HaveStarted first (set now (get_or tasks i d).0 new) tasks (i + 1)
+pub named_more : (first now : List Record) (tasks : List TaskNo) (i : ℕ) (d : TaskNo) (new : Record) → HaveStarted first now tasks i → i < length tasks
+    → (get_or tasks i d).0 < length first → new ≡ start_record true (record_at now (get_or tasks i d).0)
+    → HaveStarted first (set now (get_or tasks i d).0 new) tasks (i + 1)
 named_more first now tasks i d new so_far below known is = record {
   same = length-set now (get_or tasks i d).0 new ∙ so_far.same;
   each = λ task exists.
       let u = (get_or tasks i d).0 in
-      let more : lists_task task (take (i + 1) tasks) ≡ (lists_task task (take i tasks) || eqb u task) = list_any_more (λ (t : TaskNo). eqb t.0 task) tasks i d below in
+      let more : lists_task task (take (i + 1) tasks)
+      ≡ (lists_task task (take i tasks) || eqb u task) = list_any_more (λ (t : TaskNo). eqb t.0 task) tasks i d below in
       elim (cases_eq task u) [
         | inl same ↦
             rw (more, eq-eqb u task (sym same), or_true (lists_task task (take i tasks)))
@@ -84,40 +94,61 @@ named_more first now tasks i d new so_far below known is = record {
     or_false false = refl
 
 -- the tasks exist that are named
-pub named_exists : (event : Event) (before : List Event) (by : TaskNo) (tasks : List TaskNo) (k : ℕ) (d : TaskNo) → IsLawful (event ∷ before) → event ≡ Started by tasks → k < length tasks → (get_or tasks k d).0 < task_count before
+pub named_exists : (event : Event) (before : List Event) (by : TaskNo) (tasks : List TaskNo) (k : ℕ) (d : TaskNo) → IsLawful (event ∷ before)
+    → event ≡ Started by tasks → k < length tasks → (get_or tasks k d).0 < task_count before
 unfolding started_in
 named_exists event before by tasks k d lawful is below =
-    subst (λ (ts : List TaskNo). k < length ts → (get_or ts k d).0 < task_count before) (ap started_in is) (λ within. started_at_exists event before k d lawful.1 within) below
+    subst (λ (ts : List TaskNo). k < length ts → (get_or ts k d).0 < task_count before) (ap started_in is)
+    (λ within. started_at_exists event before k d lawful.1 within) below
 
 -- so there is a record of each, also once the starter's is changed
-pub named_within : (event : Event) (before : List Event) (records : List Record) (by : TaskNo) (now : Record) (tasks named : List TaskNo) (k : ℕ) (d : TaskNo) → IsLawful (event ∷ before) → AreRecords records before → event ≡ Started by tasks → named ≡ tasks → k < length named → (get_or named k d).0 < length (set records by.0 now)
+pub named_within : (event : Event) (before : List Event) (records : List Record) (by : TaskNo) (now : Record) (tasks named : List TaskNo) (k : ℕ) (d : TaskNo)
+    → IsLawful (event ∷ before) → AreRecords records before → event ≡ Started by tasks → named ≡ tasks → k < length named
+    → (get_or named k d).0 < length (set records by.0 now)
 named_within event before records by now tasks named k d lawful old starts same below =
-    let known : (get_or tasks k d).0 < task_count before = named_exists event before by tasks k d lawful starts (subst (λ (ts : List TaskNo). k < length ts) same below) in
+    let known : (get_or tasks k d).0 < task_count before = named_exists event before by tasks k d lawful starts
+    (subst (λ (ts : List TaskNo). k < length ts) same below) in
     let exists : (get_or named k d).0 < task_count before = subst (λ (ts : List TaskNo). (get_or ts k d).0 < task_count before) (sym same) known in
     omega (arith, exists, old.many, length-set records by.0 now)
 
-pub named_still : (event : Event) (before : List Event) (records now : List Record) (by : TaskNo) (first : Record) (tasks named : List TaskNo) (k : ℕ) (d : TaskNo) → IsLawful (event ∷ before) → AreRecords records before → event ≡ Started by tasks → named ≡ tasks → k < length named → length now ≡ length (set records by.0 first) → (get_or named k d).0 < length now
+pub named_still : (event : Event) (before : List Event) (records now : List Record) (by : TaskNo) (first : Record) (tasks named : List TaskNo) (k : ℕ)
+    (d : TaskNo) → IsLawful (event ∷ before) → AreRecords records before → event ≡ Started by tasks → named ≡ tasks → k < length named
+    → length now ≡ length (set records by.0 first) → (get_or named k d).0 < length now
 named_still event before records now by first tasks named k d lawful old starts same below many =
     omega (arith, named_within event before records by first tasks named k d lawful old starts same below, many)
 
 -- the task exists that starts the activation
-pub starter_exists : (event : Event) (before : List Event) (by : TaskNo) (tasks : List TaskNo) → IsLawful (event ∷ before) → event ≡ Started by tasks → by.0 < task_count before
+pub starter_exists : (event : Event) (before : List Event) (by : TaskNo) (tasks : List TaskNo) → IsLawful (event ∷ before) → event ≡ Started by tasks
+    → by.0 < task_count before
 unfolding held_in
 starter_exists event before by tasks lawful is = (holder_ran event before by.0 lawful (ap held_in is)).0
 
-started_record : (before : List Event) (records : List Record) (by : TaskNo) (tasks : List TaskNo) (task : ℕ) → IsLawful (Started by tasks ∷ before) → AreRecords records before → by.0 < length records → task < length records → IsRecordOf (Started by tasks ∷ before) task (start_record (lists_task task tasks) (record_at (with_starter before records by.0) task))
+started_record : (before : List Event) (records : List Record) (by : TaskNo) (tasks : List TaskNo) (task : ℕ) → IsLawful (Started by tasks ∷ before)
+    → AreRecords records before → by.0 < length records → task < length records
+    → IsRecordOf (Started by tasks ∷ before) task (start_record (lists_task task tasks) (record_at (with_starter before records by.0) task))
 started_record before records by tasks task lawful old has_by known =
     elim (cases_eq task by.0) [
       | inl same ↦
-          subst (λ (n : ℕ). IsRecordOf (Started by tasks ∷ before) n (start_record (lists_task n tasks) (record_at (with_starter before records by.0) n))) (sym same)
+          subst (λ (n : ℕ). IsRecordOf (Started by tasks ∷ before) n
+          (start_record (lists_task n tasks) (record_at (with_starter before records by.0) n))) (sym same)
           (rw (get_or-set_same records by.0 (record (record_at records by.0) { doing = starting before }) no_record has_by)
-          (record { doing = starter_doing before by tasks lawful; stage = start_stage before by tasks by.0 (record_at records by.0) (old.each by.0 has_by).stage }))
+          (record {
+            doing = starter_doing before by tasks lawful;
+            stage = start_stage before by tasks by.0 (record_at records by.0)
+                (old.each by.0 has_by).stage;
+          }))
       | inr differs ↦
           rw (get_or-set_other records by.0 task (record (record_at records by.0) { doing = starting before }) no_record differs)
-          (record { doing = other_doing before by tasks task (record_at records task).doing lawful (old.each task known).doing differs; stage = start_stage before by tasks task (record_at records task) (old.each task known).stage })
+          (record {
+            doing = other_doing before by tasks task (record_at records task).doing lawful (old.each task known).doing differs;
+            stage = start_stage
+                before by tasks task (record_at records task) (old.each task known).stage;
+          })
     ]
 
-started_records : (before : List Event) (records now : List Record) (by : TaskNo) (tasks : List TaskNo) → IsLawful (Started by tasks ∷ before) → AreRecords records before → by.0 < length records → HaveStarted (with_starter before records by.0) now tasks (length tasks) → AreRecords now (Started by tasks ∷ before)
+started_records : (before : List Event) (records now : List Record) (by : TaskNo) (tasks : List TaskNo) → IsLawful (Started by tasks ∷ before)
+    → AreRecords records before → by.0 < length records → HaveStarted (with_starter before records by.0) now tasks (length tasks)
+    → AreRecords now (Started by tasks ∷ before)
 unfolding creation_in
 started_records before records now by tasks lawful old has_by all =
     let first = with_starter before records by.0 in
@@ -131,11 +162,15 @@ started_records before records now by tasks lawful old has_by all =
     }
 
 -- the records after a start
-pub records_started : (event : Event) (before : List Event) (records now : List Record) (doing : Doing) (by : TaskNo) (tasks named : List TaskNo) (i : ℕ) → IsLawful (event ∷ before) → AreRecords records before → event ≡ Started by tasks → named ≡ tasks → doing ≡ starting before → HaveStarted (set records by.0 (record (record_at records by.0) { doing = doing })) now named i → length named ≤ i → i ≤ length named → AreRecords now (event ∷ before)
+pub records_started : (event : Event) (before : List Event) (records now : List Record) (doing : Doing) (by : TaskNo) (tasks named : List TaskNo) (i : ℕ)
+    → IsLawful (event ∷ before) → AreRecords records before → event ≡ Started by tasks → named ≡ tasks → doing ≡ starting before
+    → HaveStarted (set records by.0 (record (record_at records by.0) { doing = doing })) now named i → length named ≤ i → i ≤ length named
+    → AreRecords now (event ∷ before)
 records_started event before records now doing by tasks named i lawful old starts same is so_far above below =
     let all : i ≡ length named = omega (arith, above, below) in
     subst (λ (e : Event). AreRecords now (e ∷ before)) (sym starts)
-    (started_records before records now by tasks (subst (λ (e : Event). IsLawful (e ∷ before)) starts lawful) old (omega (arith, starter_exists event before by tasks lawful starts, old.many))
+    (started_records before records now by tasks (subst (λ (e : Event). IsLawful (e ∷ before)) starts lawful) old
+    (omega (arith, starter_exists event before by tasks lawful starts, old.many))
     (subst (λ (ts : List TaskNo). HaveStarted (with_starter before records by.0) now ts (length ts)) same
     (subst (λ (k : Doing). HaveStarted (set records by.0 (record (record_at records by.0) { doing = k })) now named (length named)) is
     (subst (λ (n : ℕ). HaveStarted (set records by.0 (record (record_at records by.0) { doing = doing })) now named n) all so_far))))

@@ -1,12 +1,14 @@
 -- What one more event changes in the records where it may change those of all tasks.
-use Rattle.std.proofs.Common.{◌≡◌, ℕ, ◌+◌, ◌≤◌, ◌<◌, Bool, true, false, not, ◌&&◌, ◌||◌, None, List, ◌∷◌, length, set, sym, refl, ap, subst, ◌∙◌, arith, inl, inr}
+use Rattle.std.proofs.Common.{◌≡◌, ℕ, ◌+◌, ◌≤◌, ◌<◌, Bool, true, false, not, ◌&&◌, ◌||◌, None, List, ◌∷◌, length, set, sym, refl, ap, subst, ◌∙◌, arith, inl}
+use Rattle.std.proofs.Common.{inr}
 use Rattle.std.proofs.lemmas.Bool.{cases_eq, lt-ltb, true≢false}
 use Rattle.std.proofs.lemmas.List.{length-set, get_or-set_same, get_or-set_other}
 use Rattle.ada_events.specs.declared.event.Event.{Event}
 use Rattle.ada_events.specs.declared.event.Event.TheVariants as event
 use Rattle.ada_events.specs.declared.names.TaskNo.{TaskNo}
 use Rattle.ada_events.specs.declared.names.Master.{Master}
-use Rattle.ada_events.specs.Says.{held_in, released_in, completed_in, gone_in, quit_in, started_in, aborted_in, elaborated_in, failed_in, meeting_in, creation_in}
+use Rattle.ada_events.specs.Says.{held_in, released_in, completed_in, gone_in, quit_in, started_in, aborted_in, elaborated_in, failed_in, meeting_in}
+use Rattle.ada_events.specs.Says.{creation_in}
 use Rattle.ada_events.specs.Tasks.{task_count}
 use Rattle.ada_events.specs.Masters.{depends_on}
 use Rattle.ada_events.specs.Phases.{has_ended, is_terminated}
@@ -21,7 +23,8 @@ use Rattle.ada_records.proofs.Noting.{untouched}
 use Rattle.ada_records.proofs.Stages.{stage_more}
 
 -- one record after all that depend on a master terminated together
-pub quit_record_of : (before : List Event) (m : Master) (task : ℕ) (was : Record) (depends : Bool) → IsLawful (event.Quit m ∷ before) → depends_on before task m ≡ depends → IsRecordOf before task was → IsRecordOf (event.Quit m ∷ before) task (quit_record depends was)
+pub quit_record_of : (before : List Event) (m : Master) (task : ℕ) (was : Record) (depends : Bool) → IsLawful (event.Quit m ∷ before)
+    → depends_on before task m ≡ depends → IsRecordOf before task was → IsRecordOf (event.Quit m ∷ before) task (quit_record depends was)
 unfolding held_in released_in completed_in gone_in quit_in started_in aborted_in elaborated_in failed_in meeting_in raised_in
 quit_record_of before m task was true lawful says old = record {
   doing = doing_ended (event.Quit m) before task was.doing lawful old.doing says;
@@ -35,7 +38,8 @@ no_more true = refl
 no_more false = refl
 
 -- a terminated task's record stays right, whatever the master
-kept_terminated : (before : List Event) (m : Master) (task : ℕ) (was : Record) (depends : Bool) → is_terminated before task ≡ true → IsRecordOf before task was → IsRecordOf (event.Quit m ∷ before) task (quit_record depends was) → IsRecordOf (event.Quit m ∷ before) task was
+kept_terminated : (before : List Event) (m : Master) (task : ℕ) (was : Record) (depends : Bool) → is_terminated before task ≡ true → IsRecordOf before task was
+    → IsRecordOf (event.Quit m ∷ before) task (quit_record depends was) → IsRecordOf (event.Quit m ∷ before) task was
 kept_terminated before m task was false ended old new = new
 kept_terminated before m task was true ended old new = record { doing = doing; stage = stage }
   where
@@ -49,7 +53,8 @@ kept_terminated before m task was true ended old new = record { doing = doing; s
     doing = record {
       at = record { free = λ _. new.doing.at.free refl; held = λ held. absurd (free held) };
       joined = λ held. absurd (free held);
-      quittable = old.doing.quittable ∙ ap (λ b. is_at_open_terminate before task && not b) over ∙ no_more (is_at_open_terminate before task) ∙ new.doing.quittable;
+      quittable = old.doing.quittable ∙ ap (λ b. is_at_open_terminate before task && not b) over ∙ no_more (is_at_open_terminate before task)
+          ∙ new.doing.quittable;
       outcome = new.doing.outcome;
     }
 
@@ -65,9 +70,12 @@ kept_terminated before m task was true ended old new = record { doing = doing; s
     }
 
 -- one record after all that depend on a master terminated together, by a flag that is right unless the task is terminated
-quit_flagged : (before : List Event) (m : Master) (task : ℕ) (was : Record) (flag ended : Bool) → IsLawful (event.Quit m ∷ before) → was.stage.terminated ≡ ended → (is_terminated before task ≡ false → flag ≡ depends_on before task m) → IsRecordOf before task was → IsRecordOf (event.Quit m ∷ before) task (quit_record (not ended && flag) was)
+quit_flagged : (before : List Event) (m : Master) (task : ℕ) (was : Record) (flag ended : Bool) → IsLawful (event.Quit m ∷ before)
+    → was.stage.terminated ≡ ended → (is_terminated before task ≡ false → flag ≡ depends_on before task m) → IsRecordOf before task was
+    → IsRecordOf (event.Quit m ∷ before) task (quit_record (not ended && flag) was)
 quit_flagged before m task was flag true lawful says tells old =
-    kept_terminated before m task was (depends_on before task m) (sym old.stage.terminated ∙ says) old (quit_record_of before m task was (depends_on before task m) lawful refl old)
+    kept_terminated before m task was (depends_on before task m) (sym old.stage.terminated ∙ says) old
+    (quit_record_of before m task was (depends_on before task m) lawful refl old)
 quit_flagged before m task was flag false lawful says tells old =
     quit_record_of before m task was flag lawful (sym (tells (sym old.stage.terminated ∙ says))) old
 
@@ -76,7 +84,8 @@ and_within true b c = refl
 and_within false b c = refl
 
 -- one record after an abort
-pub abort_record_of : (before : List Event) (by : TaskNo) (tasks : List TaskNo) (task : ℕ) (was : Record) → IsLawful (event.Aborted by tasks ∷ before) → task < task_count before → IsRecordOf before task was → IsRecordOf (event.Aborted by tasks ∷ before) task (abort_record (is_hit before tasks task) was)
+pub abort_record_of : (before : List Event) (by : TaskNo) (tasks : List TaskNo) (task : ℕ) (was : Record) → IsLawful (event.Aborted by tasks ∷ before)
+    → task < task_count before → IsRecordOf before task was → IsRecordOf (event.Aborted by tasks ∷ before) task (abort_record (is_hit before tasks task) was)
 unfolding held_in released_in completed_in gone_in quit_in started_in aborted_in elaborated_in failed_in meeting_in raised_in
 abort_record_of before by tasks task was lawful exists old = record {
   doing = doing_same (event.Aborted by tasks) before task was.doing lawful old.doing refl refl refl refl refl;
@@ -94,17 +103,21 @@ hit_or_not was flag hit ended =
     (ap (λ t. flag && not t) ended ∙ no_more flag ∙ sym (no_more hit) ∙ sym (ap (λ t. hit && not t) ended))
 
 -- one record after an abort, by a flag that is right unless the task is terminated
-abort_flagged : (before : List Event) (tasks : List TaskNo) (task : ℕ) (was : Record) (flag ended : Bool) → was.stage.terminated ≡ ended → (is_terminated before task ≡ false → flag ≡ is_hit before tasks task) → IsRecordOf before task was → abort_record flag was ≡ abort_record (is_hit before tasks task) was
+abort_flagged : (before : List Event) (tasks : List TaskNo) (task : ℕ) (was : Record) (flag ended : Bool) → was.stage.terminated ≡ ended
+    → (is_terminated before task ≡ false → flag ≡ is_hit before tasks task) → IsRecordOf before task was
+    → abort_record flag was ≡ abort_record (is_hit before tasks task) was
 abort_flagged before tasks task was flag true says tells old = hit_or_not was flag (is_hit before tasks task) says
 abort_flagged before tasks task was flag false says tells old = ap (λ h. abort_record h was) (tells (sym old.stage.terminated ∙ says))
 
 -- one more record is brought up to date
-pub up_to_more : (event : Event) (before : List Event) (old new : List Record) (i : ℕ) (now : Record) → AreUpTo event before old new i → i < length old → IsRecordOf (event ∷ before) i now → AreUpTo event before old (set new i now) (i + 1)
+pub up_to_more : (event : Event) (before : List Event) (old new : List Record) (i : ℕ) (now : Record) → AreUpTo event before old new i → i < length old
+    → IsRecordOf (event ∷ before) i now → AreUpTo event before old (set new i now) (i + 1)
 up_to_more event before old new i now so_far below right = record {
   same = length-set new i now ∙ so_far.same;
   done = λ task less exists.
       elim (cases_eq task i) [
-        | inl same ↦ subst (λ (n : ℕ). IsRecordOf (event ∷ before) n (record_at (set new i now) n)) (sym same) (rw (get_or-set_same new i now no_record (omega (arith, so_far.same))) right)
+        | inl same ↦ subst (λ (n : ℕ). IsRecordOf (event ∷ before) n (record_at (set new i now) n)) (sym same)
+            (rw (get_or-set_same new i now no_record (omega (arith, so_far.same))) right)
         | inr differs ↦ rw (get_or-set_other new i task now no_record differs) (so_far.done task (omega arith) exists)
       ];
   rest = λ task above. get_or-set_other new i task now no_record (λ same. omega arith) ∙ so_far.rest task (omega arith);
@@ -113,7 +126,8 @@ up_to_more event before old new i now so_far below right = record {
 pub up_to_none : (event : Event) (before : List Event) (old : List Record) → AreUpTo event before old old 0
 up_to_none event before old = record { same = refl; done = λ task less exists. absurd (omega arith); rest = λ task above. refl }
 
-pub up_to_all : (event : Event) (before : List Event) (old new : List Record) (many : ℕ) → AreUpTo event before old new many → length old ≤ many → AreRecords old before → creation_in event ≡ None → AreRecords new (event ∷ before)
+pub up_to_all : (event : Event) (before : List Event) (old new : List Record) (many : ℕ) → AreUpTo event before old new many → length old ≤ many
+    → AreRecords old before → creation_in event ≡ None → AreRecords new (event ∷ before)
 up_to_all event before old new many all enough stand makes = record {
   many = all.same ∙ stand.many ∙ sym (task_count-same event before makes);
   each = λ task below.
@@ -121,17 +135,25 @@ up_to_all event before old new many all enough stand makes = record {
       all.done task (omega arith) exists;
 }
 
-pub quit_step : (e : Event) (before : List Event) (m : Master) (old new : List Record) (i : ℕ) (now : Record) (flag : Bool) → IsLawful (e ∷ before) → e ≡ event.Quit m → AreRecords old before → AreUpTo e before old new i → i < length old → (is_terminated before i ≡ false → flag ≡ depends_on before i m) → now ≡ quit_record (not (record_at new i).stage.terminated && flag) (record_at new i) → AreUpTo e before old (set new i now) (i + 1)
+pub quit_step : (e : Event) (before : List Event) (m : Master) (old new : List Record) (i : ℕ) (now : Record) (flag : Bool) → IsLawful (e ∷ before)
+    → e ≡ event.Quit m → AreRecords old before → AreUpTo e before old new i → i < length old → (is_terminated before i ≡ false → flag ≡ depends_on before i m)
+    → now ≡ quit_record (not (record_at new i).stage.terminated && flag) (record_at new i) → AreUpTo e before old (set new i now) (i + 1)
 quit_step e before m old new i now flag lawful says stand so_far below tells is =
-    let same : now ≡ quit_record (not (record_at old i).stage.terminated && flag) (record_at old i) = is ∙ ap (λ (r : Record). quit_record (not r.stage.terminated && flag) r) (so_far.rest i (omega arith)) in
+    let same : now ≡ quit_record (not (record_at old i).stage.terminated && flag) (record_at old i) = is
+    ∙ ap (λ (r : Record). quit_record (not r.stage.terminated && flag) r) (so_far.rest i (omega arith)) in
     up_to_more e before old new i now so_far below
-    (rw (same, says) (quit_flagged before m i (record_at old i) flag (record_at old i).stage.terminated (subst (λ (x : Event). IsLawful (x ∷ before)) says lawful) refl tells (stand.each i below)))
+    (rw (same, says) (quit_flagged before m i (record_at old i) flag (record_at old i).stage.terminated
+    (subst (λ (x : Event). IsLawful (x ∷ before)) says lawful) refl tells (stand.each i below)))
 
-pub abort_step : (e : Event) (before : List Event) (by : TaskNo) (tasks : List TaskNo) (old new : List Record) (i : ℕ) (now : Record) (flag : Bool) → IsLawful (e ∷ before) → e ≡ event.Aborted by tasks → AreRecords old before → AreUpTo e before old new i → i < length old → (is_terminated before i ≡ false → flag ≡ is_hit before tasks i) → now ≡ abort_record flag (record_at new i) → AreUpTo e before old (set new i now) (i + 1)
+pub abort_step : (e : Event) (before : List Event) (by : TaskNo) (tasks : List TaskNo) (old new : List Record) (i : ℕ) (now : Record) (flag : Bool)
+    → IsLawful (e ∷ before) → e ≡ event.Aborted by tasks → AreRecords old before → AreUpTo e before old new i → i < length old
+    → (is_terminated before i ≡ false → flag ≡ is_hit before tasks i) → now ≡ abort_record flag (record_at new i) → AreUpTo e before old (set new i now) (i + 1)
 abort_step e before by tasks old new i now flag lawful says stand so_far below tells is =
-    let same : now ≡ abort_record (is_hit before tasks i) (record_at old i) = is ∙ ap (λ r. abort_record flag r) (so_far.rest i (omega arith)) ∙ abort_flagged before tasks i (record_at old i) flag (record_at old i).stage.terminated refl tells (stand.each i below) in
+    let same : now ≡ abort_record (is_hit before tasks i) (record_at old i) = is ∙ ap (λ r. abort_record flag r) (so_far.rest i (omega arith))
+    ∙ abort_flagged before tasks i (record_at old i) flag (record_at old i).stage.terminated refl tells (stand.each i below) in
     up_to_more e before old new i now so_far below
-    (rw (same, says) (abort_record_of before by tasks i (record_at old i) (subst (λ (x : Event). IsLawful (x ∷ before)) says lawful) (omega (arith, stand.many)) (stand.each i below)))
+    (rw (same, says) (abort_record_of before by tasks i (record_at old i) (subst (λ (x : Event). IsLawful (x ∷ before)) says lawful) (omega (arith, stand.many))
+    (stand.each i below)))
 
 pub quit_makes_none : (e : Event) (m : Master) → e ≡ event.Quit m → creation_in e ≡ None
 unfolding creation_in

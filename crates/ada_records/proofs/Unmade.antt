@@ -1,5 +1,6 @@
 -- Nothing has become of a task that isn't made yet, and what a creation changes in the records.
-use Rattle.std.proofs.Common.{◌≡◌, ℕ, ◌+◌, ◌<◌, ◌≤◌, Bool, true, false, ◌&&◌, ◌||◌, eqb, Option, Some, None, IsSome, List, [], ◌∷◌, ◌++◌, length, sym, refl, ap, ◌∙◌, subst, arith, inl, inr, length-append}
+use Rattle.std.proofs.Common.{◌≡◌, ℕ, ◌+◌, ◌<◌, ◌≤◌, Bool, true, false, ◌&&◌, ◌||◌, eqb, Option, Some, None, IsSome, List, [], ◌∷◌, ◌++◌, length, sym, refl, ap}
+use Rattle.std.proofs.Common.{◌∙◌, subst, arith, inl, inr, length-append}
 use Rattle.std.specs.Option.{option_map_or, option_len}
 use Rattle.std.proofs.lemmas.Bool.{ne_eqb, eqb-true, cases_eq, le-ltb, or_parts, false_from_ne_true, false≢true}
 use Rattle.std.proofs.lemmas.List.{get_or_append_left}
@@ -8,7 +9,8 @@ use Rattle.std.proofs.lemmas.Option.{none-some}
 use Rattle.ada_events.specs.declared.event.Event.{Event}
 use Rattle.ada_events.specs.declared.event.Event.TheVariants.{Created, Elaborated}
 use Rattle.ada_events.specs.Search.{is_number, is_some_and, event_at, any_event}
-use Rattle.ada_events.specs.Says.{Creation, Meeting, creation_in, held_in, released_in, meeting_in, completed_in, gone_in, quit_in, started_in, aborted_in, elaborated_in, failed_in}
+use Rattle.ada_events.specs.Says.{Creation, Meeting, creation_in, held_in, released_in, meeting_in, completed_in, gone_in, quit_in, started_in, aborted_in}
+use Rattle.ada_events.specs.Says.{elaborated_in, failed_in}
 use Rattle.ada_events.specs.Tasks.{task_count}
 use Rattle.ada_events.specs.Masters.{depends_on}
 use Rattle.ada_events.specs.Phases.{lists_task, has_start, is_started, is_elaborated, has_failed, is_completed, is_abnormal, is_terminated, is_suspended}
@@ -50,15 +52,20 @@ unmade_untouched event before u lawful beyond = record {
       false_from_ne_true (is_some_and (meeting_in event) (λ (m : Meeting). eqb m.call 0)) (λ met.
       let (m, says, first) = option_map_or-true (λ (m : Meeting). eqb m.call 0) (meeting_in event) met in
       let (choice, queued) = taken_queued before m.call m.wait (met_taking before event m lawful.1 says) in
-      positive before queued.opened.stands.event (subst (λ (n : ℕ). event_at before n ≡ Some queued.opened.stands.event) (eqb-true m.call 0 first) queued.opened.stands.stands));
+      positive before queued.opened.stands.event (subst (λ (n : ℕ). event_at before n ≡ Some queued.opened.stands.event) (eqb-true m.call 0 first)
+      queued.opened.stands.stands));
   ends = false_from_ne_true (ends event before u) (λ ended. omega (arith, beyond, ends_exists event before u lawful.1 ended));
 }
 
-unmade_stage : (event : Event) (before : List Event) (u : ℕ) → MayFollow before event → task_count before ≤ u → ends event before u ≡ false → stage_after event before u no_stage ≡ no_stage
+unmade_stage : (event : Event) (before : List Event) (u : ℕ) → MayFollow before event → task_count before ≤ u → ends event before u ≡ false
+    → stage_after event before u no_stage ≡ no_stage
 unmade_stage event before u follows beyond lives =
-    let listed : lists_task u (started_in event) ≡ false = false_from_ne_true (lists_task u (started_in event)) (λ lists. omega (arith, beyond, started_exists event before u follows lists)) in
-    let elaborated : is_number u (elaborated_in event) ≡ false = never u (elaborated_in event) (λ says. omega (arith, beyond, elaborated_exists event before u follows says)) in
-    let failed : is_number u (failed_in event) ≡ false = never u (failed_in event) (λ says. omega (arith, beyond, elaborated_exists event before u follows (fails_elaborates event u says))) in
+    let listed : lists_task u (started_in event) ≡ false = false_from_ne_true (lists_task u (started_in event))
+    (λ lists. omega (arith, beyond, started_exists event before u follows lists)) in
+    let elaborated : is_number u (elaborated_in event)
+    ≡ false = never u (elaborated_in event) (λ says. omega (arith, beyond, elaborated_exists event before u follows says)) in
+    let failed : is_number u (failed_in event) ≡ false = never u (failed_in event)
+    (λ says. omega (arith, beyond, elaborated_exists event before u follows (fails_elaborates event u says))) in
     let parts = or_parts (is_number u (completed_in event)) (is_number u (gone_in event) || option_map_or (depends_on before u) (quit_in event) false) lives in
     rw (listed, elaborated, failed, parts.0, parts.1, le-ltb u (task_count before) beyond)
     (ap (λ (b : Bool). record no_stage { abnormal = b }) (unhit _))
@@ -105,7 +112,8 @@ unfolding creation_in started_in elaborated_in failed_in completed_in aborted_in
 makes_stage (Created by under master families) before c task kept says = refl
 makes_stage _ before c task kept says = absurd (none-some c says)
 
-made_untouched : (event : Event) (before : List Event) (task : ℕ) (kept : Record) (c : Creation) → IsLawful (event ∷ before) → IsRecordOf before task kept → creation_in event ≡ Some c → IsRecordOf (event ∷ before) task kept
+made_untouched : (event : Event) (before : List Event) (task : ℕ) (kept : Record) (c : Creation) → IsLawful (event ∷ before) → IsRecordOf before task kept
+    → creation_in event ≡ Some c → IsRecordOf (event ∷ before) task kept
 made_untouched event before task kept c lawful old says =
     let only = makes_only event c says in
     untouched event before task kept lawful old
@@ -129,7 +137,8 @@ newest_record : (records : List Record) (task : ℕ) → task ≡ length records
 newest_record records task same = rw same (get_or-append_seam records new_record [] no_record)
 
 -- the records after a task was made
-pub records_created : (event : Event) (before : List Event) (records : List Record) (c : Creation) → IsLawful (event ∷ before) → AreRecords records before → creation_in event ≡ Some c → AreRecords (records ++ new_record ∷ []) (event ∷ before)
+pub records_created : (event : Event) (before : List Event) (records : List Record) (c : Creation) → IsLawful (event ∷ before) → AreRecords records before
+    → creation_in event ≡ Some c → AreRecords (records ++ new_record ∷ []) (event ∷ before)
 unfolding task_count
 records_created event before records c lawful old says = record {
   many = length_one_more records ∙ omega (arith, old.many, ap option_len says);
@@ -139,17 +148,20 @@ records_created event before records c lawful old says = record {
             rw (newest_record records task same)
             (let beyond : task_count before ≤ task = omega (arith, same, old.many) in
             let apart = unmade_untouched event before task lawful beyond in
-            untouched event before task new_record lawful (unmade before task lawful.0 beyond) apart (unmade_stage event before task lawful.1 beyond apart.ends))
+            untouched event before task new_record lawful (unmade before task lawful.0 beyond) apart
+            (unmade_stage event before task lawful.1 beyond apart.ends))
         | inr other ↦
             let known : task < length records = omega (arith, below, other, length_one_more records) in
             rw (older_record records task known) (made_untouched event before task (record_at records task) c lawful (old.each task known) says)
       ];
 }
 
-pub records_made : (event : Event) (before : List Event) (records now : List Record) (new : Record) → IsLawful (event ∷ before) → AreRecords records before → IsSome (creation_in event) → now ≡ records ++ new ∷ [] → new ≡ new_record → AreRecords now (event ∷ before)
+pub records_made : (event : Event) (before : List Event) (records now : List Record) (new : Record) → IsLawful (event ∷ before) → AreRecords records before
+    → IsSome (creation_in event) → now ≡ records ++ new ∷ [] → new ≡ new_record → AreRecords now (event ∷ before)
 records_made event before records now new lawful old makes pushed is = by_creation (creation_in event) refl makes
   where
     by_creation : (o : Option Creation) → creation_in event ≡ o → IsSome o → AreRecords now (event ∷ before)
     by_creation None says some = absurd (false≢true some)
     by_creation (Some c) says some =
-        subst (λ (rs : List Record). AreRecords rs (event ∷ before)) (ap (λ (r : Record). records ++ r ∷ []) (sym is) ∙ sym pushed) (records_created event before records c lawful old says)
+        subst (λ (rs : List Record). AreRecords rs (event ∷ before)) (ap (λ (r : Record). records ++ r ∷ []) (sym is) ∙ sym pushed)
+        (records_created event before records c lawful old says)

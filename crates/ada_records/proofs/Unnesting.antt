@@ -1,6 +1,7 @@
 -- What a task is within after a rendezvous ended.
 use Rattle.ada_records.specs.Changes.{is_apart_from}
-use Rattle.std.proofs.Common.{◌≡◌, ℕ, suc, Bool, true, false, cond, not, ◌&&◌, ◌||◌, Option, Some, None, List, [], ◌∷◌, ◌++◌, length, refl, ap, inl, inr, eqb, append-nil}
+use Rattle.std.proofs.Common.{◌≡◌, ℕ, suc, Bool, true, false, cond, not, ◌&&◌, ◌||◌, Option, Some, None, List, [], ◌∷◌, ◌++◌, length, refl, ap, inl, inr, eqb}
+use Rattle.std.proofs.Common.{append-nil}
 use Rattle.std.specs.Option.{option_map_or, option_or, option_to_list}
 use Rattle.std.specs.Bool.{then_some}
 use Rattle.std.specs.List.{filter}
@@ -33,14 +34,21 @@ kept_list : {A : Type 0} (keep : A → Bool) (o : Option A) → option_to_list (
 kept_list keep None = refl
 kept_list keep (Some x) = by_keep x (keep x)
 
-pub gathered-filtered : {A : Type 0} (give more : ℕ → Event → Option A) (keep : A → Bool) (journal : List Event) → ((p : ℕ) (e : Event) → event_at journal p ≡ Some e → more p e ≡ kept keep (give p e)) → gathered more journal ≡ filter keep (gathered give journal)
+pub gathered-filtered : {A : Type 0} (give more : ℕ → Event → Option A) (keep : A → Bool) (journal : List Event)
+    → ((p : ℕ) (e : Event) → event_at journal p ≡ Some e → more p e ≡ kept keep (give p e)) → gathered more journal ≡ filter keep (gathered give journal)
 unfolding gathered
 gathered-filtered give more keep [] same = refl
 gathered-filtered give more keep (event ∷ before) same =
-    rw (gathered-filtered give more keep before (λ p e at. same p e (event_at-older event before p e at)), same (suc (length before)) event (event_at-newest event before), filter-append keep (gathered give before) (option_to_list (give (suc (length before)) event)))
+    rw (
+      gathered-filtered give more keep before (λ p e at. same p e (event_at-older event before p e at)),
+      same (suc (length before)) event
+          (event_at-newest event before),
+      filter-append keep (gathered give before) (option_to_list (give (suc (length before)) event)),
+    )
     (ap (λ xs. filter keep (gathered give before) ++ xs) (kept_list keep (give (suc (length before)) event)))
 
-open_released : (event : Event) (before : List Event) (p r : ℕ) (e : Event) → IsQuiet event → released_in event ≡ Some r → is_open_at (event ∷ before) p e ≡ (is_open_at before p e && not (eqb p r))
+open_released : (event : Event) (before : List Event) (p r : ℕ) (e : Event) → IsQuiet event → released_in event ≡ Some r
+    → is_open_at (event ∷ before) p e ≡ (is_open_at before p e && not (eqb p r))
 unfolding is_open_at is_pending is_released
 open_released event before p r e quiet frees = of_call (call_in e)
   where
@@ -52,11 +60,13 @@ open_released event before p r e quiet frees = of_call (call_in e)
     of_bits false false true = refl
     of_bits false false false = refl
 
-    of_call : (o : Option Call) → option_map_or (λ (c : Call). not (is_released (event ∷ before) p) && not (has_ended (event ∷ before) c.by)) o false ≡ (option_map_or (λ (c : Call). not (is_released before p) && not (has_ended before c.by)) o false && not (eqb p r))
+    of_call : (o : Option Call) → option_map_or (λ (c : Call). not (is_released (event ∷ before) p) && not (has_ended (event ∷ before) c.by)) o false
+        ≡ (option_map_or (λ (c : Call). not (is_released before p) && not (has_ended before c.by)) o false && not (eqb p r))
     of_call None = refl
     of_call (Some c) = rw (frees, quiet_ended event before c.by quiet) (of_bits (eqb p r) (is_released before p) (has_ended before c.by))
 
-open_call_released : (event : Event) (before : List Event) (call r : ℕ) → IsQuiet event → call_in event ≡ None → released_in event ≡ Some r → is_open_call (event ∷ before) call ≡ (is_open_call before call && not (eqb call r))
+open_call_released : (event : Event) (before : List Event) (call r : ℕ) → IsQuiet event → call_in event ≡ None → released_in event ≡ Some r
+    → is_open_call (event ∷ before) call ≡ (is_open_call before call && not (eqb call r))
 unfolding is_open_call
 open_call_released event before call r quiet calls frees = elim (cases_eq call (suc (length before))) [
   | inl same ↦ rw (same, event_at-newest event before, nothing_beyond before (event_at before (suc (length before))) refl) (no_open event before calls)
@@ -69,7 +79,8 @@ open_call_released event before call r quiet calls frees = elim (cases_eq call (
 
 -- what a task is within after an event that releases something, but leaves no block and meets nobody: as before,
 -- without the rendezvous with what is released
-pub nest_released : (event : Event) (before : List Event) (task r : ℕ) → released_in event ≡ Some r → left_in event ≡ None → meeting_in event ≡ None → nest (event ∷ before) task ≡ filter (is_apart_from r) (nest before task)
+pub nest_released : (event : Event) (before : List Event) (task r : ℕ) → released_in event ≡ Some r → left_in event ≡ None → meeting_in event ≡ None
+    → nest (event ∷ before) task ≡ filter (is_apart_from r) (nest before task)
 unfolding nest gathered member_at
 nest_released event before task r frees leaves meets =
     let only = (release_only event r frees).plain.quiet in
@@ -87,17 +98,30 @@ nest_released event before task r frees leaves meets =
     apart true b k = refl
     apart false b k = refl
 
-    by_meeting : (m : Option Meeting) → IsQuiet event → (call_in event ≡ None) × SaysCall event → option_map_or (λ (m : Meeting). then_some (is_wait_of (event ∷ before) task m.wait && is_open_call (event ∷ before) m.call) (Rendezvous m.call)) m None ≡ kept (is_apart_from r) (option_map_or (λ (m : Meeting). then_some (is_wait_of before task m.wait && is_open_call before m.call) (Rendezvous m.call)) m None)
+    by_meeting : (m : Option Meeting) → IsQuiet event → (call_in event ≡ None) × SaysCall event
+        → option_map_or (λ (m : Meeting). then_some (is_wait_of (event ∷ before) task m.wait && is_open_call (event ∷ before) m.call) (Rendezvous m.call)) m
+        None ≡ kept (is_apart_from r) (option_map_or
+        (λ (m : Meeting). then_some (is_wait_of before task m.wait && is_open_call before m.call) (Rendezvous m.call)) m None)
     by_meeting None only says = refl
     by_meeting (Some m) only says =
-        rw (wait_same event before task m.wait says.1.waits, open_call_released event before m.call r only says.0 frees, apart (is_wait_of before task m.wait) (is_open_call before m.call) (not (eqb m.call r)))
+        rw (
+          wait_same event before task m.wait says.1.waits,
+          open_call_released event before m.call r only says.0 frees,
+          apart (is_wait_of before task m.wait)
+              (is_open_call before m.call) (not (eqb m.call r)),
+        )
         (chosen (is_wait_of before task m.wait && is_open_call before m.call) (not (eqb m.call r)) m.call refl)
 
-    by_opening : (b : Bool) (p : ℕ) (x y : Option Member) → x ≡ kept (is_apart_from r) y → option_or (then_some b (Block p)) x ≡ kept (is_apart_from r) (option_or (then_some b (Block p)) y)
+    by_opening : (b : Bool) (p : ℕ) (x y : Option Member) → x ≡ kept (is_apart_from r) y
+        → option_or (then_some b (Block p)) x ≡ kept (is_apart_from r) (option_or (then_some b (Block p)) y)
     by_opening true p x y same = refl
     by_opening false p x y same = same
 
-    both : (o : Option Opening) (m : Option Meeting) (p : ℕ) → IsQuiet event → (call_in event ≡ None) × SaysCall event → option_or (option_map_or (λ (o : Opening). then_some (eqb o.by task && not (is_left before p)) (Block p)) o None) (option_map_or (λ (m : Meeting). then_some (is_wait_of (event ∷ before) task m.wait && is_open_call (event ∷ before) m.call) (Rendezvous m.call)) m None) ≡ kept (is_apart_from r) (option_or (option_map_or (λ (o : Opening). then_some (eqb o.by task && not (is_left before p)) (Block p)) o None) (option_map_or (λ (m : Meeting). then_some (is_wait_of before task m.wait && is_open_call before m.call) (Rendezvous m.call)) m None))
+    both : (o : Option Opening) (m : Option Meeting) (p : ℕ) → IsQuiet event → (call_in event ≡ None) × SaysCall event
+        → option_or (option_map_or (λ (o : Opening). then_some (eqb o.by task && not (is_left before p)) (Block p)) o None)
+        (option_map_or (λ (m : Meeting). then_some (is_wait_of (event ∷ before) task m.wait && is_open_call (event ∷ before) m.call) (Rendezvous m.call)) m
+        None) ≡ kept (is_apart_from r) (option_or (option_map_or (λ (o : Opening). then_some (eqb o.by task && not (is_left before p)) (Block p)) o None)
+        (option_map_or (λ (m : Meeting). then_some (is_wait_of before task m.wait && is_open_call before m.call) (Rendezvous m.call)) m None))
     both None m p only says = by_meeting m only says
     both (Some o) m p only says =
         by_opening (eqb o.by task && not (is_left before p)) p _ _ (by_meeting m only says)

@@ -1,5 +1,6 @@
 -- What is released, or met, stands in the journal.
-use Rattle.std.proofs.Common.{◌≡◌, ℕ, suc, ◌≤◌, ◌-◌, true, false, not, ◌&&◌, Option, Some, None, List, [], ◌∷◌, length, sym, refl, ap, ◌∙◌, arith, inl, inr, eqb}
+use Rattle.std.proofs.Common.{◌≡◌, ℕ, suc, ◌≤◌, ◌-◌, true, false, not, ◌&&◌, Option, Some, None, List, [], ◌∷◌, length, sym, refl, ap, ◌∙◌, arith, inl, inr}
+use Rattle.std.proofs.Common.{eqb}
 use Rattle.std.specs.Option.{option_map_or}
 use Rattle.std.specs.Bool.{then_some}
 use Rattle.std.specs.List.{Contains, list_any, slice_get}
@@ -34,13 +35,16 @@ open_within journal call opened =
     let (e, at, found) = option_map_or-true (is_open_at journal call) (event_at journal call) opened in
     event_at-within journal call e at
 
-not_opened : (journal : List Event) (task q call : ℕ) (o : Option Opening) → option_map_or (λ (o : Opening). then_some (eqb o.by task && not (is_left journal q)) (Block q)) o None ≡ Some (Rendezvous call) → ⊥
+not_opened : (journal : List Event) (task q call : ℕ) (o : Option Opening)
+    → option_map_or (λ (o : Opening). then_some (eqb o.by task && not (is_left journal q)) (Block q)) o None ≡ Some (Rendezvous call) → ⊥
 not_opened journal task q call None gives = none-some (Rendezvous call) gives
 not_opened journal task q call (Some o) gives =
     let found = then_some-some (eqb o.by task && not (is_left journal q)) (Block q) (Rendezvous call) gives in
     cc (found.1)
 
-met_open : (journal : List Event) (task call : ℕ) (o : Option Meeting) → option_map_or (λ (m : Meeting). then_some (is_wait_of journal task m.wait && is_open_call journal m.call) (Rendezvous m.call)) o None ≡ Some (Rendezvous call) → is_open_call journal call ≡ true
+met_open : (journal : List Event) (task call : ℕ) (o : Option Meeting)
+    → option_map_or (λ (m : Meeting). then_some (is_wait_of journal task m.wait && is_open_call journal m.call) (Rendezvous m.call)) o None
+    ≡ Some (Rendezvous call) → is_open_call journal call ≡ true
 met_open journal task call None gives = absurd (none-some (Rendezvous call) gives)
 met_open journal task call (Some m) gives =
     let found = then_some-some (is_wait_of journal task m.wait && is_open_call journal m.call) (Rendezvous m.call) (Rendezvous call) gives in
@@ -60,11 +64,13 @@ nest_open journal task call contains =
       | inr met ↦ met_open journal task call (meeting_in e) met
     ]
 
-innermost_within : (journal : List Event) (task p : ℕ) (o : Option Member) → innermost (nest journal task) ≡ o → not (option_map_or is_rendezvous o false) ≡ false → member_position o ≡ p → p ≤ length journal
+innermost_within : (journal : List Event) (task p : ℕ) (o : Option Member) → innermost (nest journal task) ≡ o
+    → not (option_map_or is_rendezvous o false) ≡ false → member_position o ≡ p → p ≤ length journal
 innermost_within journal task p None is served same = absurd (true≢false served)
 innermost_within journal task p (Some (Block q)) is served same = absurd (true≢false served)
 innermost_within journal task p (Some (Rendezvous call)) is served same =
-    let within : call ≤ length journal = open_within journal call (nest_open journal task call (contained (nest journal task) (length (nest journal task) - 1) (Rendezvous call) is)) in
+    let within : call ≤ length journal = open_within journal call
+    (nest_open journal task call (contained (nest journal task) (length (nest journal task) - 1) (Rendezvous call) is)) in
     omega arith
 
 asked_within : (journal : List Event) (r : Request) (p : ℕ) → refusal journal r ≡ None → released_in (asked_event journal r) ≡ Some p → p ≤ length journal
@@ -112,9 +118,11 @@ pub next_unreleased : (event : Event) (before : List Event) → IsLawful (event 
 unfolding is_released
 next_unreleased event before lawful =
     false_from_ne_true _ (λ released.
-    elim (or_cases (is_number (suc (length before)) (released_in event)) (list_any (λ (e : Event). is_number (suc (length before)) (released_in e)) before) released) [
+    elim (or_cases (is_number (suc (length before)) (released_in event)) (list_any (λ (e : Event). is_number (suc (length before)) (released_in e)) before)
+    released) [
       | inl now ↦
-          let within : suc (length before) ≤ length before = releases_within event before (suc (length before)) lawful.1 (is_number-some _ (released_in event) now) in
+          let within : suc (length before) ≤ length before = releases_within event before (suc (length before)) lawful.1
+          (is_number-some _ (released_in event) now) in
           absurd (omega arith)
       | inr was ↦
           let within : suc (length before) ≤ length before = released_within before (suc (length before)) lawful.0 was in

@@ -11,7 +11,8 @@ use Rattle.ada_events.specs.Search.{is_some_and}
 use Rattle.ada_events.specs.Says.{Wait, creation_in, wait_in, held_in, started_in, released_in, meeting_in}
 use Rattle.ada_events.specs.Tasks.{task_count}
 use Rattle.ada_events.specs.Masters.{depends_on}
-use Rattle.ada_events.specs.Phases.{lists_task, has_start, is_started, is_elaborated, has_failed, is_completed, has_ended, is_abnormal, is_terminated, is_suspended}
+use Rattle.ada_events.specs.Phases.{lists_task, has_start, is_started, is_elaborated, has_failed, is_completed, has_ended, is_abnormal, is_terminated}
+use Rattle.ada_events.specs.Phases.{is_suspended}
 use Rattle.ada_events.specs.Calls.{is_met}
 use Rattle.ada_events.specs.Termination.{is_open_terminate, is_at_open_terminate}
 use Rattle.ada_events.specs.Outcomes.{raised_in, choice_met}

@@ -1,6 +1,7 @@
 //! Laws of what one more event changes.
 
-ghost use Rattle.ada_records.specs.Changes.{CallsComeLast, ReleasedCallsLeave, MetCallsLeave, CompletedCallersLeave, OthersKeepQueues, RendezvousAreEntered, RendezvousAreLeft, BlocksAreEntered, BlocksAreLeft, OthersKeepNests, NestsAreDistinct};
+ghost use Rattle.ada_records.specs.Changes.{CallsComeLast, ReleasedCallsLeave, MetCallsLeave, CompletedCallersLeave, OthersKeepQueues, RendezvousAreEntered};
+ghost use Rattle.ada_records.specs.Changes.{RendezvousAreLeft, BlocksAreEntered, BlocksAreLeft, OthersKeepNests, NestsAreDistinct};
 ghost use Rattle.ada_records.specs.Latest.{WhatIsReleasedHeld, HoldsAreHeld, ReleasesDecide, RaisersHaveRaised, OthersKeepOutcomes};
 ghost use Rattle.ada_records.specs.Telling.{RecordsTell};
 

@@ -24,14 +24,16 @@ asker_known journal r task known asks =
     ltb-true task (task_count journal) (not-false (has_task journal task) (option_map_or-false (λ t. not (has_task journal t)) (asker r) task fails asks))
 
 -- it isn't terminated
-pub asker_live : (journal : List Event) (r : Request) (task : ℕ) → asker_not_running journal r ≡ false → asker r ≡ Some task → is_terminated journal task ≡ false
+pub asker_live : (journal : List Event) (r : Request) (task : ℕ) → asker_not_running journal r ≡ false → asker r ≡ Some task
+    → is_terminated journal task ≡ false
 unfolding asker_not_running has_ended
 asker_live journal r task runs asks =
     (or_parts (is_completed journal task) (is_terminated journal task)
     (running_live journal task (not-false (is_running journal task) (option_map_or-false (λ t. not (is_running journal t)) (asker r) task runs asks)))).1
 
 -- where no cause by name applies, no named task is unknown
-pub unnamed_known : (journal : List Event) (r : Request) (found : Option Refusal) → found ≡ first_cause (causes_by_name journal r) → ((name : Refusal) → found ≡ Some name → ⊥) → names_unknown_task journal r ≡ false
+pub unnamed_known : (journal : List Event) (r : Request) (found : Option Refusal) → found ≡ first_cause (causes_by_name journal r)
+    → ((name : Refusal) → found ≡ Some name → ⊥) → names_unknown_task journal r ≡ false
 unfolding first_cause
 unnamed_known journal r found is none =
     false_from_ne_true (names_unknown_task journal r) (λ unknown. none UnknownTask (is ∙ rw unknown refl))

@@ -1,5 +1,6 @@
 -- Tasks that stand twice in a list, found by the flags of those seen from its end on.
-use Rattle.std.proofs.Common.{◌≡◌, ℕ, zero, suc, ◌-◌, ◌<◌, ◌≤◌, Bool, true, false, not, ◌||◌, eqb, List, [], ◌∷◌, length, length-set, drop, get_or, set, refl, sym, ap, ◌∙◌, subst, arith, inl, inr, drop-cons}
+use Rattle.std.proofs.Common.{◌≡◌, ℕ, zero, suc, ◌-◌, ◌<◌, ◌≤◌, Bool, true, false, not, ◌||◌, eqb, List, [], ◌∷◌, length, length-set, drop, get_or, set, refl}
+use Rattle.std.proofs.Common.{sym, ap, ◌∙◌, subst, arith, inl, inr, drop-cons}
 use Rattle.std.proofs.Math.Seq.{drop-length}
 use Rattle.std.specs.List.{All, list_any}
 use Rattle.std.proofs.lemmas.Bool.{cases_eq, eq-eqb, ne_eqb, and_parts, or_parts, not-false}
@@ -26,11 +27,13 @@ own_is_few journal by task lawful own =
     omega (arith, creation_exists journal task c stands, tasks_are_few journal lawful)
 
 -- the numbers of tasks that a task may activate are few
-pub own_are_few : (journal : List Event) (by : ℕ) (tasks : List TaskNo) → IsLawful journal → list_any (λ (t : TaskNo). not (may_activate journal by t.0)) tasks ≡ false → All (λ (t : TaskNo). t.0 < MOST_TASKS) tasks
+pub own_are_few : (journal : List Event) (by : ℕ) (tasks : List TaskNo) → IsLawful journal
+    → list_any (λ (t : TaskNo). not (may_activate journal by t.0)) tasks ≡ false → All (λ (t : TaskNo). t.0 < MOST_TASKS) tasks
 own_are_few journal by tasks lawful own =
     each tasks own
   where
-    each : (ts : List TaskNo) → list_any (λ (t : TaskNo). not (may_activate journal by t.0)) ts ≡ false → (k : ℕ) (d : TaskNo) → k < length ts → (get_or ts k d).0 < MOST_TASKS
+    each : (ts : List TaskNo) → list_any (λ (t : TaskNo). not (may_activate journal by t.0)) ts ≡ false → (k : ℕ) (d : TaskNo) → k < length ts
+        → (get_or ts k d).0 < MOST_TASKS
     each [] none k d below = absurd (omega (arith, below))
     each (t ∷ rest) none zero d below = own_is_few journal by t.0 lawful (or_parts (not (may_activate journal by t.0)) _ none).0
     each (t ∷ rest) none (suc k) d below =
@@ -43,7 +46,8 @@ pub record HasSeen (tasks : List TaskNo) (seen : List Bool) (left : ℕ) : Type 
   pub each : (task : ℕ) → task < MOST_TASKS → get_or seen task false ≡ lists_task task (drop left tasks)
   pub single : has_double_task (drop left tasks) ≡ false
 
-pub none_seen : (tasks : List TaskNo) (seen : List Bool) → length seen ≡ MOST_TASKS → ((task : ℕ) → task < MOST_TASKS → get_or seen task false ≡ false) → HasSeen tasks seen (length tasks)
+pub none_seen : (tasks : List TaskNo) (seen : List Bool) → length seen ≡ MOST_TASKS → ((task : ℕ) → task < MOST_TASKS → get_or seen task false ≡ false)
+    → HasSeen tasks seen (length tasks)
 unfolding has_double_task
 none_seen tasks seen many none = record {
   within = omega arith;
@@ -58,7 +62,8 @@ from_there tasks n d low high =
     ∙ ap (λ k. get_or tasks (n - 1) d ∷ drop k tasks) (let e : suc (n - 1) ≡ n = omega arith in e)
 
 -- one more that wasn't seen
-pub one_seen : (tasks : List TaskNo) (seen : List Bool) (n place : ℕ) (d : TaskNo) → 0 < n → HasSeen tasks seen n → place ≡ (get_or tasks (n - 1) d).0 → All (λ (t : TaskNo). t.0 < MOST_TASKS) tasks → get_or seen place false ≡ false → HasSeen tasks (set seen place true) (n - 1)
+pub one_seen : (tasks : List TaskNo) (seen : List Bool) (n place : ℕ) (d : TaskNo) → 0 < n → HasSeen tasks seen n → place ≡ (get_or tasks (n - 1) d).0
+    → All (λ (t : TaskNo). t.0 < MOST_TASKS) tasks → get_or seen place false ≡ false → HasSeen tasks (set seen place true) (n - 1)
 unfolding has_double_task
 one_seen tasks seen n place d low was is few fresh = record {
   within = omega (arith, was.within);
@@ -97,7 +102,8 @@ double_later (suc n) (task ∷ rest) double = rw (double_later n rest double) (o
     or-true false = refl
 
 -- one that was seen stands twice
-pub seen_twice : (tasks : List TaskNo) (seen : List Bool) (n place : ℕ) (d : TaskNo) → 0 < n → HasSeen tasks seen n → place ≡ (get_or tasks (n - 1) d).0 → All (λ (t : TaskNo). t.0 < MOST_TASKS) tasks → get_or seen place false ≡ true → has_double_task tasks ≡ true
+pub seen_twice : (tasks : List TaskNo) (seen : List Bool) (n place : ℕ) (d : TaskNo) → 0 < n → HasSeen tasks seen n → place ≡ (get_or tasks (n - 1) d).0
+    → All (λ (t : TaskNo). t.0 < MOST_TASKS) tasks → get_or seen place false ≡ true → has_double_task tasks ≡ true
 unfolding has_double_task
 seen_twice tasks seen n place d low was is few known =
     let here : place < MOST_TASKS = subst (λ k. k < MOST_TASKS) (sym is) (few (n - 1) d (omega (arith, was.within))) in

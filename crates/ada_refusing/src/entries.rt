@@ -82,7 +82,8 @@ fn has_double_task(tasks: &[TaskNo]) -> bool
 
 fn is_not_to_activate(state: &State, by: TaskNo, tasks: &[TaskNo]) -> bool
     requires { IsLawful state.now }
-    ensures { result ≡ (list_any (λ (t : Task). not (refusals.may_activate state.now by.0 t.0)) tasks.now
+    ensures { result ≡ (list_any (λ (t : Task).
+        not (refusals.may_activate state.now by.0 t.0)) tasks.now
         || refusals.has_double_task tasks.now) }
 {
     lists_anothers(state, by, tasks) || has_double_task(tasks)

@@ -63,7 +63,8 @@ fn moves_back(state: &State, request: &Request) -> bool
     }
 }
 
-// Whether it is a tick, or the due moment of a timed call, a delay or an open delay alternative, behind the last moment.
+// Whether it is a tick, or the due moment of a timed call, a delay or an open delay alternative, behind the last
+// moment.
 #[tactic(auto, unfolding(ada_events::specs::Limits::is_too_late))]
 fn is_too_late(state: &State, request: &Request) -> bool
     ensures { result ≡ limits.is_too_late state.now request.now }
@@ -130,8 +131,8 @@ fn is_full(state: &State) -> bool
     MOST_EVENTS < state.len() as usize + MOST_APPENDED
 }
 
-/// The first of the causes that have to do with the main program, the moment and the limits. The request names tasks that
-/// exist.
+/// The first of the causes that have to do with the main program, the moment and the limits. The request names tasks
+/// that exist.
 #[tactic(auto, unfolding(ada_events::specs::Refusals::first_cause))]
 pub(crate) fn refused_limit(state: &State, request: &Request) -> Option<Refusal>
     requires { refusals.names_unknown_task state.now request.now ≡ false }

@@ -119,7 +119,8 @@ fn has_rendezvous_for(state: &State, family: u8, nest: &Layers) -> bool
 // Whether a choice is for the family of a rendezvous in a nest.
 fn nests_some_family(state: &State, nest: &Layers, choices: &[Choice]) -> bool
     ensures { result ≡ list_any (λ (c : ChoiceValue).
-        list_any (refusals.is_rendezvous_for state.now c.entry.family) (members nest.now)) choices.now }
+        list_any (refusals.is_rendezvous_for state.now c.entry.family)
+        (members nest.now)) choices.now }
 {
     choices.iter().any(|choice| has_rendezvous_for(state, choice.entry.family, nest))
 }

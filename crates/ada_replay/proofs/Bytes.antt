@@ -1,5 +1,6 @@
 -- What reads and writes do to known bytes, one after another.
-use Rattle.std.proofs.Common.{◌≡◌, ◌⊎◌, ℕ, ◌+◌, ◌-◌, ◌≤◌, Option, Some, None, List, ◌++◌, length, take, drop, ap, sym, ◌∙◌, subst, append_assoc, append-nil, arith, length-append, length-drop, inl, inr, IfSome}
+use Rattle.std.proofs.Common.{◌≡◌, ◌⊎◌, ℕ, ◌+◌, ◌-◌, ◌≤◌, Option, Some, None, List, ◌++◌, length, take, drop, ap, sym, ◌∙◌, subst, append_assoc, append-nil}
+use Rattle.std.proofs.Common.{arith, length-append, length-drop, inl, inr, IfSome}
 use Rattle.std.specs.Io.KnownBytes.{Appends, Consumes, IsAtEnd}
 use Rattle.ada_replay.specs.Input.{TakesAtMost}
 use Rattle.std.proofs.Math.Seq.{take-add}

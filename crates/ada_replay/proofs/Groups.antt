@@ -1,5 +1,6 @@
 -- The text of a group, event by event.
-use Rattle.std.proofs.Common.{◌≡◌, ℕ, suc, ◌+◌, ◌<◌, ◌≤◌, false, List, [], ◌∷◌, ◌++◌, length, reverse, take, get_or, refl, ap, sym, ◌∙◌, arith, append_assoc, append-nil, Result, Ok, Err, OnOk, true≢false}
+use Rattle.std.proofs.Common.{◌≡◌, ℕ, suc, ◌+◌, ◌<◌, ◌≤◌, false, List, [], ◌∷◌, ◌++◌, length, reverse, take, get_or, refl, ap, sym, ◌∙◌, arith, append_assoc}
+use Rattle.std.proofs.Common.{append-nil, Result, Ok, Err, OnOk, true≢false}
 use Rattle.std.specs.Result.{is_err}
 use Rattle.std.proofs.lemmas.List.{length-reverse, length-take-le, reverse-append, take_more}
 use Rattle.std.proofs.lemmas.Bool.{lt-ltb, le-ltb}

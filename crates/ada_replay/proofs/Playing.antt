@@ -1,5 +1,6 @@
 -- Plays of some lines: one more line, some more lines, and that there is one.
-use Rattle.std.proofs.Common.{◌≡◌, ℕ, ◌+◌, Option, Some, None, List, [], ◌∷◌, ◌++◌, refl, sym, ap, ◌∙◌, subst, append_assoc, append-nil, inl, inr, length, MatchOption}
+use Rattle.std.proofs.Common.{◌≡◌, ℕ, ◌+◌, Option, Some, None, List, [], ◌∷◌, ◌++◌, refl, sym, ap, ◌∙◌, subst, append_assoc, append-nil, inl, inr, length}
+use Rattle.std.proofs.Common.{MatchOption}
 use Rattle.ada_events.specs.declared.request.Request.{Request}
 use Rattle.ada_events.specs.declared.refusal.Refusal.{Refusal}
 use Rattle.ada_events.specs.Tasks.{task_count}
@@ -19,14 +20,16 @@ pub record IsAtRest (state : State) : Type 0 where
   pub settled : IsSettled state.journal
 
 -- one more line at the end
-pub plays-push : (lines : List Line) (line : Line) (old mid new : State) (text said : List ℕ) → Plays lines old text mid → Says line mid said new → Plays (lines ++ line ∷ []) old (text ++ said) new
+pub plays-push : (lines : List Line) (line : Line) (old mid new : State) (text said : List ℕ) → Plays lines old text mid → Says line mid said new
+    → Plays (lines ++ line ∷ []) old (text ++ said) new
 plays-push [] line old mid new text said (empty, same) says =
     (new, said, [], subst (λ s. Says line s said new) same says, (refl, refl), ap (λ t. t ++ said) empty ∙ sym (append-nil said))
 plays-push (first ∷ lines) line old mid new text said (next, a, b, first_says, plays, whole) says =
     (next, a, b ++ said, first_says, plays-push lines line next mid new b said plays says, ap (λ t. t ++ said) whole ∙ append_assoc a b said)
 
 -- some more lines at the end
-pub plays-append : (lines more : List Line) (old mid new : State) (text rest : List ℕ) → Plays lines old text mid → Plays more mid rest new → Plays (lines ++ more) old (text ++ rest) new
+pub plays-append : (lines more : List Line) (old mid new : State) (text rest : List ℕ) → Plays lines old text mid → Plays more mid rest new
+    → Plays (lines ++ more) old (text ++ rest) new
 plays-append [] more old mid new text rest (empty, same) plays =
     subst (λ t. Plays more old t new) (sym (ap (λ t. t ++ rest) empty)) (subst (λ s. Plays more s rest new) same plays)
 plays-append (first ∷ lines) more old mid new text rest (next, a, b, first_says, plays, whole) more_plays =
@@ -39,7 +42,8 @@ request_at_rest line request old new text rest (inl group) = record {
 }
 request_at_rest line request old new text rest (inr refused) = subst IsAtRest (sym refused.unchanged) rest
 
-at_rest : (line : Line) (asked : Option Request) (old new : State) (text : List ℕ) → IsAtRest old → MatchOption asked (SaysShown line old text new) (SaysRequest line old text new) → IsAtRest new
+at_rest : (line : Line) (asked : Option Request) (old new : State) (text : List ℕ) → IsAtRest old
+    → MatchOption asked (SaysShown line old text new) (SaysRequest line old text new) → IsAtRest new
 at_rest line None old new text rest says = subst IsAtRest (sym says.unchanged) rest
 at_rest line (Some request) old new text rest says = request_at_rest line request old new text rest says
 
@@ -53,7 +57,8 @@ pub record Said (line : Line) (asked : Option Request) (old : State) : Type 0 wh
   pub new : State
   pub says : MatchOption asked (SaysShown line old text new) (SaysRequest line old text new)
 
-refused_or_not : (line : Line) (request : Request) (old : State) → IsAtRest old → (answer : Option Refusal) → refusal old.journal request ≡ answer → Said line (Some request) old
+refused_or_not : (line : Line) (request : Request) (old : State) → IsAtRest old → (answer : Option Refusal) → refusal old.journal request ≡ answer
+    → Said line (Some request) old
 refused_or_not line request old rest (Some cause) is = record {
   text = refusal_text line.line cause;
   new = old;

@@ -1,6 +1,7 @@
 -- The play of a script: what its lines print, one after another, each over the journal and the bindings
 -- that the lines before it left.
-use Rattle.std.specs.Prelude.{◌≡◌, ◌⊎◌, ℕ, suc, ◌+◌, nat_lt, nat_le, ◌||◌, Bool, Result, Ok, Err, if◌then◌else◌, Some, None, List, [], ◌∷◌, ◌++◌, length, MatchOption}
+use Rattle.std.specs.Prelude.{◌≡◌, ◌⊎◌, ℕ, suc, ◌+◌, nat_lt, nat_le, ◌||◌, Bool, Result, Ok, Err, if◌then◌else◌, Some, None, List, [], ◌∷◌, ◌++◌, length}
+use Rattle.std.specs.Prelude.{MatchOption}
 use Rattle.ada_events.specs.declared.event.Event.{Event}
 use Rattle.ada_events.specs.declared.request.Request.{Request}
 use Rattle.ada_events.specs.declared.refusal.Refusal.{Refusal}

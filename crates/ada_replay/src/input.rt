@@ -29,11 +29,15 @@ fn read_piece<R: Read>(
 ) -> Result<usize, RunFault>
     requires room { 0 < length piece.old }
     requires below { vec_len text.old < 823297 }
-    ensures bytes { IfOk result (λ n. (bytes : List ℕ) × Consumes (R.remaining reader.old) (R.remaining reader.new) bytes × (text.new.items ≡ text.old.items ++ bytes) × (length bytes ≡ n)) }
-    ensures bound { IfOk result (λ n. (vec_len text.new ≡ vec_len text.old + n) × (vec_len text.new ≤ 823297)) }
+    ensures bytes { IfOk result (λ n. (bytes : List ℕ)
+        × Consumes (R.remaining reader.old) (R.remaining reader.new) bytes
+        × (text.new.items ≡ text.old.items ++ bytes) × (length bytes ≡ n)) }
+    ensures bound { IfOk result (λ n. (vec_len text.new ≡ vec_len text.old + n)
+        × (vec_len text.new ≤ 823297)) }
     ensures end { IfOk result (λ n. n ≡ 0 → IsAtEnd (R.remaining reader.new)) }
     ensures err { IfErr result IsInputFault }
-    ensures taken { TakesAtMost (823297 - vec_len text.old) (R.remaining reader.old) (R.remaining reader.new) }
+    ensures taken { TakesAtMost (823297 - vec_len text.old) (R.remaining reader.old)
+        (R.remaining reader.new) }
 {
     let room = piece.len().min(MOST_BYTES - text.len());
     let read = reader.read(&mut piece[..room]).map_err(|_| RunFault::Read)?;
@@ -44,7 +48,8 @@ fn read_piece<R: Read>(
 
 /// Reads an input to its end, or its first 823,297 bytes. Any error of the reader is `Read`.
 pub fn read_input<R: Read>(alloc: Global, reader: &mut R) -> Result<Vec<u8>, RunFault>
-    ensures ok { IfOk result (λ text. IfSome (R.remaining reader.old) (λ bytes. text.items ≡ text_of bytes)) }
+    ensures ok { IfOk result (λ text.
+        IfSome (R.remaining reader.old) (λ bytes. text.items ≡ text_of bytes)) }
     ensures err { IfErr result IsInputFault }
     ensures taken { TakesAtMost 823297 (R.remaining reader.old) (R.remaining reader.new) }
 {

@@ -12,7 +12,8 @@ const PIECE: usize = 65_536;
 /// nothing, is `Write`, and then a beginning of the bytes was written.
 pub fn write_output<W: Write>(writer: &mut W, bytes: &[u8]) -> Result<(), RunFault>
     ensures ok { OnOk result (Appends (W.contents writer.old) (W.contents writer.new) bytes.now) }
-    ensures err { IfErr result (λ fault. (fault ≡ RunFault.Write) × (n : ℕ) × Appends (W.contents writer.old) (W.contents writer.new) (take n bytes.now)) }
+    ensures err { IfErr result (λ fault. (fault ≡ RunFault.Write) × (n : ℕ)
+        × Appends (W.contents writer.old) (W.contents writer.new) (take n bytes.now)) }
 {
     let mut written = 0;
     while written < bytes.len() {
@@ -28,8 +29,11 @@ pub fn write_output<W: Write>(writer: &mut W, bytes: &[u8]) -> Result<(), RunFau
 /// Writes a text if it is a piece of 65,536 bytes or more, and leaves in it what isn't written yet. Where
 /// the writer refuses, a beginning of the text was written.
 pub fn write_piece<W: Write>(writer: &mut W, text: &mut Vec<u8>) -> Result<(), RunFault>
-    ensures ok { OnOk result ((written : List ℕ) × Appends (W.contents writer.old) (W.contents writer.new) written × (text.old.items ≡ written ++ text.new.items)) }
-    ensures err { IfErr result (λ fault. (fault ≡ RunFault.Write) × (n : ℕ) × Appends (W.contents writer.old) (W.contents writer.new) (take n text.old.items)) }
+    ensures ok { OnOk result ((written : List ℕ)
+        × Appends (W.contents writer.old) (W.contents writer.new) written
+        × (text.old.items ≡ written ++ text.new.items)) }
+    ensures err { IfErr result (λ fault. (fault ≡ RunFault.Write) × (n : ℕ)
+        × Appends (W.contents writer.old) (W.contents writer.new) (take n text.old.items)) }
 {
     if text.len() >= PIECE {
         write_output(writer, text)?;

@@ -27,7 +27,8 @@ pub fn print_events(
     requires fits { length events.now < 2 ^ 32 }
     ensures ok { OnOk result
         (text.new.items ≡ text.old.items ++ group_text names.now from (reverse events.now)) }
-    ensures err { IfErr result (λ fault. (fault ≡ RunFault.Memory) × (text.new.items ≡ text.old.items)) }
+    ensures err { IfErr result (λ fault. (fault ≡ RunFault.Memory)
+        × (text.new.items ≡ text.old.items)) }
 {
     let before = text.len();
     for at in from as usize..events.len() {
@@ -42,7 +43,8 @@ pub fn print_events(
 /// Appends the line that a refused line of a script prints, or nothing.
 pub fn print_refusal(line: u32, cause: Refusal, text: &mut Vec<u8>) -> Result<(), RunFault>
     ensures ok { OnOk result (text.new.items ≡ text.old.items ++ refusal_text line cause) }
-    ensures err { IfErr result (λ fault. (fault ≡ RunFault.Memory) × (text.new.items ≡ text.old.items)) }
+    ensures err { IfErr result (λ fault. (fault ≡ RunFault.Memory)
+        × (text.new.items ≡ text.old.items)) }
 {
     write_refusal(line, cause, text).map_err(|_| RunFault::Memory)
 }
@@ -50,7 +52,8 @@ pub fn print_refusal(line: u32, cause: Refusal, text: &mut Vec<u8>) -> Result<()
 /// Appends the line that a line of a script prints which shows an attribute, or nothing.
 pub fn print_value(line: u32, value: Value, text: &mut Vec<u8>) -> Result<(), RunFault>
     ensures ok { OnOk result (text.new.items ≡ text.old.items ++ shown_text line value) }
-    ensures err { IfErr result (λ fault. (fault ≡ RunFault.Memory) × (text.new.items ≡ text.old.items)) }
+    ensures err { IfErr result (λ fault. (fault ≡ RunFault.Memory)
+        × (text.new.items ≡ text.old.items)) }
 {
     write_shown(line, value, text).map_err(|_| RunFault::Memory)
 }
@@ -70,8 +73,11 @@ fn say_request(
     request: Request,
     text: &mut Vec<u8>,
 ) -> Result<(), RunFault>
-    ensures ok { OnOk result ((said : List ℕ) × (text.new.items ≡ text.old.items ++ said) × SaysRequest line.now (state kernel.old names.old) said (state kernel.new names.new) request) }
-    ensures err { IfErr result (λ fault. (fault ≡ RunFault.Memory) × (text.new.items ≡ text.old.items)) }
+    ensures ok { OnOk result ((said : List ℕ) × (text.new.items ≡ text.old.items ++ said)
+        × SaysRequest line.now (state kernel.old names.old) said
+        (state kernel.new names.new) request) }
+    ensures err { IfErr result (λ fault. (fault ≡ RunFault.Memory)
+        × (text.new.items ≡ text.old.items)) }
 {
     let from = kernel.journal().len();
     let made = next_task(kernel);
@@ -92,8 +98,10 @@ fn say_shown(
     line: &Line,
     text: &mut Vec<u8>,
 ) -> Result<(), RunFault>
-    ensures ok { OnOk result ((said : List ℕ) × (text.new.items ≡ text.old.items ++ said) × SaysShown line.now (state kernel.now names.now) said (state kernel.now names.now)) }
-    ensures err { IfErr result (λ fault. (fault ≡ RunFault.Memory) × (text.new.items ≡ text.old.items)) }
+    ensures ok { OnOk result ((said : List ℕ) × (text.new.items ≡ text.old.items ++ said)
+        × SaysShown line.now (state kernel.now names.now) said (state kernel.now names.now)) }
+    ensures err { IfErr result (λ fault. (fault ≡ RunFault.Memory)
+        × (text.new.items ≡ text.old.items)) }
 {
     match shown(kernel, names, &line.statement) {
         Ok(value) => print_value(line.line, value, text),
@@ -108,8 +116,10 @@ fn say(
     line: &Line,
     text: &mut Vec<u8>,
 ) -> Result<(), RunFault>
-    ensures ok { OnOk result ((said : List ℕ) × (text.new.items ≡ text.old.items ++ said) × Says line.now (state kernel.old names.old) said (state kernel.new names.new)) }
-    ensures err { IfErr result (λ fault. (fault ≡ RunFault.Memory) × (text.new.items ≡ text.old.items)) }
+    ensures ok { OnOk result ((said : List ℕ) × (text.new.items ≡ text.old.items ++ said)
+        × Says line.now (state kernel.old names.old) said (state kernel.new names.new)) }
+    ensures err { IfErr result (λ fault. (fault ≡ RunFault.Memory)
+        × (text.new.items ≡ text.old.items)) }
     ensures at_rest { IsLawful kernel.old × IsSettled kernel.old }
 {
     let _journal = kernel.journal();
@@ -129,8 +139,11 @@ pub fn play<W: Write>(
     lines: &[Line],
     writer: &mut W,
 ) -> Result<(), RunFault>
-    ensures ok { OnOk result (IsWritten (Plays lines.now (state kernel.old names.old)) (W.contents writer.old) (W.contents writer.new) (state kernel.new names.new)) }
-    ensures err { IfErr result (λ fault. IsShortage fault × IsCutShort (Plays lines.now (state kernel.old names.old)) (W.contents writer.old) (W.contents writer.new)) }
+    ensures ok { OnOk result (IsWritten (Plays lines.now (state kernel.old names.old))
+        (W.contents writer.old) (W.contents writer.new) (state kernel.new names.new)) }
+    ensures err { IfErr result (λ fault. IsShortage fault
+        × IsCutShort (Plays lines.now (state kernel.old names.old)) (W.contents writer.old)
+        (W.contents writer.new)) }
 {
     let mut text = Vec::new(alloc);
     for line in lines {

@@ -25,8 +25,10 @@ pub fn replay<R: Read, W: Write>(
     reader: &mut R,
     writer: &mut W,
 ) -> Result<Ending, RunFault>
-    ensures ok { IfOk result (λ ending. Replays ending (R.remaining reader.old) (W.contents writer.old) (W.contents writer.new)) }
-    ensures err { IfErr result (λ fault. Breaks fault (R.remaining reader.old) (W.contents writer.old) (W.contents writer.new)) }
+    ensures ok { IfOk result (λ ending.
+        Replays ending (R.remaining reader.old) (W.contents writer.old) (W.contents writer.new)) }
+    ensures err { IfErr result (λ fault.
+        Breaks fault (R.remaining reader.old) (W.contents writer.old) (W.contents writer.new)) }
     ensures taken { TakesAtMost most_bytes (R.remaining reader.old) (R.remaining reader.new) }
 {
     match read_input(alloc, reader) {
@@ -65,8 +67,10 @@ fn ending_of(kernel: &Kernel) -> Ending
 
 // Plays a text, if it is a script.
 fn replay_text<W: Write>(alloc: Global, text: &[u8], writer: &mut W) -> Result<Ending, RunFault>
-    ensures ok { IfOk result (λ ending. IsReplayed ending text.now (W.contents writer.old) (W.contents writer.new)) }
-    ensures err { IfErr result (λ fault. BreaksText fault text.now (W.contents writer.old) (W.contents writer.new)) }
+    ensures ok { IfOk result (λ ending.
+        IsReplayed ending text.now (W.contents writer.old) (W.contents writer.new)) }
+    ensures err { IfErr result (λ fault.
+        BreaksText fault text.now (W.contents writer.old) (W.contents writer.new)) }
 {
     match read_script(alloc, text) {
         Ok(script) => replay_script(alloc, script, writer),
@@ -80,8 +84,11 @@ fn replay_script<W: Write>(
     script: Script,
     writer: &mut W,
 ) -> Result<Ending, RunFault>
-    ensures ok { IfOk result (λ ending. IsScriptReplayed ending script (W.contents writer.old) (W.contents writer.new)) }
-    ensures err { IfErr result (λ fault. IsShortage fault × IsCutShort (Plays script (beginning script)) (W.contents writer.old) (W.contents writer.new)) }
+    ensures ok { IfOk result (λ ending.
+        IsScriptReplayed ending script (W.contents writer.old) (W.contents writer.new)) }
+    ensures err { IfErr result (λ fault. IsShortage fault
+        × IsCutShort (Plays script (beginning script)) (W.contents writer.old)
+        (W.contents writer.new)) }
 {
     let Ok((lines, mut names)) = script.into_parts() else {
         return Err(RunFault::Memory);

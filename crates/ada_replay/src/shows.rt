@@ -9,7 +9,8 @@ use ada_kernel::Kernel;
 use ada_script::{Names, Statement, Value};
 
 fn truth_of(value: Option<bool>) -> Result<Value, Refusal>
-    ensures { MatchOption value (result ≡ Err Refusal.UnknownTask) (λ truth. result ≡ Ok (Value.Truth truth)) }
+    ensures { MatchOption value (result ≡ Err Refusal.UnknownTask) (λ truth.
+        result ≡ Ok (Value.Truth truth)) }
 {
     match value {
         Some(value) => Ok(Value::Truth(value)),

@@ -1,5 +1,6 @@
 -- Blocks: who opened one exists, and where one is complete or left (9.4).
-use Rattle.std.proofs.Common.{◌≡◌, ℕ, zero, suc, ◌<◌, Bool, true, false, not, ◌&&◌, ◌||◌, eqb, Option, Some, None, List, [], ◌∷◌, refl, sym, ap, ◌∙◌, subst, arith, inl, inr}
+use Rattle.std.proofs.Common.{◌≡◌, ℕ, zero, suc, ◌<◌, Bool, true, false, not, ◌&&◌, ◌||◌, eqb, Option, Some, None, List, [], ◌∷◌, refl, sym, ap, ◌∙◌, subst}
+use Rattle.std.proofs.Common.{arith, inl, inr}
 use Rattle.std.specs.List.{list_any}
 use Rattle.std.specs.Option.{option_and_then, option_map_or}
 use Rattle.std.specs.Bool.{then_some}
@@ -54,7 +55,8 @@ new_opener event before o (inr asked) says =
     asker_exists before asked.request o.by asked.accepted (asked_opens before asked.request o (ap opening_in (sym asked.becomes) ∙ says))
 
 -- who opened a block exists
-pub opener_exists : (journal : List Event) (p : ℕ) (e : Event) (o : Opening) → IsLawful journal → event_at journal p ≡ Some e → opening_in e ≡ Some o → o.by < task_count journal
+pub opener_exists : (journal : List Event) (p : ℕ) (e : Event) (o : Opening) → IsLawful journal → event_at journal p ≡ Some e → opening_in e ≡ Some o
+    → o.by < task_count journal
 unfolding event_at
 opener_exists [] p e o lawful at says = absurd (none-some e at)
 opener_exists (event ∷ before) p e o lawful at says =
@@ -69,11 +71,13 @@ combined true c false same = refl
 combined false c true same = same refl
 combined false c false same = same refl
 
-closes_there : (journal : List Event) (block at kept : ℕ) (e : Event) (k : Closing) → kept ≡ at → event_at journal at ≡ Some e → closing_in e ≡ Some k → k.block ≡ block → closes_at journal block kept ≡ true
+closes_there : (journal : List Event) (block at kept : ℕ) (e : Event) (k : Closing) → kept ≡ at → event_at journal at ≡ Some e → closing_in e ≡ Some k
+    → k.block ≡ block → closes_at journal block kept ≡ true
 closes_there journal block at kept e k same stands says of = rw (same, stands, says) (eq-eqb k.block block of)
 
 -- a block that its task is within is complete where the task has ended, or is suspended at a close of the block
-pub complete_told : (journal : List Event) (by block : ℕ) (kept : Record) → IsLawful journal → IsRecordOf journal by kept → IsBlockOf journal by block → has_block block (nest journal by) ≡ true → (has_ended_by kept || closes_at journal block kept.doing.at) ≡ is_complete_block journal block
+pub complete_told : (journal : List Event) (by block : ℕ) (kept : Record) → IsLawful journal → IsRecordOf journal by kept → IsBlockOf journal by block
+    → has_block block (nest journal by) ≡ true → (has_ended_by kept || closes_at journal block kept.doing.at) ≡ is_complete_block journal block
 unfolding is_complete_block
 complete_told journal by block kept lawful right own within =
     ap (λ e. e || closes_at journal block kept.doing.at) (records_tell journal by kept right).ended
@@ -94,7 +98,8 @@ complete_told journal by block kept lawful right own within =
     back : has_ended journal by ≡ false → list_any (closes block) journal ≡ true → closes_at journal block kept.doing.at ≡ true
     back live closed =
         let at = closed_at journal by block lawful own (block_in_nest journal by block within).1 live closed in
-        closes_there journal block at.at kept.doing.at at.stands.event at.closing (held_there journal by kept.doing.at at.at lawful right.doing.at at.suspended) at.stands.stands at.stands.says at.of
+        closes_there journal block at.at kept.doing.at at.stands.event at.closing (held_there journal by kept.doing.at at.at lawful right.doing.at at.suspended)
+        at.stands.stands at.stands.says at.of
 
 all_pass : (test : ℕ → Bool) → ((u : ℕ) → test u ≡ true) → (n : ℕ) → all_below test n ≡ true
 unfolding all_below
@@ -102,10 +107,12 @@ all_pass test passes zero = refl
 all_pass test passes (suc n) = rw (all_pass test passes n, passes n) refl
 
 -- a block that its task isn't within is left, and then nobody depends on it who isn't terminated
-pub deserted : (journal : List Event) (by block : ℕ) → IsLawful journal → IsBlockOf journal by block → has_block block (nest journal by) ≡ false → all_terminated journal (Block block) ≡ true
+pub deserted : (journal : List Event) (by block : ℕ) → IsLawful journal → IsBlockOf journal by block → has_block block (nest journal by) ≡ false
+    → all_terminated journal (Block block) ≡ true
 unfolding all_terminated
 deserted journal by block lawful own without =
-    all_pass (λ u. not (depends_on journal u (Block block)) || is_terminated journal u) (λ u. ended u (depends_on journal u (Block block)) refl) (task_count journal)
+    all_pass (λ u. not (depends_on journal u (Block block)) || is_terminated journal u) (λ u. ended u (depends_on journal u (Block block)) refl)
+    (task_count journal)
   where
     left : is_left journal block ≡ true
     left = true_from_ne_false (is_left journal block) (λ unleft. true≢false (sym (nest_has_block journal by block own unleft) ∙ without))
@@ -121,7 +128,9 @@ pub else_closed : (e c : Bool) → e ≡ false → c ≡ (e || c)
 else_closed e c isnt = rw isnt refl
 
 -- a block that is left has nobody who is to quit
-pub left_stays : (journal : List Event) (by : TaskNo) (under : Master) (at : ℕ) → IsLawful journal → event_at journal at ≡ Some (Opened by under) → has_block at (nest journal by.0) ≡ false → is_to_quit journal (Block at) ≡ false
+pub left_stays : (journal : List Event) (by : TaskNo) (under : Master) (at : ℕ) → IsLawful journal → event_at journal at ≡ Some (Opened by under)
+    → has_block at (nest journal by.0) ≡ false → is_to_quit journal (Block at) ≡ false
 unfolding opening_in
 left_stays journal by under at lawful stands without =
-    sym (deserted_stays journal (Block at) (deserted journal by.0 at lawful (record { event = Opened by under; opening = record { by = by.0; under = under }; stands = stands; says = refl; by = refl }) without))
+    sym (deserted_stays journal (Block at) (deserted journal by.0 at lawful
+    (record { event = Opened by under; opening = record { by = by.0; under = under }; stands = stands; says = refl; by = refl }) without))

@@ -1,5 +1,6 @@
 -- The open choices of a wait name entries of its task, and what tables hold of their queues.
-use Rattle.std.proofs.Common.{◌≡◌, ℕ, ◌<◌, Bool, true, false, not, ◌&&◌, Option, Some, None, is_none, List, [], ◌∷◌, map, length, refl, sym, ap, ◌∙◌, subst, arith, inl, inr}
+use Rattle.std.proofs.Common.{◌≡◌, ℕ, ◌<◌, Bool, true, false, not, ◌&&◌, Option, Some, None, is_none, List, [], ◌∷◌, map, length, refl, sym, ap, ◌∙◌, subst}
+use Rattle.std.proofs.Common.{arith, inl, inr}
 use Rattle.std.specs.Prelude.{slice_get, IsSome}
 use Rattle.std.specs.List.{Contains}
 use Rattle.std.proofs.lemmas.Option.{none-some, same_Some}
@@ -36,7 +37,8 @@ declared_later event before task entry (n, is) =
 of_task_later : (event : Event) (before : List Event) (wait : Wait) → AreOfTask before wait.by wait.choices → AreOfTask (event ∷ before) wait.by wait.choices
 of_task_later event before wait are choice among opened = declared_later event before wait.by choice.entry (are choice among opened)
 
-asked_wait : (journal : List Event) (r : Request) (wait : Wait) → refusal journal r ≡ None → wait_in (asked_event journal r) ≡ Some wait → AreOfTask journal wait.by wait.choices
+asked_wait : (journal : List Event) (r : Request) (wait : Wait) → refusal journal r ≡ None → wait_in (asked_event journal r) ≡ Some wait
+    → AreOfTask journal wait.by wait.choices
 unfolding asked_event wait_in names_no_family breaks_constraint lacks_family is_outside
 asked_wait journal (request.Wait by choices tail pick) wait accepted says =
     subst (λ (w : Wait). AreOfTask journal w.by w.choices) (same_Some _ wait says) of_choice
@@ -54,7 +56,8 @@ new_wait event before wait (inl forces) says = absurd (none-some wait.by (sym (f
 new_wait event before wait (inr asked) says = asked_wait before asked.request wait asked.accepted (ap wait_in (sym asked.becomes) ∙ says)
 
 -- in a lawful journal the open choices of a wait name entries of its task
-pub choices_are_of_task : (journal : List Event) (p : ℕ) (event : Event) (wait : Wait) → IsLawful journal → event_at journal p ≡ Some event → wait_in event ≡ Some wait → AreOfTask journal wait.by wait.choices
+pub choices_are_of_task : (journal : List Event) (p : ℕ) (event : Event) (wait : Wait) → IsLawful journal → event_at journal p ≡ Some event
+    → wait_in event ≡ Some wait → AreOfTask journal wait.by wait.choices
 unfolding event_at
 choices_are_of_task [] p event wait lawful at says = absurd (none-some event at)
 choices_are_of_task (newest ∷ before) p event wait lawful at says =
@@ -64,7 +67,8 @@ choices_are_of_task (newest ∷ before) p event wait lawful at says =
     ]
 
 -- an entry that a task has stands in the tables
-pub declared_has : (tables : State) (journal : List Event) (task : ℕ) (entry : Entry) → StandFor tables journal → IsDeclared journal task entry → HasEntry tables.tasks task entry
+pub declared_has : (tables : State) (journal : List Event) (task : ℕ) (entry : Entry) → StandFor tables journal → IsDeclared journal task entry
+    → HasEntry tables.tasks task entry
 declared_has tables journal task entry stand (n, is) =
     let known = declarer_exists journal task entry n is in
     record {
@@ -77,5 +81,6 @@ front_is [] positions is = rw (sym is) refl
 front_is (first ∷ rest) positions is = rw (sym is) refl
 
 -- the front of an entry's queue is what the tables hold there
-pub front_told : (tables : State) (journal : List Event) (task : ℕ) (entry : Entry) → StandFor tables journal → HasEntry tables.tasks task entry → front_call (queue_at tables.queues (slot_at tables.tasks task entry)) ≡ slice_get (queue journal task entry) 0
+pub front_told : (tables : State) (journal : List Event) (task : ℕ) (entry : Entry) → StandFor tables journal → HasEntry tables.tasks task entry
+    → front_call (queue_at tables.queues (slot_at tables.tasks task entry)) ≡ slice_get (queue journal task entry) 0
 front_told tables journal task entry stand has = front_is _ (queue journal task entry) (stand.queues task entry has).positions

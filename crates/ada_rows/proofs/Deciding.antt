@@ -1,5 +1,6 @@
 -- The rows of abnormal tasks and of entry calls, decided by records.
-use Rattle.std.proofs.Common.{◌≡◌, ◌≢◌, ℕ, zero, suc, ◌<◌, Bool, true, false, not, ◌&&◌, ◌||◌, eqb, ltb, Option, Some, None, List, refl, sym, ap, ◌∙◌, subst, arith, inl, inr}
+use Rattle.std.proofs.Common.{◌≡◌, ◌≢◌, ℕ, zero, suc, ◌<◌, Bool, true, false, not, ◌&&◌, ◌||◌, eqb, ltb, Option, Some, None, List, refl, sym, ap, ◌∙◌, subst}
+use Rattle.std.proofs.Common.{arith, inl, inr}
 use Rattle.std.specs.Option.{option_and_then}
 use Rattle.std.specs.Bool.{then_some}
 use Rattle.std.proofs.lemmas.Bool.{and_from, and_parts, eqb-true, ne_eqb, false≢true, ltb-false}
@@ -41,7 +42,8 @@ positive_from zero apart = absurd (false≢true apart)
 positive_from (suc n) apart = omega arith
 
 -- the caller of an open call that is met is the caller of a rendezvous by its record
-met_by : (journal : List Event) (c : Call) (p : ℕ) (kept : Record) → IsLawful journal → IsRecordOf journal c.by kept → IsOpenCallAt journal c p → is_met journal p ≡ true → is_met_by kept ≡ true
+met_by : (journal : List Event) (c : Call) (p : ℕ) (kept : Record) → IsLawful journal → IsRecordOf journal c.by kept → IsOpenCallAt journal c p
+    → is_met journal p ≡ true → is_met_by kept ≡ true
 met_by journal c p kept lawful right opened met = of_kept kept.doing.at refl right.doing.joined
   where
     suspended : IsSuspendedAt journal c.by p
@@ -51,7 +53,8 @@ met_by journal c p kept lawful right opened met = of_kept kept.doing.at refl rig
     there = held_there journal c.by kept.doing.at p lawful right.doing.at suspended
 
     of_kept : (at : ℕ) → kept.doing.at ≡ at → (0 < kept.doing.at → kept.doing.joined ≡ is_met journal kept.doing.at) → is_met_by kept ≡ true
-    of_kept zero none joined = absurd (positive journal suspended.event (subst (λ (n : ℕ). event_at journal n ≡ Some suspended.event) (sym there ∙ none) suspended.stands))
+    of_kept zero none joined = absurd (positive journal suspended.event
+        (subst (λ (n : ℕ). event_at journal n ≡ Some suspended.event) (sym there ∙ none) suspended.stands))
     of_kept (suc n) some joined =
         let now : 0 < kept.doing.at = omega (arith, some) in
         and_from (not (eqb kept.doing.at 0)) kept.doing.joined
@@ -59,7 +62,8 @@ met_by journal c p kept lawful right opened met = of_kept kept.doing.at refl rig
         (joined now ∙ ap (is_met journal) there ∙ met)
 
 -- the caller of a rendezvous is told by its record
-met_told : (journal : List Event) (task : ℕ) (kept : Record) → IsLawful journal → IsRecordOf journal task kept → is_met_by kept ≡ is_caller_in_rendezvous journal task
+met_told : (journal : List Event) (task : ℕ) (kept : Record) → IsLawful journal → IsRecordOf journal task kept
+    → is_met_by kept ≡ is_caller_in_rendezvous journal task
 unfolding is_caller_in_rendezvous is_joined_at is_open_at is_pending
 met_told journal task kept lawful right = same_truth (is_met_by kept) (is_caller_in_rendezvous journal task) there back
   where
@@ -70,10 +74,18 @@ met_told journal task kept lawful right = same_truth (is_met_by kept) (is_caller
         let met : is_met journal kept.doing.at ≡ true = sym (right.doing.joined some) ∙ parts.1 in
         let suspended = right.doing.at.held some in
         let (wait, p, meeting) = one_meeting_for_a_joined_call journal lawful kept.doing.at met in
-        let same : meeting.call_stands.event ≡ suspended.event = same_Some meeting.call_stands.event suspended.event (sym meeting.call_stands.stands ∙ suspended.stands) in
-        let by : meeting.called.by ≡ task = same_Some meeting.called.by task (sym (held_in-call meeting.call_stands.event meeting.called meeting.call_stands.says) ∙ ap held_in same ∙ suspended.holds) in
+        let same : meeting.call_stands.event ≡ suspended.event = same_Some meeting.call_stands.event suspended.event
+        (sym meeting.call_stands.stands ∙ suspended.stands) in
+        let by : meeting.called.by ≡ task = same_Some meeting.called.by task
+        (sym (held_in-call meeting.call_stands.event meeting.called meeting.call_stands.says) ∙ ap held_in same ∙ suspended.holds) in
         subst (λ (u : ℕ). is_caller_in_rendezvous journal u ≡ true) by
-        (joined_caller journal meeting.called kept.doing.at (record { stands = meeting.call_stands; unreleased = suspended.unreleased; live = subst (λ (u : ℕ). has_ended journal u ≡ false) (sym by) suspended.live }) met)
+        (joined_caller journal meeting.called kept.doing.at
+        (record {
+          stands = meeting.call_stands;
+          unreleased = suspended.unreleased;
+          live = subst (λ (u : ℕ). has_ended journal u ≡ false) (sym by)
+              suspended.live;
+        }) met)
 
     back : is_caller_in_rendezvous journal task ≡ true → is_met_by kept ≡ true
     back says =
@@ -85,29 +97,36 @@ met_told journal task kept lawful right = same_truth (is_met_by kept) (is_caller
         let same : d.by ≡ task = ap (λ (x : Call). x.by) (same_Some d c (sym opened_calls ∙ calls)) ∙ eqb-true c.by task by in
         met_by journal d p kept lawful (subst (λ (u : ℕ). IsRecordOf journal u kept) (sym same) right) opened joined.1
 
-halting_bits : (a e m : Bool) (step : Event) (o : Option Event) → (a ≡ true → o ≡ then_some (a && not e && not m) step) → (a ≡ false → o ≡ None) → o ≡ then_some (a && not e && not m) step
+halting_bits : (a e m : Bool) (step : Event) (o : Option Event) → (a ≡ true → o ≡ then_some (a && not e && not m) step) → (a ≡ false → o ≡ None)
+    → o ≡ then_some (a && not e && not m) step
 halting_bits true e m step o known unknown = known refl
 halting_bits false e m step o known unknown = unknown refl
 
 -- a task is halted where its record says so
-pub halts_told : (journal : List Event) (task : ℕ) (kept : Record) → IsLawful journal → IsRecordOf journal task kept → step_at journal Halting task ≡ then_some (is_to_halt_by kept) (Halted (task_no task))
+pub halts_told : (journal : List Event) (task : ℕ) (kept : Record) → IsLawful journal → IsRecordOf journal task kept
+    → step_at journal Halting task ≡ then_some (is_to_halt_by kept) (Halted (task_no task))
 unfolding step_at is_to_halt has_ended
 halts_told journal task kept lawful right =
     rw (right.stage.abnormal, right.stage.completed, right.stage.terminated, met_told journal task kept lawful right)
     (by_known (ltb task (task_count journal)) refl)
   where
-    by_known : (b : Bool) → ltb task (task_count journal) ≡ b → option_and_then (λ (_ : Event). then_some (is_abnormal journal task && not (has_ended journal task) && not (is_caller_in_rendezvous journal task)) (Halted (task_no task))) (then_some b (Halted (task_no task))) ≡ then_some (is_abnormal journal task && not (has_ended journal task) && not (is_caller_in_rendezvous journal task)) (Halted (task_no task))
+    by_known : (b : Bool) → ltb task (task_count journal) ≡ b
+        → option_and_then (λ (_ : Event). then_some (is_abnormal journal task && not (has_ended journal task) && not (is_caller_in_rendezvous journal task))
+        (Halted (task_no task))) (then_some b (Halted (task_no task)))
+        ≡ then_some (is_abnormal journal task && not (has_ended journal task) && not (is_caller_in_rendezvous journal task)) (Halted (task_no task))
     by_known true known = refl
     by_known false beyond =
         let nobody = unmade journal task lawful (ltb-false task (task_count journal) beyond) in
         rw (sym nobody.stage.abnormal) refl
 
-pub lost_told : (journal : List Event) (task : ℕ) (kept : Record) → IsRecordOf journal task kept → is_lost_by kept ≡ (has_ended journal task || is_abnormal journal task)
+pub lost_told : (journal : List Event) (task : ℕ) (kept : Record) → IsRecordOf journal task kept
+    → is_lost_by kept ≡ (has_ended journal task || is_abnormal journal task)
 unfolding has_ended
 lost_told journal task kept right = rw (right.stage.abnormal, right.stage.completed, right.stage.terminated) refl
 
 -- a call is queued where its caller's record says so
-pub queued_told : (journal : List Event) (task at : ℕ) (kept : Record) (e : Event) → IsLawful journal → IsRecordOf journal task kept → event_at journal at ≡ Some e → held_in e ≡ Some task → is_queued_by kept at ≡ (is_pending journal at task && not (is_met journal at))
+pub queued_told : (journal : List Event) (task at : ℕ) (kept : Record) (e : Event) → IsLawful journal → IsRecordOf journal task kept
+    → event_at journal at ≡ Some e → held_in e ≡ Some task → is_queued_by kept at ≡ (is_pending journal at task && not (is_met journal at))
 queued_told journal task at kept e lawful right stands holds =
     rw (sym (pending_told journal task kept.doing.at at e lawful right.doing.at stands holds)) (by_place (eqb kept.doing.at at) refl)
   where
@@ -115,7 +134,8 @@ queued_told journal task at kept e lawful right stands holds =
     by_place false apart = refl
     by_place true same =
         let there : kept.doing.at ≡ at = eqb-true kept.doing.at at same in
-        let some : 0 < kept.doing.at = positive_at kept.doing.at (λ none. positive journal e (subst (λ (n : ℕ). event_at journal n ≡ Some e) (sym there ∙ none) stands)) in
+        let some : 0 < kept.doing.at = positive_at kept.doing.at
+        (λ none. positive journal e (subst (λ (n : ℕ). event_at journal n ≡ Some e) (sym there ∙ none) stands)) in
         ap not (right.doing.joined some ∙ ap (is_met journal) there)
 
 pub done_told : (journal : List Event) (task : TaskNo) (kept : Record) → IsRecordOf journal task.0 kept → is_done_by kept ≡ is_done_activating journal task

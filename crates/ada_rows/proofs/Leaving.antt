@@ -61,7 +61,8 @@ live_bits false true = refl
 live_bits false false = refl
 
 -- all dependents are terminated exactly where none is counted
-pub none_live : (tables : State) (journal : List Event) (master : Master) → StandFor tables journal → IsHeldBySome journal master → eqb (live_dependents tables.tasks master) 0 ≡ all_terminated journal master
+pub none_live : (tables : State) (journal : List Event) (master : Master) → StandFor tables journal → IsHeldBySome journal master
+    → eqb (live_dependents tables.tasks master) 0 ≡ all_terminated journal master
 unfolding all_terminated
 none_live tables journal master stand held =
     ap (λ n. eqb n 0) (stand.live master (held_stands tables journal master stand held))
@@ -69,11 +70,13 @@ none_live tables journal master stand held =
     (λ u. live_bits (is_terminated journal u) (depends_on journal u master)) (task_count journal)
 
 -- the task that is suspended at a close is within its block
-pub closed_held : (journal : List Event) (at : ℕ) (by : TaskNo) (block : ℕ) → IsLawful journal → event_at journal at ≡ Some (Closed by block) → is_pending journal at by.0 ≡ true → IsHeldBySome journal (Block block)
+pub closed_held : (journal : List Event) (at : ℕ) (by : TaskNo) (block : ℕ) → IsLawful journal → event_at journal at ≡ Some (Closed by block)
+    → is_pending journal at by.0 ≡ true → IsHeldBySome journal (Block block)
 unfolding closing_in held_in
 closed_held journal at by block lawful stands pending =
     let suspended = suspended_at journal at by.0 (Closed by block) stands refl pending in
-    let (k, below, is) = closer_within journal (record { by = by.0; block = block }) at lawful (record { event = Closed by block; stands = stands; says = refl }) suspended in
+    let (k, below, is) = closer_within journal (record { by = by.0; block = block }) at lawful
+    (record { event = Closed by block; stands = stands; says = refl }) suspended in
     record {
       task = by.0;
       known = suspended_exists journal by.0 at lawful suspended;

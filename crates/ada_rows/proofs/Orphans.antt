@@ -1,5 +1,6 @@
 -- Tasks that were never started and never will be (9.3, 9.4).
-use Rattle.std.proofs.Common.{◌≡◌, ℕ, zero, suc, ◌<◌, ◌≤◌, Bool, true, false, not, ◌&&◌, ◌||◌, eqb, ltb, Option, Some, None, List, [], ◌∷◌, refl, sym, ap, ◌∙◌, subst, arith, inl, inr}
+use Rattle.std.proofs.Common.{◌≡◌, ℕ, zero, suc, ◌<◌, ◌≤◌, Bool, true, false, not, ◌&&◌, ◌||◌, eqb, ltb, Option, Some, None, List, [], ◌∷◌, refl, sym, ap, ◌∙◌}
+use Rattle.std.proofs.Common.{subst, arith, inl, inr}
 use Rattle.std.specs.List.{list_any}
 use Rattle.std.specs.Option.{option_and_then, option_map_or}
 use Rattle.std.specs.Bool.{then_some}
@@ -39,12 +40,16 @@ unmade_none journal task beyond = of_creation (creation_of journal task) refl
     of_creation (Some c) made = absurd (omega (arith, beyond, creation_exists journal task c made))
 
 -- a block that is left is complete
-pub left_complete : (journal : List Event) (by : TaskNo) (under : Master) (block : ℕ) → event_at journal block ≡ Some (Opened by under) → has_block block (nest journal by.0) ≡ false → true ≡ is_complete journal (Block block)
+pub left_complete : (journal : List Event) (by : TaskNo) (under : Master) (block : ℕ) → event_at journal block ≡ Some (Opened by under)
+    → has_block block (nest journal by.0) ≡ false → true ≡ is_complete journal (Block block)
 unfolding is_complete is_complete_block opening_in
 left_complete journal by under block stands without =
-    let own : IsBlockOf journal by.0 block = record { event = Opened by under; opening = record { by = by.0; under = under }; stands = stands; says = refl; by = refl } in
-    let left : is_left journal block ≡ true = true_from_ne_false (is_left journal block) (λ unleft. true≢false (sym (nest_has_block journal by.0 block own unleft) ∙ without)) in
-    let closed : list_any (closes block) journal ≡ true = true_from_ne_false (list_any (closes block) journal) (λ unclosed. true≢false (sym left ∙ unclosed_unleft journal block unclosed)) in
+    let own : IsBlockOf journal by.0 block = record
+    { event = Opened by under; opening = record { by = by.0; under = under }; stands = stands; says = refl; by = refl } in
+    let left : is_left journal block ≡ true = true_from_ne_false (is_left journal block)
+    (λ unleft. true≢false (sym (nest_has_block journal by.0 block own unleft) ∙ without)) in
+    let closed : list_any (closes block) journal ≡ true = true_from_ne_false (list_any (closes block) journal)
+    (λ unclosed. true≢false (sym left ∙ unclosed_unleft journal block unclosed)) in
     rw closed refl
 
 unclosed_there : (journal : List Event) (block : ℕ) → IsLawful journal → opening_at journal block ≡ None → list_any (closes block) journal ≡ false
@@ -77,12 +82,14 @@ pub unknown_stays : (journal : List Event) (task : ℕ) → ltb task (task_count
 unfolding step_at
 unknown_stays journal task beyond = rw beyond refl
 
-pub known_goes : (journal : List Event) (task : ℕ) → task < task_count journal → step_at journal Going task ≡ then_some (is_to_go journal task) (Gone (task_no task))
+pub known_goes : (journal : List Event) (task : ℕ) → task < task_count journal
+    → step_at journal Going task ≡ then_some (is_to_go journal task) (Gone (task_no task))
 unfolding step_at
 known_goes journal task known = rw (lt-ltb task (task_count journal) known) refl
 
 -- another task goes where it is left alone or abandoned
-pub live_goes : (journal : List Event) (task : TaskNo) → is_terminated journal task.0 ≡ false → ((is_completed journal task.0 && all_terminated journal (Body task)) || is_abandoned journal task.0) ≡ is_to_go journal task.0
+pub live_goes : (journal : List Event) (task : TaskNo) → is_terminated journal task.0 ≡ false
+    → ((is_completed journal task.0 && all_terminated journal (Body task)) || is_abandoned journal task.0) ≡ is_to_go journal task.0
 unfolding is_to_go
 live_goes journal task lives = rw lives refl
 

@@ -21,7 +21,8 @@ held_there journal task kept at lawful held there = of_kept kept held
     of_kept (suc n) h = suspended_once journal task (suc n) at lawful (h.held (omega arith)) there
 
 -- what holds a task up is pending exactly where its record says so
-pub pending_told : (journal : List Event) (task kept at : ℕ) (e : Event) → IsLawful journal → IsHeldAt journal task kept → event_at journal at ≡ Some e → held_in e ≡ Some task → eqb kept at ≡ is_pending journal at task
+pub pending_told : (journal : List Event) (task kept at : ℕ) (e : Event) → IsLawful journal → IsHeldAt journal task kept → event_at journal at ≡ Some e
+    → held_in e ≡ Some task → eqb kept at ≡ is_pending journal at task
 unfolding is_pending
 pending_told journal task kept at e lawful held stands holds = by_flags (is_released journal at) refl (has_ended journal task) refl
   where

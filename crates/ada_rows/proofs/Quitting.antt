@@ -31,12 +31,15 @@ ready_bits false false true = refl
 ready_bits false false false = refl
 
 -- all that depend on a complete master of which some live are to terminate together where none of them is unready
-pub quit_told : (tables : State) (journal : List Event) (master : Master) → StandFor tables journal → IsHeldBySome journal master → is_complete journal master ≡ true → all_terminated journal master ≡ false → eqb (unready_dependents tables.tasks tables.queues master) 0 ≡ is_to_quit journal master
+pub quit_told : (tables : State) (journal : List Event) (master : Master) → StandFor tables journal → IsHeldBySome journal master
+    → is_complete journal master ≡ true → all_terminated journal master ≡ false
+    → eqb (unready_dependents tables.tasks tables.queues master) 0 ≡ is_to_quit journal master
 unfolding is_to_quit
 quit_told tables journal master stand held complete some =
     rw (complete, some)
     (ap (λ n. eqb n 0) (stand.unready master (held_stands tables journal master stand held))
-    ∙ none_counted (λ u. not (is_terminated journal u) && not (is_ready_to_quit journal u) && depends_on journal u master) (λ u. not (depends_on journal u master) || is_terminated journal u || is_ready_to_quit journal u)
+    ∙ none_counted (λ u. not (is_terminated journal u) && not (is_ready_to_quit journal u) && depends_on journal u master)
+    (λ u. not (depends_on journal u master) || is_terminated journal u || is_ready_to_quit journal u)
     (λ u. ready_bits (is_terminated journal u) (is_ready_to_quit journal u) (depends_on journal u master)) (task_count journal))
 
 pub incomplete_stays : (journal : List Event) (master : Master) → is_complete journal master ≡ false → false ≡ is_to_quit journal master
@@ -54,12 +57,14 @@ deserted_stays journal master all = rw all (no_more_bits (is_complete journal ma
 pub body_held : (journal : List Event) (task : TaskNo) → task.0 < task_count journal → IsHeldBySome journal (Body task)
 body_held journal task known = record { task = task.0; known = known; held = eq-eqb task.0 task.0 refl }
 
-pub body_complete : (journal : List Event) (task : TaskNo) (completed : Bool) → completed ≡ is_completed journal task.0 → completed ≡ is_complete journal (Body task)
+pub body_complete : (journal : List Event) (task : TaskNo) (completed : Bool) → completed ≡ is_completed journal task.0
+    → completed ≡ is_complete journal (Body task)
 unfolding is_complete
 body_complete journal task completed is = is
 
 -- what a row of tasks gives of a task that is there, and of none
-pub known_quits : (journal : List Event) (task : ℕ) → task < task_count journal → step_at journal QuittingBody task ≡ then_some (is_to_quit journal (Body (task_no task))) (Quit (Body (task_no task)))
+pub known_quits : (journal : List Event) (task : ℕ) → task < task_count journal
+    → step_at journal QuittingBody task ≡ then_some (is_to_quit journal (Body (task_no task))) (Quit (Body (task_no task)))
 unfolding step_at
 known_quits journal task known = rw (lt-ltb task (task_count journal) known) refl
 

@@ -88,8 +88,8 @@ impl<'a> State<'a> {
         }
     }
 
-    /// Whether there is an open call at the position that fails (9.5, 9.7.2, 9.7.3, 9.10): the task called is completed,
-    /// terminated or abnormal.
+    /// Whether there is an open call at the position that fails (9.5, 9.7.2, 9.7.3, 9.10): the task called is
+    /// completed, terminated or abnormal.
     #[tactic(auto, unfolding(ada_forcing::specs::Rows::step_at))]
     pub fn fails(&self, at: u32) -> bool
         ensures { step_at self.now row.Failing at ≡ then_some result (step.Failed at) }
@@ -130,8 +130,8 @@ impl<'a> State<'a> {
         }
     }
 
-    /// Whether there is a queued call at the position that is cancelled (9.7.2, 9.7.3): it is conditional, or its moment
-    /// has come.
+    /// Whether there is a queued call at the position that is cancelled (9.7.2, 9.7.3): it is conditional, or its
+    /// moment has come.
     #[tactic(auto, unfolding(ada_forcing::specs::Rows::step_at))]
     pub fn cancels(&self, at: u32) -> bool
         ensures { step_at self.now row.Cancelling at ≡ then_some result (step.Cancelled at) }

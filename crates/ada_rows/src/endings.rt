@@ -57,8 +57,8 @@ impl<'a> State<'a> {
         }
     }
 
-    // Whether all that depend on a master are to terminate together (9.4): it is complete, some of them live, and each is
-    // terminated or ready to.
+    // Whether all that depend on a master are to terminate together (9.4): it is complete, some of them live, and each
+    // is terminated or ready to.
     fn is_to_quit(&self, master: Master, complete: bool) -> bool
         requires held { IsHeldBySome self.now master }
         requires complete { complete ≡ ending.is_complete self.now master }
@@ -75,7 +75,8 @@ impl<'a> State<'a> {
 
     /// Whether all that depend on the task's body terminate together (9.4).
     pub fn quits_body(&self, task: TaskNo) -> bool
-        ensures { step_at self.now row.QuittingBody task.0 ≡ then_some result (step.Quit (BodyMaster task)) }
+        ensures { step_at self.now row.QuittingBody task.0
+            ≡ then_some result (step.Quit (BodyMaster task)) }
     {
         if task.0 >= self.tables().tasks() {
             return false;
@@ -102,8 +103,8 @@ impl<'a> State<'a> {
         }
     }
 
-    // Whether the block that the task of this record is within is complete (9.4): the task has ended, or is suspended at a
-    // close of the block.
+    // Whether the block that the task of this record is within is complete (9.4): the task has ended, or is suspended
+    // at a close of the block.
     fn is_complete_block(&self, block: u32, _by: TaskNo, kept: &Record, _event: &Event) -> bool
         requires lawful { IsLawful self.now }
         requires right { IsRecordOf self.now _by.0 kept.now }
@@ -120,7 +121,8 @@ impl<'a> State<'a> {
     #[tactic(auto, unfolding(ada_events::specs::Says::opening_in))]
     fn is_block_to_quit(&self, at: u32, event: &Event) -> bool
         requires { event_at self.now at ≡ Some event.now }
-        ensures { then_some result (step.Quit (BlockMaster at)) ≡ at_event self.now row.QuittingBlock at event.now }
+        ensures { then_some result (step.Quit (BlockMaster at))
+            ≡ at_event self.now row.QuittingBlock at event.now }
     {
         match event {
             Event::Opened { by, .. } => {
@@ -138,7 +140,8 @@ impl<'a> State<'a> {
     /// Whether a block was opened at the position of which all dependents terminate together (9.4).
     #[tactic(auto, unfolding(ada_forcing::specs::Rows::step_at))]
     pub fn quits_block(&self, at: u32) -> bool
-        ensures { step_at self.now row.QuittingBlock at ≡ then_some result (step.Quit (BlockMaster at)) }
+        ensures { step_at self.now row.QuittingBlock at
+            ≡ then_some result (step.Quit (BlockMaster at)) }
     {
         match self.event(at) {
             Some(event) => self.is_block_to_quit(at, event),
@@ -206,7 +209,8 @@ impl<'a> State<'a> {
     // Whether the task is completed and its dependents are terminated (9.4).
     fn is_left_alone(&self, task: TaskNo) -> bool
         requires { task.0 < task_count self.now }
-        ensures { result ≡ (is_completed self.now task.0 && ending.all_terminated self.now (BodyMaster task)) }
+        ensures { result ≡ (is_completed self.now task.0
+            && ending.all_terminated self.now (BodyMaster task)) }
     {
         self.record(task).stage.completed && self.are_all_terminated(Master::Body(task))
     }

@@ -84,7 +84,8 @@ impl<'a> State<'a> {
     #[tactic(auto, unfolding(ada_events::specs::Forced::activated_at, ada_events::specs::Says::start_in, ada_events::specs::Says::held_in))]
     fn activation(&self, at: u32, event: &Event) -> Option<bool>
         requires { event_at self.now at ≡ Some event.now }
-        ensures { option_map (step.Activated at) result ≡ at_event self.now row.Activating at event.now }
+        ensures { option_map (step.Activated at) result
+            ≡ at_event self.now row.Activating at event.now }
     {
         match event {
             Event::Started { by, tasks } => {

@@ -1,5 +1,5 @@
-//! A journal with what is kept of it; and whether a row of the forced steps gives a step at a key, told by that, with no
-//! search.
+//! A journal with what is kept of it; and whether a row of the forced steps gives a step at a key, told by that, with
+//! no search.
 #![tactic(auto)]
 
 pub mod calls;

@@ -37,7 +37,8 @@ impl<'a> Model for State<'a> {
 
     ghost view = { λ s. s.journal.now.events };
 
-    ghost invariant = { λ s. IsKept s.journal.now.events s.records.now s.tables.now s.made.now s.moment };
+    ghost invariant = { λ s.
+        IsKept s.journal.now.events s.records.now s.tables.now s.made.now s.moment };
 }
 
 impl<'a> State<'a> {

@@ -57,7 +57,8 @@ impl<'a> State<'a> {
     // The call at the front of the queue of the choice of that number.
     fn front_of_number(&self, task: TaskNo, choices: &[Choice], number: u8) -> Option<u32>
         requires { AreOfTask self.now task.0 choices.now }
-        ensures { result ≡ option_and_then (waits.front_of self.now task.0) (slice_get choices.now number) }
+        ensures { result ≡ option_and_then (waits.front_of self.now task.0)
+            (slice_get choices.now number) }
     {
         match choices.get(number as usize) {
             Some(choice) => self.front_of(task, *choice),
@@ -79,8 +80,10 @@ impl<'a> State<'a> {
     fn taken_call(&self, task: TaskNo, choices: &[Choice], pick: u32) -> Option<u32>
         requires few { length choices.now ≤ MOST_CHOICES }
         requires declared { AreOfTask self.now task.0 choices.now }
-        ensures { result ≡ option_and_then (waits.front_of self.now task.0) (option_and_then (slice_get choices.now)
-            (waits.picked pick (waits.numbers_from (waits.is_selectable self.now task.0) 0 choices.now))) }
+        ensures { result ≡ option_and_then (waits.front_of self.now task.0)
+            (option_and_then (slice_get choices.now)
+            (waits.picked pick (waits.numbers_from (waits.is_selectable self.now task.0)
+            0 choices.now))) }
     {
         match self.taken_choice(task, choices, pick) {
             Some(number) => self.front_of_number(task, choices, number),
@@ -92,7 +95,8 @@ impl<'a> State<'a> {
     #[tactic(auto, unfolding(ada_events::specs::Forced::met_at, ada_events::specs::Waits::taken_call, ada_events::specs::Waits::taken_choice, ada_events::specs::Says::wait_in, ada_events::specs::Says::held_in))]
     fn meeting(&self, at: u32, event: &Event) -> Option<u32>
         requires { event_at self.now at ≡ Some event.now }
-        ensures { option_map (λ call. step.Met call at) result ≡ at_event self.now row.Taking at event.now }
+        ensures { option_map (λ call. step.Met call at) result
+            ≡ at_event self.now row.Taking at event.now }
     {
         match event {
             Event::Waiting {
@@ -176,8 +180,8 @@ impl<'a> State<'a> {
         }
     }
 
-    /// The way in which the wait at the position ends otherwise than by a call, if it does (9.7.1): by its else part, by
-    /// a delay alternative whose moment has come, or by PROGRAM_ERROR where no alternative is open.
+    /// The way in which the wait at the position ends otherwise than by a call, if it does (9.7.1): by its else part,
+    /// by a delay alternative whose moment has come, or by PROGRAM_ERROR where no alternative is open.
     #[tactic(auto, unfolding(ada_forcing::specs::Rows::step_at))]
     pub fn passes(&self, at: u32) -> Option<Way>
         ensures { step_at self.now row.Passing at ≡ option_map (step.Passed at) result }

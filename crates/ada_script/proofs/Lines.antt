@@ -16,7 +16,8 @@ use Rattle.ada_reading.proofs.TakenStatements.{statement_reads}
 use Rattle.ada_reading.proofs.AgainStatements.{statement_again}
 
 -- a statement that was read is what the line says
-pub says : (names : Scope) (before : List Line) (words : List (List ℕ)) (statement : Statement) → names ≡ scope_of before → statement_of names words ≡ Ok statement → Says before words statement
+pub says : (names : Scope) (before : List Line) (words : List (List ℕ)) (statement : Statement) → names ≡ scope_of before
+    → statement_of names words ≡ Ok statement → Says before words statement
 says names before words statement known read =
     let r = statement_reads names words statement read in
     record { stands = subst (λ (n : Scope). MayStand n statement) known r.0; spelled = r.1 }
@@ -29,12 +30,14 @@ AddsTo before number line after = (added : List Line) × Adds before number line
 pub reads_on : (before after : List Line) (number : ℕ) (line : List ℕ) (lines behind : List (List ℕ)) → lines ≡ line ∷ behind → AddsTo before number line after
     → (all : List Line) → Reads after (number + 1) behind all → Reads before number lines all
 reads_on before after number line lines behind first adds all others =
-    subst (λ (ls : List (List ℕ)). Reads before number ls all) (sym first) (adds.0, adds.1, subst (λ (a : List Line). Reads a (number + 1) behind all) adds.2 others)
+    subst (λ (ls : List (List ℕ)). Reads before number ls all) (sym first)
+    (adds.0, adds.1, subst (λ (a : List Line). Reads a (number + 1) behind all) adds.2 others)
 
 -- ---- faults
 
 -- a fault of the words, which are skipped for no reason
-pub says_nothing : (names : Scope) (before : List Line) (words : List (List ℕ)) (fault : Fault) → names ≡ scope_of before → statement_of names words ≡ Err fault → is_skipped words ≡ false → SaysNothing before words
+pub says_nothing : (names : Scope) (before : List Line) (words : List (List ℕ)) (fault : Fault) → names ≡ scope_of before → statement_of names words ≡ Err fault
+    → is_skipped words ≡ false → SaysNothing before words
 says_nothing names before words fault known read skipped = (
   skipped,
   λ statement said.
@@ -52,7 +55,8 @@ of_words DoubleName = inr tt
 of_words OutOfMemory = inl refl
 
 -- words that weren't read are those of the line
-pub of_these : (names : Scope) (fault : Fault) {words these : List (List ℕ)} → words ≡ these → (fault ≡ OutOfMemory) ⊎ (statement_of names words ≡ Err fault) → (fault ≡ OutOfMemory) ⊎ (statement_of names these ≡ Err fault)
+pub of_these : (names : Scope) (fault : Fault) {words these : List (List ℕ)} → words ≡ these → (fault ≡ OutOfMemory) ⊎ (statement_of names words ≡ Err fault)
+    → (fault ≡ OutOfMemory) ⊎ (statement_of names these ≡ Err fault)
 of_these names fault same fails = subst (λ (ws : List (List ℕ)). (fault ≡ OutOfMemory) ⊎ (statement_of names ws ≡ Err fault)) same fails
 
 -- words that weren't read: memory was refused, or they are at fault
@@ -68,7 +72,8 @@ words_fail names before number line fault known plain skipped fails = elim fails
 ]
 
 -- the first of the lines is at fault
-pub stops_here : (before : List Line) (number : ℕ) (line : List ℕ) (lines behind : List (List ℕ)) (cause : Cause) → lines ≡ line ∷ behind → IsFault before number line cause
+pub stops_here : (before : List Line) (number : ℕ) (line : List ℕ) (lines behind : List (List ℕ)) (cause : Cause) → lines ≡ line ∷ behind
+    → IsFault before number line cause
     → Stops before number lines (record { line = number; cause = cause })
 stops_here before number line lines behind cause first fault =
     subst (λ (ls : List (List ℕ)). Stops before number ls (record { line = number; cause = cause })) (sym first) (inl (refl, fault))
@@ -77,4 +82,5 @@ stops_here before number line lines behind cause first fault =
 pub stops_on : (before after : List Line) (number : ℕ) (line : List ℕ) (lines behind : List (List ℕ)) → lines ≡ line ∷ behind → AddsTo before number line after
     → (fault : ScriptFault) → Stops after (number + 1) behind fault → Stops before number lines fault
 stops_on before after number line lines behind first adds fault others =
-    subst (λ (ls : List (List ℕ)). Stops before number ls fault) (sym first) (inr (adds.0, adds.1, subst (λ (a : List Line). Stops a (number + 1) behind fault) adds.2 others))
+    subst (λ (ls : List (List ℕ)). Stops before number ls fault) (sym first)
+    (inr (adds.0, adds.1, subst (λ (a : List Line). Stops a (number + 1) behind fault) adds.2 others))

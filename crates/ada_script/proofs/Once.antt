@@ -7,7 +7,8 @@ use Rattle.ada_statements.specs.declared.fault.Cause.TheVariants as causes
 use Rattle.ada_statements.specs.declared.fault.ScriptFault.{ScriptFault}
 use Rattle.ada_script.specs.declared.script.Line.{Line}
 use Rattle.ada_statements.specs.declared.statement.Statement.{Statement}
-use Rattle.ada_statements.specs.declared.statement.Statement.TheVariants.{Tick, Open, Create, Activate, Up, Fail, Call, CallWithin, Try, Accept, Select, End, Raise, Close, Delay, Complete, Abort, ShowCallable, ShowTerminated, ShowCount}
+use Rattle.ada_statements.specs.declared.statement.Statement.TheVariants.{Tick, Open, Create, Activate, Up, Fail, Call, CallWithin, Try, Accept, Select, End}
+use Rattle.ada_statements.specs.declared.statement.Statement.TheVariants.{Raise, Close, Delay, Complete, Abort, ShowCallable, ShowTerminated, ShowCount}
 use Rattle.ada_statements.specs.Text.{words_in, is_name}
 use Rattle.ada_spelling.specs.Spelling.{speaker, words_of}
 use Rattle.ada_statements.specs.Scope.{Scope, MayStand}
@@ -46,7 +47,8 @@ unskipped names (ShowTerminated by task) stands = no_comment by stands.0.0
 unskipped names (ShowCount by entry) stands = no_comment by stands.0.0
 
 said_unskipped : (before : List Line) (words : List (List ℕ)) (statement : Statement) → Says before words statement → is_skipped words ≡ false
-said_unskipped before words statement said = subst (λ (w : List (List ℕ)). is_skipped w ≡ false) said.spelled (unskipped (scope_of before) statement said.stands)
+said_unskipped before words statement said =
+    subst (λ (w : List (List ℕ)). is_skipped w ≡ false) said.spelled (unskipped (scope_of before) statement said.stands)
 
 said_once : (before : List Line) (words : List (List ℕ)) (one other : Statement) → Says before words one → Says before words other → one ≡ other
 said_once before words one other first second =
@@ -55,10 +57,13 @@ said_once before words one other first second =
     let b : statement_of names words ≡ Ok other = ap (statement_of names) (sym second.spelled) ∙ statement_again names other second.stands in
     cc
 
-pub adds_once : (before : List Line) (number : ℕ) (line : List ℕ) (one other : List Line) → Adds before number line one → Adds before number line other → one ≡ other
+pub adds_once : (before : List Line) (number : ℕ) (line : List ℕ) (one other : List Line) → Adds before number line one → Adds before number line other
+    → one ≡ other
 adds_once before number line one other (plain, inl first) (plain', inl second) = first.1 ∙ sym second.1
-adds_once before number line one other (plain, inl first) (plain', inr second) = absurd (true≢false (sym first.0 ∙ said_unskipped before (words_in line) second.0 second.1))
-adds_once before number line one other (plain, inr first) (plain', inl second) = absurd (true≢false (sym second.0 ∙ said_unskipped before (words_in line) first.0 first.1))
+adds_once before number line one other (plain, inl first) (plain', inr second) =
+    absurd (true≢false (sym first.0 ∙ said_unskipped before (words_in line) second.0 second.1))
+adds_once before number line one other (plain, inr first) (plain', inl second) =
+    absurd (true≢false (sym second.0 ∙ said_unskipped before (words_in line) first.0 first.1))
 adds_once before number line one other (plain, inr first) (plain', inr second) =
     let same = said_once before (words_in line) first.0 second.0 first.1 second.1 in
     let made : Statement → List Line = λ s. record { line = number; statement = s } ∷ [] in
@@ -75,31 +80,39 @@ unplain number line causes.DoubleName fault plain = fault
 unplain number line causes.TooManyLines fault plain = omega (arith, fault, plain.0)
 unplain number line causes.OutOfMemory fault plain = fault
 
-pub fault_adds_nothing : (before : List Line) (number : ℕ) (line : List ℕ) (cause : Cause) (added : List Line) → IsFault before number line cause → Adds before number line added → ⊥
+pub fault_adds_nothing : (before : List Line) (number : ℕ) (line : List ℕ) (cause : Cause) (added : List Line) → IsFault before number line cause
+    → Adds before number line added → ⊥
 fault_adds_nothing before number line cause added (inl fault) adds = unplain number line cause fault adds.0
 fault_adds_nothing before number line cause added (inr fault) (plain, inl skipped) = true≢false (sym skipped.0 ∙ fault.2.0)
 fault_adds_nothing before number line cause added (inr fault) (plain, inr said) = fault.2.1 said.0 said.1
 
 -- ---- all lines
 
-pub reads_once : (before : List Line) (number : ℕ) (lines : List (List ℕ)) (one other : List Line) → Reads before number lines one → Reads before number lines other → one ≡ other
+pub reads_once : (before : List Line) (number : ℕ) (lines : List (List ℕ)) (one other : List Line) → Reads before number lines one
+    → Reads before number lines other → one ≡ other
 reads_once before number [] one other first second = first ∙ sym second
 reads_once before number (line ∷ lines) one other first second =
     let same = adds_once before number line first.0 second.0 first.1 second.1 in
     reads_once (before ++ second.0) (number + 1) lines one other (subst (λ (a : List Line). Reads (before ++ a) (number + 1) lines one) same first.2) second.2
 
-pub stops_unread : (before : List Line) (number : ℕ) (lines : List (List ℕ)) (fault : ScriptFault) (all : List Line) → Stops before number lines fault → Reads before number lines all → ⊥
+pub stops_unread : (before : List Line) (number : ℕ) (lines : List (List ℕ)) (fault : ScriptFault) (all : List Line) → Stops before number lines fault
+    → Reads before number lines all → ⊥
 stops_unread before number [] fault all stops reads = stops
 stops_unread before number (line ∷ lines) fault all (inl here) reads = fault_adds_nothing before number line fault.cause reads.0 here.1 reads.1
 stops_unread before number (line ∷ lines) fault all (inr behind) reads =
     let same = adds_once before number line behind.0 reads.0 behind.1 reads.1 in
-    stops_unread (before ++ reads.0) (number + 1) lines fault all (subst (λ (a : List Line). Stops (before ++ a) (number + 1) lines fault) same behind.2) reads.2
+    stops_unread (before ++ reads.0) (number + 1) lines fault all
+    (subst (λ (a : List Line). Stops (before ++ a) (number + 1) lines fault) same behind.2) reads.2
 
-pub stops_once : (before : List Line) (number : ℕ) (lines : List (List ℕ)) (fault other : ScriptFault) → Stops before number lines fault → Stops before number lines other → fault.line ≡ other.line
+pub stops_once : (before : List Line) (number : ℕ) (lines : List (List ℕ)) (fault other : ScriptFault) → Stops before number lines fault
+    → Stops before number lines other → fault.line ≡ other.line
 stops_once before number [] fault other first second = absurd first
 stops_once before number (line ∷ lines) fault other (inl here) (inl there) = here.0 ∙ sym there.0
-stops_once before number (line ∷ lines) fault other (inl here) (inr behind) = absurd (fault_adds_nothing before number line fault.cause behind.0 here.1 behind.1)
-stops_once before number (line ∷ lines) fault other (inr behind) (inl there) = absurd (fault_adds_nothing before number line other.cause behind.0 there.1 behind.1)
+stops_once before number (line ∷ lines) fault other (inl here) (inr behind) =
+    absurd (fault_adds_nothing before number line fault.cause behind.0 here.1 behind.1)
+stops_once before number (line ∷ lines) fault other (inr behind) (inl there) =
+    absurd (fault_adds_nothing before number line other.cause behind.0 there.1 behind.1)
 stops_once before number (line ∷ lines) fault other (inr first) (inr second) =
     let same = adds_once before number line first.0 second.0 first.1 second.1 in
-    stops_once (before ++ second.0) (number + 1) lines fault other (subst (λ (a : List Line). Stops (before ++ a) (number + 1) lines fault) same first.2) second.2
+    stops_once (before ++ second.0) (number + 1) lines fault other
+    (subst (λ (a : List Line). Stops (before ++ a) (number + 1) lines fault) same first.2) second.2

@@ -1,7 +1,8 @@
 -- Which texts are scripts, and what they say.
 use Rattle.std.specs.Prelude.{◌≡◌, ℕ, ◌+◌, ◌≤◌, ◌<◌, ◌⊎◌, Bool, true, false, ◌==◌, IsTrue, List, [], ◌∷◌, ◌++◌, length, fold, All}
 use Rattle.ada_statements.specs.declared.fault.Cause.{Cause}
-use Rattle.ada_statements.specs.declared.fault.Cause.TheVariants.{NotAscii, LineTooLong, BadStatement, BadNumber, UnknownName, DoubleName, TooManyLines, OutOfMemory}
+use Rattle.ada_statements.specs.declared.fault.Cause.TheVariants.{NotAscii, LineTooLong, BadStatement, BadNumber, UnknownName, DoubleName, TooManyLines}
+use Rattle.ada_statements.specs.declared.fault.Cause.TheVariants.{OutOfMemory}
 use Rattle.ada_statements.specs.declared.fault.ScriptFault.{ScriptFault}
 use Rattle.ada_script.specs.declared.script.Line.{Line}
 use Rattle.ada_statements.specs.declared.statement.Statement.{Statement}
@@ -48,7 +49,8 @@ pub record Says (before : List Line) (words : List (List ℕ)) (statement : Stat
 -- what an acceptable line adds to the lines before it: nothing, or its statement
 abbrev pub Adds : List Line → ℕ → List ℕ → List Line → Type 0
 Adds before number line added = IsPlain number line
-    × ((IsTrue (is_skipped (words_in line)) × (added ≡ [])) ⊎ ((statement : Statement) × Says before (words_in line) statement × (added ≡ record { line = number; statement = statement } ∷ [])))
+    × ((IsTrue (is_skipped (words_in line)) × (added ≡ []))
+    ⊎ ((statement : Statement) × Says before (words_in line) statement × (added ≡ record { line = number; statement = statement } ∷ [])))
 
 -- lines, of which the first has this number, add to the lines before them what makes all of these
 abbrev pub Reads : List Line → ℕ → List (List ℕ) → List Line → Type 0

@@ -55,8 +55,10 @@ fn read_line(
     requires { names.old ≡ scope_of lines.old.items }
     ensures number { OnOk result (number ≤ 4096) }
     ensures names { OnOk result (names.new ≡ scope_of lines.new.items) }
-    ensures lines { OnOk result ((added : List Line) × Adds lines.old.items number line.now added × (lines.new.items ≡ lines.old.items ++ added)) }
-    ensures err { IfErr result (λ cause. (cause ≡ Cause.OutOfMemory) ⊎ IsFault lines.old.items number line.now cause) }
+    ensures lines { OnOk result ((added : List Line) × Adds lines.old.items number line.now added
+        × (lines.new.items ≡ lines.old.items ++ added)) }
+    ensures err { IfErr result (λ cause. (cause ≡ Cause.OutOfMemory)
+        ⊎ IsFault lines.old.items number line.now cause) }
 {
     check_line(number, line)?;
     let mut words = Words::new(line);
@@ -79,7 +81,8 @@ fn read_line(
 /// `OutOfMemory` where a growth was refused before such a line was met.
 pub fn read(alloc: Global, text: &[u8]) -> Result<Script, ScriptFault>
     ensures ok { IfOk result (λ script. IsScript text.now script) }
-    ensures err { IfErr result (λ fault. (fault.cause ≡ Cause.OutOfMemory) ⊎ IsFirstFault text.now fault) }
+    ensures err { IfErr result (λ fault. (fault.cause ≡ Cause.OutOfMemory)
+        ⊎ IsFirstFault text.now fault) }
 {
     let mut number = 1;
     let mut lines = Vec::new(alloc);

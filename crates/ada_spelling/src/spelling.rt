@@ -4,7 +4,8 @@ ghost use Rattle.std.specs.Prelude.{◌≡◌, ◌≤◌, true, ◌++◌, ◌∷
 ghost use Rattle.std.specs.Fmt.{signed_decimal};
 ghost use Rattle.std.specs.List.{flat_map};
 ghost use Rattle.ada_spelling.specs.Verbs.{verb_word};
-ghost use Rattle.ada_spelling.specs.Spelling.{speaker, entry_words, index_words, bounds_words, family_words, guard_words, choice_words, pause_words, select_words, tail_alternatives, else_words, words_of};
+ghost use Rattle.ada_spelling.specs.Spelling.{speaker, entry_words, index_words, bounds_words, family_words, guard_words, choice_words, pause_words};
+ghost use Rattle.ada_spelling.specs.Spelling.{select_words, tail_alternatives, else_words, words_of};
 ghost use Rattle.ada_spelling.specs.Writing.{or_words, linked_by_or};
 ghost use Rattle.ada_statements.specs.declared.statement.Statement.TheVariants as statements;
 ghost use Rattle.ada_spelling.specs.declared.verb.Verb.TheVariants as verbs;
@@ -62,7 +63,8 @@ fn speaker_word(by: &Name) -> Word
 
 /// Appends a speaker and its verb.
 fn put_speech(words: &mut Vec<Word>, by: &Name, verb: Verb) -> Result<(), AllocError>
-    ensures { OnOk result (words.new.items ≡ words.old.items ++ speaker by.now ∷ verb_word verb ∷ []) }
+    ensures { OnOk result (words.new.items ≡ words.old.items ++ speaker by.now ∷ verb_word verb
+        ∷ []) }
 {
     words.push(speaker_word(by))?;
     put(words, word_of(verb))
@@ -109,7 +111,8 @@ fn put_family(words: &mut Vec<Word>, family: &Declaration) -> Result<(), AllocEr
 
 /// Appends families.
 fn put_families(words: &mut Vec<Word>, families: &Declarations) -> Result<(), AllocError>
-    ensures { OnOk result (words.new.items ≡ words.old.items ++ flat_map family_words families.now) }
+    ensures { OnOk result (words.new.items ≡ words.old.items
+        ++ flat_map family_words families.now) }
 {
     for family in families.as_slice() {
         put_family(words, family)?;
@@ -161,7 +164,8 @@ fn put_or(words: &mut Vec<Word>, is_first: bool) -> Result<(), AllocError>
 
 /// Appends accept alternatives.
 fn put_choices(words: &mut Vec<Word>, choices: &Alternatives) -> Result<(), AllocError>
-    ensures { OnOk result (words.new.items ≡ words.old.items ++ linked_by_or true (map choice_words choices.now)) }
+    ensures { OnOk result (words.new.items ≡ words.old.items
+        ++ linked_by_or true (map choice_words choices.now)) }
 {
     for (i, choice) in choices.as_slice().iter().enumerate() {
         put_or(words, i == 0)?;
@@ -172,7 +176,8 @@ fn put_choices(words: &mut Vec<Word>, choices: &Alternatives) -> Result<(), Allo
 
 /// Appends delay alternatives, of which the first is the first alternative of all or not.
 fn put_pauses(words: &mut Vec<Word>, is_first: bool, pauses: &Pauses) -> Result<(), AllocError>
-    ensures { OnOk result (words.new.items ≡ words.old.items ++ linked_by_or is_first (map pause_words pauses.now)) }
+    ensures { OnOk result (words.new.items ≡ words.old.items
+        ++ linked_by_or is_first (map pause_words pauses.now)) }
 {
     for (i, pause) in pauses.as_slice().iter().enumerate() {
         put_or(words, is_first && i == 0)?;
@@ -183,7 +188,8 @@ fn put_pauses(words: &mut Vec<Word>, is_first: bool, pauses: &Pauses) -> Result<
 
 /// Appends the tail of a wait, which has accept alternatives before it or not.
 fn put_tail(words: &mut Vec<Word>, is_first: bool, tail: &Tail) -> Result<(), AllocError>
-    ensures { OnOk result (words.new.items ≡ words.old.items ++ (linked_by_or is_first (tail_alternatives tail.now) ++ else_words tail.now)) }
+    ensures { OnOk result (words.new.items ≡ words.old.items
+        ++ (linked_by_or is_first (tail_alternatives tail.now) ++ else_words tail.now)) }
 {
     match tail {
         Tail::Nothing => Ok(()),
@@ -217,7 +223,8 @@ fn put_select(
     choices: &Alternatives,
     tail: &Tail,
 ) -> Result<(), AllocError>
-    ensures { OnOk result (words.new.items ≡ words.old.items ++ words_of (statements.Select by.now pick choices.now tail.now)) }
+    ensures { OnOk result (words.new.items ≡ words.old.items
+        ++ words_of (statements.Select by.now pick choices.now tail.now)) }
 {
     put_speech(words, by, Verb::Select)?;
     put_pick(words, pick)?;
@@ -233,7 +240,8 @@ fn put_tick(words: &mut Vec<Word>, now: i64) -> Result<(), AllocError>
 
 /// Appends a speaker, its verb and a name.
 fn put_object(words: &mut Vec<Word>, by: &Name, verb: Verb, object: &Name) -> Result<(), AllocError>
-    ensures { OnOk result (words.new.items ≡ words.old.items ++ speaker by.now ∷ verb_word verb ∷ object.now ∷ []) }
+    ensures { OnOk result (words.new.items ≡ words.old.items ++ speaker by.now ∷ verb_word verb
+        ∷ object.now ∷ []) }
 {
     put_speech(words, by, verb)?;
     put_name(words, object)
@@ -246,7 +254,8 @@ fn put_create(
     under: &Name,
     families: &Declarations,
 ) -> Result<(), AllocError>
-    ensures { OnOk result (words.new.items ≡ words.old.items ++ words_of (statements.Create by.now task.now under.now families.now)) }
+    ensures { OnOk result (words.new.items ≡ words.old.items
+        ++ words_of (statements.Create by.now task.now under.now families.now)) }
 {
     put_object(words, by, Verb::Create, task)?;
     put(words, b"under")?;
@@ -261,7 +270,8 @@ fn put_list(
     verb: Verb,
     tasks: &TaskNames,
 ) -> Result<(), AllocError>
-    ensures { OnOk result (words.new.items ≡ words.old.items ++ speaker by.now ∷ verb_word verb ∷ tasks.now) }
+    ensures { OnOk result (words.new.items ≡ words.old.items ++ speaker by.now ∷ verb_word verb
+        ∷ tasks.now) }
 {
     put_speech(words, by, verb)?;
     put_tasks(words, tasks)
@@ -275,7 +285,8 @@ fn put_call(
     callee: &Name,
     entry: &EntryName,
 ) -> Result<(), AllocError>
-    ensures { OnOk result (words.new.items ≡ words.old.items ++ speaker by.now ∷ verb_word verb ∷ callee.now ∷ entry_words entry.now) }
+    ensures { OnOk result (words.new.items ≡ words.old.items ++ speaker by.now ∷ verb_word verb
+        ∷ callee.now ∷ entry_words entry.now) }
 {
     put_object(words, by, verb, callee)?;
     put_entry(words, entry)
@@ -288,7 +299,8 @@ fn put_call_within(
     entry: &EntryName,
     duration: i64,
 ) -> Result<(), AllocError>
-    ensures { OnOk result (words.new.items ≡ words.old.items ++ words_of (statements.CallWithin by.now callee.now entry.now duration)) }
+    ensures { OnOk result (words.new.items ≡ words.old.items
+        ++ words_of (statements.CallWithin by.now callee.now entry.now duration)) }
 {
     put_call(words, by, Verb::Call, callee, entry)?;
     put(words, b"within")?;
@@ -296,14 +308,16 @@ fn put_call_within(
 }
 
 fn put_accept(words: &mut Vec<Word>, by: &Name, entry: &EntryName) -> Result<(), AllocError>
-    ensures { OnOk result (words.new.items ≡ words.old.items ++ words_of (statements.Accept by.now entry.now)) }
+    ensures { OnOk result (words.new.items ≡ words.old.items
+        ++ words_of (statements.Accept by.now entry.now)) }
 {
     put_speech(words, by, Verb::Accept)?;
     put_entry(words, entry)
 }
 
 fn put_delay(words: &mut Vec<Word>, by: &Name, duration: i64) -> Result<(), AllocError>
-    ensures { OnOk result (words.new.items ≡ words.old.items ++ words_of (statements.Delay by.now duration)) }
+    ensures { OnOk result (words.new.items ≡ words.old.items
+        ++ words_of (statements.Delay by.now duration)) }
 {
     put_speech(words, by, Verb::Delay)?;
     put_number(words, duration)
@@ -317,7 +331,8 @@ fn put_show(
     task: &Name,
 ) -> Result<(), AllocError>
     requires { length attribute.now ≤ 20 }
-    ensures { OnOk result (words.new.items ≡ words.old.items ++ speaker by.now ∷ verb_word verbs.Show ∷ attribute.now ∷ task.now ∷ []) }
+    ensures { OnOk result (words.new.items ≡ words.old.items ++ speaker by.now
+        ∷ verb_word verbs.Show ∷ attribute.now ∷ task.now ∷ []) }
 {
     put_speech(words, by, Verb::Show)?;
     put(words, attribute)?;
@@ -325,7 +340,8 @@ fn put_show(
 }
 
 fn put_show_count(words: &mut Vec<Word>, by: &Name, entry: &EntryName) -> Result<(), AllocError>
-    ensures { OnOk result (words.new.items ≡ words.old.items ++ words_of (statements.ShowCount by.now entry.now)) }
+    ensures { OnOk result (words.new.items ≡ words.old.items
+        ++ words_of (statements.ShowCount by.now entry.now)) }
 {
     put_speech(words, by, Verb::Show)?;
     put(words, b"count")?;

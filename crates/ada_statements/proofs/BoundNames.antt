@@ -9,21 +9,26 @@ use Rattle.ada_statements.specs.Scope.{Scope}
 use Rattle.ada_statements.specs.Binding.{with_meaning, place_from}
 
 -- a new value in the place of the old one
-pub set_value-changed : (name : List ℕ) (names : Scope) (change : Meaning → Meaning) (old : Meaning) → lookup (bytes_eq name) names ≡ Some old → set_value (bytes_eq name) names (change old) ≡ with_meaning names name change
+pub set_value-changed : (name : List ℕ) (names : Scope) (change : Meaning → Meaning) (old : Meaning) → lookup (bytes_eq name) names ≡ Some old
+    → set_value (bytes_eq name) names (change old) ≡ with_meaning names name change
 set_value-changed name [] change old e = absurd cc
 set_value-changed name (entry ∷ names) change old e = by (set_value-changed name names change old) (bytes_eq name entry.0) e
   where
-    by : (lookup (bytes_eq name) names ≡ Some old → set_value (bytes_eq name) names (change old) ≡ with_meaning names name change) → (same : Bool) → cond same (Some entry.1) (lookup (bytes_eq name) names) ≡ Some old
-        → cond same ((entry.0, change old) ∷ names) (entry ∷ set_value (bytes_eq name) names (change old)) ≡ cond same ((entry.0, change entry.1) ∷ names) (entry ∷ with_meaning names name change)
+    by : (lookup (bytes_eq name) names ≡ Some old → set_value (bytes_eq name) names (change old) ≡ with_meaning names name change) → (same : Bool)
+        → cond same (Some entry.1) (lookup (bytes_eq name) names) ≡ Some old
+        → cond same ((entry.0, change old) ∷ names) (entry ∷ set_value (bytes_eq name) names (change old))
+        ≡ cond same ((entry.0, change entry.1) ∷ names) (entry ∷ with_meaning names name change)
     by later true e = let found : entry.1 ≡ old = cc in ap (λ (m : Meaning). (entry.0, change m) ∷ names) (sym found)
     by later false e = ap (λ (rest : Scope). entry ∷ rest) (later e)
 
 -- a name that isn't there
-pub with_meaning-absent : (name : List ℕ) (names : Scope) (change : Meaning → Meaning) → lookup (bytes_eq name) names ≡ None → with_meaning names name change ≡ names
+pub with_meaning-absent : (name : List ℕ) (names : Scope) (change : Meaning → Meaning) → lookup (bytes_eq name) names ≡ None
+    → with_meaning names name change ≡ names
 with_meaning-absent name [] change e = refl
 with_meaning-absent name (entry ∷ names) change e = by (with_meaning-absent name names change) (bytes_eq name entry.0) e
   where
-    by : (lookup (bytes_eq name) names ≡ None → with_meaning names name change ≡ names) → (same : Bool) → cond same (Some entry.1) (lookup (bytes_eq name) names) ≡ None
+    by : (lookup (bytes_eq name) names ≡ None → with_meaning names name change ≡ names) → (same : Bool)
+        → cond same (Some entry.1) (lookup (bytes_eq name) names) ≡ None
         → cond same ((entry.0, change entry.1) ∷ names) (entry ∷ with_meaning names name change) ≡ entry ∷ names
     by later true e = absurd cc
     by later false e = ap (λ (rest : Scope). entry ∷ rest) (later e)

@@ -1,5 +1,6 @@
 -- Where the names that are bound stand among the names of a script.
-use Rattle.std.proofs.Common.{◌≡◌, ℕ, zero, suc, ◌+◌, Bool, true, false, cond, List, [], ◌∷◌, ◌++◌, length, take, drop, find, slice_get, Option, Some, None, IfSome, is_some, refl, sym, ap, subst, ◌∙◌, add-one, arith}
+use Rattle.std.proofs.Common.{◌≡◌, ℕ, zero, suc, ◌+◌, Bool, true, false, cond, List, [], ◌∷◌, ◌++◌, length, take, drop, find, slice_get, Option, Some, None}
+use Rattle.std.proofs.Common.{IfSome, is_some, refl, sym, ap, subst, ◌∙◌, add-one, arith}
 use Rattle.std.specs.List.{position, position_from, IsDistinct, AllByRecursion}
 use Rattle.std.specs.Option.{option_map, option_and_then}
 use Rattle.std.specs.Map.{lookup, keys_of, values_of}
@@ -35,7 +36,8 @@ module _ {X : Type 0} (test : X → Bool) where
       behind None = refl
       behind (Some i) = rw add-one refl
 
-      by : find test xs ≡ option_and_then (slice_get xs) (position_from test 0 xs) → position_from test 1 xs ≡ option_map (λ i. i + 1) (position_from test 0 xs) → (same : Bool)
+      by : find test xs ≡ option_and_then (slice_get xs) (position_from test 0 xs) → position_from test 1 xs ≡ option_map (λ i. i + 1) (position_from test 0 xs)
+          → (same : Bool)
           → cond same (Some x) (find test xs) ≡ option_and_then (slice_get (x ∷ xs)) (cond same (Some 0) (position_from test 1 xs))
       by later next true = refl
       by later next false = later ∙ behind (position_from test 0 xs) ∙ ap (option_and_then (slice_get (x ∷ xs))) (sym next)
@@ -75,11 +77,13 @@ module _ {X : Type 0} (test : X → Bool) where
   appended_failing [] n x fails = ap (λ t. cond t (Some n) None) fails
   appended_failing (y ∷ ys) n x fails = ap (cond (test y) (Some n)) (appended_failing ys (n + 1) x fails)
 
-  pub appended_passing : (xs : List X) (n : ℕ) (x : X) → test x ≡ true → position_from test n xs ≡ None → position_from test n (xs ++ x ∷ []) ≡ Some (n + length xs)
+  pub appended_passing : (xs : List X) (n : ℕ) (x : X) → test x ≡ true → position_from test n xs ≡ None
+      → position_from test n (xs ++ x ∷ []) ≡ Some (n + length xs)
   appended_passing [] n x passes none = ap (λ t. cond t (Some n) None) passes ∙ ap Some (omega arith)
   appended_passing (y ∷ ys) n x passes none = by (appended_passing ys (n + 1) x passes) (test y) none
     where
-      by : (position_from test (n + 1) ys ≡ None → position_from test (n + 1) (ys ++ x ∷ []) ≡ Some (n + 1 + length ys)) → (same : Bool) → cond same (Some n) (position_from test (n + 1) ys) ≡ None
+      by : (position_from test (n + 1) ys ≡ None → position_from test (n + 1) (ys ++ x ∷ []) ≡ Some (n + 1 + length ys)) → (same : Bool)
+          → cond same (Some n) (position_from test (n + 1) ys) ≡ None
           → cond same (Some n) (position_from test (n + 1) (ys ++ x ∷ [])) ≡ Some (n + length (y ∷ ys))
       by later true e = absurd cc
       by later false e = later e ∙ ap Some (omega arith)
@@ -94,13 +98,15 @@ module _ {K V : Type 0} (test : V → Bool) (new : V) where
       ap (λ t. cond t (Some n) (position_from (λ e. test e.1) (n + 1) es)) (alike ∙ ap test (sym here))
   changed_alike (e ∷ es) n (suc i) k old at alike = ap (cond (test e.1) (Some n)) (changed_alike es (n + 1) i k old at alike)
 
-  pub changed_passing : (es : List (K × V)) (n i : ℕ) (k : K) (old : V) → slice_get es i ≡ Some (k, old) → test new ≡ true → position_from (λ e. test e.1) n es ≡ None
+  pub changed_passing : (es : List (K × V)) (n i : ℕ) (k : K) (old : V) → slice_get es i ≡ Some (k, old) → test new ≡ true
+      → position_from (λ e. test e.1) n es ≡ None
       → position_from (λ e. test e.1) n (set_value_at es i new) ≡ Some (n + i)
   changed_passing [] n i k old at passes none = absurd cc
   changed_passing (e ∷ es) n zero k old at passes none = ap (λ t. cond t (Some n) (position_from (λ e. test e.1) (n + 1) es)) passes ∙ ap Some (omega arith)
   changed_passing (e ∷ es) n (suc i) k old at passes none = by (changed_passing es (n + 1) i k old at passes) (test e.1) none
     where
-      by : (position_from (λ e. test e.1) (n + 1) es ≡ None → position_from (λ e. test e.1) (n + 1) (set_value_at es i new) ≡ Some (n + 1 + i)) → (same : Bool) → cond same (Some n) (position_from (λ e. test e.1) (n + 1) es) ≡ None
+      by : (position_from (λ e. test e.1) (n + 1) es ≡ None → position_from (λ e. test e.1) (n + 1) (set_value_at es i new) ≡ Some (n + 1 + i)) → (same : Bool)
+          → cond same (Some n) (position_from (λ e. test e.1) (n + 1) es) ≡ None
           → cond same (Some n) (position_from (λ e. test e.1) (n + 1) (set_value_at es i new)) ≡ Some (n + suc i)
       by later true e = absurd cc
       by later false e = later e ∙ ap Some (omega arith)
@@ -116,8 +122,10 @@ one_more_kept names i name meaning before after at all noted bound =
     test : List ℕ × Meaning → Bool
     test entry = is_bound_to bound entry.1
 
-    by : length (take i names) ≡ i → (same : Bool) → is_bound_to bound meaning ≡ same → position_from test 0 (take i names ++ (name, meaning) ∷ []) ≡ kept after bound
-    by many true passes = appended_passing test (take i names) 0 (name, meaning) passes (all bound ∙ ((noted bound).1 passes).0) ∙ ap Some (omega (arith, many)) ∙ sym ((noted bound).1 passes).1
+    by : length (take i names) ≡ i → (same : Bool) → is_bound_to bound meaning ≡ same
+        → position_from test 0 (take i names ++ (name, meaning) ∷ []) ≡ kept after bound
+    by many true passes = appended_passing test (take i names) 0 (name, meaning) passes (all bound ∙ ((noted bound).1 passes).0) ∙ ap Some (omega (arith, many))
+        ∙ sym ((noted bound).1 passes).1
     by many false fails = appended_failing test (take i names) 0 (name, meaning) fails ∙ all bound ∙ sym ((noted bound).0 fails)
 
 -- a name that wasn't bound is bound, and its place is noted
@@ -126,10 +134,12 @@ pub changed_kept : (names : Scope) (i : ℕ) (name : List ℕ) (old new : Meanin
 changed_kept names i name old new before after at unbound all noted bound = by (is_bound_to bound new) refl
   where
     by : (same : Bool) → is_bound_to bound new ≡ same → place_bound_to (set_value_at names i new) bound ≡ kept after bound
-    by true passes = changed_passing (is_bound_to bound) new names 0 i name old at passes (all bound ∙ ((noted bound).1 passes).0) ∙ ap Some (omega arith) ∙ sym ((noted bound).1 passes).1
+    by true passes = changed_passing (is_bound_to bound) new names 0 i name old at passes (all bound ∙ ((noted bound).1 passes).0) ∙ ap Some (omega arith)
+        ∙ sym ((noted bound).1 passes).1
     by false fails = changed_alike (is_bound_to bound) new names 0 i name old at (fails ∙ sym (unbound bound)) ∙ all bound ∙ sym ((noted bound).0 fails)
 
-value_entry : (names : Scope) (i : ℕ) (meaning : Meaning) → slice_get (values_of names) i ≡ Some meaning → (name : List ℕ) × (slice_get names i ≡ Some (name, meaning))
+value_entry : (names : Scope) (i : ℕ) (meaning : Meaning) → slice_get (values_of names) i ≡ Some meaning → (name : List ℕ)
+    × (slice_get names i ≡ Some (name, meaning))
 value_entry [] i meaning at = absurd cc
 value_entry (e ∷ es) zero meaning at = let same : e.1 ≡ meaning = cc in (e.0, ap (λ (m : Meaning). Some (e.0, m)) same)
 value_entry (e ∷ es) (suc i) meaning at = value_entry es i meaning at
@@ -156,14 +166,18 @@ module _ (name : List ℕ) (change : Meaning → Meaning) (old : Meaning) where
   placed_from [] i first at = absurd cc
   placed_from (e ∷ es) i first at = by (placed_from es) (shift (bytes_eq name) (keys_of es) 0) (bytes_eq name e.0) i first at
     where
-      behind : ((j : ℕ) → position_from (bytes_eq name) 0 (keys_of es) ≡ Some j → slice_get (values_of es) j ≡ Some old → set_value_at es j (change old) ≡ with_meaning es name change)
-          → (o : Option ℕ) → position_from (bytes_eq name) 0 (keys_of es) ≡ o → (j : ℕ) → option_map (λ i. i + 1) o ≡ Some j → slice_get (values_of (e ∷ es)) j ≡ Some old
+      behind : ((j : ℕ) → position_from (bytes_eq name) 0 (keys_of es) ≡ Some j → slice_get (values_of es) j ≡ Some old
+          → set_value_at es j (change old) ≡ with_meaning es name change)
+          → (o : Option ℕ) → position_from (bytes_eq name) 0 (keys_of es) ≡ o → (j : ℕ) → option_map (λ i. i + 1) o ≡ Some j
+          → slice_get (values_of (e ∷ es)) j ≡ Some old
           → set_value_at (e ∷ es) j (change old) ≡ e ∷ with_meaning es name change
       behind later None p j found at = absurd cc
       behind later (Some k) p zero found at = let wrong : k + 1 ≡ zero = cc in absurd (omega (arith, wrong))
-      behind later (Some k) p (suc j) found at = let next : k + 1 ≡ suc j = cc in let same : k ≡ j = omega (arith, next) in ap (λ (rest : Scope). e ∷ rest) (later j (p ∙ ap Some same) at)
+      behind later (Some k) p (suc j) found at = let next : k + 1 ≡ suc j = cc in let same : k
+          ≡ j = omega (arith, next) in ap (λ (rest : Scope). e ∷ rest) (later j (p ∙ ap Some same) at)
 
-      by : ((j : ℕ) → position_from (bytes_eq name) 0 (keys_of es) ≡ Some j → slice_get (values_of es) j ≡ Some old → set_value_at es j (change old) ≡ with_meaning es name change)
+      by : ((j : ℕ) → position_from (bytes_eq name) 0 (keys_of es) ≡ Some j → slice_get (values_of es) j ≡ Some old
+          → set_value_at es j (change old) ≡ with_meaning es name change)
           → position_from (bytes_eq name) 1 (keys_of es) ≡ option_map (λ i. i + 1) (position_from (bytes_eq name) 0 (keys_of es)) → (same : Bool) → (j : ℕ)
           → cond same (Some 0) (position_from (bytes_eq name) 1 (keys_of es)) ≡ Some j → slice_get (values_of (e ∷ es)) j ≡ Some old
           → set_value_at (e ∷ es) j (change old) ≡ cond same ((e.0, change e.1) ∷ es) (e ∷ with_meaning es name change)
@@ -178,20 +192,23 @@ module _ (name : List ℕ) (change : Meaning → Meaning) (old : Meaning) where
 -- ---- copies of names
 
 -- no name stands twice
-later_differs : (before : List ℕ) (es : Scope) (j : ℕ) (name : List ℕ) (meaning : Meaning) → AllByRecursion (λ other. bytes_eq before other ≡ false) (keys_of es) → slice_get es j ≡ Some (name, meaning)
+later_differs : (before : List ℕ) (es : Scope) (j : ℕ) (name : List ℕ) (meaning : Meaning)
+    → AllByRecursion (λ other. bytes_eq before other ≡ false) (keys_of es) → slice_get es j ≡ Some (name, meaning)
     → bytes_eq before name ≡ false
 later_differs before [] j name meaning all at = absurd cc
 later_differs before (e ∷ es) zero name meaning all at = let same : e.0 ≡ name = cc in subst (λ other. bytes_eq before other ≡ false) same all.0
 later_differs before (e ∷ es) (suc j) name meaning all at = later_differs before es j name meaning all.1 at
 
 -- entries that are inserted in their order
-next_inserted : (es : Scope) (j : ℕ) (name : List ℕ) (meaning : Meaning) → IsDistinct bytes_eq (keys_of es) → slice_get es j ≡ Some (name, meaning) → insert_entry bytes_eq (take j es) name meaning ≡ take (suc j) es
+next_inserted : (es : Scope) (j : ℕ) (name : List ℕ) (meaning : Meaning) → IsDistinct bytes_eq (keys_of es) → slice_get es j ≡ Some (name, meaning)
+    → insert_entry bytes_eq (take j es) name meaning ≡ take (suc j) es
 unfolding IsDistinct
 next_inserted [] j name meaning apart at = absurd cc
 next_inserted (e ∷ es) zero name meaning apart at = let same : e ≡ (name, meaning) = cc in ap (λ (entry : List ℕ × Meaning). entry ∷ []) (sym same)
 next_inserted (e ∷ es) (suc j) name meaning apart at =
     let differs : bytes_eq name e.0 ≡ false = nat_list_eq_equiv.symm name e.0 ∙ later_differs e.0 es j name meaning apart.0 at in
-    ap (λ t. cond t ((e.0, meaning) ∷ take j es) (e ∷ insert_entry bytes_eq (take j es) name meaning)) differs ∙ ap (λ (rest : Scope). e ∷ rest) (next_inserted es j name meaning apart.1 at)
+    ap (λ t. cond t ((e.0, meaning) ∷ take j es) (e ∷ insert_entry bytes_eq (take j es) name meaning)) differs
+    ∙ ap (λ (rest : Scope). e ∷ rest) (next_inserted es j name meaning apart.1 at)
 
 pub inserted_next : (names : Scope) (i : ℕ) (name : List ℕ) (meaning : Meaning) → IsDistinct bytes_eq (keys_of names) → slice_get names i ≡ Some (name, meaning)
     → insert_entry bytes_eq (take i names) name meaning ≡ take (i + 1) names

@@ -312,7 +312,8 @@ fn place_of(name: &Name, names: &EntryNames) -> u8
 
 /// The places with that of one more name, which stands for this, if they are kept and it can be.
 fn with_place(places: Option<Places>, meaning: &Meaning, place: usize) -> Option<Places>
-    ensures { IfSome result (λ after. (before : Places) × (places ≡ Some before) × IsNoted before after meaning.now place) }
+    ensures { IfSome result (λ after. (before : Places) × (places ≡ Some before)
+        × IsNoted before after meaning.now place) }
 {
     let mut places = places?;
     if places.note(meaning, place) {

@@ -81,7 +81,8 @@ impl Places {
 
     fn note_task(&mut self, task: TaskNo, place: u16) -> bool
         ensures first { IsTrue result ↔ (slice_get self.old.tasks.items task.0 ≡ Some None) }
-        ensures tasks { IsTrue result → self.new.tasks.items ≡ set self.old.tasks.items task.0 (Some place) }
+        ensures tasks { IsTrue result → self.new.tasks.items
+            ≡ set self.old.tasks.items task.0 (Some place) }
         ensures events { self.new.events ≡ self.old.events }
     {
         let number = usize::from(task.0);

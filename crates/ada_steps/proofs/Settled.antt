@@ -15,10 +15,12 @@ pub room_left : (from : List Event) (journal : Kept) (step : Event) → IsSettli
 room_left from journal step settling found =
     omega (arith, steps_lessen_the_work journal.events step settling.lawful found, settling.room)
 
-pub less_work : (old new : Kept) (step : Event) → IsLawful old.events → forced old.events ≡ Some step → new.events ≡ step ∷ old.events → work_left new.events < work_left old.events
+pub less_work : (old new : Kept) (step : Event) → IsLawful old.events → forced old.events ≡ Some step → new.events ≡ step ∷ old.events
+    → work_left new.events < work_left old.events
 less_work old new step lawful found appended = rw appended (steps_lessen_the_work old.events step lawful found)
 
-pub settling_more : (from : List Event) (old new : Kept) (step : Event) → IsSettling from old → forced old.events ≡ Some step → new.events ≡ step ∷ old.events → old.spare ≤ new.spare + 1 → IsSettling from new
+pub settling_more : (from : List Event) (old new : Kept) (step : Event) → IsSettling from old → forced old.events ≡ Some step → new.events ≡ step ∷ old.events
+    → old.spare ≤ new.spare + 1 → IsSettling from new
 settling_more from old new step settling found appended spare = record {
   forces = subst (λ j. Forces from j) (sym appended) (one_more settling.forces found);
   lawful = subst (λ j. IsLawful j) (sym appended) (settling.lawful, inl found);
@@ -32,7 +34,9 @@ pub has_places : (journal : List Event) → IsLawful journal → length journal 
 has_places journal lawful = omega (arith, events_are_few journal lawful)
 
 -- with the event of a request appended, the journal is lawful and the work left finds room
-pub asked_room : (old : List Event) (request : Request) (before after : Kept) (event : Event) → IsLawful old → IsSettled old → refusal old request ≡ None → before.events ≡ old → 1024 ≤ before.spare → before.spare ≤ after.spare + 1 → event ≡ asked_event old request → after.events ≡ event ∷ before.events → IsLawful after.events × (work_left after.events ≤ after.spare)
+pub asked_room : (old : List Event) (request : Request) (before after : Kept) (event : Event) → IsLawful old → IsSettled old → refusal old request ≡ None
+    → before.events ≡ old → 1024 ≤ before.spare → before.spare ≤ after.spare + 1 → event ≡ asked_event old request → after.events ≡ event ∷ before.events
+    → IsLawful after.events × (work_left after.events ≤ after.spare)
 asked_room old request before after event lawful settled unrefused same room spare is appended =
     let asked : IsLawful (asked_event old request ∷ old) = asked_lawful old request lawful settled unrefused in
     let whole : after.events ≡ asked_event old request ∷ old = appended ∙ ap (λ e. e ∷ before.events) is ∙ ap (λ j. asked_event old request ∷ j) same in

@@ -47,9 +47,11 @@ pub trait Answerer {
     fn advance(&mut self, journal: &mut Journal) -> bool
         requires stands { stands self.old journal.old.events }
         requires lawful { IsLawful journal.old.events }
-        requires room { (step : EventValue) → forced journal.old.events ≡ Some step → 0 < journal.old.spare }
+        requires room { (step : EventValue) → forced journal.old.events ≡ Some step
+            → 0 < journal.old.spare }
         ensures step { result ≡ true → (step : EventValue) × (forced journal.old.events ≡ Some step)
-            × (journal.new.events ≡ step ∷ journal.old.events) × (journal.old.spare ≤ journal.new.spare + 1) }
+            × (journal.new.events ≡ step ∷ journal.old.events)
+            × (journal.old.spare ≤ journal.new.spare + 1) }
         ensures rest { result ≡ false → (forced journal.old.events ≡ None)
             × (journal.new.events ≡ journal.old.events) }
         ensures stands { stands self.new journal.new.events };

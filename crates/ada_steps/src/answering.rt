@@ -35,8 +35,10 @@ fn accept<A: Answerer>(
     requires lawful { IsLawful journal.old.events }
     requires settled { IsSettled journal.old.events }
     requires unrefused { refusal_of journal.old.events request.now ≡ None }
-    ensures ok { IfOk result (λ at. IsAccepted journal.old.events request.now at journal.new.events) }
-    ensures err { IfErr result (λ cause. IsRefused journal.old.events request.now cause journal.new.events) }
+    ensures ok { IfOk result (λ at.
+        IsAccepted journal.old.events request.now at journal.new.events) }
+    ensures err { IfErr result (λ cause.
+        IsRefused journal.old.events request.now cause journal.new.events) }
     ensures lawful { IsLawful journal.new.events }
     ensures settled { IsSettled journal.new.events }
     ensures stands { A.stands answerer.new journal.new.events }
@@ -61,8 +63,10 @@ pub fn step<A: Answerer>(
     requires stands { A.stands answerer.old journal.old.events }
     requires lawful { IsLawful journal.old.events }
     requires settled { IsSettled journal.old.events }
-    ensures ok { IfOk result (λ at. IsAccepted journal.old.events request.now at journal.new.events) }
-    ensures err { IfErr result (λ cause. IsRefused journal.old.events request.now cause journal.new.events) }
+    ensures ok { IfOk result (λ at.
+        IsAccepted journal.old.events request.now at journal.new.events) }
+    ensures err { IfErr result (λ cause.
+        IsRefused journal.old.events request.now cause journal.new.events) }
     ensures lawful { IsLawful journal.new.events }
     ensures settled { IsSettled journal.new.events }
     ensures stands { A.stands answerer.new journal.new.events }

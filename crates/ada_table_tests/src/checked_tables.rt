@@ -78,8 +78,10 @@ fn holds(tables: &Tables, task: TaskNo, master: Master) -> bool
 // The task that holds a master.
 fn holder(tables: &Tables, master: Master) -> Option<TaskNo>
     ensures { MatchOption result
-        ((task : ℕ) → task < length tables.now.tasks → holds task (task_at tables.now.tasks task).nest master ≡ false)
-        (λ task. (task.0 < length tables.now.tasks) × (holds task.0 (task_at tables.now.tasks task.0).nest master ≡ true)) }
+        ((task : ℕ) → task < length tables.now.tasks
+        → holds task (task_at tables.now.tasks task).nest master ≡ false)
+        (λ task. (task.0 < length tables.now.tasks)
+        × (holds task.0 (task_at tables.now.tasks task.0).nest master ≡ true)) }
 {
     for number in 0..tables.tasks() {
         if holds(tables, TaskNo(number), master) {
@@ -167,7 +169,8 @@ fn has_room(tables: &Tables, task: TaskNo) -> Result<(), Unmet>
 fn innermost(tables: &Tables, task: TaskNo) -> Result<Member, Unmet>
     ensures known { OnOk result (task.0 < length tables.now.tasks) }
     ensures inside { OnOk result (0 < length (task_at tables.now.tasks task.0).nest) }
-    ensures value { IfOk result (λ member. innermost (task_at tables.now.tasks task.0).nest ≡ Some member) }
+    ensures value { IfOk result (λ member.
+        innermost (task_at tables.now.tasks task.0).nest ≡ Some member) }
 {
     known(tables, task)?;
     let nest = tables.nest(task);

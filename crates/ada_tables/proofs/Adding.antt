@@ -1,5 +1,6 @@
 -- A task is added, and the counts stay right.
-use Rattle.std.proofs.Common.{◌≡◌, ◌⊎◌, ℕ, suc, ◌+◌, ◌<◌, ◌≤◌, Bool, true, false, not, ◌&&◌, List, [], ◌∷◌, ◌++◌, length, min, Option, Some, None, refl, ap, sym, ◌∙◌, arith, inl, inr, length-append}
+use Rattle.std.proofs.Common.{◌≡◌, ◌⊎◌, ℕ, suc, ◌+◌, ◌<◌, ◌≤◌, Bool, true, false, not, ◌&&◌, List, [], ◌∷◌, ◌++◌, length, min, Option, Some, None, refl, ap}
+use Rattle.std.proofs.Common.{sym, ◌∙◌, arith, inl, inr, length-append}
 use Rattle.std.specs.Prelude.{if◌then◌else◌}
 use Rattle.std.proofs.lemmas.Bool.{cases_eq, both_ways, eqb-true, and_right, false_from_ne_true}
 use Rattle.std.proofs.lemmas.List.{length-map, get_or_append_left, get_or_push, map-append}
@@ -7,7 +8,8 @@ use Rattle.ada_events.specs.declared.names.Master.{Master}
 use Rattle.ada_events.specs.declared.names.Master.TheVariants.{Body, Block}
 use Rattle.ada_tables.specs.declared.task.Task.{Task}
 use Rattle.ada_tables.specs.Layers.{live_at}
-use Rattle.ada_tables.specs.Dependents.{Facts, nobody, task_at, has_block, holds, reaches, is_terminated, is_live_dependent, live_dependents, depends_on, count_below}
+use Rattle.ada_tables.specs.Dependents.{Facts, nobody, task_at, has_block, holds, reaches, is_terminated, is_live_dependent, live_dependents, depends_on}
+use Rattle.ada_tables.specs.Dependents.{count_below}
 use Rattle.ada_tables.specs.Counts.{facts_of, facts, no_task, record_at, ChangesAlong, StandAlone, AreCounted, IsLed, is_led}
 use Rattle.ada_tables.proofs.Reaching.{body_below, Alike, alike_same, reaches_alike, led_alike, led_from}
 use Rattle.ada_events.specs.declared.names.Family.{Family}
@@ -18,16 +20,19 @@ use Rattle.ada_tables.proofs.Alongs.{along_begins, along_same}
 use Rattle.ada_tables.proofs.Keeping.{count_same, count_le, count_nobody}
 
 -- a count that fits is raised by one
-raise_fits : (count live : ℕ) (passed : Bool) → live ≤ 256 → count ≡ (if passed && not false then min (live + 1) 65535 else live) → count ≡ live + (if passed then 1 else 0)
+raise_fits : (count live : ℕ) (passed : Bool) → live ≤ 256 → count ≡ (if passed && not false then min (live + 1) 65535 else live)
+    → count ≡ live + (if passed then 1 else 0)
 raise_fits count live true few is = omega arith
 raise_fits count live false few is = omega arith
 
 -- each block stands in one nest
 pub stand_alone : (tasks : List Task) → AreCounted tasks → StandAlone (facts tasks)
-stand_alone tasks right = record { alone = λ task other block low there first second. right.alone task other block (rw length-map at low) (rw length-map at there) first second }
+stand_alone tasks right =
+    record { alone = λ task other block low there first second. right.alone task other block (rw length-map at low) (rw length-map at there) first second }
 
 -- a master is held by one task
-pub held_once : (tasks : List Facts) (one other : ℕ) (master : Master) → StandAlone tasks → one < length tasks → other < length tasks → holds one (task_at tasks one).nest master ≡ true → holds other (task_at tasks other).nest master ≡ true → one ≡ other
+pub held_once : (tasks : List Facts) (one other : ℕ) (master : Master) → StandAlone tasks → one < length tasks → other < length tasks
+    → holds one (task_at tasks one).nest master ≡ true → holds other (task_at tasks other).nest master ≡ true → one ≡ other
 held_once tasks one other (Body t) single low there first second = sym (eqb-true t.0 one first) ∙ eqb-true t.0 other second
 held_once tasks one other (Block block) single low there first second = single.alone one other block low there first second
 
@@ -45,7 +50,8 @@ module _ (tasks : List Task) (master : Option Master) (holder : ℕ) (families :
   longer = ap (λ fs. length fs) facts_pushed ∙ omega (arith, length-append (facts tasks) (facts_of (made master holder families) ∷ []), many)
 
   old_fact : (task : ℕ) → task < length tasks → task_at (facts pushed) task ≡ task_at (facts tasks) task
-  old_fact task low = ap (λ fs. task_at fs task) facts_pushed ∙ get_or_append_left (facts tasks) (facts_of (made master holder families) ∷ []) nobody task (omega (arith, many))
+  old_fact task low = ap (λ fs. task_at fs task) facts_pushed
+      ∙ get_or_append_left (facts tasks) (facts_of (made master holder families) ∷ []) nobody task (omega (arith, many))
 
   new_fact : task_at (facts pushed) (length tasks) ≡ facts_of (made master holder families)
   new_fact = ap (λ fs. task_at fs (length tasks)) facts_pushed ∙ get_or_push (facts tasks) (facts_of (made master holder families)) nobody (length tasks) many
@@ -66,11 +72,14 @@ module _ (tasks : List Task) (master : Option Master) (holder : ℕ) (families :
   alike : (task : ℕ) → task < length tasks → Alike task (task_at (facts tasks) task) (task_at (facts pushed) task)
   alike task low = alike_same task (task_at (facts tasks) task) (task_at (facts pushed) task) (old_fact task low)
 
-  reaches_pushed : (made_before : ℕ) (from : Option Master) (to : Master) → made_before ≤ length tasks → reaches (facts pushed) made_before from to ≡ reaches (facts tasks) made_before from to
+  reaches_pushed : (made_before : ℕ) (from : Option Master) (to : Master) → made_before ≤ length tasks
+      → reaches (facts pushed) made_before from to ≡ reaches (facts tasks) made_before from to
   reaches_pushed made_before from to low = reaches_alike (facts tasks) (facts pushed) made_before from to (λ task below. alike task (omega arith))
 
-  led_pushed : (made_before : ℕ) (from : Option Master) (by : ℕ) → made_before ≤ length tasks → is_led pushed made_before from by ≡ is_led tasks made_before from by
-  led_pushed made_before from by low = led_alike tasks pushed made_before from by (λ task below. alike task (omega arith)) (λ task below. ap (λ (t : Task). t.holder) (old_record task (omega arith)))
+  led_pushed : (made_before : ℕ) (from : Option Master) (by : ℕ) → made_before ≤ length tasks
+      → is_led pushed made_before from by ≡ is_led tasks made_before from by
+  led_pushed made_before from by low = led_alike tasks pushed made_before from by (λ task below. alike task (omega arith))
+      (λ task below. ap (λ (t : Task). t.holder) (old_record task (omega arith)))
 
   -- no block stands in the new nest
   nothing_new : (task block : ℕ) → task ≡ length tasks → has_block block (task_at (facts pushed) task).nest ≡ true → ⊥
@@ -91,7 +100,8 @@ module _ (tasks : List Task) (master : Option Master) (holder : ℕ) (families :
       }
 
   -- the masters that the new task depends on have one live dependent more
-  one_more : (to : Master) → live_dependents (facts pushed) to ≡ live_dependents (facts tasks) to + (if depends_on (facts pushed) (length tasks) to then 1 else 0)
+  one_more : (to : Master) → live_dependents (facts pushed) to
+      ≡ live_dependents (facts tasks) to + (if depends_on (facts pushed) (length tasks) to then 1 else 0)
   unfolding count_below
   one_more to =
       ap (count_below (is_live_dependent (facts pushed) to)) longer
@@ -101,7 +111,8 @@ module _ (tasks : List Task) (master : Option Master) (holder : ℕ) (families :
       last = rw new_fact refl
 
       before : (task : ℕ) → task < length tasks → is_live_dependent (facts pushed) to task ≡ is_live_dependent (facts tasks) to task
-      before task low = rw (old_fact task low) (ap (λ b. not (is_terminated (task_at (facts tasks) task).phase) && b) (reaches_pushed task (task_at (facts tasks) task).master to (omega arith)))
+      before task low = rw (old_fact task low) (ap (λ b. not (is_terminated (task_at (facts tasks) task).phase) && b)
+          (reaches_pushed task (task_at (facts tasks) task).master to (omega arith)))
 
   -- nobody depends on the new body
   no_more : live_dependents (facts pushed) (Body (record { 0 = length tasks })) ≡ 0
@@ -109,7 +120,8 @@ module _ (tasks : List Task) (master : Option Master) (holder : ℕ) (families :
       one_more (Body (record { 0 = length tasks }))
       ∙ rw (
         body_below (facts pushed) (length tasks) (task_at (facts pushed) (length tasks)).master (record { 0 = length tasks }) (omega arith),
-        count_nobody (is_live_dependent (facts tasks) (Body (record { 0 = length tasks }))) (length (facts tasks)) (λ task low. and_right _ _ (body_below (facts tasks) task (task_at (facts tasks) task).master (record { 0 = length tasks }) (omega (arith, many)))),
+        count_nobody (is_live_dependent (facts tasks) (Body (record { 0 = length tasks }))) (length (facts tasks))
+            (λ task low. and_right _ _ (body_below (facts tasks) task (task_at (facts tasks) task).master (record { 0 = length tasks }) (omega (arith, many)))),
       ) refl
 
   few_live : (to : Master) → live_dependents (facts tasks) to ≤ 256
@@ -139,11 +151,15 @@ module _ (tasks : List Task) (master : Option Master) (holder : ℕ) (families :
                 ∙ sym (one_more (Body (record { 0 = task })))
             | inr last ↦
                 rw last (along.bodies (length tasks) (rw last at (within task low))
-                ∙ rw (body_below (facts pushed) (length tasks) (task_at (facts pushed) (length tasks)).master (record { 0 = length tasks }) (omega arith), new_record) refl
+                ∙ rw (
+                  body_below (facts pushed) (length tasks) (task_at (facts pushed) (length tasks)).master (record { 0 = length tasks }) (omega arith),
+                  new_record,
+                ) refl
                 ∙ sym no_more)
           ]
 
-      block_right : (task block : ℕ) → task < length raised → has_block block (task_at (facts pushed) task).nest ≡ true → live_at block (record_at raised task).nest ≡ live_dependents (facts pushed) (Block block)
+      block_right : (task block : ℕ) → task < length raised → has_block block (task_at (facts pushed) task).nest ≡ true
+          → live_at block (record_at raised task).nest ≡ live_dependents (facts pushed) (Block block)
       block_right task block low has =
           elim (below task (known task low)) [
             | inl old ↦
@@ -158,7 +174,8 @@ module _ (tasks : List Task) (master : Option Master) (holder : ℕ) (families :
           elim (below task (known task low)) [
             | inl old ↦
                 rw (old_fact task old, old_record task old)
-                (led_pushed task (task_at (facts tasks) task).master (record_at tasks task).holder (omega arith) ∙ right.led task old (rw (old_fact task old) at lives))
+                (led_pushed task (task_at (facts tasks) task).master (record_at tasks task).holder (omega arith)
+                ∙ right.led task old (rw (old_fact task old) at lives))
             | inr last ↦ rw last pushed_led
           ]
 
@@ -167,7 +184,8 @@ module _ (tasks : List Task) (master : Option Master) (holder : ℕ) (families :
           record {
             bodies = λ task low. rw along.same (body_right task low);
             blocks = λ task block low has. rw along.same (block_right task block low (rw along.same at has));
-            alone = λ task other block low there first second. pushed_alone.alone task other block (known task low) (known other there) (rw along.same at first) (rw along.same at second);
+            alone = λ task other block low there first second. pushed_alone.alone task other block (known task low) (known other there) (rw along.same at first)
+                (rw along.same at second);
             led = λ task low lives. led_same task (led_right task low (rw along.same at lives));
             few = omega (arith, long);
           }
@@ -176,11 +194,13 @@ module _ (tasks : List Task) (master : Option Master) (holder : ℕ) (families :
           led_same task led_there =
               rw (along.same, along.holders task)
               (led_alike pushed raised task (task_at (facts pushed) task).master (record_at pushed task).holder
-              (λ at low. alike_same at (task_at (facts pushed) at) (task_at (facts raised) at) (ap (λ fs. task_at fs at) along.same)) (λ at low. along.holders at)
+              (λ at low. alike_same at (task_at (facts pushed) at) (task_at (facts raised) at) (ap (λ fs. task_at fs at) along.same))
+              (λ at low. along.holders at)
               ∙ led_there)
 
 -- the way from an open master is led
-pub open_led : (tasks : List Task) (master : Master) (holder : ℕ) → AreCounted tasks → IsOpen (facts tasks) master → holder < length tasks → holds holder (task_at (facts tasks) holder).nest master ≡ true → is_led tasks (length tasks) (Some master) holder ≡ true
+pub open_led : (tasks : List Task) (master : Master) (holder : ℕ) → AreCounted tasks → IsOpen (facts tasks) master → holder < length tasks
+    → holds holder (task_at (facts tasks) holder).nest master ≡ true → is_led tasks (length tasks) (Some master) holder ≡ true
 open_led tasks master holder right is_open low held =
     let many = length-map tasks facts_of in
     let same : is_open.task ≡ holder = once is_open.task is_open.within is_open.held in
@@ -196,4 +216,6 @@ pub added_main : (holder : ℕ) (families : List Family) → AreCounted [] → A
 unfolding reaches is_led
 added_main holder families right =
     added_counted [] None holder families right (omega arith) refl (made None holder families ∷ [])
-    (along_same Added (made None holder families ∷ []) (made None holder families ∷ []) (depends_on (facts (made None holder families ∷ [])) 0) (depends_on (facts (made None holder families ∷ [])) 0) (λ _. false) (λ to. refl) (along_begins Added (made None holder families ∷ []) (depends_on (facts (made None holder families ∷ [])) 0)))
+    (along_same Added (made None holder families ∷ []) (made None holder families ∷ []) (depends_on (facts (made None holder families ∷ [])) 0)
+    (depends_on (facts (made None holder families ∷ [])) 0) (λ _. false) (λ to. refl)
+    (along_begins Added (made None holder families ∷ []) (depends_on (facts (made None holder families ∷ [])) 0)))

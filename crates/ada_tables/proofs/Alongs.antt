@@ -1,5 +1,6 @@
 -- Changing the counts along a way outwards, a task at a time.
-use Rattle.std.proofs.Common.{◌≡◌, ◌≢◌, ℕ, zero, suc, ◌<◌, Bool, true, false, not, ◌||◌, ◌&&◌, List, [], ◌∷◌, length, get_or, set, Some, None, refl, ap, sym, ◌∙◌, arith, inl, inr}
+use Rattle.std.proofs.Common.{◌≡◌, ◌≢◌, ℕ, zero, suc, ◌<◌, Bool, true, false, not, ◌||◌, ◌&&◌, List, [], ◌∷◌, length, get_or, set, Some, None, refl, ap, sym}
+use Rattle.std.proofs.Common.{◌∙◌, arith, inl, inr}
 use Rattle.std.specs.Prelude.{◌==◌, if◌then◌else◌}
 use Rattle.std.proofs.lemmas.Bool.{cases_Bool, cases_eq, eq-eqb, ne_eqb, or_left, or_right, and_from, false_from_ne_true}
 use Rattle.std.proofs.lemmas.List.{map-set, length-map, get_or-set_same, get_or-set_other, set-get_or, get_or_default}
@@ -28,7 +29,8 @@ master_read tasks task d low = ap (λ (f : Facts). f.master) (facts_at tasks tas
 pub facts_counted : (change : Change) (from : Master) (task : Task) → facts_of (counted change from task) ≡ facts_of task
 facts_counted change (Body t) task = refl
 facts_counted change (Block block) task =
-    ap (λ (ms : List Member). let f : Facts = record { master = task.master; families = task.families; nest = ms; phase = task.phase } in f) (members-moved_to (changed change) block task.nest)
+    ap (λ (ms : List Member). let f : Facts = record { master = task.master; families = task.families; nest = ms; phase = task.phase } in f)
+    (members-moved_to (changed change) block task.nest)
 
 -- a record written with the same facts changes none
 pub facts-set : (tasks : List Task) (task : ℕ) (new : Task) → facts_of new ≡ facts_of (record_at tasks task) → facts (set tasks task new) ≡ facts tasks
@@ -52,7 +54,8 @@ along_begins change tasks passed =
     never false = refl
 
 -- the masters left to pass are told in another way
-pub along_same : (change : Change) (old new : List Task) (passed left other : Master → Bool) → ((master : Master) → other master ≡ left master) → ChangesAlong change old new passed left → ChangesAlong change old new passed other
+pub along_same : (change : Change) (old new : List Task) (passed left other : Master → Bool) → ((master : Master) → other master ≡ left master)
+    → ChangesAlong change old new passed left → ChangesAlong change old new passed other
 along_same change old new passed left other same along =
     record {
       same = along.same;
@@ -75,21 +78,28 @@ holder_counted : (change : Change) (from : Master) (task : Task) → (counted ch
 holder_counted change (Body t) task = refl
 holder_counted change (Block block) task = refl
 
-live_at-counted : (change : Change) (from : Master) (number block : ℕ) (task : Task) → has_block block (members task.nest) ≡ true → live_at block (counted change from task).nest ≡ (if encloses number (members task.nest) from (Block block) then changed change (live_at block task.nest) else live_at block task.nest)
+live_at-counted : (change : Change) (from : Master) (number block : ℕ) (task : Task) → has_block block (members task.nest) ≡ true
+    → live_at block (counted change from task).nest
+    ≡ (if encloses number (members task.nest) from (Block block) then changed change (live_at block task.nest) else live_at block task.nest)
 live_at-counted change (Body t) number block task has = refl
 live_at-counted change (Block inner) number block task has = live_at-moved_to (changed change) inner block task.nest has
 
 -- a count that is changed here, and not later
-counted_here : (count : ℕ → ℕ) (passed left later : Bool) (new now old : ℕ) → left ≡ true → later ≡ false → (left ≡ true → passed ≡ true) → now ≡ (if passed && not left then count old else old) → new ≡ count now → new ≡ (if passed && not later then count old else old)
+counted_here : (count : ℕ → ℕ) (passed left later : Bool) (new now old : ℕ) → left ≡ true → later ≡ false → (left ≡ true → passed ≡ true)
+    → now ≡ (if passed && not left then count old else old) → new ≡ count now → new ≡ (if passed && not later then count old else old)
 counted_here count passed left later new now old is none within was changes =
     let all = within is in
     let same : now ≡ old = was ∙ rw (all, is) refl in
     changes ∙ ap count same ∙ rw (all, none) refl
 
-counted_elsewhere : (count : ℕ → ℕ) (passed left later : Bool) (new now old : ℕ) → left ≡ later → now ≡ (if passed && not left then count old else old) → new ≡ now → new ≡ (if passed && not later then count old else old)
+counted_elsewhere : (count : ℕ → ℕ) (passed left later : Bool) (new now old : ℕ) → left ≡ later → now ≡ (if passed && not left then count old else old)
+    → new ≡ now → new ≡ (if passed && not later then count old else old)
 counted_elsewhere count passed left later new now old same was stays = stays ∙ was ∙ ap (λ b. if passed && not b then count old else old) same
 
-module _ (change : Change) (old now : List Task) (passed : Master → Bool) (at : ℕ) (from : Master) (single : StandAlone (facts old)) (within : at < length old) (long : length now ≡ length old) (held : holds at (task_at (facts old) at).nest from ≡ true) (left : Master → Bool) (left_is : (to : Master) → left to ≡ (encloses at (task_at (facts old) at).nest from to || depends_on (facts old) at to)) (along : ChangesAlong change old now passed left) where
+module _ (change : Change) (old now : List Task) (passed : Master → Bool) (at : ℕ) (from : Master) (single : StandAlone (facts old)) (within : at < length old)
+    (long : length now ≡ length old) (held : holds at (task_at (facts old) at).nest from ≡ true) (left : Master → Bool)
+    (left_is : (to : Master) → left to ≡ (encloses at (task_at (facts old) at).nest from to || depends_on (facts old) at to))
+    (along : ChangesAlong change old now passed left) where
   abbrev here : Facts
   here = task_at (facts old) at
 
@@ -108,27 +118,37 @@ module _ (change : Change) (old now : List Task) (passed : Master → Bool) (at 
       absurd (omega (arith, found.1)))
 
   -- no block of another nest is passed here
-  block_here : (task block : ℕ) → task < length old → task ≢ at → has_block block (task_at (facts old) task).nest ≡ true → encloses at here.nest from (Block block) ≡ false
+  block_here : (task block : ℕ) → task < length old → task ≢ at → has_block block (task_at (facts old) task).nest ≡ true
+      → encloses at here.nest from (Block block) ≡ false
   block_here task block low differs has =
-      false_from_ne_true _ (λ passing. differs (single.alone task at block (omega (arith, many)) (omega (arith, many)) has (passes_holds at here (Some from) (Block block) (and_from _ _ held passing))))
+      false_from_ne_true _ (λ passing. differs (single.alone task at block (omega (arith, many)) (omega (arith, many)) has
+      (passes_holds at here (Some from) (Block block) (and_from _ _ held passing))))
 
-  bodies_now : (task : ℕ) → task < length old → (record_at (set now at (counted change from (record_at now at))) task).live ≡ (if passed (Body (record { 0 = task })) && not (depends_on (facts old) at (Body (record { 0 = task }))) then changed change (record_at old task).live else (record_at old task).live)
+  bodies_now : (task : ℕ) → task < length old → (record_at (set now at (counted change from (record_at now at))) task).live
+      ≡ (if passed (Body (record { 0 = task })) && not (depends_on (facts old) at (Body (record { 0 = task }))) then changed change (record_at old task).live
+      else (record_at old task).live)
   bodies_now task low =
       elim (cases_eq task at) [
         | inl same ↦
-            let none : depends_on (facts old) at (Body (record { 0 = task })) ≡ false = body_below (facts old) at here.master (record { 0 = task }) (omega arith) in
+            let none : depends_on (facts old) at (Body (record { 0 = task }))
+            ≡ false = body_below (facts old) at here.master (record { 0 = task }) (omega arith) in
             counted_here (changed change) (passed (Body (record { 0 = task }))) (left (Body (record { 0 = task }))) _ _ (record_at now task).live _
             (left_is (Body (record { 0 = task })) ∙ or_left _ _ (encloses_body at here.nest from (record { 0 = task }) ∙ eq-eqb task at same))
             none (along.within (Body (record { 0 = task }))) (along.bodies task low)
-            (rw same (ap (λ (t : Task). t.live) (get_or-set_same now at (counted change from (record_at now at)) no_task (omega arith)) ∙ live_counted change from (record_at now at)))
+            (rw same (ap (λ (t : Task). t.live) (get_or-set_same now at (counted change from (record_at now at)) no_task (omega arith))
+            ∙ live_counted change from (record_at now at)))
         | inr differs ↦
             counted_elsewhere (changed change) (passed (Body (record { 0 = task }))) (left (Body (record { 0 = task }))) _ _ (record_at now task).live _
-            (left_is (Body (record { 0 = task })) ∙ ap (λ b. b || depends_on (facts old) at (Body (record { 0 = task }))) (encloses_body at here.nest from (record { 0 = task }) ∙ ne_eqb task at differs))
+            (left_is (Body (record { 0 = task })) ∙ ap (λ b. b || depends_on (facts old) at (Body (record { 0 = task })))
+            (encloses_body at here.nest from (record { 0 = task }) ∙ ne_eqb task at differs))
             (along.bodies task low)
             (ap (λ (t : Task). t.live) (get_or-set_other now at task (counted change from (record_at now at)) no_task differs))
       ]
 
-  blocks_now : (task block : ℕ) → task < length old → has_block block (task_at (facts old) task).nest ≡ true → live_at block (record_at (set now at (counted change from (record_at now at))) task).nest ≡ (if passed (Block block) && not (depends_on (facts old) at (Block block)) then changed change (live_at block (record_at old task).nest) else live_at block (record_at old task).nest)
+  blocks_now : (task block : ℕ) → task < length old → has_block block (task_at (facts old) task).nest ≡ true
+      → live_at block (record_at (set now at (counted change from (record_at now at))) task).nest
+      ≡ (if passed (Block block) && not (depends_on (facts old) at (Block block)) then changed change (live_at block (record_at old task).nest)
+      else live_at block (record_at old task).nest)
   blocks_now task block low has =
       elim (cases_eq task at) [
         | inl same ↦ here_now same
@@ -139,13 +159,17 @@ module _ (change : Change) (old now : List Task) (passed : Master → Bool) (at 
             (ap (λ (t : Task). live_at block t.nest) (get_or-set_other now at task (counted change from (record_at now at)) no_task differs))
       ]
     where
-      here_now : task ≡ at → live_at block (record_at (set now at (counted change from (record_at now at))) task).nest ≡ (if passed (Block block) && not (depends_on (facts old) at (Block block)) then changed change (live_at block (record_at old task).nest) else live_at block (record_at old task).nest)
+      here_now : task ≡ at → live_at block (record_at (set now at (counted change from (record_at now at))) task).nest
+          ≡ (if passed (Block block) && not (depends_on (facts old) at (Block block)) then changed change (live_at block (record_at old task).nest)
+          else live_at block (record_at old task).nest)
       here_now same =
           let stands : has_block block here.nest ≡ true = rw same at has in
           let read : has_block block (members (record_at now at).nest) ≡ true = ap (λ (f : Facts). has_block block f.nest) read_is ∙ stands in
           let none = block_later block stands in
-          let written = ap (λ (t : Task). live_at block t.nest) (get_or-set_same now at (counted change from (record_at now at)) no_task (omega arith)) ∙ live_at-counted change from at block (record_at now at) read in
-          let within_nest : encloses at (members (record_at now at).nest) from (Block block) ≡ encloses at here.nest from (Block block) = ap (λ (f : Facts). encloses at f.nest from (Block block)) read_is in
+          let written = ap (λ (t : Task). live_at block t.nest) (get_or-set_same now at (counted change from (record_at now at)) no_task (omega arith))
+          ∙ live_at-counted change from at block (record_at now at) read in
+          let within_nest : encloses at (members (record_at now at).nest) from (Block block)
+          ≡ encloses at here.nest from (Block block) = ap (λ (f : Facts). encloses at f.nest from (Block block)) read_is in
           let was = rw same at (along.blocks task block low has) in
           rw same (elim (cases_Bool (encloses at here.nest from (Block block))) [
             | inl inside ↦
@@ -163,7 +187,8 @@ module _ (change : Change) (old now : List Task) (passed : Master → Bool) (at 
   holders_now : (task : ℕ) → (record_at (set now at (counted change from (record_at now at))) task).holder ≡ (record_at old task).holder
   holders_now task =
       elim (cases_eq task at) [
-        | inl same ↦ rw same (ap (λ (t : Task). t.holder) (get_or-set_same now at (counted change from (record_at now at)) no_task (omega arith)) ∙ holder_counted change from (record_at now at))
+        | inl same ↦ rw same (ap (λ (t : Task). t.holder) (get_or-set_same now at (counted change from (record_at now at)) no_task (omega arith))
+            ∙ holder_counted change from (record_at now at))
         | inr differs ↦ ap (λ (t : Task). t.holder) (get_or-set_other now at task (counted change from (record_at now at)) no_task differs)
       ] ∙ along.holders task
 
@@ -201,14 +226,18 @@ module _ (change : Change) (old now : List Task) (passed : Master → Bool) (num
   next_within master d e is = let way = next_leads master d e is in omega (arith, way.low, so_far.within, long_now)
 
   -- the counts of the next holder are changed
-  pub goes_outwards : (master : Master) (d e f written : Task) → StandAlone (facts old) → (get_or now number d).master ≡ Some master → written ≡ counted change master (get_or now (get_or now number e).holder f) → IsUnderWay change old (set now (get_or now number e).holder written) passed (get_or now number e).holder
+  pub goes_outwards : (master : Master) (d e f written : Task) → StandAlone (facts old) → (get_or now number d).master ≡ Some master
+      → written ≡ counted change master (get_or now (get_or now number e).holder f)
+      → IsUnderWay change old (set now (get_or now number e).holder written) passed (get_or now number e).holder
   goes_outwards master d e f written single is written_is =
       let way = next_leads master d e is in
       let low : (get_or now number e).holder < length old = omega (arith, way.low, so_far.within) in
-      let written_there : written ≡ counted change master (record_at now (get_or now number e).holder) = written_is ∙ ap (counted change master) (get_or_default now (get_or now number e).holder f no_task (omega (arith, long_now, low))) in
+      let written_there : written ≡ counted change master (record_at now (get_or now number e).holder) = written_is
+      ∙ ap (counted change master) (get_or_default now (get_or now number e).holder f no_task (omega (arith, long_now, low))) in
       record {
         within = low;
-        along = rw written_there (along_held change old now passed (get_or now number e).holder master single low long_now way.held (depends_on (facts old) number)
+        along = rw written_there (along_held change old now passed (get_or now number e).holder master single low long_now way.held
+            (depends_on (facts old) number)
             (λ to. ap (λ m. reaches (facts old) number m to) (master_is d ∙ is) ∙ way.way to) so_far.along);
         led = way.on;
       }

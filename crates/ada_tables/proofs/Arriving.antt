@@ -1,5 +1,6 @@
 -- A call that comes last in a queue.
-use Rattle.std.proofs.Common.{◌≡◌, ◌≢◌, ℕ, zero, suc, ◌+◌, ◌<◌, Bool, true, false, ◌||◌, List, [], ◌∷◌, ◌++◌, length, get_or, set, map, Option, Some, None, is_some, cond, refl, ap, sym, subst, ◌∙◌, inl, inr, arith, length-append}
+use Rattle.std.proofs.Common.{◌≡◌, ◌≢◌, ℕ, zero, suc, ◌+◌, ◌<◌, Bool, true, false, ◌||◌, List, [], ◌∷◌, ◌++◌, length, get_or, set, map, Option, Some, None}
+use Rattle.std.proofs.Common.{is_some, cond, refl, ap, sym, subst, ◌∙◌, inl, inr, arith, length-append}
 use Rattle.std.specs.Prelude.{◌==◌}
 use Rattle.std.specs.Option.{option_or, ForSome}
 use Rattle.std.proofs.lemmas.Bool.{cases_eq, ne_eqb, or_right, or_from, both_ways, false_from_ne_true}
@@ -28,7 +29,8 @@ node_within [] caller has = absurd (cc)
 node_within (first ∷ rest) zero has = omega arith
 node_within (first ∷ rest) (suc caller) has = omega (arith, node_within rest caller has)
 
-module _ (nodes : List (Option Node)) (queues : List Queue) (by slot call : ℕ) (linked : AreLinked nodes queues) (known : by < length nodes) (within : slot < length queues) (idle : waits by (map (calls_in nodes) queues) ≡ false) where
+module _ (nodes : List (Option Node)) (queues : List Queue) (by slot call : ℕ) (linked : AreLinked nodes queues) (known : by < length nodes)
+    (within : slot < length queues) (idle : waits by (map (calls_in nodes) queues) ≡ false) where
   abbrev pub was : Queue
   was = get_or queues slot no_queue
 
@@ -54,9 +56,11 @@ module _ (nodes : List (Option Node)) (queues : List Queue) (by slot call : ℕ)
   unfolding IsChain
   is_queue =
       let is = linked.each slot within in
-      let front : IsChain with_node slot None calls None = chain_agrees nodes with_node slot None calls None (λ caller waiting. get_or-set_other nodes by caller _ None (other_caller caller waiting)) is.chain in
+      let front : IsChain with_node slot None calls None = chain_agrees nodes with_node slot None calls None
+      (λ caller waiting. get_or-set_other nodes by caller _ None (other_caller caller waiting)) is.chain in
       let back : IsChain with_node slot None (new ∷ []) None = (get_or-set_same nodes by _ None known, refl, tt) in
-      let apart : AreApart calls (new ∷ []) = λ caller waiting. or_from (by == caller) false (ne_eqb by caller (λ same. other_caller caller waiting (sym same))) refl in
+      let apart : AreApart calls (new ∷ []) = λ caller waiting. or_from (by == caller) false
+      (ne_eqb by caller (λ same. other_caller caller waiting (sym same))) refl in
       let whole = chain_joined with_node slot None calls (new ∷ []) None front back apart in
       record {
         len = omega (arith, is.len, length-append calls (new ∷ []));
@@ -68,7 +72,8 @@ module _ (nodes : List (Option Node)) (queues : List Queue) (by slot call : ℕ)
   keeps : KeepsOthers slot nodes after
   keeps caller other has differs =
       let is = linked.each slot within in
-      let absent : waits_in caller calls ≡ false = false_from_ne_true _ (λ waiting. differs (let at = chain_slot nodes slot None calls None caller is.chain waiting in cc)) in
+      let absent : waits_in caller calls ≡ false = false_from_ne_true _
+      (λ waiting. differs (let at = chain_slot nodes slot None calls None caller is.chain waiting in cc)) in
       let apart : caller ≢ by = λ same. let none = idle_node nodes queues by linked idle in let there = rw same at has in let gone = rw none at there in cc in
       joined_other was.last (Some by) with_node caller
       (rw is.last (not_last calls caller absent))
@@ -85,15 +90,21 @@ module _ (nodes : List (Option Node)) (queues : List Queue) (by slot call : ℕ)
       ∙ elim (cases_eq task by) [
         | inl same ↦
             let low : slot < length (map (calls_in nodes) queues) = rw length-map within in
-            let ends : waits_in by (queue_at (map (calls_in nodes) queues) slot ++ new ∷ []) ≡ true = list_any-append (is_by by) (queue_at (map (calls_in nodes) queues) slot) (new ∷ []) ∙ or_right _ _ (stands_first new []) in
+            let ends : waits_in by (queue_at (map (calls_in nodes) queues) slot ++ new ∷ [])
+            ≡ true = list_any-append (is_by by) (queue_at (map (calls_in nodes) queues) slot) (new ∷ []) ∙ or_right _ _ (stands_first new []) in
             rw (same, get_or-set_same nodes by (Some (record { call = call; caller = by; slot = slot; before = None; after = None })) None known)
-            (sym (list_any_at (waits_in by) (set (map (calls_in nodes) queues) slot (queue_at (map (calls_in nodes) queues) slot ++ new ∷ [])) slot [] (rw length-set low) (rw (get_or-set_same (map (calls_in nodes) queues) slot (queue_at (map (calls_in nodes) queues) slot ++ new ∷ []) [] low) ends)))
+            (sym (list_any_at (waits_in by) (set (map (calls_in nodes) queues) slot (queue_at (map (calls_in nodes) queues) slot ++ new ∷ [])) slot []
+            (rw length-set low) (rw (get_or-set_same (map (calls_in nodes) queues) slot (queue_at (map (calls_in nodes) queues) slot ++ new ∷ [])
+            [] low) ends)))
         | inr differs ↦
             let low : slot < length (map (calls_in nodes) queues) = rw length-map within in
             ap is_some (get_or-set_other nodes by task _ None differs)
             ∙ linked.waiting task
             ∙ sym (list_any-set (waits_in task) (map (calls_in nodes) queues) slot (queue_at (map (calls_in nodes) queues) slot ++ new ∷ []) [] low
-            (list_any-append (is_by task) (queue_at (map (calls_in nodes) queues) slot) (new ∷ []) ∙ ap (λ b. waits_in task (queue_at (map (calls_in nodes) queues) slot) || b) (or_from (by == task) false (ne_eqb by task (λ same. differs (sym same))) refl) ∙ or_nothing (waits_in task (queue_at (map (calls_in nodes) queues) slot))))
+            (list_any-append (is_by task) (queue_at (map (calls_in nodes) queues) slot) (new ∷ [])
+            ∙ ap (λ b. waits_in task (queue_at (map (calls_in nodes) queues) slot) || b)
+            (or_from (by == task) false (ne_eqb by task (λ same. differs (sym same))) refl)
+            ∙ or_nothing (waits_in task (queue_at (map (calls_in nodes) queues) slot))))
       ]
     where
       or_nothing : (b : Bool) → (b || false) ≡ b
@@ -108,7 +119,8 @@ module _ (nodes : List (Option Node)) (queues : List Queue) (by slot call : ℕ)
         waiting = λ task. rw arrived_calls (waiting_now task);
         total =
             let lens = sum_by-set (λ (q : Queue). q.len) queues slot queue no_queue within in
-            let counts = sum_by-set (λ (node : Option Node). cond (is_some node) 1 0) nodes by (Some (record { call = call; caller = by; slot = slot; before = None; after = None })) None known in
+            let counts = sum_by-set (λ (node : Option Node). cond (is_some node) 1 0) nodes by
+            (Some (record { call = call; caller = by; slot = slot; before = None; after = None })) None known in
             let none = rw (idle_node nodes queues by linked idle) at counts in
             omega (arith, linked.total, joins.count);
         few = rw (joins.len, length-set) linked.few;

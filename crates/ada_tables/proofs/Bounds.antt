@@ -23,11 +23,17 @@ main_depends : (tasks : List Facts) (master : Master) → depends_on tasks 0 mas
 unfolding reaches
 main_depends tasks master = refl
 
-few_dependents : (tasks : List Facts) (master : Master) (test : ℕ → Bool) → length tasks ≤ 256 → count_below (λ task. test task && depends_on tasks task master) (length tasks) ≤ 255
+few_dependents : (tasks : List Facts) (master : Master) (test : ℕ → Bool) → length tasks ≤ 256
+    → count_below (λ task. test task && depends_on tasks task master) (length tasks) ≤ 255
 unfolding count_below
 few_dependents [] master test few = omega arith
 few_dependents (first ∷ rest) master test few =
-    omega (arith, few, count_but_first (λ task. test task && depends_on (first ∷ rest) task master) (length rest) (and_right _ _ (main_depends (first ∷ rest) master)))
+    omega (
+      arith,
+      few,
+      count_but_first (λ task. test task && depends_on (first ∷ rest) task master) (length rest)
+          (and_right _ _ (main_depends (first ∷ rest) master)),
+    )
 
 -- how many dependents are counted
 pub live_fits : (tasks : List Task) (master : Master) (count : ℕ) → AreCounted tasks → count ≡ live_dependents (facts tasks) master → count ≤ 255
@@ -35,7 +41,9 @@ live_fits tasks master count right is = rw is (few_dependents (facts tasks) mast
 
 pub body_fits : (tasks : List Task) (task : ℕ) (read : Task) → AreCounted tasks → task < length tasks → read ≡ get_or tasks task read → read.live ≤ 255
 body_fits tasks task read right low is =
-    live_fits tasks (Body (record { 0 = task })) read.live right (ap (λ (t : Task). t.live) (get_or_read tasks task read low is no_task) ∙ right.bodies task low)
+    live_fits tasks (Body (record { 0 = task })) read.live right
+    (ap (λ (t : Task). t.live) (get_or_read tasks task read low is no_task) ∙ right.bodies task low)
 
-pub unready_fits : (tasks : List Facts) (queues : List (List QueuedCall)) (master : Master) (many count : ℕ) → many ≡ length tasks → many ≤ 256 → count ≡ count_below (λ task. is_unready tasks queues task && depends_on tasks task master) many → count ≤ 255
+pub unready_fits : (tasks : List Facts) (queues : List (List QueuedCall)) (master : Master) (many count : ℕ) → many ≡ length tasks → many ≤ 256
+    → count ≡ count_below (λ task. is_unready tasks queues task && depends_on tasks task master) many → count ≤ 255
 unready_fits tasks queues master many count all few is = rw (is, all) (few_dependents tasks master (is_unready tasks queues) (rw all at few))

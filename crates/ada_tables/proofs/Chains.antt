@@ -21,17 +21,20 @@ AreApart left right = (caller : ℕ) → waits_in caller left ≡ true → waits
 pub stands_first : (call : QueuedCall) (rest : List QueuedCall) → waits_in call.caller (call ∷ rest) ≡ true
 stands_first call rest = or_left (call.caller == call.caller) (waits_in call.caller rest) (eq-eqb _ _ refl)
 
-pub chain_agrees : (old new : List (Option Node)) (slot : ℕ) (before : Option ℕ) (calls : List QueuedCall) (after : Option ℕ) → AgreeOn calls old new → IsChain old slot before calls after → IsChain new slot before calls after
+pub chain_agrees : (old new : List (Option Node)) (slot : ℕ) (before : Option ℕ) (calls : List QueuedCall) (after : Option ℕ) → AgreeOn calls old new
+    → IsChain old slot before calls after → IsChain new slot before calls after
 unfolding IsChain
 chain_agrees old new slot before [] after agree chain = tt
 chain_agrees old new slot before (call ∷ rest) after agree chain = (
   agree call.caller (stands_first call rest) ∙ chain.0,
   chain.1,
-  chain_agrees old new slot (Some call.caller) rest after (λ caller waits. agree caller (or_right (call.caller == caller) (waits_in caller rest) waits)) chain.2,
+  chain_agrees old new slot (Some call.caller) rest after
+      (λ caller waits. agree caller (or_right (call.caller == caller) (waits_in caller rest) waits)) chain.2,
 )
 
 -- a waiting caller's node has the chain's slot
-pub chain_slot : (nodes : List (Option Node)) (slot : ℕ) (before : Option ℕ) (calls : List QueuedCall) (after : Option ℕ) (caller : ℕ) → IsChain nodes slot before calls after → waits_in caller calls ≡ true → option_map (λ (node : Node). node.slot) (node_of nodes caller) ≡ Some slot
+pub chain_slot : (nodes : List (Option Node)) (slot : ℕ) (before : Option ℕ) (calls : List QueuedCall) (after : Option ℕ) (caller : ℕ)
+    → IsChain nodes slot before calls after → waits_in caller calls ≡ true → option_map (λ (node : Node). node.slot) (node_of nodes caller) ≡ Some slot
 unfolding IsChain
 chain_slot nodes slot before [] after caller chain waits = absurd (cc)
 chain_slot nodes slot before (call ∷ rest) after caller chain waits =
@@ -41,13 +44,19 @@ chain_slot nodes slot before (call ∷ rest) after caller chain waits =
     ]
 
 -- a chain in two
-pub chain_cut : (nodes : List (Option Node)) (slot : ℕ) (before : Option ℕ) (left right : List QueuedCall) (after : Option ℕ) → IsChain nodes slot before (left ++ right) after → IsChain nodes slot before left (first_or after right) × IsChain nodes slot (last_or before left) right after × AreApart left right
+pub chain_cut : (nodes : List (Option Node)) (slot : ℕ) (before : Option ℕ) (left right : List QueuedCall) (after : Option ℕ)
+    → IsChain nodes slot before (left ++ right) after → IsChain nodes slot before left (first_or after right)
+    × IsChain nodes slot (last_or before left) right after × AreApart left right
 unfolding IsChain
 chain_cut nodes slot before [] right after chain = (tt, chain, λ caller waits. absurd (cc))
 chain_cut nodes slot before (call ∷ rest) right after chain =
     let cut = chain_cut nodes slot (Some call.caller) rest right after chain.2 in
     let parts = or_parts _ _ (sym (list_any-append (is_by call.caller) rest right) ∙ chain.1) in (
-      (chain.0 ∙ ap (λ link. Some (record { call = call.call; caller = call.caller; slot = slot; before = before; after = link })) (first_of_both rest), parts.0, cut.0),
+      (
+        chain.0 ∙ ap (λ link. Some (record { call = call.call; caller = call.caller; slot = slot; before = before; after = link })) (first_of_both rest),
+        parts.0,
+        cut.0,
+      ),
       cut.1,
       λ caller waits. elim (or_cases (call.caller == caller) (waits_in caller rest) waits) [
         | inl same ↦ rw (← eqb-true call.caller caller same) parts.1
@@ -60,13 +69,16 @@ chain_cut nodes slot before (call ∷ rest) right after chain =
     first_of_both (first ∷ others) = refl
 
 -- two chains as one
-pub chain_whole : (nodes : List (Option Node)) (slot : ℕ) (before : Option ℕ) (left right : List QueuedCall) (after : Option ℕ) → IsChain nodes slot before left (first_or after right) → IsChain nodes slot (last_or before left) right after → AreApart left right → IsChain nodes slot before (left ++ right) after
+pub chain_whole : (nodes : List (Option Node)) (slot : ℕ) (before : Option ℕ) (left right : List QueuedCall) (after : Option ℕ)
+    → IsChain nodes slot before left (first_or after right) → IsChain nodes slot (last_or before left) right after → AreApart left right
+    → IsChain nodes slot before (left ++ right) after
 unfolding IsChain
 chain_whole nodes slot before [] right after front back apart = back
 chain_whole nodes slot before (call ∷ rest) right after front back apart = (
   front.0 ∙ ap (λ link. Some (record { call = call.call; caller = call.caller; slot = slot; before = before; after = link })) (first_of_both rest),
   list_any-append (is_by call.caller) rest right ∙ or_from _ _ front.1 (apart call.caller (stands_first call rest)),
-  chain_whole nodes slot (Some call.caller) rest right after front.2 back (λ caller waits. apart caller (or_right (call.caller == caller) (waits_in caller rest) waits)),
+  chain_whole nodes slot (Some call.caller) rest right after front.2 back
+      (λ caller waits. apart caller (or_right (call.caller == caller) (waits_in caller rest) waits)),
 )
   where
     first_of_both : (front : List QueuedCall) → first_or (first_or after right) front ≡ first_or after (front ++ right)
@@ -74,7 +86,8 @@ chain_whole nodes slot before (call ∷ rest) right after front back apart = (
     first_of_both (first ∷ others) = refl
 
 -- the last of some calls is one of them
-pub last_waits : (before : Option ℕ) (call : QueuedCall) (rest : List QueuedCall) → (caller : ℕ) × (last_or before (call ∷ rest) ≡ Some caller) × (waits_in caller (call ∷ rest) ≡ true)
+pub last_waits : (before : Option ℕ) (call : QueuedCall) (rest : List QueuedCall) → (caller : ℕ) × (last_or before (call ∷ rest) ≡ Some caller)
+    × (waits_in caller (call ∷ rest) ≡ true)
 last_waits before call [] = (call.caller, refl, stands_first call [])
 last_waits before call (next ∷ rest) =
     let found = last_waits (Some call.caller) next rest in
@@ -96,12 +109,14 @@ module _ (nodes : List (Option Node)) (change : Node → Node) where
   changed_other caller other differs = get_or-set_other nodes caller other (option_map change (node_of nodes caller)) None differs
 
 -- another link changes the node of that caller alone
-pub relinked_after_other : (nodes : List (Option Node)) (link after : Option ℕ) (caller : ℕ) → link ≢ Some caller → node_of (relinked_after link after nodes) caller ≡ node_of nodes caller
+pub relinked_after_other : (nodes : List (Option Node)) (link after : Option ℕ) (caller : ℕ) → link ≢ Some caller
+    → node_of (relinked_after link after nodes) caller ≡ node_of nodes caller
 relinked_after_other nodes None after caller differs = refl
 relinked_after_other nodes (Some at) after caller differs =
     changed_other nodes (λ node. record node { after = after }) at caller (λ same. differs (ap Some (sym same)))
 
-pub relinked_before_other : (nodes : List (Option Node)) (link before : Option ℕ) (caller : ℕ) → link ≢ Some caller → node_of (relinked_before link before nodes) caller ≡ node_of nodes caller
+pub relinked_before_other : (nodes : List (Option Node)) (link before : Option ℕ) (caller : ℕ) → link ≢ Some caller
+    → node_of (relinked_before link before nodes) caller ≡ node_of nodes caller
 relinked_before_other nodes None before caller differs = refl
 relinked_before_other nodes (Some at) before caller differs =
     changed_other nodes (λ node. record node { before = before }) at caller (λ same. differs (ap Some (sym same)))
@@ -121,7 +136,8 @@ not_first (call ∷ rest) caller idle same =
     both_ways _ idle (or_left (call.caller == caller) (waits_in caller rest) (eq-eqb _ _ here))
 
 -- a chain whose last node is linked to something else
-pub chain_relinked_after : (nodes : List (Option Node)) (slot : ℕ) (before : Option ℕ) (calls : List QueuedCall) (after other : Option ℕ) → IsChain nodes slot before calls after → IsChain (relinked_after (last_or None calls) other nodes) slot before calls other
+pub chain_relinked_after : (nodes : List (Option Node)) (slot : ℕ) (before : Option ℕ) (calls : List QueuedCall) (after other : Option ℕ)
+    → IsChain nodes slot before calls after → IsChain (relinked_after (last_or None calls) other nodes) slot before calls other
 unfolding IsChain
 chain_relinked_after nodes slot before [] after other chain = tt
 chain_relinked_after nodes slot before (call ∷ []) after other chain = (
@@ -136,7 +152,8 @@ chain_relinked_after nodes slot before (call ∷ (next ∷ rest)) after other ch
 )
 
 -- a chain whose first node is linked to something else
-pub chain_relinked_before : (nodes : List (Option Node)) (slot : ℕ) (before other : Option ℕ) (calls : List QueuedCall) (after : Option ℕ) → IsChain nodes slot before calls after → IsChain (relinked_before (first_or None calls) other nodes) slot other calls after
+pub chain_relinked_before : (nodes : List (Option Node)) (slot : ℕ) (before other : Option ℕ) (calls : List QueuedCall) (after : Option ℕ)
+    → IsChain nodes slot before calls after → IsChain (relinked_before (first_or None calls) other nodes) slot other calls after
 unfolding IsChain
 chain_relinked_before nodes slot before other [] after chain = tt
 chain_relinked_before nodes slot before other (call ∷ rest) after chain = (
@@ -148,14 +165,18 @@ chain_relinked_before nodes slot before other (call ∷ rest) after chain = (
 )
 
 -- two chains are one where the last of the one and the first of the other are linked
-pub chain_joined : (nodes : List (Option Node)) (slot : ℕ) (before : Option ℕ) (left right : List QueuedCall) (after : Option ℕ) → IsChain nodes slot None left after → IsChain nodes slot before right None → AreApart left right → IsChain (joined (last_or None left) (first_or None right) nodes) slot None (left ++ right) None
+pub chain_joined : (nodes : List (Option Node)) (slot : ℕ) (before : Option ℕ) (left right : List QueuedCall) (after : Option ℕ)
+    → IsChain nodes slot None left after → IsChain nodes slot before right None → AreApart left right
+    → IsChain (joined (last_or None left) (first_or None right) nodes) slot None (left ++ right) None
 chain_joined nodes slot before left right after front back apart =
     let once = relinked_after (last_or None left) (first_or None right) nodes in
     let twice = relinked_before (first_or None right) (last_or None left) once in
     let front_once = chain_relinked_after nodes slot None left after (first_or None right) front in
-    let back_once = chain_agrees nodes once slot before right None (λ caller waits. relinked_after_other nodes (last_or None left) (first_or None right) caller (not_last left caller (apart_back caller waits))) back in
+    let back_once = chain_agrees nodes once slot before right None
+    (λ caller waits. relinked_after_other nodes (last_or None left) (first_or None right) caller (not_last left caller (apart_back caller waits))) back in
     chain_whole twice slot None left right None
-    (chain_agrees once twice slot None left (first_or None right) (λ caller waits. relinked_before_other once (first_or None right) (last_or None left) caller (not_first right caller (apart caller waits))) front_once)
+    (chain_agrees once twice slot None left (first_or None right)
+    (λ caller waits. relinked_before_other once (first_or None right) (last_or None left) caller (not_first right caller (apart caller waits))) front_once)
     (chain_relinked_before once slot before (last_or None left) right None back_once)
     apart
   where
@@ -163,7 +184,8 @@ chain_joined nodes slot before left right after front back apart =
     apart_back caller waits = false_from_ne_true _ (λ other. both_ways _ (apart caller other) waits)
 
 -- the calls of a chain are found by following it
-pub followed_chain : (nodes : List (Option Node)) (slot : ℕ) (before : Option ℕ) (calls : List QueuedCall) → IsChain nodes slot before calls None → followed nodes (length calls) (first_or None calls) ≡ calls
+pub followed_chain : (nodes : List (Option Node)) (slot : ℕ) (before : Option ℕ) (calls : List QueuedCall) → IsChain nodes slot before calls None
+    → followed nodes (length calls) (first_or None calls) ≡ calls
 unfolding IsChain followed
 followed_chain nodes slot before [] chain = refl
 followed_chain nodes slot before (call ∷ rest) chain =
@@ -200,7 +222,8 @@ first_is_waiting [] caller first = absurd (cc)
 first_is_waiting (call ∷ rest) caller first = let here : caller ≡ call.caller = cc in ap (λ c. waits_in c (call ∷ rest)) here ∙ stands_first call rest
 
 -- who waits has a node
-pub chain_has : (nodes : List (Option Node)) (slot : ℕ) (before : Option ℕ) (calls : List QueuedCall) (after : Option ℕ) (caller : ℕ) → IsChain nodes slot before calls after → waits_in caller calls ≡ true → is_some (node_of nodes caller) ≡ true
+pub chain_has : (nodes : List (Option Node)) (slot : ℕ) (before : Option ℕ) (calls : List QueuedCall) (after : Option ℕ) (caller : ℕ)
+    → IsChain nodes slot before calls after → waits_in caller calls ≡ true → is_some (node_of nodes caller) ≡ true
 chain_has nodes slot before calls after caller chain waits = some_from (node_of nodes caller) (chain_slot nodes slot before calls after caller chain waits)
   where
     some_from : (node : Option Node) → option_map (λ (n : Node). n.slot) node ≡ Some slot → is_some node ≡ true

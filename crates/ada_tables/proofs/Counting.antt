@@ -42,18 +42,21 @@ module _ (count : ℕ → ℕ) (block : ℕ) (old now : List Layer) (at : ℕ) w
           so_far.done ∙ rw step (sym (sym (take-append-drop (at + 1) (set now at write)) ∙ rw (take_more_set now at write within, later, append_assoc) refl))
 
 -- no block so far
-pub live_later : (block : ℕ) (layers : List Layer) (at : ℕ) (read : Layer) → live_at block layers ≡ live_at block (drop at layers) → at < length layers → read ≡ get_or layers at read → is_block_at block read ≡ false → live_at block layers ≡ live_at block (drop (at + 1) layers)
+pub live_later : (block : ℕ) (layers : List Layer) (at : ℕ) (read : Layer) → live_at block layers ≡ live_at block (drop at layers) → at < length layers
+    → read ≡ get_or layers at read → is_block_at block read ≡ false → live_at block layers ≡ live_at block (drop (at + 1) layers)
 unfolding live_at
 live_later block layers at read before within read_is other =
     let head : drop at layers ≡ read ∷ drop (at + 1) layers = drop_more layers at read within ∙ ap (λ (x : Layer). x ∷ drop (at + 1) layers) (sym read_is) in
     before ∙ rw (head, other) refl
 
-pub live_here : (block : ℕ) (layers : List Layer) (at : ℕ) (read : Layer) → live_at block layers ≡ live_at block (drop at layers) → at < length layers → read ≡ get_or layers at read → is_block_at block read ≡ true → live_of read ≡ live_at block layers
+pub live_here : (block : ℕ) (layers : List Layer) (at : ℕ) (read : Layer) → live_at block layers ≡ live_at block (drop at layers) → at < length layers
+    → read ≡ get_or layers at read → is_block_at block read ≡ true → live_of read ≡ live_at block layers
 unfolding live_at
 live_here block layers at read before within read_is here =
     let head : drop at layers ≡ read ∷ drop (at + 1) layers = drop_more layers at read within ∙ ap (λ (x : Layer). x ∷ drop (at + 1) layers) (sym read_is) in
     sym (before ∙ rw (head, here) refl)
 
-pub live_nowhere : (block : ℕ) (layers : List Layer) (at : ℕ) → live_at block layers ≡ live_at block (drop at layers) → length layers ≤ at → 0 ≡ live_at block layers
+pub live_nowhere : (block : ℕ) (layers : List Layer) (at : ℕ) → live_at block layers ≡ live_at block (drop at layers) → length layers ≤ at
+    → 0 ≡ live_at block layers
 unfolding live_at
 live_nowhere block layers at before past = sym (before ∙ rw (drop_all at layers past) refl)

@@ -82,7 +82,8 @@ live_at-cut call block (layer ∷ rest) =
       | inr other ↦ rw (other, live_at-cut call block rest) refl
     ]
 
-up_to-cut : (call inner block : ℕ) (layers : List Layer) → has_block block (up_to inner (members (cut_rec call layers))) ≡ has_block block (up_to inner (members layers))
+up_to-cut : (call inner block : ℕ) (layers : List Layer)
+    → has_block block (up_to inner (members (cut_rec call layers))) ≡ has_block block (up_to inner (members layers))
 up_to-cut call inner block [] = refl
 up_to-cut call inner block (layer ∷ rest) =
     elim (cases_Bool (is_rendezvous_at call layer)) [
@@ -93,7 +94,8 @@ up_to-cut call inner block (layer ∷ rest) =
       ]
     ]
 
-alike_cut : (task call : ℕ) (old : Facts) (layers : List Layer) → old.nest ≡ members layers → Alike task old (record old { nest = members (cut_rec call layers) })
+alike_cut : (task call : ℕ) (old : Facts) (layers : List Layer) → old.nest ≡ members layers
+    → Alike task old (record old { nest = members (cut_rec call layers) })
 alike_cut task call old layers is =
     record {
       master = refl;
@@ -111,7 +113,8 @@ alike_cut task call old layers is =
     enclosing (Block inner) (Body u) = refl
     enclosing (Block inner) (Block block) = rw is (up_to-cut call inner block layers)
 
-pub cut_counted : (tasks : List Task) (task : ℕ) → AreCounted tasks → task < length tasks → (call : ℕ) → AreCounted (set tasks task (record (record_at tasks task) { nest = cut_rec call (record_at tasks task).nest }))
+pub cut_counted : (tasks : List Task) (task : ℕ) → AreCounted tasks → task < length tasks → (call : ℕ)
+    → AreCounted (set tasks task (record (record_at tasks task) { nest = cut_rec call (record_at tasks task).nest }))
 cut_counted tasks task right within call =
     let layers = (record_at tasks task).nest in
     nest_changed tasks task (cut_rec call layers) right within

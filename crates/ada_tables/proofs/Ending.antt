@@ -40,16 +40,19 @@ pub rephased : (tasks new : List Task) → AreCounted tasks → SameButPhases (f
     → ((task : ℕ) → (record_at new task).holder ≡ (record_at tasks task).holder)
     → ((task : ℕ) → task < length tasks → is_terminated (task_at (facts new) task).phase ≡ false → is_terminated (task_at (facts tasks) task).phase ≡ false)
     → ((task : ℕ) → task < length tasks → (record_at new task).live ≡ live_dependents (facts new) (Body (record { 0 = task })))
-    → ((task block : ℕ) → task < length tasks → has_block block (task_at (facts tasks) task).nest ≡ true → live_at block (record_at new task).nest ≡ live_dependents (facts new) (Block block))
+    → ((task block : ℕ) → task < length tasks → has_block block (task_at (facts tasks) task).nest ≡ true
+    → live_at block (record_at new task).nest ≡ live_dependents (facts new) (Block block))
     → AreCounted new
 rephased tasks new right same long holders live bodies blocks =
     record {
       bodies = λ task low. bodies task (rw long at low);
       blocks = λ task block low has. blocks task block (rw long at low) (rw (same.nest task) at has);
-      alone = λ task other block low there first second. right.alone task other block (rw long at low) (rw long at there) (rw (same.nest task) at first) (rw (same.nest other) at second);
+      alone = λ task other block low there first second. right.alone task other block (rw long at low) (rw long at there) (rw (same.nest task) at first)
+          (rw (same.nest other) at second);
       led = λ task low lives.
           rw (same.master task, holders task)
-          (led_alike tasks new task (task_at (facts tasks) task).master (record_at tasks task).holder (λ other below. phases_alike (facts tasks) (facts new) same other) (λ other below. holders other)
+          (led_alike tasks new task (task_at (facts tasks) task).master (record_at tasks task).holder
+          (λ other below. phases_alike (facts tasks) (facts new) same other) (λ other below. holders other)
           ∙ right.led task (rw long at low) (live task (rw long at low) lives));
       few = rw long right.few;
     }
@@ -106,7 +109,8 @@ module _ (tasks : List Task) (task : ℕ) (phase : Phase) (within : task < lengt
       ]
 
 -- a task gets another phase, and doesn't end
-pub goes_on : (tasks : List Task) (task : ℕ) (phase : Phase) → AreCounted tasks → task < length tasks → is_terminated (task_at (facts tasks) task).phase ≡ false → is_terminated phase ≡ false → AreCounted (set tasks task (record (record_at tasks task) { phase = phase }))
+pub goes_on : (tasks : List Task) (task : ℕ) (phase : Phase) → AreCounted tasks → task < length tasks → is_terminated (task_at (facts tasks) task).phase ≡ false
+    → is_terminated phase ≡ false → AreCounted (set tasks task (record (record_at tasks task) { phase = phase }))
 goes_on tasks task phase right within lives on =
     let same = phased_same tasks task phase within in
     rephased tasks (phased tasks task phase within) right same (length-set tasks task (with_phase tasks task phase within))
@@ -115,20 +119,28 @@ goes_on tasks task phase right within lives on =
     (λ other low. live_phased tasks task phase within other ∙ right.bodies other low ∙ sym (kept same (Body (record { 0 = other }))))
     (λ other block low has. ap (live_at block) (nest_phased tasks task phase within other) ∙ right.blocks other block low has ∙ sym (kept same (Block block)))
   where
-    phases : (other : ℕ) → is_terminated (task_at (facts (set tasks task (record (record_at tasks task) { phase = phase }))) other).phase ≡ is_terminated (task_at (facts tasks) other).phase
+    phases : (other : ℕ) → is_terminated (task_at (facts (set tasks task (record (record_at tasks task) { phase = phase }))) other).phase
+        ≡ is_terminated (task_at (facts tasks) other).phase
     phases other =
         elim (cases_eq other task) [
           | inl same ↦ rw same (ap (λ (f : Facts). is_terminated f.phase) (phase_here tasks task phase within) ∙ on ∙ sym lives)
           | inr differs ↦ ap (λ (f : Facts). is_terminated f.phase) (phase_other tasks task phase within other differs)
         ]
 
-    kept : SameButPhases (facts tasks) (facts (set tasks task (record (record_at tasks task) { phase = phase }))) → (master : Master) → live_dependents (facts (set tasks task (record (record_at tasks task) { phase = phase }))) master ≡ live_dependents (facts tasks) master
+    kept : SameButPhases (facts tasks) (facts (set tasks task (record (record_at tasks task) { phase = phase }))) → (master : Master)
+        → live_dependents (facts (set tasks task (record (record_at tasks task) { phase = phase }))) master ≡ live_dependents (facts tasks) master
     kept same master =
         dependents_kept (facts tasks) (facts (set tasks task (record (record_at tasks task) { phase = phase }))) same.long
-        (λ other low. (phases other, λ live m. phases_depend (facts tasks) (facts (set tasks task (record (record_at tasks task) { phase = phase }))) same other m)) master
+        (λ other low. (
+          phases other,
+          λ live m. phases_depend (facts tasks) (facts (set tasks task (record (record_at tasks task) { phase = phase }))) same other
+              m,
+        )) master
 
 -- the masters that a task depends on have one live dependent less when it ends
-pub one_less : (old new : List Facts) (task : ℕ) (master : Master) → SameButPhases old new → task < length old → is_terminated (task_at old task).phase ≡ false → is_terminated (task_at new task).phase ≡ true → ((other : ℕ) → other ≢ task → (task_at new other).phase ≡ (task_at old other).phase) → live_dependents new master + (if depends_on old task master then 1 else 0) ≡ live_dependents old master
+pub one_less : (old new : List Facts) (task : ℕ) (master : Master) → SameButPhases old new → task < length old → is_terminated (task_at old task).phase ≡ false
+    → is_terminated (task_at new task).phase ≡ true → ((other : ℕ) → other ≢ task → (task_at new other).phase ≡ (task_at old other).phase)
+    → live_dependents new master + (if depends_on old task master then 1 else 0) ≡ live_dependents old master
 one_less old new task master same within lives ends others =
     let one = count_one (is_live_dependent old master) (is_live_dependent new master) (length old) task within
     (λ other low differs. rw (others other differs, phases_depend old new same other master) refl)
@@ -140,7 +152,10 @@ less count live new true is adds = omega arith
 less count live new false is adds = omega arith
 
 -- a task ends once the counts of its masters are lowered
-pub ends : (tasks lowered : List Task) (task : ℕ) (passed : Master → Bool) → AreCounted tasks → task < length tasks → is_terminated (task_at (facts tasks) task).phase ≡ false → ChangesAlong Ended tasks lowered passed (λ _. false) → ((master : Master) → passed master ≡ depends_on (facts tasks) task master) → AreCounted (set lowered task (record (record_at lowered task) { phase = Terminated }))
+pub ends : (tasks lowered : List Task) (task : ℕ) (passed : Master → Bool) → AreCounted tasks → task < length tasks
+    → is_terminated (task_at (facts tasks) task).phase ≡ false → ChangesAlong Ended tasks lowered passed (λ _. false)
+    → ((master : Master) → passed master ≡ depends_on (facts tasks) task master)
+    → AreCounted (set lowered task (record (record_at lowered task) { phase = Terminated }))
 ends tasks lowered task passed right within lives along all =
     rephased tasks (phased lowered task Terminated low_within) right both (length-set lowered task (with_phase lowered task Terminated low_within) ∙ long)
     (λ other. holder_phased lowered task Terminated low_within other ∙ along.holders other)
@@ -169,12 +184,15 @@ ends tasks lowered task passed right within lives along all =
     ended : is_terminated (task_at (facts (phased lowered task Terminated low_within)) task).phase ≡ true
     ended = ap (λ (f : Facts). is_terminated f.phase) (phase_here lowered task Terminated low_within)
 
-    others_live : (other : ℕ) → is_terminated (task_at (facts (phased lowered task Terminated low_within)) other).phase ≡ false → is_terminated (task_at (facts tasks) other).phase ≡ false
+    others_live : (other : ℕ) → is_terminated (task_at (facts (phased lowered task Terminated low_within)) other).phase ≡ false
+        → is_terminated (task_at (facts tasks) other).phase ≡ false
     others_live other live =
         elim (cases_eq other task) [
           | inl same ↦ rw same lives
           | inr differs ↦ ap (λ (f : Facts). is_terminated f.phase) (sym (other_is other differs)) ∙ live
         ]
 
-    fewer : (master : Master) → live_dependents (facts (phased lowered task Terminated low_within)) master + (if depends_on (facts tasks) task master then 1 else 0) ≡ live_dependents (facts tasks) master
-    fewer master = one_less (facts tasks) (facts (phased lowered task Terminated low_within)) task master both (omega (arith, length-map tasks facts_of)) lives ended (λ other differs. ap (λ (f : Facts). f.phase) (other_is other differs))
+    fewer : (master : Master) → live_dependents (facts (phased lowered task Terminated low_within)) master +
+        (if depends_on (facts tasks) task master then 1 else 0) ≡ live_dependents (facts tasks) master
+    fewer master = one_less (facts tasks) (facts (phased lowered task Terminated low_within)) task master both (omega (arith, length-map tasks facts_of)) lives
+        ended (λ other differs. ap (λ (f : Facts). f.phase) (other_is other differs))

@@ -1,5 +1,6 @@
 -- One more task that may call, with its queues.
-use Rattle.std.proofs.Common.{◌≡◌, ℕ, zero, suc, ◌-◌, ◌<◌, Bool, true, false, ◌||◌, List, [], ◌∷◌, ◌++◌, length, get_or, map, Option, Some, None, is_some, cond, refl, ap, sym, ◌∙◌, inl, inr, arith, length-append}
+use Rattle.std.proofs.Common.{◌≡◌, ℕ, zero, suc, ◌-◌, ◌<◌, Bool, true, false, ◌||◌, List, [], ◌∷◌, ◌++◌, length, get_or, map, Option, Some, None, is_some, cond}
+use Rattle.std.proofs.Common.{refl, ap, sym, ◌∙◌, inl, inr, arith, length-append}
 use Rattle.std.specs.List.{sum_by}
 use Rattle.std.proofs.lemmas.Bool.{cases_lt}
 use Rattle.std.proofs.lemmas.List.Folds.{list_any-append}
@@ -32,7 +33,9 @@ followed_same old new same zero link = refl
 followed_same old new same (suc many) None = refl
 followed_same old new same (suc many) (Some caller) = rw (same caller) (at (λ link. followed_same old new same many link) (node_of old caller))
   where
-    at : ((link : Option ℕ) → followed new many link ≡ followed old many link) → (found : Option Node) → option_map_or (λ (n : Node). call_of n ∷ followed new many n.after) found [] ≡ option_map_or (λ (n : Node). call_of n ∷ followed old many n.after) found []
+    at : ((link : Option ℕ) → followed new many link ≡ followed old many link) → (found : Option Node)
+        → option_map_or (λ (n : Node). call_of n ∷ followed new many n.after) found []
+        ≡ option_map_or (λ (n : Node). call_of n ∷ followed old many n.after) found []
     at rest None = refl
     at rest (Some n) = ap (λ others. call_of n ∷ others) (rest n.after)
 
@@ -70,7 +73,8 @@ module _ (nodes : List (Option Node)) (queues : List Queue) (many : ℕ) (linked
       ∙ ap (λ (front : List (List QueuedCall)). front ++ map (calls_in new) (replicate many no_queue)) (map_same nodes new (one_more nodes) queues)
       ∙ ap (λ (back : List (List QueuedCall)). map (calls_in nodes) queues ++ back) (map_none new many)
 
-  each_grown : (slot : ℕ) → slot < length (queues ++ replicate many no_queue) → IsQueue new slot (get_or (queues ++ replicate many no_queue) slot no_queue) (calls_in new (get_or (queues ++ replicate many no_queue) slot no_queue))
+  each_grown : (slot : ℕ) → slot < length (queues ++ replicate many no_queue)
+      → IsQueue new slot (get_or (queues ++ replicate many no_queue) slot no_queue) (calls_in new (get_or (queues ++ replicate many no_queue) slot no_queue))
   unfolding IsChain
   each_grown slot within =
       elim (cases_lt slot (length queues)) [
@@ -85,7 +89,11 @@ module _ (nodes : List (Option Node)) (queues : List Queue) (many : ℕ) (linked
             }))
         | inr past ↦
             let low : slot - length queues < many = omega (arith, length-append queues (replicate many no_queue), length-replicate many no_queue) in
-            rw (get_or-append_right queues (replicate many no_queue) (length queues) slot no_queue refl past, get_or-replicate many (slot - length queues) no_queue no_queue low)
+            rw (
+              get_or-append_right queues (replicate many no_queue) (length queues) slot no_queue refl past,
+              get_or-replicate many (slot - length queues)
+                  no_queue no_queue low,
+            )
             (queue_itself new slot no_queue [] (record { len = refl; first = refl; last = refl; chain = tt }))
       ]
 
@@ -94,8 +102,16 @@ module _ (nodes : List (Option Node)) (queues : List Queue) (many : ℕ) (linked
       record {
         each = each_grown;
         waiting = λ task. rw (one_more nodes task, grown_calls)
-            (linked.waiting task ∙ sym (list_any-append (waits_in task) (map (calls_in nodes) queues) (replicate many []) ∙ ap (λ b. waits task (map (calls_in nodes) queues) || b) (idle_none task many) ∙ or_nothing (waits task (map (calls_in nodes) queues))));
+            (linked.waiting task ∙ sym (list_any-append (waits_in task) (map (calls_in nodes) queues) (replicate many [])
+            ∙ ap (λ b. waits task (map (calls_in nodes) queues) || b) (idle_none task many) ∙ or_nothing (waits task (map (calls_in nodes) queues))));
         total =
-            omega (arith, linked.total, sum_by-append (λ (queue : Queue). queue.len) queues (replicate many no_queue), len_none many, sum_by-append (λ (node : Option Node). cond (is_some node) 1 0) nodes (None ∷ []));
+            omega (
+              arith,
+              linked.total,
+              sum_by-append (λ (queue : Queue). queue.len) queues (replicate many no_queue),
+              len_none many,
+              sum_by-append
+                  (λ (node : Option Node). cond (is_some node) 1 0) nodes (None ∷ []),
+            );
         few = omega (arith, length-append nodes (None ∷ []));
       }

@@ -21,7 +21,8 @@ count_same old new (suc many) same = rw (same many (omega arith), count_same old
 pub count_le : (test : ℕ → Bool) (many : ℕ) → count_below test many ≤ many
 unfolding count_below
 count_le test zero = omega arith
-count_le test (suc many) = elim (cases_Bool (test many)) [ inl is ↦ rw is (omega (arith, count_le test many)) | inr isnt ↦ rw isnt (omega (arith, count_le test many)) ]
+count_le test (suc many) =
+    elim (cases_Bool (test many)) [ inl is ↦ rw is (omega (arith, count_le test many)) | inr isnt ↦ rw isnt (omega (arith, count_le test many)) ]
 
 pub count_none : (test : ℕ → Bool) (many task : ℕ) → count_below test many ≡ 0 → task < many → test task ≡ false
 unfolding count_below
@@ -38,7 +39,8 @@ count_nobody test zero none = refl
 count_nobody test (suc many) none = rw (none many (omega arith), count_nobody test many (λ task low. none task (omega arith))) refl
 
 -- one passes no longer
-pub count_one : (old new : ℕ → Bool) (many one : ℕ) → one < many → ((task : ℕ) → task < many → task ≢ one → new task ≡ old task) → new one ≡ false → count_below new many + (if old one then 1 else 0) ≡ count_below old many
+pub count_one : (old new : ℕ → Bool) (many one : ℕ) → one < many → ((task : ℕ) → task < many → task ≢ one → new task ≡ old task) → new one ≡ false
+    → count_below new many + (if old one then 1 else 0) ≡ count_below old many
 unfolding count_below
 count_one old new zero one low same gone = absurd (omega arith)
 count_one old new (suc many) one low same gone =
@@ -53,7 +55,10 @@ count_one old new (suc many) one low same gone =
     ]
 
 -- the live dependents of all masters stay where those of each live task do
-pub dependents_kept : (old new : List Facts) → length new ≡ length old → ((task : ℕ) → task < length old → (is_terminated (task_at new task).phase ≡ is_terminated (task_at old task).phase) × (is_terminated (task_at old task).phase ≡ false → (master : Master) → depends_on new task master ≡ depends_on old task master)) → (master : Master) → live_dependents new master ≡ live_dependents old master
+pub dependents_kept : (old new : List Facts) → length new ≡ length old
+    → ((task : ℕ) → task < length old → (is_terminated (task_at new task).phase ≡ is_terminated (task_at old task).phase)
+    × (is_terminated (task_at old task).phase ≡ false → (master : Master) → depends_on new task master ≡ depends_on old task master)) → (master : Master)
+    → live_dependents new master ≡ live_dependents old master
 dependents_kept old new long kept master =
     ap (count_below (is_live_dependent new master)) long
     ∙ count_same (is_live_dependent old master) (is_live_dependent new master) (length old) each
@@ -67,7 +72,8 @@ dependents_kept old new long kept master =
         ]
 
 -- a block in no nest has no dependents
-pub no_dependents : (tasks : List Facts) (block : ℕ) → ((task : ℕ) → task < length tasks → has_block block (task_at tasks task).nest ≡ false) → live_dependents tasks (Block block) ≡ 0
+pub no_dependents : (tasks : List Facts) (block : ℕ) → ((task : ℕ) → task < length tasks → has_block block (task_at tasks task).nest ≡ false)
+    → live_dependents tasks (Block block) ≡ 0
 no_dependents tasks block free =
     count_nobody (is_live_dependent tasks (Block block)) (length tasks)
     (λ task low. and_right _ _ (false_from_ne_true _ (λ reached.
@@ -104,8 +110,11 @@ module _ (tasks : List Task) (task : ℕ) (layers : List Layer) (right : AreCoun
         | inr differs ↦ ap (λ (f : Facts). f.phase) (fact_other other differs)
       ]
 
-  pub nest_changed : ((block : ℕ) → has_block block (members layers) ≡ true → ((has_block block (task_at (facts tasks) task).nest ≡ true) × (live_at block layers ≡ live_at block (record_at tasks task).nest)) ⊎ (((other : ℕ) → other < length tasks → has_block block (task_at (facts tasks) other).nest ≡ false) × (live_at block layers ≡ 0)))
-      → ((other : ℕ) → other < length tasks → is_terminated (task_at (facts tasks) other).phase ≡ false → ((master : Master) → depends_on (facts after) other master ≡ depends_on (facts tasks) other master) × IsLed after other)
+  pub nest_changed : ((block : ℕ) → has_block block (members layers) ≡ true
+      → ((has_block block (task_at (facts tasks) task).nest ≡ true) × (live_at block layers ≡ live_at block (record_at tasks task).nest))
+      ⊎ (((other : ℕ) → other < length tasks → has_block block (task_at (facts tasks) other).nest ≡ false) × (live_at block layers ≡ 0)))
+      → ((other : ℕ) → other < length tasks → is_terminated (task_at (facts tasks) other).phase ≡ false
+      → ((master : Master) → depends_on (facts after) other master ≡ depends_on (facts tasks) other master) × IsLed after other)
       → AreCounted after
   nest_changed each ways =
       record {
@@ -132,10 +141,12 @@ module _ (tasks : List Task) (task : ℕ) (layers : List Layer) (right : AreCoun
       here : (block : ℕ) → has_block block (task_at (facts after) task).nest ≡ true → has_block block (members layers) ≡ true
       here block has = ap (λ (f : Facts). has_block block f.nest) (sym fact_here) ∙ has
 
-      there_is : (other block : ℕ) → other ≢ task → has_block block (task_at (facts after) other).nest ≡ true → has_block block (task_at (facts tasks) other).nest ≡ true
+      there_is : (other block : ℕ) → other ≢ task → has_block block (task_at (facts after) other).nest ≡ true
+          → has_block block (task_at (facts tasks) other).nest ≡ true
       there_is other block differs has = ap (λ (f : Facts). has_block block f.nest) (sym (fact_other other differs)) ∙ has
 
-      blocks_at : (other block : ℕ) → other < length tasks → has_block block (task_at (facts after) other).nest ≡ true → live_at block (record_at after other).nest ≡ live_dependents (facts after) (Block block)
+      blocks_at : (other block : ℕ) → other < length tasks → has_block block (task_at (facts after) other).nest ≡ true
+          → live_at block (record_at after other).nest ≡ live_dependents (facts after) (Block block)
       blocks_at other block low has =
           elim (cases_eq other task) [
             | inl same ↦
@@ -150,14 +161,16 @@ module _ (tasks : List Task) (task : ℕ) (layers : List Layer) (right : AreCoun
                 ∙ right.blocks other block low (there_is other block differs has) ∙ sym (dependents (Block block))
           ]
 
-      apart : (other block : ℕ) → other < length tasks → other ≢ task → has_block block (members layers) ≡ true → has_block block (task_at (facts tasks) other).nest ≡ true → task ≡ other
+      apart : (other block : ℕ) → other < length tasks → other ≢ task → has_block block (members layers) ≡ true
+          → has_block block (task_at (facts tasks) other).nest ≡ true → task ≡ other
       apart other block low differs first second =
           elim (each block first) [
             | inl old ↦ right.alone task other block within low old.0 second
             | inr fresh ↦ absurd (both_ways _ (fresh.0 other low) second)
           ]
 
-      alone_at : (one other block : ℕ) → one < length tasks → other < length tasks → has_block block (task_at (facts after) one).nest ≡ true → has_block block (task_at (facts after) other).nest ≡ true → one ≡ other
+      alone_at : (one other block : ℕ) → one < length tasks → other < length tasks → has_block block (task_at (facts after) one).nest ≡ true
+          → has_block block (task_at (facts after) other).nest ≡ true → one ≡ other
       alone_at one other block low there first second =
           elim (cases_eq one task) [
             | inl same ↦ elim (cases_eq other task) [
@@ -189,11 +202,15 @@ module _ (tasks : List Task) (task : ℕ) (layers : List Layer) (right : AreCoun
       ]
 
   -- a nest with the same blocks in the same order keeps all ways
-  pub ways_alike : Alike task (task_at (facts tasks) task) (record (task_at (facts tasks) task) { nest = members layers }) → (other : ℕ) → other < length tasks → is_terminated (task_at (facts tasks) other).phase ≡ false → ((master : Master) → depends_on (facts after) other master ≡ depends_on (facts tasks) other master) × IsLed after other
+  pub ways_alike : Alike task (task_at (facts tasks) task) (record (task_at (facts tasks) task) { nest = members layers }) → (other : ℕ) → other < length tasks
+      → is_terminated (task_at (facts tasks) other).phase ≡ false
+      → ((master : Master) → depends_on (facts after) other master ≡ depends_on (facts tasks) other master) × IsLed after other
   ways_alike alike other low live =
       let all : (at : ℕ) → at < other → Alike at (task_at (facts tasks) at) (task_at (facts after) at) = λ at below. alike_at at in (
-        λ master. ap (λ m. reaches (facts after) other m master) (master_same other) ∙ reaches_alike (facts tasks) (facts after) other (task_at (facts tasks) other).master master all,
-        rw (master_same other, holder_same other) (led_alike tasks after other (task_at (facts tasks) other).master (record_at tasks other).holder all (λ at below. holder_same at) ∙ right.led other low live),
+        λ master. ap (λ m. reaches (facts after) other m master) (master_same other)
+            ∙ reaches_alike (facts tasks) (facts after) other (task_at (facts tasks) other).master master all,
+        rw (master_same other, holder_same other) (led_alike tasks after other (task_at (facts tasks) other).master (record_at tasks other).holder all
+            (λ at below. holder_same at) ∙ right.led other low live),
       )
     where
       alike_at : (at : ℕ) → Alike at (task_at (facts tasks) at) (task_at (facts after) at)
@@ -204,14 +221,19 @@ module _ (tasks : List Task) (task : ℕ) (layers : List Layer) (right : AreCoun
           ]
 
   -- a nest with one block more or less keeps the ways that don't pass it
-  pub ways_but : (block : ℕ) → AlikeBut block task (task_at (facts tasks) task) (record (task_at (facts tasks) task) { nest = members layers }) → ((other : ℕ) → other < length tasks → is_terminated (task_at (facts tasks) other).phase ≡ false → depends_on (facts tasks) other (Block block) ≡ false) → (other : ℕ) → other < length tasks → is_terminated (task_at (facts tasks) other).phase ≡ false → ((master : Master) → depends_on (facts after) other master ≡ depends_on (facts tasks) other master) × IsLed after other
+  pub ways_but : (block : ℕ) → AlikeBut block task (task_at (facts tasks) task) (record (task_at (facts tasks) task) { nest = members layers })
+      → ((other : ℕ) → other < length tasks → is_terminated (task_at (facts tasks) other).phase ≡ false → depends_on (facts tasks) other (Block block) ≡ false)
+      → (other : ℕ) → other < length tasks → is_terminated (task_at (facts tasks) other).phase ≡ false
+      → ((master : Master) → depends_on (facts after) other master ≡ depends_on (facts tasks) other master) × IsLed after other
   ways_but block alike free other low live =
-      let way = led_but block tasks after other (task_at (facts tasks) other).master (record_at tasks other).holder (λ at below. alike_at at) (λ at below. holder_same at) (right.led other low live) (free other low live) in (
+      let way = led_but block tasks after other (task_at (facts tasks) other).master (record_at tasks other).holder (λ at below. alike_at at)
+      (λ at below. holder_same at) (right.led other low live) (free other low live) in (
         λ master. ap (λ m. reaches (facts after) other m master) (master_same other) ∙ way.0 master,
         rw (master_same other, holder_same other) way.1,
       )
     where
-      weaker : (at : ℕ) → Alike at (task_at (facts tasks) at) (task_at (facts after) at) → AlikeBut block at (task_at (facts tasks) at) (task_at (facts after) at)
+      weaker : (at : ℕ) → Alike at (task_at (facts tasks) at) (task_at (facts after) at)
+          → AlikeBut block at (task_at (facts tasks) at) (task_at (facts after) at)
       weaker at all = record { master = all.master; holding = λ from other. all.holding from; enclosing = λ from to other held. all.enclosing from to held }
 
       alike_at : (at : ℕ) → AlikeBut block at (task_at (facts tasks) at) (task_at (facts after) at)

@@ -1,5 +1,6 @@
 -- A call that leaves its queue.
-use Rattle.std.proofs.Common.{◌≡◌, ◌≢◌, ℕ, ◌-◌, ◌<◌, true, false, not, ◌||◌, List, [], ◌∷◌, ◌++◌, length, get_or, set, map, Option, Some, None, is_some, is_none, cond, refl, ap, sym, subst, ◌∙◌, inl, inr, arith, length-append, append-nil}
+use Rattle.std.proofs.Common.{◌≡◌, ◌≢◌, ℕ, ◌-◌, ◌<◌, true, false, not, ◌||◌, List, [], ◌∷◌, ◌++◌, length, get_or, set, map, Option, Some, None, is_some}
+use Rattle.std.proofs.Common.{is_none, cond, refl, ap, sym, subst, ◌∙◌, inl, inr, arith, length-append, append-nil}
 use Rattle.std.specs.Prelude.{◌==◌, if◌then◌else◌}
 use Rattle.std.specs.List.{filter}
 use Rattle.std.specs.Option.{ForSome}
@@ -13,7 +14,8 @@ use Rattle.ada_tables.specs.declared.queues.Queue.{Queue}
 use Rattle.ada_tables.specs.Nodes.{node_of}
 use Rattle.ada_tables.specs.Queues.{QueuedCall, is_by, waits_in, waits, without}
 use Rattle.ada_tables.specs.Links.{first_or, last_or, IsChain, IsQueue, AreLinked, calls_in, no_queue, joined}
-use Rattle.ada_tables.proofs.Chains.{AreApart, chain_agrees, chain_slot, chain_cut, chain_joined, not_last, not_first, last_waits, last_is_waiting, first_is_waiting, chain_has, stands_first, standing}
+use Rattle.ada_tables.proofs.Chains.{AreApart, chain_agrees, chain_slot, chain_cut, chain_joined, not_last, not_first, last_waits, last_is_waiting}
+use Rattle.ada_tables.proofs.Chains.{first_is_waiting, chain_has, stands_first, standing}
 use Rattle.ada_tables.proofs.Arriving.{node_within}
 use Rattle.ada_tables.proofs.Linking.{KeepsOthers, each_changed, calls_changed, joined_holders, joined_other, any_place, calls_at}
 
@@ -24,7 +26,8 @@ filter_idle by (call ∷ rest) idle =
     let parts = or_parts (call.caller == by) (waits_in by rest) idle in
     rw parts.0 (ap (λ others. call ∷ others) (filter_idle by rest parts.1))
 
-filter_out : (by : ℕ) (left : List QueuedCall) (call : QueuedCall) (right : List QueuedCall) → call.caller ≡ by → waits_in by left ≡ false → waits_in by right ≡ false → filter (λ call. not (is_by by call)) (left ++ call ∷ right) ≡ left ++ right
+filter_out : (by : ℕ) (left : List QueuedCall) (call : QueuedCall) (right : List QueuedCall) → call.caller ≡ by → waits_in by left ≡ false
+    → waits_in by right ≡ false → filter (λ call. not (is_by by call)) (left ++ call ∷ right) ≡ left ++ right
 filter_out by [] call right same front back = rw (eq-eqb call.caller by same) (filter_idle by right back)
 filter_out by (first ∷ rest) call right same front back =
     let parts = or_parts (first.caller == by) (waits_in by rest) front in
@@ -53,11 +56,13 @@ last_or-append before [] right = refl
 last_or-append before (call ∷ rest) right = last_or-append (Some call.caller) rest right
 
 -- the first and the last caller once one has left
-first_left : (left : List QueuedCall) (call : QueuedCall) (right : List QueuedCall) → (if is_none (last_or None left) then first_or None right else first_or None (left ++ call ∷ right)) ≡ first_or None (left ++ right)
+first_left : (left : List QueuedCall) (call : QueuedCall) (right : List QueuedCall)
+    → (if is_none (last_or None left) then first_or None right else first_or None (left ++ call ∷ right)) ≡ first_or None (left ++ right)
 first_left [] call right = refl
 first_left (first ∷ rest) call right = rw (last_waits None first rest).1 refl
 
-last_left : (left : List QueuedCall) (call : QueuedCall) (right : List QueuedCall) → (if is_none (first_or None right) then last_or None left else last_or None (left ++ call ∷ right)) ≡ last_or None (left ++ right)
+last_left : (left : List QueuedCall) (call : QueuedCall) (right : List QueuedCall)
+    → (if is_none (first_or None right) then last_or None left else last_or None (left ++ call ∷ right)) ≡ last_or None (left ++ right)
 last_left left call [] = rw append-nil refl
 last_left left call (next ∷ rest) = rw (last_or-append None left (call ∷ (next ∷ rest)), last_or-append None left (next ∷ rest)) refl
 
@@ -77,9 +82,11 @@ pub record Leaves (nodes : List (Option Node)) (queues : List Queue) (by : ℕ) 
   pub before : ForSome node.before (λ caller. is_some (node_of (set nodes by None) caller) ≡ true)
   pub after : ForSome node.after (λ caller. is_some (node_of (set nodes by None) caller) ≡ true)
   pub linked : AreLinked (joined node.before node.after (set nodes by None)) (set queues node.slot (left_queue (get_or queues node.slot no_queue) node))
-  pub calls : map (calls_in (joined node.before node.after (set nodes by None))) (set queues node.slot (left_queue (get_or queues node.slot no_queue) node)) ≡ without by (map (calls_in nodes) queues)
+  pub calls : map (calls_in (joined node.before node.after (set nodes by None))) (set queues node.slot (left_queue (get_or queues node.slot no_queue) node))
+      ≡ without by (map (calls_in nodes) queues)
 
-module _ (nodes : List (Option Node)) (queues : List Queue) (slot : ℕ) (linked : AreLinked nodes queues) (within : slot < length queues) (left : List QueuedCall) (call : QueuedCall) (right : List QueuedCall) (whole : calls_in nodes (get_or queues slot no_queue) ≡ left ++ call ∷ right) where
+module _ (nodes : List (Option Node)) (queues : List Queue) (slot : ℕ) (linked : AreLinked nodes queues) (within : slot < length queues)
+    (left : List QueuedCall) (call : QueuedCall) (right : List QueuedCall) (whole : calls_in nodes (get_or queues slot no_queue) ≡ left ++ call ∷ right) where
   abbrev was : Queue
   was = get_or queues slot no_queue
 
@@ -134,8 +141,10 @@ module _ (nodes : List (Option Node)) (queues : List Queue) (slot : ℕ) (linked
 
   is_queue : IsQueue after slot queue (left ++ right)
   is_queue =
-      let front = chain_agrees nodes gone slot None left (Some by) (λ caller waiting. get_or-set_other nodes by caller None None (other_left caller waiting)) cut.front in
-      let back = chain_agrees nodes gone slot (Some by) right None (λ caller waiting. get_or-set_other nodes by caller None None (other_right caller waiting)) cut.back in
+      let front = chain_agrees nodes gone slot None left (Some by) (λ caller waiting. get_or-set_other nodes by caller None None (other_left caller waiting))
+      cut.front in
+      let back = chain_agrees nodes gone slot (Some by) right None (λ caller waiting. get_or-set_other nodes by caller None None (other_right caller waiting))
+      cut.back in
       record {
         len = omega (arith, is.len, length-append left (call ∷ right), length-append left right);
         first = ap (λ link. if is_none (last_or None left) then first_or None right else link) is.first ∙ first_left left call right;
@@ -148,7 +157,8 @@ module _ (nodes : List (Option Node)) (queues : List Queue) (slot : ℕ) (linked
 
   keeps : KeepsOthers slot nodes after
   keeps caller other has differs =
-      let absent : waits_in caller (left ++ call ∷ right) ≡ false = false_from_ne_true _ (λ waiting. differs (let at = chain_slot nodes slot None (left ++ call ∷ right) None caller is.chain waiting in cc)) in
+      let absent : waits_in caller (left ++ call ∷ right)
+      ≡ false = false_from_ne_true _ (λ waiting. differs (let at = chain_slot nodes slot None (left ++ call ∷ right) None caller is.chain waiting in cc)) in
       let sides = or_parts _ _ (sym (waits_whole caller) ∙ absent) in
       let rest = or_parts _ _ sides.1 in
       joined_other (last_or None left) (first_or None right) gone caller (not_last left caller sides.0) (not_first right caller rest.1)
@@ -156,7 +166,8 @@ module _ (nodes : List (Option Node)) (queues : List Queue) (slot : ℕ) (linked
 
   idle_elsewhere : (at : ℕ) → at < length queues → at ≢ slot → waits_in by (calls_in nodes (get_or queues at no_queue)) ≡ false
   idle_elsewhere at low differs =
-      false_from_ne_true _ (λ waiting. differs (let there = chain_slot nodes at None _ None by (linked.each at low).chain waiting in let here = rw cut.node at there in cc))
+      false_from_ne_true _ (λ waiting. differs (let there = chain_slot nodes at None _ None by (linked.each at low).chain waiting in let here = rw cut.node at
+      there in cc))
 
   pub left_calls : map (calls_in after) (set queues slot queue) ≡ without by (map (calls_in nodes) queues)
   left_calls =
@@ -165,16 +176,29 @@ module _ (nodes : List (Option Node)) (queues : List Queue) (slot : ℕ) (linked
       (length-set (map (calls_in nodes) queues) slot (left ++ right) ∙ sym (length-map (map (calls_in nodes) queues) (filter (λ call. not (is_by by call)))))
       (λ at low. place at (simp (length-set, length-map) at low))
     where
-      place : (at : ℕ) → at < length queues → get_or (set (map (calls_in nodes) queues) slot (left ++ right)) at [] ≡ get_or (without by (map (calls_in nodes) queues)) at []
+      place : (at : ℕ) → at < length queues → get_or (set (map (calls_in nodes) queues) slot (left ++ right)) at []
+          ≡ get_or (without by (map (calls_in nodes) queues)) at []
       place at low =
           let many : at < length (map (calls_in nodes) queues) = rw length-map low in
           let here : slot < length (map (calls_in nodes) queues) = rw length-map within in
           elim (cases_eq at slot) [
             | inl same ↦
-                rw (get_or-map (filter (λ call. not (is_by by call))) (map (calls_in nodes) queues) at [] [] many, same, get_or-set_same (map (calls_in nodes) queues) slot (left ++ right) [] here, calls_at nodes queues slot within, whole)
+                rw (
+                  get_or-map (filter (λ call. not (is_by by call))) (map (calls_in nodes) queues) at [] [] many,
+                  same,
+                  get_or-set_same
+                      (map (calls_in nodes) queues) slot (left ++ right) [] here,
+                  calls_at nodes queues slot within,
+                  whole,
+                )
                 (sym (filter_out by left call right refl cut.absent cut.alone))
             | inr differs ↦
-                rw (get_or-map (filter (λ call. not (is_by by call))) (map (calls_in nodes) queues) at [] [] many, get_or-set_other (map (calls_in nodes) queues) slot at (left ++ right) [] differs, calls_at nodes queues at low)
+                rw (
+                  get_or-map (filter (λ call. not (is_by by call))) (map (calls_in nodes) queues) at [] [] many,
+                  get_or-set_other
+                      (map (calls_in nodes) queues) slot at (left ++ right) [] differs,
+                  calls_at nodes queues at low,
+                )
                 (sym (filter_idle by _ (idle_elsewhere at low differs)))
           ]
 
@@ -182,9 +206,11 @@ module _ (nodes : List (Option Node)) (queues : List Queue) (slot : ℕ) (linked
   waiting_now task =
       (joined_holders (last_or None left) (first_or None right) gone).holders task
       ∙ elim (cases_eq task by) [
-        | inl same ↦ rw (same, waits-gone by (map (calls_in nodes) queues)) (ap is_some (get_or-set_same nodes by None None (node_within nodes by (ap is_some cut.node))))
+        | inl same ↦ rw (same, waits-gone by (map (calls_in nodes) queues))
+            (ap is_some (get_or-set_same nodes by None None (node_within nodes by (ap is_some cut.node))))
         | inr differs ↦
-            ap is_some (get_or-set_other nodes by task None None differs) ∙ linked.waiting task ∙ sym (waits-other task by (map (calls_in nodes) queues) differs)
+            ap is_some (get_or-set_other nodes by task None None differs) ∙ linked.waiting task
+            ∙ sym (waits-other task by (map (calls_in nodes) queues) differs)
       ]
 
   left_linked : AreLinked after (set queues slot queue)
@@ -209,16 +235,19 @@ module _ (nodes : List (Option Node)) (queues : List Queue) (slot : ℕ) (linked
         longer = omega (arith, is.len, length-append left (call ∷ right));
         before = λ caller last.
             let waiting = last_is_waiting left caller last in
-            ap is_some (get_or-set_other nodes by caller None None (other_left caller waiting)) ∙ chain_has nodes slot None left (Some by) caller cut.front waiting;
+            ap is_some (get_or-set_other nodes by caller None None (other_left caller waiting))
+            ∙ chain_has nodes slot None left (Some by) caller cut.front waiting;
         after = λ caller first.
             let waiting = first_is_waiting right caller first in
-            ap is_some (get_or-set_other nodes by caller None None (other_right caller waiting)) ∙ chain_has nodes slot (Some by) right None caller cut.back waiting;
+            ap is_some (get_or-set_other nodes by caller None None (other_right caller waiting))
+            ∙ chain_has nodes slot (Some by) right None caller cut.back waiting;
         linked = left_linked;
         calls = left_calls;
       }
 
 -- a task that waits leaves its queue
-pub leaves : (nodes : List (Option Node)) (queues : List Queue) (by : ℕ) (node : Node) → AreLinked nodes queues → waits by (map (calls_in nodes) queues) ≡ true → node_of nodes by ≡ Some node → Leaves nodes queues by node
+pub leaves : (nodes : List (Option Node)) (queues : List Queue) (by : ℕ) (node : Node) → AreLinked nodes queues → waits by (map (calls_in nodes) queues) ≡ true
+    → node_of nodes by ≡ Some node → Leaves nodes queues by node
 leaves nodes queues by node linked waiting has =
     let place = any_place (waits_in by) (map (calls_in nodes) queues) [] waiting in
     let within : place.0 < length queues = rw length-map at place.1 in
@@ -227,5 +256,7 @@ leaves nodes queues by node linked waiting has =
     let here = leaves_here nodes queues place.0 linked within at.left at.call at.right at.whole in
     let node_is : its_node nodes queues place.0 linked within at.left at.call at.right at.whole ≡ node =
     let found = found_node nodes queues place.0 linked within at.left at.call at.right at.whole in
-    let same : Some (its_node nodes queues place.0 linked within at.left at.call at.right at.whole) ≡ Some node = sym found ∙ ap (node_of nodes) at.by ∙ has in cc in
-    subst (Leaves nodes queues by) node_is (subst (λ b. Leaves nodes queues b (its_node nodes queues place.0 linked within at.left at.call at.right at.whole)) at.by here)
+    let same : Some (its_node nodes queues place.0 linked within at.left at.call at.right at.whole) ≡ Some node = sym found ∙ ap (node_of nodes) at.by
+    ∙ has in cc in
+    subst (Leaves nodes queues by) node_is (subst (λ b. Leaves nodes queues b (its_node nodes queues place.0 linked within at.left at.call at.right at.whole))
+    at.by here)

@@ -53,7 +53,8 @@ alike_longer task call old nest is =
     enclosing (Block inner) (Block block) held = rw is (ap (has_block block) (up_to-append inner nest (Rendezvous call ∷ []) (rw is at held)))
 
 -- a block behind a nest changes nothing for its other masters
-but_longer : (task block : ℕ) (old : Facts) (nest : List Member) → old.nest ≡ nest → AlikeBut block task old (record old { nest = nest ++ BlockMember block ∷ [] })
+but_longer : (task block : ℕ) (old : Facts) (nest : List Member) → old.nest ≡ nest
+    → AlikeBut block task old (record old { nest = nest ++ BlockMember block ∷ [] })
 but_longer task block old nest is =
     record {
       master = refl;
@@ -64,7 +65,9 @@ but_longer task block old nest is =
     holding : (from : Master) → from ≢ Block block → holds task (nest ++ BlockMember block ∷ []) from ≡ holds task old.nest from
     holding (Body t) other = refl
     holding (Block at) other =
-        rw is (has_block-append at nest (BlockMember block ∷ []) ∙ ap (λ b. has_block at nest || b) (or_from (block == at) false (ne_eqb block at (λ same. other (ap Block (sym same)))) refl) ∙ or_nothing (has_block at nest))
+        rw is (has_block-append at nest (BlockMember block ∷ [])
+        ∙ ap (λ b. has_block at nest || b) (or_from (block == at) false (ne_eqb block at (λ same. other (ap Block (sym same)))) refl)
+        ∙ or_nothing (has_block at nest))
 
     enclosing : (from to : Master) → holds task old.nest from ≡ true → encloses task (nest ++ BlockMember block ∷ []) from to ≡ encloses task old.nest from to
     enclosing (Body t) (Body u) held = refl
@@ -86,24 +89,31 @@ module _ (tasks : List Task) (task : ℕ) (right : AreCounted tasks) (within : t
   pushed_rendezvous call =
       nest_changed tasks task (nest ++ layer_of (Rendezvous call) ∷ []) right within
       (λ block has.
-      let there : has_block block (members nest) ≡ true = sym (or_nothing (has_block block (members nest))) ∙ sym (has_block-append block (members nest) (Rendezvous call ∷ [])) ∙ ap (has_block block) (sym (members_pushed (Rendezvous call))) ∙ has in
+      let there : has_block block (members nest) ≡ true = sym (or_nothing (has_block block (members nest)))
+      ∙ sym (has_block-append block (members nest) (Rendezvous call ∷ [])) ∙ ap (has_block block) (sym (members_pushed (Rendezvous call))) ∙ has in
       inl (stood block there, live_at-append block nest (layer_of (Rendezvous call) ∷ []) there))
       (ways_alike tasks task (nest ++ layer_of (Rendezvous call) ∷ []) right within
-      (subst (λ (ms : List Member). Alike task (task_at (facts tasks) task) (record (task_at (facts tasks) task) { nest = ms })) (sym (members_pushed (Rendezvous call)))
+      (subst (λ (ms : List Member). Alike task (task_at (facts tasks) task) (record (task_at (facts tasks) task) { nest = ms }))
+      (sym (members_pushed (Rendezvous call)))
       (alike_longer task call (task_at (facts tasks) task) (members nest) (nest_is tasks task))))
 
-  pub pushed_block : (block : ℕ) → ((other : ℕ) → other < length tasks → has_block block (task_at (facts tasks) other).nest ≡ false) → AreCounted (set tasks task (record (record_at tasks task) { nest = nest ++ layer_of (BlockMember block) ∷ [] }))
+  pub pushed_block : (block : ℕ) → ((other : ℕ) → other < length tasks → has_block block (task_at (facts tasks) other).nest ≡ false)
+      → AreCounted (set tasks task (record (record_at tasks task) { nest = nest ++ layer_of (BlockMember block) ∷ [] }))
   pushed_block block fresh =
       nest_changed tasks task (nest ++ layer_of (BlockMember block) ∷ []) right within
       (λ at has. elim (cases_Bool (has_block at (members nest))) [
         | inl there ↦ inl (stood at there, live_at-append at nest (layer_of (BlockMember block) ∷ []) there)
         | inr new ↦
-            let last : (has_block at (members nest) || ((block == at) || false)) ≡ true = sym (has_block-append at (members nest) (BlockMember block ∷ [])) ∙ ap (has_block at) (sym (members_pushed (BlockMember block))) ∙ has in
+            let last : (has_block at (members nest) || ((block == at) || false)) ≡ true = sym (has_block-append at (members nest) (BlockMember block ∷ []))
+            ∙ ap (has_block at) (sym (members_pushed (BlockMember block))) ∙ has in
             let same : block ≡ at = eqb-true block at (sym (or_nothing (block == at)) ∙ rw new at last) in
-            inr (subst (λ b. ((other : ℕ) → other < length tasks → has_block b (task_at (facts tasks) other).nest ≡ false) × (live_at b (nest ++ layer_of (BlockMember block) ∷ []) ≡ 0)) same (fresh, live_at-new block nest (ap (has_block block) (sym (nest_is tasks task)) ∙ fresh task within)))
+            inr (subst (λ b. ((other : ℕ) → other < length tasks → has_block b (task_at (facts tasks) other).nest ≡ false)
+            × (live_at b (nest ++ layer_of (BlockMember block) ∷ []) ≡ 0)) same
+            (fresh, live_at-new block nest (ap (has_block block) (sym (nest_is tasks task)) ∙ fresh task within)))
       ])
       (ways_but tasks task (nest ++ layer_of (BlockMember block) ∷ []) right within block
-      (subst (λ (ms : List Member). AlikeBut block task (task_at (facts tasks) task) (record (task_at (facts tasks) task) { nest = ms })) (sym (members_pushed (BlockMember block)))
+      (subst (λ (ms : List Member). AlikeBut block task (task_at (facts tasks) task) (record (task_at (facts tasks) task) { nest = ms }))
+      (sym (members_pushed (BlockMember block)))
       (but_longer task block (task_at (facts tasks) task) (members nest) (nest_is tasks task)))
       (λ other low live. false_from_ne_true _ (λ reached.
       let found = reached_held (facts tasks) other (task_at (facts tasks) other).master (Block block) reached in
@@ -113,7 +123,8 @@ module _ (tasks : List Task) (task : ℕ) (right : AreCounted tasks) (within : t
     members_ended : (task_at (facts tasks) task).nest ≡ members shorter ++ member_of last ∷ []
     members_ended = nest_is tasks task ∙ ap members nest_ends ∙ map-append member_of shorter (last ∷ [])
 
-    still_there : (block : ℕ) → has_block block (members shorter) ≡ true → (has_block block (task_at (facts tasks) task).nest ≡ true) × (live_at block shorter ≡ live_at block nest)
+    still_there : (block : ℕ) → has_block block (members shorter) ≡ true → (has_block block (task_at (facts tasks) task).nest ≡ true)
+        × (live_at block shorter ≡ live_at block nest)
     still_there block has = (
       ap (has_block block) members_ended ∙ has_block-append block (members shorter) (member_of last ∷ []) ∙ or_left _ _ has,
       sym (ap (live_at block) nest_ends ∙ live_at-append block shorter (last ∷ []) has),
@@ -122,26 +133,35 @@ module _ (tasks : List Task) (task : ℕ) (right : AreCounted tasks) (within : t
     pub popped_rendezvous : (call : ℕ) → member_of last ≡ Rendezvous call → AreCounted (set tasks task (record (record_at tasks task) { nest = shorter }))
     popped_rendezvous call last_is =
         nest_changed tasks task shorter right within (λ block has. inl (still_there block has))
-        (ways_alike tasks task shorter right within (turned (alike_longer task call (record (task_at (facts tasks) task) { nest = members shorter }) (members shorter) refl)))
+        (ways_alike tasks task shorter right within
+        (turned (alike_longer task call (record (task_at (facts tasks) task) { nest = members shorter }) (members shorter) refl)))
       where
-        turned : Alike task (record (task_at (facts tasks) task) { nest = members shorter }) (record (task_at (facts tasks) task) { nest = members shorter ++ Rendezvous call ∷ [] }) → Alike task (task_at (facts tasks) task) (record (task_at (facts tasks) task) { nest = members shorter })
+        turned : Alike task (record (task_at (facts tasks) task) { nest = members shorter })
+            (record (task_at (facts tasks) task) { nest = members shorter ++ Rendezvous call ∷ [] })
+            → Alike task (task_at (facts tasks) task) (record (task_at (facts tasks) task) { nest = members shorter })
         turned alike =
-            let whole : (task_at (facts tasks) task).nest ≡ members shorter ++ Rendezvous call ∷ [] = members_ended ∙ ap (λ m. members shorter ++ m ∷ []) last_is in
+            let whole : (task_at (facts tasks) task).nest ≡ members shorter ++ Rendezvous call ∷ [] = members_ended
+            ∙ ap (λ m. members shorter ++ m ∷ []) last_is in
             record {
               master = refl;
               holding = λ from. rw whole (sym (alike.holding from));
               enclosing = λ from to held. rw whole (sym (alike.enclosing from to (sym (alike.holding from) ∙ rw whole at held)));
             }
 
-    pub popped_block : (block : ℕ) → member_of last ≡ BlockMember block → live_dependents (facts tasks) (Block block) ≡ 0 → AreCounted (set tasks task (record (record_at tasks task) { nest = shorter }))
+    pub popped_block : (block : ℕ) → member_of last ≡ BlockMember block → live_dependents (facts tasks) (Block block) ≡ 0
+        → AreCounted (set tasks task (record (record_at tasks task) { nest = shorter }))
     popped_block block last_is none =
         nest_changed tasks task shorter right within (λ at has. inl (still_there at has))
-        (ways_but tasks task shorter right within block (turned (but_longer task block (record (task_at (facts tasks) task) { nest = members shorter }) (members shorter) refl))
+        (ways_but tasks task shorter right within block
+        (turned (but_longer task block (record (task_at (facts tasks) task) { nest = members shorter }) (members shorter) refl))
         (λ other low live. rw live at (count_none (is_live_dependent (facts tasks) (Block block)) (length (facts tasks)) other none (rw length-map low))))
       where
-        turned : AlikeBut block task (record (task_at (facts tasks) task) { nest = members shorter }) (record (task_at (facts tasks) task) { nest = members shorter ++ BlockMember block ∷ [] }) → AlikeBut block task (task_at (facts tasks) task) (record (task_at (facts tasks) task) { nest = members shorter })
+        turned : AlikeBut block task (record (task_at (facts tasks) task) { nest = members shorter })
+            (record (task_at (facts tasks) task) { nest = members shorter ++ BlockMember block ∷ [] })
+            → AlikeBut block task (task_at (facts tasks) task) (record (task_at (facts tasks) task) { nest = members shorter })
         turned alike =
-            let whole : (task_at (facts tasks) task).nest ≡ members shorter ++ BlockMember block ∷ [] = members_ended ∙ ap (λ m. members shorter ++ m ∷ []) last_is in
+            let whole : (task_at (facts tasks) task).nest ≡ members shorter ++ BlockMember block ∷ [] = members_ended
+            ∙ ap (λ m. members shorter ++ m ∷ []) last_is in
             record {
               master = refl;
               holding = λ from other. rw whole (sym (alike.holding from other));

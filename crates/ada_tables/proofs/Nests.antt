@@ -42,7 +42,9 @@ members-moved_to count block (layer ∷ rest) =
     ]
 
 -- a count is changed exactly where its block is the one or stands outside it
-pub live_at-moved_to : (count : ℕ → ℕ) (inner block : ℕ) (layers : List Layer) → has_block block (members layers) ≡ true → live_at block (moved_to count inner layers) ≡ (if has_block block (up_to inner (members layers)) then count (live_at block layers) else live_at block layers)
+pub live_at-moved_to : (count : ℕ → ℕ) (inner block : ℕ) (layers : List Layer) → has_block block (members layers) ≡ true
+    → live_at block (moved_to count inner layers) ≡ (if has_block block (up_to inner (members layers)) then count (live_at block layers)
+    else live_at block layers)
 unfolding moved_to live_at
 live_at-moved_to count inner block [] has = absurd (cc)
 live_at-moved_to count inner block (layer ∷ rest) has =
@@ -52,7 +54,8 @@ live_at-moved_to count inner block (layer ∷ rest) has =
           let later : has_block block (members rest) ≡ true = rw (is_block-member block layer, other) at has in
           elim (cases_Bool (is_block_at inner layer)) [
             | inl stop ↦ rw (is_block-member block layer, is_block-member inner layer, is_block_at-moved count block layer, other, stop) refl
-            | inr on ↦ rw (is_block-member block layer, is_block-member inner layer, is_block_at-moved count block layer, other, on) (live_at-moved_to count inner block rest later)
+            | inr on ↦ rw (is_block-member block layer, is_block-member inner layer, is_block_at-moved count block layer, other, on)
+                (live_at-moved_to count inner block rest later)
           ]
     ]
 

@@ -1,5 +1,6 @@
 -- The number of an entry among those of its task.
-use Rattle.std.proofs.Common.{◌≡◌, ℕ, ℤ, zero, suc, ◌+◌, ◌<◌, ◌≤◌, ◌-ℤ◌, Bool, true, false, Some, None, IsSome, List, [], ◌∷◌, length, take, get_or, refl, arith, inl, inr}
+use Rattle.std.proofs.Common.{◌≡◌, ℕ, ℤ, zero, suc, ◌+◌, ◌<◌, ◌≤◌, ◌-ℤ◌, Bool, true, false, Some, None, IsSome, List, [], ◌∷◌, length, take, get_or, refl}
+use Rattle.std.proofs.Common.{arith, inl, inr}
 use Rattle.std.specs.Prelude.{slice_get, unsigned_abs, int_le}
 use Rattle.std.specs.Bool.{then_some}
 use Rattle.std.proofs.lemmas.Bool.{cases_lt, and_parts, false≢true}
@@ -39,11 +40,13 @@ module _ (families : List Family) (entry : Entry) (known : IsSome (number_within
   unfolding number_within
   in_range d = then_some-is _ _ (rw (slice_get-get_or families entry.family d family_place) at known)
 
-  pub number_value : (d : Family) → number_within families entry ≡ Some (entries_in (take entry.family families) + unsigned_abs (entry.index -ℤ (get_or families entry.family d).low))
+  pub number_value : (d : Family) → number_within families entry
+      ≡ Some (entries_in (take entry.family families) + unsigned_abs (entry.index -ℤ (get_or families entry.family d).low))
   unfolding number_within
   number_value d = rw (slice_get-get_or families entry.family d family_place, in_range d) refl
 
-  pub number_below : (d : Family) → entries_in (take entry.family families) + unsigned_abs (entry.index -ℤ (get_or families entry.family d).low) < entries_in families
+  pub number_below : (d : Family) → entries_in (take entry.family families) + unsigned_abs (entry.index -ℤ (get_or families entry.family d).low)
+      < entries_in families
   unfolding entries_in
   number_below d =
       omega (arith, sum_by_more_le entry_count families entry.family d family_place, offset_below (get_or families entry.family d) entry.index (in_range d))
@@ -53,6 +56,8 @@ unfolding entries_in
 entries_before families many = sum_by-take-le entry_count families many
 
 -- what the program adds up is the entry's number
-pub sum_is : (families : List Family) (entry : Entry) (place first offset : ℕ) (d : Family) → IsSome (number_within families entry) → place ≡ entry.family → first ≡ entries_in (take place families) → offset ≡ unsigned_abs (entry.index -ℤ (get_or families place d).low) → (number_within families entry ≡ Some (first + offset)) × (first + offset < entries_in families)
+pub sum_is : (families : List Family) (entry : Entry) (place first offset : ℕ) (d : Family) → IsSome (number_within families entry) → place ≡ entry.family
+    → first ≡ entries_in (take place families) → offset ≡ unsigned_abs (entry.index -ℤ (get_or families place d).low)
+    → (number_within families entry ≡ Some (first + offset)) × (first + offset < entries_in families)
 sum_is families entry place first offset d known place_is first_is offset_is =
     rw (first_is, offset_is, place_is) (number_value families entry known d, number_below families entry known d)

@@ -21,7 +21,8 @@ declared-set tasks task new same =
     map-set (λ (f : Facts). f.families) tasks task new ∙ ap (set (declared tasks) task) (same ∙ declared_at tasks task) ∙ set-get_or (declared tasks) task []
 
 -- the parts stay tied where no task and no entry is added
-tied_same : (old new : List Facts) (queues : List (List QueuedCall)) (callers : ℕ) (firsts : List ℕ) → length new ≡ length old → declared new ≡ declared old → AreTied old queues callers firsts → AreTied new queues callers firsts
+tied_same : (old new : List Facts) (queues : List (List QueuedCall)) (callers : ℕ) (firsts : List ℕ) → length new ≡ length old → declared new ≡ declared old
+    → AreTied old queues callers firsts → AreTied new queues callers firsts
 tied_same old new queues callers firsts long same tied =
     record {
       callers_known = tied.callers_known ∙ sym long;
@@ -31,16 +32,25 @@ tied_same old new queues callers firsts long same tied =
       few = tied.few;
     }
 
-pub tied_nest : (old new : Known) (queues : List (List QueuedCall)) (callers : ℕ) (firsts : List ℕ) (task : ℕ) (nest : List Member) → new ≡ record old { tasks = with_nest task nest old.tasks } → AreTied old.tasks queues callers firsts → AreTied new.tasks queues callers firsts
+pub tied_nest : (old new : Known) (queues : List (List QueuedCall)) (callers : ℕ) (firsts : List ℕ) (task : ℕ) (nest : List Member) → new ≡ record old {
+  tasks =
+      with_nest task nest old.tasks;
+} → AreTied old.tasks queues callers firsts → AreTied new.tasks queues callers firsts
 tied_nest old new queues callers firsts task nest is tied =
-    rw is (tied_same old.tasks (with_nest task nest old.tasks) queues callers firsts (length-set old.tasks task _) (declared-set old.tasks task (record (task_at old.tasks task) { nest = nest }) refl) tied)
+    rw is (tied_same old.tasks (with_nest task nest old.tasks) queues callers firsts (length-set old.tasks task _)
+    (declared-set old.tasks task (record (task_at old.tasks task) { nest = nest }) refl) tied)
 
-pub tied_phase : (old new : Known) (queues : List (List QueuedCall)) (callers : ℕ) (firsts : List ℕ) (task : ℕ) (phase : Phase) → new ≡ record old { tasks = with_phase task phase old.tasks } → AreTied old.tasks queues callers firsts → AreTied new.tasks queues callers firsts
+pub tied_phase : (old new : Known) (queues : List (List QueuedCall)) (callers : ℕ) (firsts : List ℕ) (task : ℕ) (phase : Phase) → new ≡ record old {
+  tasks =
+      with_phase task phase old.tasks;
+} → AreTied old.tasks queues callers firsts → AreTied new.tasks queues callers firsts
 tied_phase old new queues callers firsts task phase is tied =
-    rw is (tied_same old.tasks (with_phase task phase old.tasks) queues callers firsts (length-set old.tasks task _) (declared-set old.tasks task (record (task_at old.tasks task) { phase = phase }) refl) tied)
+    rw is (tied_same old.tasks (with_phase task phase old.tasks) queues callers firsts (length-set old.tasks task _)
+    (declared-set old.tasks task (record (task_at old.tasks task) { phase = phase }) refl) tied)
 
 -- the main program alone, which runs
-pub tied_main : (tasks : List Facts) (queues : List (List QueuedCall)) (callers : ℕ) (firsts : List ℕ) → tasks ≡ main_facts ∷ [] → queues ≡ [] → callers ≡ 1 → firsts ≡ 0 ∷ [] → AreTied tasks queues callers firsts
+pub tied_main : (tasks : List Facts) (queues : List (List QueuedCall)) (callers : ℕ) (firsts : List ℕ) → tasks ≡ main_facts ∷ [] → queues ≡ [] → callers ≡ 1
+    → firsts ≡ 0 ∷ [] → AreTied tasks queues callers firsts
 unfolding entries_in
 tied_main tasks queues callers firsts tasks_are queues_are callers_are firsts_are =
     rw (tasks_are, queues_are, callers_are, firsts_are) (record {
@@ -52,7 +62,8 @@ tied_main tasks queues callers firsts tasks_are queues_are callers_are firsts_ar
     })
 
 -- the slots of a task are among all
-pub slots_within : (tasks : List Facts) (queues : List (List QueuedCall)) (callers : ℕ) (firsts : List ℕ) (task : ℕ) → AreTied tasks queues callers firsts → task < length tasks → slots_before (declared tasks) task + entries_in (task_at tasks task).families ≤ length queues
+pub slots_within : (tasks : List Facts) (queues : List (List QueuedCall)) (callers : ℕ) (firsts : List ℕ) (task : ℕ) → AreTied tasks queues callers firsts
+    → task < length tasks → slots_before (declared tasks) task + entries_in (task_at tasks task).families ≤ length queues
 slots_within tasks queues callers firsts task tied low =
     let many = length-map tasks (λ (f : Facts). f.families) in
     let whole : length (declared tasks) ≤ length tasks = omega (arith, many) in
@@ -61,14 +72,18 @@ slots_within tasks queues callers firsts task tied low =
     rw declared_at (omega (arith, sum, total))
 
 -- the slot of an entry is one of all
-pub slot_fits : (tasks : List Facts) (queues : List (List QueuedCall)) (callers : ℕ) (firsts : List ℕ) (task : ℕ) (first number : ℕ) → AreTied tasks queues callers firsts → task < length tasks → first ≡ slice_index firsts task → number < entries_in (task_at tasks task).families → (first ≡ slots_before (declared tasks) task) × (first + number < length queues) × (length queues ≤ 1024)
+pub slot_fits : (tasks : List Facts) (queues : List (List QueuedCall)) (callers : ℕ) (firsts : List ℕ) (task : ℕ) (first number : ℕ)
+    → AreTied tasks queues callers firsts → task < length tasks → first ≡ slice_index firsts task → number < entries_in (task_at tasks task).families
+    → (first ≡ slots_before (declared tasks) task) × (first + number < length queues) × (length queues ≤ 1024)
 slot_fits tasks queues callers firsts task first number tied low first_is below =
     let starts = tied.first task low in
     let inside = slots_within tasks queues callers firsts task tied low in
     (first_is ∙ starts, omega (arith, first_is, starts, inside, below), tied.few)
 
-pub few_entries : (tasks : List Facts) (queues : List (List QueuedCall)) (callers : ℕ) (firsts : List ℕ) (task : ℕ) → AreTied tasks queues callers firsts → task < length tasks → entries_in (task_at tasks task).families ≤ 1024
+pub few_entries : (tasks : List Facts) (queues : List (List QueuedCall)) (callers : ℕ) (firsts : List ℕ) (task : ℕ) → AreTied tasks queues callers firsts
+    → task < length tasks → entries_in (task_at tasks task).families ≤ 1024
 few_entries tasks queues callers firsts task tied low = omega (arith, slots_within tasks queues callers firsts task tied low, tied.few)
 
-pub first_read : (tasks : List Facts) (queues : List (List QueuedCall)) (callers : ℕ) (firsts : List ℕ) (task : ℕ) (read : ℕ) → AreTied tasks queues callers firsts → task < length tasks → read ≡ get_or firsts task read → read ≡ slice_index firsts task
+pub first_read : (tasks : List Facts) (queues : List (List QueuedCall)) (callers : ℕ) (firsts : List ℕ) (task : ℕ) (read : ℕ)
+    → AreTied tasks queues callers firsts → task < length tasks → read ≡ get_or firsts task read → read ≡ slice_index firsts task
 first_read tasks queues callers firsts task read tied low is = get_or_read firsts task read (omega (arith, tied.firsts_known)) is 0

@@ -1,5 +1,6 @@
 -- What each call does to the records of tasks, as a contract sees them.
-use Rattle.std.proofs.Common.{◌-◌, ◌≡◌, ◌≢◌, ℕ, ◌+◌, ◌<◌, ◌≤◌, true, false, List, [], ◌∷◌, ◌++◌, length, get_or, set, take, Some, None, refl, ap, sym, ◌∙◌, arith}
+use Rattle.std.proofs.Common.{◌-◌, ◌≡◌, ◌≢◌, ℕ, ◌+◌, ◌<◌, ◌≤◌, true, false, List, [], ◌∷◌, ◌++◌, length, get_or, set, take, Some, None, refl, ap, sym, ◌∙◌}
+use Rattle.std.proofs.Common.{arith}
 use Rattle.std.proofs.lemmas.List.{map-set, length-map, get_or-map, get_or_default, map-append}
 use Rattle.ada_events.specs.declared.names.Master.{Master}
 use Rattle.ada_events.specs.declared.names.Master.TheVariants.{Block}
@@ -34,12 +35,14 @@ abbrev known_of : List Facts → ℕ → Known
 known_of tasks room = record { tasks = tasks; room = room }
 
 -- a nest that changes in a record changes in what is known
-pub facts-with_nest : (tasks : List Task) (task : ℕ) (layers : List Layer) → facts (set tasks task (record (record_at tasks task) { nest = layers })) ≡ with_nest task (members layers) (facts tasks)
+pub facts-with_nest : (tasks : List Task) (task : ℕ) (layers : List Layer)
+    → facts (set tasks task (record (record_at tasks task) { nest = layers })) ≡ with_nest task (members layers) (facts tasks)
 facts-with_nest tasks task layers =
     map-set facts_of tasks task (record (record_at tasks task) { nest = layers })
     ∙ ap (λ (f : Facts). let g : Facts = record f { nest = members layers } in set (facts tasks) task g) (sym (facts_at tasks task))
 
-pub facts-with_phase : (tasks : List Task) (task : ℕ) (phase : Phase) → facts (set tasks task (record (record_at tasks task) { phase = phase })) ≡ with_phase task phase (facts tasks)
+pub facts-with_phase : (tasks : List Task) (task : ℕ) (phase : Phase)
+    → facts (set tasks task (record (record_at tasks task) { phase = phase })) ≡ with_phase task phase (facts tasks)
 facts-with_phase tasks task phase =
     map-set facts_of tasks task (record (record_at tasks task) { phase = phase })
     ∙ ap (λ (f : Facts). let g : Facts = record f { phase = phase } in set (facts tasks) task g) (sym (facts_at tasks task))
@@ -53,17 +56,21 @@ abbrev pub Holds : List Task → List Facts → Type 0
 Holds tasks known = AreCounted tasks × (facts tasks ≡ known)
 
 -- a member comes into a nest
-pub pushed : (tasks : List Task) (task : ℕ) (read : Task) (nest : List Layer) (member : Member) → AreCounted tasks → task < length tasks → read ≡ get_or tasks task read → nest ≡ read.nest ++ layer_of member ∷ [] → IsFresh member (facts tasks)
+pub pushed : (tasks : List Task) (task : ℕ) (read : Task) (nest : List Layer) (member : Member) → AreCounted tasks → task < length tasks
+    → read ≡ get_or tasks task read → nest ≡ read.nest ++ layer_of member ∷ [] → IsFresh member (facts tasks)
     → Holds (set tasks task (record read { nest = nest })) (with_nest task ((task_at (facts tasks) task).nest ++ member ∷ []) (facts tasks))
 pushed tasks task read nest member right within read_is nest_new fresh =
     let there = get_or_read tasks task read within read_is no_task in
     rw (nest_new, there) (
       counted_still member fresh,
       facts-with_nest tasks task ((record_at tasks task).nest ++ layer_of member ∷ [])
-          ∙ ap (λ ms. with_nest task ms (facts tasks)) (map-append member_of (record_at tasks task).nest (layer_of member ∷ []) ∙ ap (λ m. members (record_at tasks task).nest ++ m ∷ []) (member_of-layer_of member) ∙ ap (λ ms. ms ++ member ∷ []) (sym (nest_is tasks task))),
+          ∙ ap (λ ms. with_nest task ms (facts tasks))
+          (map-append member_of (record_at tasks task).nest (layer_of member ∷ [])
+          ∙ ap (λ m. members (record_at tasks task).nest ++ m ∷ []) (member_of-layer_of member) ∙ ap (λ ms. ms ++ member ∷ []) (sym (nest_is tasks task))),
     )
   where
-    counted_still : (m : Member) → IsFresh m (facts tasks) → AreCounted (set tasks task (record (record_at tasks task) { nest = (record_at tasks task).nest ++ layer_of m ∷ [] }))
+    counted_still : (m : Member) → IsFresh m (facts tasks)
+        → AreCounted (set tasks task (record (record_at tasks task) { nest = (record_at tasks task).nest ++ layer_of m ∷ [] }))
     counted_still (BlockMember block) free = pushed_block tasks task right within block (λ other low. free other (rw length-map low))
     counted_still (Rendezvous call) free = pushed_rendezvous tasks task right within call
 
@@ -71,15 +78,19 @@ pushed tasks task read nest member right within read_is nest_new fresh =
 ends_with : {A : Type 0} (xs : List A) (d : A) → 0 < length xs → xs ≡ take (length xs - 1) xs ++ get_or xs (length xs - 1) d ∷ []
 ends_with xs d some =
     let past : length xs ≤ length xs - 1 + 1 = omega arith in
-    let last : drop (length xs - 1) xs ≡ get_or xs (length xs - 1) d ∷ [] = drop_more xs (length xs - 1) d (omega arith) ∙ ap (λ rest. get_or xs (length xs - 1) d ∷ rest) (drop_all (length xs - 1 + 1) xs past) in
+    let last : drop (length xs - 1) xs ≡ get_or xs (length xs - 1) d ∷ [] = drop_more xs (length xs - 1) d (omega arith)
+    ∙ ap (λ rest. get_or xs (length xs - 1) d ∷ rest) (drop_all (length xs - 1 + 1) xs past) in
     sym (take-append-drop (length xs - 1) xs) ∙ ap (λ rest. take (length xs - 1) xs ++ rest) last
 
 no_layer : Layer
 no_layer = RendezvousLayer 0
 
 -- the innermost member leaves a nest
-pub popped : (tasks : List Task) (task : ℕ) (read : Task) (nest : List Layer) → AreCounted tasks → task < length tasks → read ≡ get_or tasks task read → nest ≡ take (length read.nest - 1) read.nest → 0 < length (task_at (facts tasks) task).nest → ForSome (innermost (task_at (facts tasks) task).nest) (IsIdle (facts tasks))
-    → Holds (set tasks task (record read { nest = nest })) (with_nest task (take (length (task_at (facts tasks) task).nest - 1) (task_at (facts tasks) task).nest) (facts tasks))
+pub popped : (tasks : List Task) (task : ℕ) (read : Task) (nest : List Layer) → AreCounted tasks → task < length tasks → read ≡ get_or tasks task read
+    → nest ≡ take (length read.nest - 1) read.nest → 0 < length (task_at (facts tasks) task).nest
+    → ForSome (innermost (task_at (facts tasks) task).nest) (IsIdle (facts tasks))
+    → Holds (set tasks task (record read { nest = nest }))
+    (with_nest task (take (length (task_at (facts tasks) task).nest - 1) (task_at (facts tasks) task).nest) (facts tasks))
 popped tasks task read nest right within read_is nest_new some idle =
     let there = get_or_read tasks task read within read_is no_task in
     rw (nest_new, there) (
@@ -102,29 +113,36 @@ popped tasks task read nest right within read_is nest_new some idle =
     many : 0 < length (record_at tasks task).nest
     many = omega (arith, long)
 
-    shorter_is : members (take (length (record_at tasks task).nest - 1) (record_at tasks task).nest) ≡ take (length (task_at (facts tasks) task).nest - 1) (task_at (facts tasks) task).nest
+    shorter_is : members (take (length (record_at tasks task).nest - 1) (record_at tasks task).nest)
+        ≡ take (length (task_at (facts tasks) task).nest - 1) (task_at (facts tasks) task).nest
     shorter_is = sym (take-map member_of (length (record_at tasks task).nest - 1) (record_at tasks task).nest) ∙ rw (long, nest_is tasks task) refl
 
     innermost_is : innermost (task_at (facts tasks) task).nest ≡ Some (member_of last)
     innermost_is =
         ap innermost (nest_is tasks task)
-        ∙ slice_get-get_or (members (record_at tasks task).nest) (length (members (record_at tasks task).nest) - 1) (member_of last) (omega (arith, length-map (record_at tasks task).nest member_of, many))
+        ∙ slice_get-get_or (members (record_at tasks task).nest) (length (members (record_at tasks task).nest) - 1) (member_of last)
+        (omega (arith, length-map (record_at tasks task).nest member_of, many))
         ∙ ap (λ n. Some (get_or (members (record_at tasks task).nest) (n - 1) (member_of last))) (length-map (record_at tasks task).nest member_of)
         ∙ ap Some (get_or-map member_of (record_at tasks task).nest (length (record_at tasks task).nest - 1) no_layer (member_of last) (omega (arith, many)))
 
-    counted_still : (m : Member) → member_of last ≡ m → IsIdle (facts tasks) m → AreCounted (set tasks task (record (record_at tasks task) { nest = take (length (record_at tasks task).nest - 1) (record_at tasks task).nest }))
-    counted_still (BlockMember block) is none = popped_block tasks task right within (take (length (record_at tasks task).nest - 1) (record_at tasks task).nest) last (ends_with (record_at tasks task).nest no_layer many) block is none
-    counted_still (Rendezvous call) is none = popped_rendezvous tasks task right within (take (length (record_at tasks task).nest - 1) (record_at tasks task).nest) last (ends_with (record_at tasks task).nest no_layer many) call is
+    counted_still : (m : Member) → member_of last ≡ m → IsIdle (facts tasks) m
+        → AreCounted (set tasks task (record (record_at tasks task) { nest = take (length (record_at tasks task).nest - 1) (record_at tasks task).nest }))
+    counted_still (BlockMember block) is none = popped_block tasks task right within (take (length (record_at tasks task).nest - 1) (record_at tasks task).nest)
+        last (ends_with (record_at tasks task).nest no_layer many) block is none
+    counted_still (Rendezvous call) is none = popped_rendezvous tasks task right within
+        (take (length (record_at tasks task).nest - 1) (record_at tasks task).nest) last (ends_with (record_at tasks task).nest no_layer many) call is
 
 -- a task gets another phase, and doesn't end
-pub phased : (tasks : List Task) (task : ℕ) (read : Task) (phase : Phase) → AreCounted tasks → task < length tasks → read ≡ get_or tasks task read → is_terminated (task_at (facts tasks) task).phase ≡ false → is_terminated phase ≡ false
+pub phased : (tasks : List Task) (task : ℕ) (read : Task) (phase : Phase) → AreCounted tasks → task < length tasks → read ≡ get_or tasks task read
+    → is_terminated (task_at (facts tasks) task).phase ≡ false → is_terminated phase ≡ false
     → Holds (set tasks task (record read { phase = phase })) (with_phase task phase (facts tasks))
 phased tasks task read phase right within read_is lives on =
     let there = get_or_read tasks task read within read_is no_task in
     rw there (goes_on tasks task phase right within lives on, facts-with_phase tasks task phase)
 
 -- a task ends
-pub ended : (tasks lowered : List Task) (task : ℕ) (d : Task) → AreCounted tasks → task < length tasks → is_terminated (task_at (facts tasks) task).phase ≡ false → ChangesAlong Ended tasks lowered (depends_on (facts tasks) task) (λ _. false)
+pub ended : (tasks lowered : List Task) (task : ℕ) (d : Task) → AreCounted tasks → task < length tasks
+    → is_terminated (task_at (facts tasks) task).phase ≡ false → ChangesAlong Ended tasks lowered (depends_on (facts tasks) task) (λ _. false)
     → Holds (set lowered task (record (get_or lowered task d) { phase = Terminated })) (with_phase task Terminated (facts tasks))
 ended tasks lowered task d right within lives along =
     let long : length lowered ≡ length tasks = sym (length-map lowered facts_of) ∙ ap (λ fs. length fs) along.same ∙ length-map tasks facts_of in
@@ -135,7 +153,8 @@ ended tasks lowered task d right within lives along =
     )
 
 -- a rendezvous leaves a nest
-pub cut_out : (tasks : List Task) (task call : ℕ) (read : Task) (nest : List Layer) → AreCounted tasks → task < length tasks → read ≡ get_or tasks task read → nest ≡ cut_layers call read.nest
+pub cut_out : (tasks : List Task) (task call : ℕ) (read : Task) (nest : List Layer) → AreCounted tasks → task < length tasks → read ≡ get_or tasks task read
+    → nest ≡ cut_layers call read.nest
     → Holds (set tasks task (record read { nest = nest })) (with_nest task (cut call (task_at (facts tasks) task).nest) (facts tasks))
 cut_out tasks task call read nest right within read_is nest_new =
     let there = get_or_read tasks task read within read_is no_task in
@@ -150,10 +169,12 @@ pub same_known : (room : ℕ) (tasks known : List Facts) → tasks ≡ known →
 same_known room tasks known same = ap (λ ts. known_of ts room) same
 
 -- what is read of a record is known
-pub known_of_read : (tasks : List Task) (task : ℕ) (read : Task) → task < length tasks → read ≡ get_or tasks task read → task_at (facts tasks) task ≡ facts_of read
+pub known_of_read : (tasks : List Task) (task : ℕ) (read : Task) → task < length tasks → read ≡ get_or tasks task read
+    → task_at (facts tasks) task ≡ facts_of read
 known_of_read tasks task read within read_is = facts_at tasks task ∙ ap facts_of (sym (get_or_read tasks task read within read_is no_task))
 
-module _ (tasks : List Task) (holder block : ℕ) (read : Task) (right : AreCounted tasks) (within : holder < length tasks) (read_is : read ≡ get_or tasks holder read) (held : has_block block (task_at (facts tasks) holder).nest ≡ true) where
+module _ (tasks : List Task) (holder block : ℕ) (read : Task) (right : AreCounted tasks) (within : holder < length tasks)
+    (read_is : read ≡ get_or tasks holder read) (held : has_block block (task_at (facts tasks) holder).nest ≡ true) where
   -- the count of a block is read of its holder
   pub live_read : live_at block read.nest ≡ live_dependents (facts tasks) (Block block)
   live_read = ap (λ (t : Task). live_at block t.nest) (get_or_read tasks holder read within read_is no_task) ∙ right.blocks holder block within held
@@ -173,12 +194,16 @@ not_terminated Completed other = refl
 not_terminated Terminated other = absurd (other refl)
 
 -- the main program is the first task
-pub main_made : (tasks new : List Task) (record_of : Task) (holder : ℕ) (families : List Family) → AreCounted tasks → facts tasks ≡ [] → new ≡ tasks ++ record_of ∷ [] → record_of ≡ made None holder families → AreCounted new
+pub main_made : (tasks new : List Task) (record_of : Task) (holder : ℕ) (families : List Family) → AreCounted tasks → facts tasks ≡ []
+    → new ≡ tasks ++ record_of ∷ [] → record_of ≡ made None holder families → AreCounted new
 main_made [] new record_of holder families right none new_is made_is = rw (new_is, made_is) (added_main holder families right)
 main_made (first ∷ rest) new record_of holder families right none new_is made_is = absurd (cc)
 
 -- a task is made under an open master
-module _ (tasks pushed : List Task) (record_of : Task) (master : Master) (holder : ℕ) (families : List Family) (right : AreCounted tasks) (few : length (facts tasks) < 256) (is_open : IsOpen (facts tasks) master) (low : holder < length tasks) (held : holds holder (task_at (facts tasks) holder).nest master ≡ true) (pushed_is : pushed ≡ tasks ++ record_of ∷ []) (made_is : record_of ≡ made (Some master) holder families) where
+module _ (tasks pushed : List Task) (record_of : Task) (master : Master) (holder : ℕ) (families : List Family) (right : AreCounted tasks)
+    (few : length (facts tasks) < 256) (is_open : IsOpen (facts tasks) master) (low : holder < length tasks)
+    (held : holds holder (task_at (facts tasks) holder).nest master ≡ true) (pushed_is : pushed ≡ tasks ++ record_of ∷ [])
+    (made_is : record_of ≡ made (Some master) holder families) where
   room : length tasks < 256
   room = rw length-map at few
 

@@ -1,5 +1,6 @@
 -- Walking outwards from a master, and counting who passes a test.
-use Rattle.std.proofs.Common.{◌≡◌, ℕ, zero, suc, ◌+◌, ◌<◌, Bool, true, false, ◌||◌, ◌&&◌, List, Some, None, length, get_or, refl, ap, sym, ◌∙◌, arith, add-one, inl, inr}
+use Rattle.std.proofs.Common.{◌≡◌, ℕ, zero, suc, ◌+◌, ◌<◌, Bool, true, false, ◌||◌, ◌&&◌, List, Some, None, length, get_or, refl, ap, sym, ◌∙◌, arith, add-one}
+use Rattle.std.proofs.Common.{inl, inr}
 use Rattle.std.specs.Prelude.{if◌then◌else◌}
 use Rattle.ada_events.specs.declared.names.Master.{Master}
 use Rattle.std.proofs.lemmas.Bool.{cases_eq, and_left, and_right}
@@ -30,16 +31,20 @@ module _ (tasks : List Task) (number : ℕ) (to : Master) (within : number < len
     pub way_within : (get_or tasks number e).holder < length tasks
     way_within = let way = way_leads in omega (arith, way.low)
 
-    way_step : (f : Task) → depends_on (facts tasks) number to ≡ (encloses holder (members (get_or tasks holder f).nest) from to || depends_on (facts tasks) holder to)
+    way_step : (f : Task) → depends_on (facts tasks) number to
+        ≡ (encloses holder (members (get_or tasks holder f).nest) from to || depends_on (facts tasks) holder to)
     way_step f =
-        let known : (task_at (facts tasks) holder).nest ≡ members (get_or tasks holder f).nest = ap (λ (g : Facts). g.nest) (facts_at tasks holder) ∙ ap (λ (t : Task). members t.nest) (get_or_default tasks holder no_task f way_within) in
+        let known : (task_at (facts tasks) holder).nest ≡ members (get_or tasks holder f).nest = ap (λ (g : Facts). g.nest) (facts_at tasks holder)
+        ∙ ap (λ (t : Task). members t.nest) (get_or_default tasks holder no_task f way_within) in
         ap (λ m. reaches (facts tasks) number m to) (master_read tasks number d within ∙ is)
         ∙ way_leads.way to ∙ ap (λ nest. encloses holder nest from to || depends_on (facts tasks) holder to) known
 
-    pub way_arrives : (f : Task) → encloses (get_or tasks number e).holder (members (get_or tasks (get_or tasks number e).holder f).nest) from to ≡ true → true ≡ depends_on (facts tasks) number to
+    pub way_arrives : (f : Task) → encloses (get_or tasks number e).holder (members (get_or tasks (get_or tasks number e).holder f).nest) from to ≡ true
+        → true ≡ depends_on (facts tasks) number to
     way_arrives f passed = sym (way_step f ∙ rw passed refl)
 
-    pub way_goes_on : (f : Task) → encloses (get_or tasks number e).holder (members (get_or tasks (get_or tasks number e).holder f).nest) from to ≡ false → depends_on (facts tasks) number to ≡ depends_on (facts tasks) (get_or tasks number e).holder to
+    pub way_goes_on : (f : Task) → encloses (get_or tasks number e).holder (members (get_or tasks (get_or tasks number e).holder f).nest) from to ≡ false
+        → depends_on (facts tasks) number to ≡ depends_on (facts tasks) (get_or tasks number e).holder to
     way_goes_on f passed = way_step f ∙ rw passed refl
 
 pub count_more : (test : ℕ → Bool) (many : ℕ) → count_below test (many + 1) ≡ count_below test many + (if test many then 1 else 0)
@@ -64,7 +69,8 @@ unfolding all_below
 all_of_none test = refl
 
 -- one more number is counted if it passes
-pub counted_more : (test : ℕ → Bool) (many count more : ℕ) (here : Bool) → count ≡ count_below test many → here ≡ test many → more ≡ (if here then 1 else 0) → count + more ≡ count_below test (many + 1)
+pub counted_more : (test : ℕ → Bool) (many count more : ℕ) (here : Bool) → count ≡ count_below test many → here ≡ test many → more ≡ (if here then 1 else 0)
+    → count + more ≡ count_below test (many + 1)
 counted_more test many count more here so_far here_is more_is = rw (so_far, more_is, here_is) (sym (count_more test many))
 
 pub count_nothing : (test : ℕ → Bool) → 0 ≡ count_below test 0

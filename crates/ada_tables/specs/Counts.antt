@@ -1,5 +1,6 @@
 -- The records of tasks, what is known of a task by its record, and that each count is right.
-use Rattle.std.specs.Prelude.{◌≡◌, ℕ, zero, suc, ◌<◌, ◌≤◌, Bool, true, false, not, ◌==◌, ◌&&◌, if◌then◌else◌, Option, Some, None, List, [], map, length, slice_index_or}
+use Rattle.std.specs.Prelude.{◌≡◌, ℕ, zero, suc, ◌<◌, ◌≤◌, Bool, true, false, not, ◌==◌, ◌&&◌, if◌then◌else◌, Option, Some, None, List, [], map, length}
+use Rattle.std.specs.Prelude.{slice_index_or}
 use Rattle.ada_events.specs.declared.limits.TheConstants.{MOST_TASKS}
 use Rattle.ada_events.specs.declared.names.Family.{Family}
 use Rattle.ada_events.specs.declared.names.Master.{Master}
@@ -53,8 +54,10 @@ IsLed tasks task = is_led tasks task (task_at (facts tasks) task).master (record
 -- live task goes by the holders that are kept
 pub record AreCounted (tasks : List Task) : Type 0 where
   pub bodies : (task : ℕ) → task < length tasks → (record_at tasks task).live ≡ live_dependents (facts tasks) (Body (record { 0 = task }))
-  pub blocks : (task block : ℕ) → task < length tasks → has_block block (task_at (facts tasks) task).nest ≡ true → live_at block (record_at tasks task).nest ≡ live_dependents (facts tasks) (Block block)
-  pub alone : (task other block : ℕ) → task < length tasks → other < length tasks → has_block block (task_at (facts tasks) task).nest ≡ true → has_block block (task_at (facts tasks) other).nest ≡ true → task ≡ other
+  pub blocks : (task block : ℕ) → task < length tasks → has_block block (task_at (facts tasks) task).nest ≡ true
+      → live_at block (record_at tasks task).nest ≡ live_dependents (facts tasks) (Block block)
+  pub alone : (task other block : ℕ) → task < length tasks → other < length tasks → has_block block (task_at (facts tasks) task).nest ≡ true
+      → has_block block (task_at (facts tasks) other).nest ≡ true → task ≡ other
   pub led : (task : ℕ) → task < length tasks → is_terminated (task_at (facts tasks) task).phase ≡ false → IsLed tasks task
   pub few : length tasks ≤ MOST_TASKS
 
@@ -62,10 +65,15 @@ pub record AreCounted (tasks : List Task) : Type 0 where
 pub record ChangesAlong (change : Change) (old new : List Task) (passed left : Master → Bool) : Type 0 where
   pub same : facts new ≡ facts old
   pub holders : (task : ℕ) → (record_at new task).holder ≡ (record_at old task).holder
-  pub bodies : (task : ℕ) → task < length old → (record_at new task).live ≡ (if passed (Body (record { 0 = task })) && not (left (Body (record { 0 = task }))) then changed change (record_at old task).live else (record_at old task).live)
-  pub blocks : (task block : ℕ) → task < length old → has_block block (task_at (facts old) task).nest ≡ true → live_at block (record_at new task).nest ≡ (if passed (Block block) && not (left (Block block)) then changed change (live_at block (record_at old task).nest) else live_at block (record_at old task).nest)
+  pub bodies : (task : ℕ) → task < length old → (record_at new task).live
+      ≡ (if passed (Body (record { 0 = task })) && not (left (Body (record { 0 = task }))) then changed change (record_at old task).live
+      else (record_at old task).live)
+  pub blocks : (task block : ℕ) → task < length old → has_block block (task_at (facts old) task).nest ≡ true
+      → live_at block (record_at new task).nest ≡ (if passed (Block block) && not (left (Block block))
+      then changed change (live_at block (record_at old task).nest) else live_at block (record_at old task).nest)
   pub within : (master : Master) → left master ≡ true → passed master ≡ true
 
 -- each block stands in one nest
 pub record StandAlone (tasks : List Facts) : Type 0 where
-  pub alone : (task other block : ℕ) → task < length tasks → other < length tasks → has_block block (task_at tasks task).nest ≡ true → has_block block (task_at tasks other).nest ≡ true → task ≡ other
+  pub alone : (task other block : ℕ) → task < length tasks → other < length tasks → has_block block (task_at tasks task).nest ≡ true
+      → has_block block (task_at tasks other).nest ≡ true → task ≡ other

@@ -64,6 +64,7 @@ unready_count journal master =
 pub record StandFor (tables : State) (journal : List Event) : Type 0 where
   pub many : length tables.tasks ≡ task_count journal
   pub tasks : (task : ℕ) → task < task_count journal → task_at tables.tasks task ≡ facts_in journal task
-  pub queues : (task : ℕ) (entry : Entry) → HasEntry tables.tasks task entry → AreQueued journal task entry (queue_at tables.queues (slot_at tables.tasks task entry))
+  pub queues : (task : ℕ) (entry : Entry) → HasEntry tables.tasks task entry
+      → AreQueued journal task entry (queue_at tables.queues (slot_at tables.tasks task entry))
   pub live : (master : Master) → Stands tables.tasks master → live_dependents tables.tasks master ≡ live_count journal master
   pub unready : (master : Master) → Stands tables.tasks master → unready_dependents tables.tasks tables.queues master ≡ unready_count journal master

@@ -56,7 +56,8 @@ impl Nodes {
 
     /// Adds a caller without a node. A failure changes nothing.
     pub(crate) fn add_caller(&mut self) -> Result<(), AllocError>
-        ensures ok { OnOk result (self.new ≡ record self.old { nodes = self.old.nodes ++ None ∷ [] }) }
+        ensures ok { OnOk result (self.new
+            ≡ record self.old { nodes = self.old.nodes ++ None ∷ [] }) }
         ensures err { OnErr result (self.new ≡ self.old) }
     {
         self.keys.push(None)?;
@@ -129,7 +130,8 @@ impl Nodes {
     pub(crate) fn set_after(&mut self, caller: u16, after: Option<u16>)
         requires { IsSome (node_of self.old.nodes caller) }
         ensures { self.new ≡ record self.old {
-          nodes = slice_set self.old.nodes caller (option_map (with_after after) (node_of self.old.nodes caller));
+          nodes = slice_set self.old.nodes caller
+              (option_map (with_after after) (node_of self.old.nodes caller));
         } }
     {
         if let Some(key) = self.keys[caller as usize] {
@@ -143,7 +145,8 @@ impl Nodes {
     pub(crate) fn set_before(&mut self, caller: u16, before: Option<u16>)
         requires { IsSome (node_of self.old.nodes caller) }
         ensures { self.new ≡ record self.old {
-          nodes = slice_set self.old.nodes caller (option_map (with_before before) (node_of self.old.nodes caller));
+          nodes = slice_set self.old.nodes caller
+              (option_map (with_before before) (node_of self.old.nodes caller));
         } }
     {
         if let Some(key) = self.keys[caller as usize] {

@@ -27,7 +27,11 @@ impl Queue {
     // The queue with one more caller last.
     fn with_last(self, caller: u16) -> Queue
         requires { self.len < 65535 }
-        ensures { result ≡ record { first = option_or self.first (Some caller); last = Some caller; len = self.len + 1 } }
+        ensures { result ≡ record {
+          first = option_or self.first (Some caller);
+          last = Some caller;
+          len = self.len + 1;
+        } }
     {
         Queue {
             first: self.first.or(Some(caller)),
@@ -210,7 +214,8 @@ impl Queues {
     pub(crate) fn are_empty(&self, first: u16, many: u16) -> bool
         requires slots { first + many ≤ length self.now.queues }
         requires few { length self.now.queues < 65536 }
-        ensures { result ≡ all_below (λ slot. length (queue_at self.now.queues (first + slot)) == 0) many }
+        ensures { result ≡ all_below (λ slot.
+            length (queue_at self.now.queues (first + slot)) == 0) many }
     {
         for slot in 0..many {
             if self.queue_len(first + slot) != 0 {

@@ -1,10 +1,12 @@
 //! The tables as the kernel sees them.
-ghost use Rattle.std.specs.Prelude.{◌≡◌, ℕ, ◌+◌, ◌-◌, ◌<◌, ◌≤◌, Some, None, true, false, [], ◌∷◌, ◌++◌, OnOk, OnErr, IfOk, IfErr, IsOk, ◌↔◌, ◌&&◌, if◌then◌else◌, length, take, replicate};
+ghost use Rattle.std.specs.Prelude.{◌≡◌, ℕ, ◌+◌, ◌-◌, ◌<◌, ◌≤◌, Some, None, true, false, [], ◌∷◌, ◌++◌, OnOk, OnErr, IfOk, IfErr, IsOk, ◌↔◌, ◌&&◌};
+ghost use Rattle.std.specs.Prelude.{if◌then◌else◌, length, take, replicate};
 ghost use Rattle.std.specs.Option.{ForSome};
 ghost use Rattle.ada_events.specs.Entries.{entries_in};
 ghost use Rattle.ada_events.specs.Nests.{innermost};
 ghost use Rattle.ada_tables.specs.Layers.{members};
-ghost use Rattle.ada_tables.specs.Dependents.{task_at, depends_on, parent_of, made_facts, main_facts, with_nest, with_phase, cut, is_terminated, live_dependents, IsOpen, IsFresh, IsIdle, Stands};
+ghost use Rattle.ada_tables.specs.Dependents.{task_at, depends_on, parent_of, made_facts, main_facts, with_nest, with_phase, cut, is_terminated};
+ghost use Rattle.ada_tables.specs.Dependents.{live_dependents, IsOpen, IsFresh, IsIdle, Stands};
 ghost use Rattle.ada_tables.specs.Queues.{queue_at, waits, with_last, without, front_call};
 ghost use Rattle.ada_tables.specs.Standing.{StandFor};
 ghost use Rattle.ada_tables.specs.Tables.{slot_at, slots_before, declared, has_no_calls, is_unready, unready_dependents, HasEntry};
@@ -39,7 +41,8 @@ impl Model for Tables {
       spare = t.queues.spare;
     } };
 
-    ghost invariant = { λ t. AreTied t.tasks.tasks t.queues.queues t.queues.callers t.firsts.items };
+    ghost invariant = { λ t.
+        AreTied t.tasks.tasks t.queues.queues t.queues.callers t.firsts.items };
 }
 
 // Want of memory as the kernel names it.
@@ -98,7 +101,8 @@ impl Tables {
           queues = self.old.queues ++ replicate (entries_in families.now) [];
         }) }
         ensures number { IfOk result (λ task. task.0 ≡ length self.old.tasks) }
-        ensures err { IfErr result (λ cause. (cause ≡ Refusal.OutOfMemory) × (self.new ≡ self.old)) }
+        ensures err { IfErr result (λ cause. (cause ≡ Refusal.OutOfMemory)
+            × (self.new ≡ self.old)) }
     {
         let number = self.tasks.len() as u16;
         let first = self.queues.slots() as u16;
@@ -140,7 +144,8 @@ impl Tables {
         requires idle { waits by.0 self.old.queues ≡ false }
         requires reserved { 0 < self.old.spare }
         ensures { self.new ≡ record self.old {
-          queues = with_last (slot_at self.old.tasks callee.0 entry) (record { call = call; caller = by.0 }) self.old.queues;
+          queues = with_last (slot_at self.old.tasks callee.0 entry)
+              (record { call = call; caller = by.0 }) self.old.queues;
           spare = self.old.spare - 1;
         } }
     {
@@ -170,7 +175,8 @@ impl Tables {
     /// The call that has waited longest at an entry; none where none waits.
     pub fn front(&self, task: TaskNo, entry: Entry) -> Option<u32>
         requires { HasEntry self.now.tasks task.0 entry }
-        ensures { result ≡ front_call (queue_at self.now.queues (slot_at self.now.tasks task.0 entry)) }
+        ensures { result ≡ front_call (queue_at self.now.queues
+            (slot_at self.now.tasks task.0 entry)) }
     {
         self.queues.front(self.slot(task, entry))
     }
@@ -178,7 +184,8 @@ impl Tables {
     /// How many calls wait at an entry, at most 256: the attribute COUNT (9.9).
     pub fn queue_len(&self, task: TaskNo, entry: Entry) -> u16
         requires { HasEntry self.now.tasks task.0 entry }
-        ensures value { result ≡ length (queue_at self.now.queues (slot_at self.now.tasks task.0 entry)) }
+        ensures value { result ≡ length (queue_at self.now.queues
+            (slot_at self.now.tasks task.0 entry)) }
         ensures fits { result ≤ MOST_TASKS }
     {
         self.queue_len_at(self.slot(task, entry))
@@ -267,7 +274,8 @@ impl Tables {
         requires depth { length (task_at self.old.tasks task.0).nest < MOST_MEMBERS }
         requires fresh { IsFresh member self.old.tasks }
         ensures { self.new ≡ record self.old {
-          tasks = with_nest task.0 ((task_at self.old.tasks task.0).nest ++ member ∷ []) self.old.tasks;
+          tasks = with_nest task.0 ((task_at self.old.tasks task.0).nest ++ member
+              ∷ []) self.old.tasks;
         } }
     {
         self.tasks.push_nest(task.0, member);
@@ -277,9 +285,13 @@ impl Tables {
     pub fn pop_nest(&mut self, task: TaskNo)
         requires known { task.0 < length self.old.tasks }
         requires inside { 0 < length (task_at self.old.tasks task.0).nest }
-        requires idle { ForSome (innermost (task_at self.old.tasks task.0).nest) (IsIdle self.old.tasks) }
+        requires idle { ForSome (innermost (task_at self.old.tasks task.0).nest)
+            (IsIdle self.old.tasks) }
         ensures { let nest = (task_at self.old.tasks task.0).nest in
-            self.new ≡ record self.old { tasks = with_nest task.0 (take (length nest - 1) nest) self.old.tasks } }
+            self.new ≡ record self.old {
+              tasks = with_nest task.0 (take (length nest - 1) nest)
+                  self.old.tasks;
+            } }
     {
         self.tasks.pop_nest(task.0);
     }
@@ -338,7 +350,8 @@ impl Tables {
     // Whether a task depends on a master, and is neither terminated nor ready to quit.
     fn is_unready_dependent(&self, task: u16, master: Master) -> bool
         requires { task < length self.now.tasks }
-        ensures { result ≡ (is_unready self.now.tasks self.now.queues task && depends_on self.now.tasks task master) }
+        ensures { result ≡ (is_unready self.now.tasks self.now.queues task
+            && depends_on self.now.tasks task master) }
     {
         self.is_unready(task) && self.tasks.depends_on(task, master)
     }

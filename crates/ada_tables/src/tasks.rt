@@ -3,7 +3,8 @@ ghost use Rattle.std.specs.Prelude.{◌≡◌, ℕ, ◌+◌, ◌-◌, ◌<◌, �
 ghost use Rattle.std.specs.Option.{ForSome};
 ghost use Rattle.ada_events.specs.Nests.{innermost};
 ghost use Rattle.ada_tables.specs.Layers.{members};
-ghost use Rattle.ada_tables.specs.Dependents.{depends_on, parent_of, task_at, has_block, holds, made_facts, with_nest, with_phase, cut, is_terminated, live_dependents, IsOpen, IsFresh, IsIdle, Stands};
+ghost use Rattle.ada_tables.specs.Dependents.{depends_on, parent_of, task_at, has_block, holds, made_facts, with_nest, with_phase, cut, is_terminated};
+ghost use Rattle.ada_tables.specs.Dependents.{live_dependents, IsOpen, IsFresh, IsIdle, Stands};
 ghost use Rattle.ada_tables.specs.Counts.{facts, ChangesAlong, StandAlone, AreCounted, IsLed};
 ghost use Rattle.ada_events.specs.declared.limits.TheConstants.{MOST_MEMBERS, MOST_TASKS};
 
@@ -21,7 +22,8 @@ fn count(tasks: &mut [Task], task: u16, change: Change)
     requires known { task < length tasks.old }
     requires alone { StandAlone (facts tasks.old) }
     requires led { IsLed tasks.old task }
-    ensures { ChangesAlong change tasks.old tasks.new (depends_on (facts tasks.old) task) (λ _. false) }
+    ensures { ChangesAlong change tasks.old tasks.new (depends_on (facts tasks.old) task) (λ _.
+        false) }
 {
     let mut number = task;
     while let Some(master) = tasks[number as usize].master {
@@ -216,9 +218,13 @@ impl Tasks {
     pub(crate) fn pop_nest(&mut self, task: u16)
         requires known { task < length self.old.tasks }
         requires inside { 0 < length (task_at self.old.tasks task).nest }
-        requires idle { ForSome (innermost (task_at self.old.tasks task).nest) (IsIdle self.old.tasks) }
+        requires idle { ForSome (innermost (task_at self.old.tasks task).nest)
+            (IsIdle self.old.tasks) }
         ensures { let nest = (task_at self.old.tasks task).nest in
-            self.new ≡ record self.old { tasks = with_nest task (take (length nest - 1) nest) self.old.tasks } }
+            self.new ≡ record self.old {
+              tasks = with_nest task (take (length nest - 1) nest)
+                  self.old.tasks;
+            } }
     {
         let record = &mut self.tasks[task as usize];
         record.nest.pop();

@@ -1,5 +1,6 @@
 -- Who opened, made, started or was suspended ran, so its own activation was started.
-use Rattle.std.proofs.Common.{◌≡◌, ℕ, zero, suc, ◌<◌, Bool, true, false, not, Some, None, List, [], ◌∷◌, sym, ap, ◌∙◌, subst, arith, ◌⊎◌, inl, inr, eqb, if◌then◌else◌}
+use Rattle.std.proofs.Common.{◌≡◌, ℕ, zero, suc, ◌<◌, Bool, true, false, not, Some, None, List, [], ◌∷◌, sym, ap, ◌∙◌, subst, arith, ◌⊎◌, inl, inr, eqb}
+use Rattle.std.proofs.Common.{if◌then◌else◌}
 use Rattle.std.specs.Option.{option_len}
 use Rattle.std.specs.List.{Contains, list_any}
 use Rattle.std.proofs.lemmas.Bool.{and_parts, or_parts, or_right, not-false, eqb-true, ne_eqb}

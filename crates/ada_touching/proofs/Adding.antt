@@ -2,13 +2,19 @@
 use Rattle.std.proofs.Common.{◌≡◌, ℕ, true, false, List, ◌∷◌, refl, inl, inr}
 use Rattle.std.proofs.lemmas.Bool.{false≢true}
 use Rattle.ada_events.specs.declared.event.Event.{Event}
-use Rattle.ada_events.specs.declared.event.Event.TheVariants.{Opened, Created, Started, Elaborated, Called, Waiting, Paused, Ended, Closed, Completed, Aborted, Ticked, Halted, Failed, Met, Cancelled, Passed, Woken, Activated, Gone, Quit, Left}
+use Rattle.ada_events.specs.declared.event.Event.TheVariants.{Opened, Created, Started, Elaborated, Called, Waiting, Paused, Ended, Closed, Completed, Aborted}
+use Rattle.ada_events.specs.declared.event.Event.TheVariants.{Ticked, Halted, Failed, Met, Cancelled, Passed, Woken, Activated, Gone, Quit, Left}
 use Rattle.ada_events.specs.Says.{released_in, meeting_in}
 use Rattle.ada_events.specs.Lawful.{IsLawful}
 use Rattle.ada_forcing.specs.declared.row.Row.{Row}
 use Rattle.ada_forcing.proofs.TouchedKeys.{newly}
 use Rattle.ada_touching.specs.Kinds.{Adds}
-use Rattle.ada_touching.specs.Additions.{adds_nothing, AgendasStay, AgendasGrow, EventsAddTheirKeys, OpeningsAddNothing, CreationsAddTheirTask, StartsAddThemselves, ElaborationsAddTheirStart, CallsAddTheWait, WaitsAddMasters, DelaysAddThemselves, ClosesAddTheirBlock, EndsAddTheCaller, FailuresAddTheCaller, CancellationsAddMasters, MeetingsAddNothing, PassingsAddNothing, WakingsAddNothing, ActivationsAddNothing, LeavingsAddNothing, CompletionsAddTheirTask, FailedActivationsAddTheirTask, HaltsAddTheirTask, AbortsAddTheirTasks, TicksAddWhatIsDue, TerminationsAddMasters, QuitsAddMasters}
+use Rattle.ada_touching.specs.Additions.{adds_nothing, AgendasStay, AgendasGrow, EventsAddTheirKeys, OpeningsAddNothing, CreationsAddTheirTask}
+use Rattle.ada_touching.specs.Additions.{StartsAddThemselves, ElaborationsAddTheirStart, CallsAddTheWait, WaitsAddMasters, DelaysAddThemselves}
+use Rattle.ada_touching.specs.Additions.{ClosesAddTheirBlock, EndsAddTheCaller, FailuresAddTheCaller, CancellationsAddMasters, MeetingsAddNothing}
+use Rattle.ada_touching.specs.Additions.{PassingsAddNothing, WakingsAddNothing, ActivationsAddNothing, LeavingsAddNothing, CompletionsAddTheirTask}
+use Rattle.ada_touching.specs.Additions.{FailedActivationsAddTheirTask, HaltsAddTheirTask, AbortsAddTheirTasks, TicksAddWhatIsDue, TerminationsAddMasters}
+use Rattle.ada_touching.specs.Additions.{QuitsAddMasters}
 use Rattle.ada_touching.proofs.Answering.{meeting_adds, end_adds, fail_adds, cancel_adds}
 use Rattle.ada_touching.proofs.Changing.{creation_adds, elaboration_adds, abort_adds}
 use Rattle.ada_touching.proofs.Completions.{completion_adds, failure_adds, halt_adds}

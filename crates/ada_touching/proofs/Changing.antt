@@ -10,7 +10,8 @@ use Rattle.ada_events.specs.declared.names.Family.{Family}
 use Rattle.ada_events.specs.declared.names.Master.{Master}
 use Rattle.ada_events.specs.declared.names.Master.TheVariants.{Body, Block}
 use Rattle.ada_events.specs.Search.{is_number}
-use Rattle.ada_events.specs.Says.{Creation, call_in, wait_in, delay_in, start_in, closing_in, released_in, completed_in, gone_in, quit_in, aborted_in, elaborated_in, creation_in, moment_in, meeting_in}
+use Rattle.ada_events.specs.Says.{Creation, call_in, wait_in, delay_in, start_in, closing_in, released_in, completed_in, gone_in, quit_in, aborted_in}
+use Rattle.ada_events.specs.Says.{elaborated_in, creation_in, moment_in, meeting_in}
 use Rattle.ada_events.specs.Tasks.{task_count}
 use Rattle.ada_events.specs.Phases.{is_elaborated, is_terminated, has_ended, is_abnormal}
 use Rattle.ada_events.specs.Forced.{is_done_activating}
@@ -28,7 +29,8 @@ use Rattle.ada_touching.specs.Kinds.OfAbort.{halts, fails}
 use Rattle.ada_touching.proofs.Completing.{IsNewlyAbandoned, body_newly, block_newly}
 use Rattle.ada_touching.proofs.Readying.{IsOpenWait, IsUnqueued}
 use Rattle.ada_touching.proofs.Refining.{Key}
-use Rattle.ada_touching.proofs.Refining.Key.{own, made, hit, freed, lost, called, due, done, completed, abandoned, going, quits_done, quits_ended, quits_idle, leaving}
+use Rattle.ada_touching.proofs.Refining.Key.{own, made, hit, freed, lost, called, due, done, completed, abandoned, going, quits_done, quits_ended, quits_idle}
+use Rattle.ada_touching.proofs.Refining.Key.{leaving}
 use Rattle.ada_touching.proofs.Silent.{IsSilent, no_own}
 
 -- the event ends the task

@@ -9,7 +9,8 @@ use Rattle.ada_events.specs.declared.names.TaskNo.{TaskNo}
 use Rattle.ada_events.specs.declared.names.Master.TheVariants.{Body, Block}
 use Rattle.ada_events.specs.declared.names.Member.TheVariants.{Block as BlockMember}
 use Rattle.ada_events.specs.Search.{is_number, is_some_and, any_event, event_at}
-use Rattle.ada_events.specs.Says.{Creation, Opening, Closing, creation_in, opening_in, closing_in, opening_at, completed_in, gone_in, quit_in, aborted_in, elaborated_in, failed_in, started_in}
+use Rattle.ada_events.specs.Says.{Creation, Opening, Closing, creation_in, opening_in, closing_in, opening_at, completed_in, gone_in, quit_in, aborted_in}
+use Rattle.ada_events.specs.Says.{elaborated_in, failed_in, started_in}
 use Rattle.ada_events.specs.Tasks.{task_count, creation_of}
 use Rattle.ada_events.specs.Phases.{lists_task, has_start, is_completed, is_terminated, has_ended}
 use Rattle.ada_events.specs.Nests.{is_left_close, is_left, member_at, nest}

@@ -12,7 +12,8 @@ use Rattle.ada_events.specs.declared.names.Master.{Master}
 use Rattle.ada_events.specs.declared.names.Master.TheVariants.{Body, Block}
 use Rattle.ada_events.specs.declared.names.Member.TheVariants.{Block as BlockMember}
 use Rattle.ada_events.specs.Search.{is_number, event_at}
-use Rattle.ada_events.specs.Says.{Call, Creation, call_in, wait_in, delay_in, start_in, closing_in, opening_in, released_in, completed_in, gone_in, quit_in, aborted_in, elaborated_in, creation_in, moment_in, meeting_in}
+use Rattle.ada_events.specs.Says.{Call, Creation, call_in, wait_in, delay_in, start_in, closing_in, opening_in, released_in, completed_in, gone_in, quit_in}
+use Rattle.ada_events.specs.Says.{aborted_in, elaborated_in, creation_in, moment_in, meeting_in}
 use Rattle.ada_events.specs.Asks.{asker, asked_event}
 use Rattle.ada_events.specs.Tasks.{creation_of}
 use Rattle.ada_events.specs.Masters.{depends_on}
@@ -43,7 +44,8 @@ use Rattle.ada_touching.proofs.Changing.{IsNewlyOver, newly_lost, newly_done, ne
 use Rattle.ada_touching.proofs.Completing.{IsNewlyAbandoned, body_newly, block_newly}
 use Rattle.ada_touching.proofs.Readying.{IsOpenWait, IsUnqueued}
 use Rattle.ada_touching.proofs.Refining.{Key}
-use Rattle.ada_touching.proofs.Refining.Key.{own, made, hit, freed, lost, called, due, done, completed, abandoned, going, quits_done, quits_ended, quits_idle, leaving}
+use Rattle.ada_touching.proofs.Refining.Key.{own, made, hit, freed, lost, called, due, done, completed, abandoned, going, quits_done, quits_ended, quits_idle}
+use Rattle.ada_touching.proofs.Refining.Key.{leaving}
 use Rattle.ada_touching.proofs.Releases.{same_event}
 use Rattle.ada_touching.proofs.Silent.{IsSilent, no_own}
 

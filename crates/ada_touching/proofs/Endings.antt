@@ -9,7 +9,8 @@ use Rattle.ada_events.specs.declared.names.TaskNo.{TaskNo}
 use Rattle.ada_events.specs.declared.names.Master.{Master}
 use Rattle.ada_events.specs.declared.names.Master.TheVariants.{Body, Block}
 use Rattle.ada_events.specs.Search.{is_number, is_some_and}
-use Rattle.ada_events.specs.Says.{Call, Creation, Opening, Closing, opening_at, call_in, wait_in, delay_in, start_in, closing_in, released_in, completed_in, gone_in, quit_in, aborted_in, elaborated_in, creation_in, moment_in, meeting_in}
+use Rattle.ada_events.specs.Says.{Call, Creation, Opening, Closing, opening_at, call_in, wait_in, delay_in, start_in, closing_in, released_in, completed_in}
+use Rattle.ada_events.specs.Says.{gone_in, quit_in, aborted_in, elaborated_in, creation_in, moment_in, meeting_in}
 use Rattle.ada_events.specs.Tasks.{creation_of}
 use Rattle.ada_events.specs.Phases.{is_completed, is_terminated, has_ended, is_abnormal}
 use Rattle.ada_events.specs.Forced.{task_no, is_to_go, is_to_quit}
@@ -32,7 +33,8 @@ use Rattle.ada_touching.proofs.Completing.{IsNewlyAbandoned, IsBlockEnded, body_
 use Rattle.ada_touching.proofs.Completions.{same_task, queued_suspends}
 use Rattle.ada_touching.proofs.Readying.{IsOpenWait, IsUnqueued}
 use Rattle.ada_touching.proofs.Refining.{IsNewlyEnded, Key}
-use Rattle.ada_touching.proofs.Refining.Key.{own, made, hit, freed, lost, called, due, done, completed, abandoned, going, quits_done, quits_ended, quits_idle, leaving}
+use Rattle.ada_touching.proofs.Refining.Key.{own, made, hit, freed, lost, called, due, done, completed, abandoned, going, quits_done, quits_ended, quits_idle}
+use Rattle.ada_touching.proofs.Refining.Key.{leaving}
 use Rattle.ada_touching.proofs.Silent.{IsSilent, no_own}
 use Rattle.ada_touching.proofs.Unstarted.{gone_goes, goes_how, abandoned_unnamed, goes_unnamed}
 

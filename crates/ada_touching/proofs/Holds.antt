@@ -11,7 +11,8 @@ use Rattle.ada_events.specs.declared.names.Entry.{Entry}
 use Rattle.ada_events.specs.declared.names.Choice.{Choice}
 use Rattle.ada_events.specs.declared.names.Patience.{Patience}
 use Rattle.ada_events.specs.Search.{is_number}
-use Rattle.ada_events.specs.Says.{Call, Wait, Closing, call_in, wait_in, delay_in, start_in, closing_in, released_in, completed_in, gone_in, quit_in, aborted_in, elaborated_in, failed_in, creation_in, moment_in, meeting_in}
+use Rattle.ada_events.specs.Says.{Call, Wait, Closing, call_in, wait_in, delay_in, start_in, closing_in, released_in, completed_in, gone_in, quit_in}
+use Rattle.ada_events.specs.Says.{aborted_in, elaborated_in, failed_in, creation_in, moment_in, meeting_in}
 use Rattle.ada_events.specs.Masters.{depends_on}
 use Rattle.ada_events.specs.Termination.{is_open_terminate}
 use Rattle.ada_events.specs.Lawful.{IsLawful}

@@ -17,7 +17,8 @@ use Rattle.ada_laws.proofs.LimitLaws.{events_are_few, tasks_are_few}
 use Rattle.ada_laws.proofs.Searching.{event_at-within}
 use Rattle.ada_laws.proofs.Suspending.{is_suspended-from, suspended_once}
 use Rattle.ada_forcing.specs.declared.row.Row.{Row}
-use Rattle.ada_forcing.specs.declared.row.Row.TheVariants.{Halting, Failing, Taking, Cancelling, Passing, Waking, Activating, Going, QuittingBody, QuittingBlock, Leaving}
+use Rattle.ada_forcing.specs.declared.row.Row.TheVariants.{Halting, Failing, Taking, Cancelling, Passing, Waking, Activating, Going, QuittingBody}
+use Rattle.ada_forcing.specs.declared.row.Row.TheVariants.{QuittingBlock, Leaving}
 use Rattle.ada_forcing.specs.Newly.{IsCallOf}
 use Rattle.ada_forcing.specs.Rows.{rank}
 use Rattle.ada_agenda.specs.Rows.{keeps}

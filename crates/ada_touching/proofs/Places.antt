@@ -1,5 +1,6 @@
 -- Where open calls stand, and that who closed a block is within it until it is left.
-use Rattle.std.proofs.Common.{◌≡◌, ℕ, suc, Bool, true, false, not, ◌&&◌, Option, Some, None, List, [], ◌∷◌, length, sym, refl, ap, ◌∙◌, subst, ◌⊎◌, inl, inr, eqb}
+use Rattle.std.proofs.Common.{◌≡◌, ℕ, suc, Bool, true, false, not, ◌&&◌, Option, Some, None, List, [], ◌∷◌, length, sym, refl, ap, ◌∙◌, subst, ◌⊎◌, inl, inr}
+use Rattle.std.proofs.Common.{eqb}
 use Rattle.std.specs.Prelude.{◌-◌}
 use Rattle.std.specs.Option.{option_map_or}
 use Rattle.std.specs.Bool.{then_some}
@@ -24,7 +25,8 @@ use Rattle.ada_events.specs.Forced.{is_to_leave}
 use Rattle.ada_events.specs.Lawful.{IsLawful, MayFollow}
 use Rattle.ada_laws.specs.Calls.{IsOpenCallAt}
 use Rattle.ada_laws.specs.Suspension.{IsSuspendedAt}
-use Rattle.ada_laws.proofs.Searching.{option_or-some, option_map_or-true, then_some-some, is_number-some, is_number-from, event_at-cases, event_at-older, any_event-found, any_event-from}
+use Rattle.ada_laws.proofs.Searching.{option_or-some, option_map_or-true, then_some-some, is_number-some, is_number-from, event_at-cases, event_at-older}
+use Rattle.ada_laws.proofs.Searching.{any_event-found, any_event-from}
 use Rattle.ada_laws.proofs.Gathering.{gathered-found, gathered-from}
 use Rattle.ada_laws.proofs.Growing.{is_released-now, is_released-before, has_ended-before}
 use Rattle.ada_laws.proofs.Saying.{held_in-closing}

@@ -23,7 +23,8 @@ use Rattle.ada_touching.specs.Kinds.{itself, quitting_row, quitting_key, IsUnsta
 use Rattle.ada_touching.proofs.Completing.{IsNewlyAbandoned, IsClosed, body_newly, block_newly}
 use Rattle.ada_touching.proofs.Readying.{IsOpenWait, IsUnqueued}
 use Rattle.ada_touching.proofs.Refining.{says_row, IsNewlyEnded, Key}
-use Rattle.ada_touching.proofs.Refining.Key.{own, made, hit, freed, lost, called, due, done, completed, abandoned, going, quits_done, quits_ended, quits_idle, leaving}
+use Rattle.ada_touching.proofs.Refining.Key.{own, made, hit, freed, lost, called, due, done, completed, abandoned, going, quits_done, quits_ended, quits_idle}
+use Rattle.ada_touching.proofs.Refining.Key.{leaving}
 
 -- what such an event touches
 pub data QuietKey (event : Event) (before : List Event) : Row → ℕ → Type 0 where

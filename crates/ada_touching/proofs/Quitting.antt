@@ -8,7 +8,8 @@ use Rattle.ada_events.specs.declared.names.TaskNo.{TaskNo}
 use Rattle.ada_events.specs.declared.names.Master.{Master}
 use Rattle.ada_events.specs.declared.names.Master.TheVariants.{Body, Block}
 use Rattle.ada_events.specs.Search.{event_at}
-use Rattle.ada_events.specs.Says.{Call, call_in, wait_in, delay_in, start_in, closing_in, opening_in, released_in, completed_in, gone_in, quit_in, aborted_in, elaborated_in, creation_in, moment_in, meeting_in}
+use Rattle.ada_events.specs.Says.{Call, call_in, wait_in, delay_in, start_in, closing_in, opening_in, released_in, completed_in, gone_in, quit_in, aborted_in}
+use Rattle.ada_events.specs.Says.{elaborated_in, creation_in, moment_in, meeting_in}
 use Rattle.ada_events.specs.Masters.{same_master, parent_in, reaches, depends_on}
 use Rattle.ada_events.specs.Phases.{is_completed, is_terminated, has_ended}
 use Rattle.ada_events.specs.Forced.{task_no, is_to_quit}

@@ -1,5 +1,6 @@
 -- What an event touches, with what the step at the key says of it.
-use Rattle.std.proofs.Common.{◌≡◌, ℕ, ℤ, suc, ◌<◌, ◌≤◌, Bool, true, false, ◌&&◌, Option, Some, None, List, ◌∷◌, length, sym, refl, ap, ◌∙◌, subst, arith, ◌⊎◌, inl, inr, nat_lt}
+use Rattle.std.proofs.Common.{◌≡◌, ℕ, ℤ, suc, ◌<◌, ◌≤◌, Bool, true, false, ◌&&◌, Option, Some, None, List, ◌∷◌, length, sym, refl, ap, ◌∙◌, subst, arith, ◌⊎◌}
+use Rattle.std.proofs.Common.{inl, inr, nat_lt}
 use Rattle.std.specs.Option.{is_some, option_map, option_and_then}
 use Rattle.std.specs.Bool.{then_some}
 use Rattle.std.specs.List.{list_all, Contains}
@@ -12,26 +13,31 @@ use Rattle.ada_events.specs.declared.names.TaskNo.{TaskNo}
 use Rattle.ada_events.specs.declared.names.Master.{Master}
 use Rattle.ada_events.specs.declared.names.Master.TheVariants.{Body, Block}
 use Rattle.ada_events.specs.Search.{is_some_and, event_at}
-use Rattle.ada_events.specs.Says.{Call, Wait, Delay, Start, Closing, Creation, Opening, call_in, wait_in, delay_in, start_in, closing_in, creation_in, opening_in, released_in, completed_in, moment_in}
+use Rattle.ada_events.specs.Says.{Call, Wait, Delay, Start, Closing, Creation, Opening, call_in, wait_in, delay_in, start_in, closing_in, creation_in}
+use Rattle.ada_events.specs.Says.{opening_in, released_in, completed_in, moment_in}
 use Rattle.ada_events.specs.Tasks.{task_count}
 use Rattle.ada_events.specs.Masters.{depends_on}
 use Rattle.ada_events.specs.Phases.{is_terminated, has_ended, is_abnormal}
 use Rattle.ada_events.specs.Calls.{is_pending, is_open_at, is_queued_at, is_caller_in_rendezvous}
 use Rattle.ada_events.specs.Waits.{taken_call}
-use Rattle.ada_events.specs.Forced.{task_no, is_to_halt, is_to_fail, met_at, is_to_cancel, passed_at, is_to_wake, is_done_activating, activated_at, is_to_quit, is_to_leave}
+use Rattle.ada_events.specs.Forced.{task_no, is_to_halt, is_to_fail, met_at, is_to_cancel, passed_at, is_to_wake, is_done_activating, activated_at, is_to_quit}
+use Rattle.ada_events.specs.Forced.{is_to_leave}
 use Rattle.ada_events.specs.Termination.{all_terminated, is_complete, is_ready_to_quit}
 use Rattle.ada_events.specs.Lawful.{IsLawful}
 use Rattle.ada_laws.specs.Calls.{IsCallAt, IsWaitAt}
 use Rattle.ada_laws.specs.Masters.{IsOpeningAt}
 use Rattle.ada_laws.specs.Suspension.{IsSuspendedAt}
-use Rattle.ada_laws.proofs.Searching.{three_parts, then_some-some, if_some, option_map_or-true, event_at-cases, event_at-older, event_at-newest, event_at-within}
+use Rattle.ada_laws.proofs.Searching.{three_parts, then_some-some, if_some, option_map_or-true, event_at-cases, event_at-older, event_at-newest}
+use Rattle.ada_laws.proofs.Searching.{event_at-within}
 use Rattle.ada_laws.proofs.Saying.{held_in-wait, held_in-start, held_in-closing}
 use Rattle.ada_laws.proofs.Queueing.{is_open_at-call}
 use Rattle.ada_forcing.specs.Rows.{goes_by_task, goes_by_moment, at_event, of_task, step_at}
 use Rattle.ada_forcing.specs.declared.row.Row.{Row}
-use Rattle.ada_forcing.specs.declared.row.Row.TheVariants.{Halting, Failing, Taking, Cancelling, Passing, Waking, Activating, Going, QuittingBody, QuittingBlock, Leaving}
+use Rattle.ada_forcing.specs.declared.row.Row.TheVariants.{Halting, Failing, Taking, Cancelling, Passing, Waking, Activating, Going, QuittingBody}
+use Rattle.ada_forcing.specs.declared.row.Row.TheVariants.{QuittingBlock, Leaving}
 use Rattle.ada_forcing.specs.Touching.{is_lost, MayQuit, Touches}
-use Rattle.ada_forcing.specs.Touching.Touches.{newest, task_made, aborts, frees, loses, calls, moves, elaborates, completes, abandons, ends_below, body_quits, block_quits, ends_within}
+use Rattle.ada_forcing.specs.Touching.Touches.{newest, task_made, aborts, frees, loses, calls, moves, elaborates, completes, abandons, ends_below, body_quits}
+use Rattle.ada_forcing.specs.Touching.Touches.{block_quits, ends_within}
 use Rattle.ada_forcing.specs.Touching.MayQuit.{complete, idle, made as newly_made}
 use Rattle.ada_forcing.proofs.Keys.{of_found}
 use Rattle.ada_forcing.proofs.TouchedKeys.{open_before}

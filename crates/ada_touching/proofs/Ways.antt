@@ -13,7 +13,8 @@ use Rattle.ada_events.specs.Masters.{same_master, parent_in, reaches, depends_on
 use Rattle.ada_events.specs.Lawful.{IsLawful}
 use Rattle.ada_laws.specs.Masters.{parent_of, IsKnown}
 use Rattle.ada_laws.proofs.Searching.{option_map-some, option_map_or-true, option_and_then-some, event_at-cases, event_at-older}
-use Rattle.ada_laws.proofs.Reaching.{same_master-true, reaches-same, parent_in-known, parent_in-other, parent_in-created, parent_in-opened, parent_in-uncreated, parent_was_known, reaches_known}
+use Rattle.ada_laws.proofs.Reaching.{same_master-true, reaches-same, parent_in-known, parent_in-other, parent_in-created, parent_in-opened, parent_in-uncreated}
+use Rattle.ada_laws.proofs.Reaching.{parent_was_known, reaches_known}
 use Rattle.ada_laws.proofs.Depending.{depends_exists, depends_reaches}
 use Rattle.ada_laws.proofs.Parents.{tasks_depend_by_parents}
 use Rattle.ada_touching.specs.Additions.{MastersAreFoundOutwards}

@@ -1,7 +1,8 @@
 -- Where each kind of event can newly force a step. Laws.
 use Rattle.std.specs.Prelude.{◌≡◌, ◌⊎◌, ℕ, ℤ, true, false, Bool, Option, Some, List, ◌∷◌}
 use Rattle.ada_events.specs.declared.event.Event.{Event}
-use Rattle.ada_events.specs.declared.event.Event.TheVariants.{Opened, Created, Started, Elaborated, Called, Waiting, Paused, Ended, Closed, Completed, Aborted, Ticked, Halted, Failed, Met, Cancelled, Passed, Woken, Activated, Gone, Quit, Left}
+use Rattle.ada_events.specs.declared.event.Event.TheVariants.{Opened, Created, Started, Elaborated, Called, Waiting, Paused, Ended, Closed, Completed, Aborted}
+use Rattle.ada_events.specs.declared.event.Event.TheVariants.{Ticked, Halted, Failed, Met, Cancelled, Passed, Woken, Activated, Gone, Quit, Left}
 use Rattle.ada_events.specs.declared.event.EventTail.{EventTail}
 use Rattle.ada_events.specs.declared.event.Way.{Way}
 use Rattle.ada_events.specs.declared.names.TaskNo.{TaskNo}
@@ -16,7 +17,8 @@ use Rattle.ada_events.specs.Lawful.{IsLawful}
 use Rattle.ada_laws.specs.Masters.{parent_of}
 use Rattle.ada_forcing.specs.declared.row.Row.{Row}
 use Rattle.ada_forcing.specs.Rows.{step_at, IsAgenda}
-use Rattle.ada_touching.specs.Kinds.{Nowhere, OfCreation, OfStart, OfElaboration, OfCall, OfWait, OfDelay, OfClose, OfEnd, OfCancellation, OfCompletion, OfHalt, OfAbort, OfTick, OfTermination, OfQuit, Adds}
+use Rattle.ada_touching.specs.Kinds.{Nowhere, OfCreation, OfStart, OfElaboration, OfCall, OfWait, OfDelay, OfClose, OfEnd, OfCancellation, OfCompletion, OfHalt}
+use Rattle.ada_touching.specs.Kinds.{OfAbort, OfTick, OfTermination, OfQuit, Adds}
 
 -- after the event a row gives a step only where it gave one before, or at one of these keys
 abbrev pub AddsOnly : Event → List Event → (Row → ℕ → Type 0) → Type 0

@@ -163,7 +163,8 @@ pub fn note_wait(agenda: &mut Agenda, journal: &Journal, event: &Event, masters:
     requires stands { IsAgendaOf agenda.old journal.now.events }
     requires waits { is_some (wait_in event.now) ≡ true }
     requires fit { All (λ m. quitting_key m < 69632) masters.now }
-    requires outward { (m : MasterValue) → IsOpenUnder event.now journal.now.events m → Contains masters.now m }
+    requires outward { (m : MasterValue) → IsOpenUnder event.now journal.now.events m
+        → Contains masters.now m }
     ensures { IsAgendaOf agenda.new (event.now ∷ journal.now.events) }
 {
     let own = own_key(journal, event);
@@ -185,7 +186,8 @@ pub fn note_cancellation(
     requires stands { IsAgendaOf agenda.old _journal.now.events }
     requires cancels { _event.now ≡ CancelledEvent _call }
     requires fit { All (λ m. quitting_key m < 69632) masters.now }
-    requires outward { (m : MasterValue) → IsReadyUnder _event.now _journal.now.events _call m → Contains masters.now m }
+    requires outward { (m : MasterValue) → IsReadyUnder _event.now _journal.now.events _call m
+        → Contains masters.now m }
     ensures { IsAgendaOf agenda.new (_event.now ∷ _journal.now.events) }
 {
     put_masters(agenda, masters);

@@ -1,6 +1,11 @@
 //! Laws of where each kind of event can newly force a step.
 
-ghost use Rattle.ada_touching.specs.Additions.{EventsAddTheirKeys, AgendasGrow, AgendasStay, OpeningsAddNothing, CreationsAddTheirTask, StartsAddThemselves, ElaborationsAddTheirStart, CallsAddTheWait, WaitsAddMasters, DelaysAddThemselves, ClosesAddTheirBlock, EndsAddTheCaller, FailuresAddTheCaller, CancellationsAddMasters, MeetingsAddNothing, PassingsAddNothing, WakingsAddNothing, ActivationsAddNothing, LeavingsAddNothing, CompletionsAddTheirTask, FailedActivationsAddTheirTask, HaltsAddTheirTask, AbortsAddTheirTasks, TicksAddWhatIsDue, TerminationsAddMasters, QuitsAddMasters, MastersAreFoundOutwards};
+ghost use Rattle.ada_touching.specs.Additions.{EventsAddTheirKeys, AgendasGrow, AgendasStay, OpeningsAddNothing, CreationsAddTheirTask, StartsAddThemselves};
+ghost use Rattle.ada_touching.specs.Additions.{ElaborationsAddTheirStart, CallsAddTheWait, WaitsAddMasters, DelaysAddThemselves, ClosesAddTheirBlock};
+ghost use Rattle.ada_touching.specs.Additions.{EndsAddTheCaller, FailuresAddTheCaller, CancellationsAddMasters, MeetingsAddNothing, PassingsAddNothing};
+ghost use Rattle.ada_touching.specs.Additions.{WakingsAddNothing, ActivationsAddNothing, LeavingsAddNothing, CompletionsAddTheirTask};
+ghost use Rattle.ada_touching.specs.Additions.{FailedActivationsAddTheirTask, HaltsAddTheirTask, AbortsAddTheirTasks, TicksAddWhatIsDue};
+ghost use Rattle.ada_touching.specs.Additions.{TerminationsAddMasters, QuitsAddMasters, MastersAreFoundOutwards};
 
 /// After one more event of a lawful journal a row gives a step only where it gave one before, or at one of the few
 /// keys that an event of its kind adds.

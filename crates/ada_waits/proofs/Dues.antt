@@ -18,25 +18,32 @@ use Rattle.ada_events.specs.Limits.{is_too_late}
 use Rattle.ada_events.specs.Tasks.{moment}
 use Rattle.ada_waits.specs.Late.{is_late_tail}
 
-pub all_dues : (now given : ℤ) (pauses : List Pause) (dues : List (Option ℤ)) (i : ℕ) → given ≡ now → (is_late_tail given (Delays pauses) ≡ false → dues ≡ map (pause_due given) (take i pauses)) → length pauses ≤ i → is_late_tail now (Delays pauses) ≡ false → dues ≡ map (pause_due now) pauses
+pub all_dues : (now given : ℤ) (pauses : List Pause) (dues : List (Option ℤ)) (i : ℕ) → given ≡ now
+    → (is_late_tail given (Delays pauses) ≡ false → dues ≡ map (pause_due given) (take i pauses)) → length pauses ≤ i → is_late_tail now (Delays pauses) ≡ false
+    → dues ≡ map (pause_due now) pauses
 all_dues now given pauses dues i same so_far past in_time =
     let P : ℤ → Type 0 = λ m. is_late_tail m (Delays pauses) ≡ false → dues ≡ map (pause_due m) (take i pauses) in
     subst P same so_far in_time ∙ ap (map (pause_due now)) (take_all i pauses past)
 
-pub delays_due : (now given : ℤ) (tail : Tail) (pauses items : List Pause) (dues : List (Option ℤ)) → given ≡ now → items ≡ pauses → tail ≡ Delays pauses → (is_late_tail given (Delays items) ≡ false → dues ≡ map (pause_due given) items) → is_late_tail now tail ≡ false → event_tail.Delays dues ≡ asked_tail now tail
+pub delays_due : (now given : ℤ) (tail : Tail) (pauses items : List Pause) (dues : List (Option ℤ)) → given ≡ now → items ≡ pauses → tail ≡ Delays pauses
+    → (is_late_tail given (Delays items) ≡ false → dues ≡ map (pause_due given) items) → is_late_tail now tail ≡ false
+    → event_tail.Delays dues ≡ asked_tail now tail
 delays_due now given tail pauses items dues same_moment same_items is made in_time =
     let P : ℤ → List Pause → Type 0 = λ m ps. is_late_tail m (Delays ps) ≡ false → dues ≡ map (pause_due m) ps in
     let made' : P now pauses = subst (P now) same_items (subst (λ m. P m items) same_moment made) in
     rw is (ap event_tail.Delays (made' (rw is at in_time)))
 
-too_late-wait : (journal : List Event) (by : TaskNo) (choices : List Choice) (tail : Tail) (pick : ℕ) → is_too_late journal (Wait by choices tail pick) ≡ is_late_tail (moment journal) tail
+too_late-wait : (journal : List Event) (by : TaskNo) (choices : List Choice) (tail : Tail) (pick : ℕ)
+    → is_too_late journal (Wait by choices tail pick) ≡ is_late_tail (moment journal) tail
 unfolding is_too_late
 too_late-wait journal by choices Nothing pick = refl
 too_late-wait journal by choices Otherwise pick = refl
 too_late-wait journal by choices (Delays pauses) pick = refl
 too_late-wait journal by choices (Terminate guard) pick = refl
 
-pub wait_asked : (journal : List Event) (given : ℤ) (request : Request) (by : TaskNo) (choices : List Choice) (tail : Tail) (pick : ℕ) (made : EventTail) → given ≡ moment journal → request ≡ Wait by choices tail pick → (is_late_tail given tail ≡ false → made ≡ asked_tail given tail) → is_too_late journal request ≡ false → Waiting by pick choices made ≡ asked_event journal request
+pub wait_asked : (journal : List Event) (given : ℤ) (request : Request) (by : TaskNo) (choices : List Choice) (tail : Tail) (pick : ℕ) (made : EventTail)
+    → given ≡ moment journal → request ≡ Wait by choices tail pick → (is_late_tail given tail ≡ false → made ≡ asked_tail given tail)
+    → is_too_late journal request ≡ false → Waiting by pick choices made ≡ asked_event journal request
 unfolding asked_event
 wait_asked journal given request by choices tail pick made same is asked in_time =
     let late : is_late_tail given tail ≡ false = ap (λ m. is_late_tail m tail) same ∙ sym (too_late-wait journal by choices tail pick) ∙ (rw is at in_time) in

@@ -1,5 +1,5 @@
-//! What a selective wait says by itself (9.7.1): the alternative that its pick takes, its delay alternatives, and the way
-//! in which it ends while no call is to be taken.
+//! What a selective wait says by itself (9.7.1): the alternative that its pick takes, its delay alternatives, and the
+//! way in which it ends while no call is to be taken.
 ghost use Rattle.std.specs.Prelude.{◌≡◌, ◌<◌, ◌≤◌, ◌++◌, if◌then◌else◌, ◌∷◌, [], length};
 ghost use Rattle.std.specs.Option.{option_map};
 ghost use Rattle.ada_events.specs.declared.event.Way.TheVariants.{Delay};
@@ -156,7 +156,9 @@ pub fn way_of(now: i64, choices: &[Choice], pick: u32, tail: &EventTail) -> Opti
 
 fn delayed_way(now: i64, choices: &[Choice], pick: u32, dues: &[Option<i64>]) -> Option<Way>
     requires { length dues.now ≤ MOST_DELAYS }
-    ensures { result ≡ (if waits.has_open_delay dues.now then option_map Delay (waits.taken_delay now pick dues.now) else waits.without_choice choices.now) }
+    ensures { result ≡ (if waits.has_open_delay dues.now
+        then option_map Delay (waits.taken_delay now pick dues.now)
+        else waits.without_choice choices.now) }
 {
     if has_open_delay(dues) {
         delay_way(taken_delay(now, pick, dues))

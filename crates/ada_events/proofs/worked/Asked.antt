@@ -2,7 +2,8 @@
 use Rattle.std.specs.Prelude.{◌≡◌, true, false, Some, None, Ok, Err, List, [], ◌∷◌, pos, negsuc, refl, take}
 use Rattle.ada_events.specs.declared.event.Event.{Event}
 use Rattle.ada_events.specs.declared.event.Event.TheVariants.{Created}
-use Rattle.ada_events.specs.declared.outcome.Outcome.TheVariants.{Dead, Held, Served, TaskingError, Accepted, TookElse, TookDelay, ProgramError, ActivationOk, ActivationFailed, Raised, Nothing}
+use Rattle.ada_events.specs.declared.outcome.Outcome.TheVariants.{Dead, Held, Served, TaskingError, Accepted, TookElse, TookDelay, ProgramError, ActivationOk}
+use Rattle.ada_events.specs.declared.outcome.Outcome.TheVariants.{ActivationFailed, Raised, Nothing}
 use Rattle.ada_events.specs.declared.refusal.Refusal.TheVariants.{UnknownTask, NotRunning, NoSuchFamily, ConstraintError}
 use Rattle.ada_events.specs.Phases.{is_terminated}
 use Rattle.ada_events.specs.Outcomes.{raised_in, choice_met, released_to, became, last_given, outcome_at, outcome_of}
@@ -17,7 +18,8 @@ use Rattle.ada_events.proofs.worked.Abort.{abort_in_rendezvous_turns, self_abort
 
 -- opens every definition of an answer
 unfoldable all_answers : Unit {0}
-unfolding everything raised_in choice_met released_to became last_given outcome_at outcome_of is_callable is_finished count_refusal own_count number_within slot_made slot_of entry_within entry_made entry_at count_at shows_callable shows_terminated shows_count listed board_of
+unfolding everything raised_in choice_met released_to became last_given outcome_at outcome_of is_callable is_finished count_refusal own_count number_within
+    slot_made slot_of entry_within entry_made entry_at count_at shows_callable shows_terminated shows_count listed board_of
 all_answers = tt
 
 -- COUNT doesn't count the call that is served

@@ -5,7 +5,8 @@ use Rattle.ada_events.specs.declared.request.Tail.TheVariants.{Nothing, Otherwis
 use Rattle.ada_events.specs.declared.event.Event.TheVariants.{Created, Started, Called, Waiting, Met, Activated}
 use Rattle.ada_events.specs.declared.event.EventTail.TheVariants.{Nothing as NoTail}
 use Rattle.ada_events.specs.declared.names.Patience.TheVariants.{Simple}
-use Rattle.ada_events.specs.declared.refusal.Refusal.TheVariants.{UnknownTask, NotRunning, DuringActivation, NotActivating, NotYourMaster, EmptyList, NotYourTask, NoAccept, TerminateInAccept, NoBlock, MainTask}
+use Rattle.ada_events.specs.declared.refusal.Refusal.TheVariants.{UnknownTask, NotRunning, DuringActivation, NotActivating, NotYourMaster, EmptyList}
+use Rattle.ada_events.specs.declared.refusal.Refusal.TheVariants.{NotYourTask, NoAccept, TerminateInAccept, NoBlock, MainTask}
 use Rattle.ada_events.proofs.worked.Turns.{Turn, accepted, refused, after, IsPlayed, everything, asks_end, ended, main, task, nobody, body, entry, open_choice}
 use Rattle.ada_events.proofs.worked.Rendezvous.{preamble_turns}
 

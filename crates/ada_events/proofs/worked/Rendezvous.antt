@@ -6,7 +6,8 @@ use Rattle.ada_events.specs.declared.event.Event.TheVariants.{Created, Started, 
 use Rattle.ada_events.specs.declared.event.EventTail.TheVariants.{Nothing as NoTail}
 use Rattle.ada_events.specs.declared.names.Patience.TheVariants.{Simple}
 use Rattle.ada_events.specs.declared.refusal.Refusal.TheVariants.{ConstraintError, SameFamilyNested, NotInAccept, StillNested}
-use Rattle.ada_events.proofs.worked.Turns.{Turn, accepted, refused, after, IsPlayed, everything, asks_end, ended, main, task, body, single, family, entry, open_choice, closed_choice}
+use Rattle.ada_events.proofs.worked.Turns.{Turn, accepted, refused, after, IsPlayed, everything, asks_end, ended, main, task, body, single, family, entry}
+use Rattle.ada_events.proofs.worked.Turns.{open_choice, closed_choice}
 
 -- a server, a client and one rendezvous
 abbrev one_rendezvous_turns : List Turn

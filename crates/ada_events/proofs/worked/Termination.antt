@@ -2,11 +2,13 @@
 use Rattle.std.specs.Prelude.{true, false, Some, None, List, [], ◌∷◌, pos, refl}
 use Rattle.ada_events.specs.declared.request.Request.TheVariants.{Open, Create, Activate, Call, Wait, Close, Complete, Tick}
 use Rattle.ada_events.specs.declared.request.Tail.TheVariants.{Terminate}
-use Rattle.ada_events.specs.declared.event.Event.TheVariants.{Opened, Created, Started, Called, Waiting, Closed, Completed, Ticked, Failed, Cancelled, Activated, Gone, Quit, Left}
+use Rattle.ada_events.specs.declared.event.Event.TheVariants.{Opened, Created, Started, Called, Waiting, Closed, Completed, Ticked, Failed, Cancelled}
+use Rattle.ada_events.specs.declared.event.Event.TheVariants.{Activated, Gone, Quit, Left}
 use Rattle.ada_events.specs.declared.event.EventTail.TheVariants.{Terminate as TerminatePart}
 use Rattle.ada_events.specs.declared.names.Patience.TheVariants.{Simple, Timed}
 use Rattle.ada_events.specs.declared.refusal.Refusal.TheVariants.{NotRunning}
-use Rattle.ada_events.proofs.worked.Turns.{Turn, accepted, refused, after, IsPlayed, everything, asks_end, ended, main, task, body, block, single, entry, open_choice, closed_choice}
+use Rattle.ada_events.proofs.worked.Turns.{Turn, accepted, refused, after, IsPlayed, everything, asks_end, ended, main, task, body, block, single, entry}
+use Rattle.ada_events.proofs.worked.Turns.{open_choice, closed_choice}
 
 -- one of two activations fails
 abbrev pub failed_activation_turns : List Turn

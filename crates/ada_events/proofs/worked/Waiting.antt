@@ -7,7 +7,8 @@ use Rattle.ada_events.specs.declared.event.EventTail.TheVariants.{Nothing as NoT
 use Rattle.ada_events.specs.declared.event.Way.TheVariants.{Otherwise as ByElse, Delay as ByDelay, ProgramError}
 use Rattle.ada_events.specs.declared.names.Patience.TheVariants.{Conditional, Timed}
 use Rattle.ada_events.specs.declared.refusal.Refusal.TheVariants.{MomentBack, MomentTooLarge}
-use Rattle.ada_events.proofs.worked.Turns.{Turn, accepted, refused, after, IsPlayed, everything, task, entry, open_choice, closed_choice, open_delay, closed_delay}
+use Rattle.ada_events.proofs.worked.Turns.{Turn, accepted, refused, after, IsPlayed, everything, task, entry, open_choice, closed_choice, open_delay}
+use Rattle.ada_events.proofs.worked.Turns.{closed_delay}
 use Rattle.ada_events.proofs.worked.Rendezvous.{preamble_turns}
 
 -- closed choices, an else part, delay alternatives

@@ -12,7 +12,8 @@ use Rattle.ada_events.specs.declared.names.Choice.{Choice}
 use Rattle.ada_events.specs.declared.names.Master.TheVariants.{Body, Block}
 use Rattle.ada_events.specs.declared.names.Member.TheVariants.{Block as InBlock, Rendezvous as InRendezvous}
 use Rattle.ada_events.specs.Search.{any_event, gathered, event_at}
-use Rattle.ada_events.specs.Says.{creation_in, opening_in, call_in, wait_in, closing_in, meeting_in, started_in, elaborated_in, completed_in, gone_in, quit_in, left_in, held_in, released_in}
+use Rattle.ada_events.specs.Says.{creation_in, opening_in, call_in, wait_in, closing_in, meeting_in, started_in, elaborated_in, completed_in, gone_in, quit_in}
+use Rattle.ada_events.specs.Says.{left_in, held_in, released_in}
 use Rattle.ada_events.specs.Tasks.{task_count, creation_of, families_of}
 use Rattle.ada_events.specs.Masters.{parent_in, reaches, depends_on}
 use Rattle.ada_events.specs.Phases.{is_completed, is_terminated, has_ended, is_released, is_suspended, is_started, is_running}
@@ -26,7 +27,10 @@ use Rattle.ada_tables.specs.Standing.{facts_in, caller_of, AreQueued, live_count
 
 -- opens every definition
 unfoldable everything : Unit {0}
-unfolding any_event gathered event_at creation_in opening_in call_in wait_in closing_in meeting_in started_in elaborated_in completed_in gone_in quit_in left_in held_in released_in task_count creation_of families_of parent_in reaches depends_on is_completed is_terminated has_ended is_released is_suspended is_started is_running is_pending is_met is_open_at is_queued_at is_open_call is_call_of queue is_left_close is_left is_wait_of member_at nest has_empty_queues is_ready_to_quit count_below
+unfolding any_event gathered event_at creation_in opening_in call_in wait_in closing_in meeting_in started_in elaborated_in completed_in gone_in quit_in left_in
+    held_in released_in task_count creation_of families_of parent_in reaches depends_on is_completed is_terminated has_ended is_released is_suspended is_started
+    is_running is_pending is_met is_open_at is_queued_at is_open_call is_call_of queue is_left_close is_left is_wait_of member_at nest has_empty_queues
+    is_ready_to_quit count_below
 everything = tt
 
 abbrev task : ℕ → TaskNo
@@ -67,7 +71,13 @@ main_runs : facts_in in_rendezvous 0 ≡ record { master = None; families = []; 
 unfolding everything
 main_runs = refl
 
-server_serves : facts_in in_rendezvous 1 ≡ record { master = Some (Body (task 0)); families = single ∷ single ∷ []; nest = InBlock 11 ∷ InRendezvous 9 ∷ []; phase = Active }
+server_serves : facts_in in_rendezvous 1 ≡ record {
+  master =
+      Some (Body (task 0));
+  families = single ∷ single ∷ [];
+  nest = InBlock 11 ∷ InRendezvous 9 ∷ [];
+  phase = Active;
+}
 unfolding everything
 server_serves = refl
 

@@ -32,12 +32,14 @@ pub returns-in_ok-asked_tail-in-Wait-clause-ok : goal.returns-in_ok-asked_tail-i
 returns-in_ok-asked_tail-in-Wait-clause-ok c =
     rw (c.in_ok-from_slice-in-Wait.ensures.ok, c.as_slice-in-Wait.ensures.value)
     (wait_asked c.args.state.now _ c.args.request.now c.in-Wait.by c.in-Wait.choices c.in-Wait.tail c.in-Wait.pick c.in_ok-asked_tail-in-Wait.field-0
-    (to_z-of_z w64 c.moment-in-Wait.result (record { sfits = c.moment-in-Wait.type_inv }) ∙ c.moment-in-Wait.ensures) c.in-Wait.is c.in_ok-asked_tail-in-Wait.ensures.ok
+    (to_z-of_z w64 c.moment-in-Wait.result (record { sfits = c.moment-in-Wait.type_inv }) ∙ c.moment-in-Wait.ensures) c.in-Wait.is
+    c.in_ok-asked_tail-in-Wait.ensures.ok
     (is_accepted c.args.state.now c.args.request.now c.requires).in_time)
 
 pub returns-in-Delay-clause-ok : goal.returns-in-Delay-clause-ok
 returns-in-Delay-clause-ok c =
     rw (to_z-of_z w64 c.due_after.result (record { sfits = c.due_after.type_inv }))
     (delay_asked c.args.state.now _ c.args.request.now c.in-Delay.by c.in-Delay.duration _ c.due_after.result
-    (to_z-of_z w64 c.moment-in-Delay.result (record { sfits = c.moment-in-Delay.type_inv }) ∙ c.moment-in-Delay.ensures) (grind (arith, to_z-of_z)) c.in-Delay.is c.due_after.ensures
+    (to_z-of_z w64 c.moment-in-Delay.result (record { sfits = c.moment-in-Delay.type_inv }) ∙ c.moment-in-Delay.ensures) (grind (arith, to_z-of_z))
+    c.in-Delay.is c.due_after.ensures
     (is_accepted c.args.state.now c.args.request.now c.requires).in_time)

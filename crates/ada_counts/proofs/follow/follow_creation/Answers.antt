@@ -7,27 +7,34 @@ use Rattle.ada_counts.proofs.follow.follow_creation.Goals as goal
 
 pub add_task-requires-clause-few : goal.add_task-requires-clause-few
 add_task-requires-clause-few c =
-    made_tasks c.args._event.now c.args._journal.now.events c.args.tables.now c.args.tables.now c.args.master c.args.families.now c.requires.lawful c.requires.makes c.requires.stand c.requires.slots
+    made_tasks c.args._event.now c.args._journal.now.events c.args.tables.now c.args.tables.now c.args.master c.args.families.now c.requires.lawful
+    c.requires.makes c.requires.stand c.requires.slots
 
 pub add_task-requires-clause-slots : goal.add_task-requires-clause-slots
 add_task-requires-clause-slots c =
-    let few = made_entries c.args._event.now c.args._journal.now.events c.args.tables.now c.args.tables.now c.args.master c.args.families.now c.requires.lawful c.requires.makes c.requires.stand c.requires.slots in
+    let few = made_entries c.args._event.now c.args._journal.now.events c.args.tables.now c.args.tables.now c.args.master c.args.families.now c.requires.lawful
+    c.requires.makes c.requires.stand c.requires.slots in
     omega (arith, few, ap entries_in (c.from_slice-declared.ensures ∙ c.as_slice.ensures.value))
 
 pub add_task-requires-clause-master : goal.add_task-requires-clause-master
 add_task-requires-clause-master c =
-    made_open c.args._event.now c.args._journal.now.events c.args.tables.now c.args.tables.now c.args.master c.args.families.now c.requires.lawful c.requires.makes c.requires.stand c.requires.slots
+    made_open c.args._event.now c.args._journal.now.events c.args.tables.now c.args.tables.now c.args.master c.args.families.now c.requires.lawful
+    c.requires.makes c.requires.stand c.requires.slots
 
 pub returns-clause-stand : goal.returns-clause-stand
 returns-clause-stand c =
-    made_stand c.args._event.now c.args._journal.now.events c.args.tables.now c.add_task.new.self c.args.master c.args.families.now c.requires.lawful c.requires.makes c.requires.stand c.requires.slots
+    made_stand c.args._event.now c.args._journal.now.events c.args.tables.now c.add_task.new.self c.args.master c.args.families.now c.requires.lawful
+    c.requires.makes c.requires.stand c.requires.slots
     (c.in_ok-add_task.ensures.ok
-    ∙ ap (λ (fs : List Family). record c.args.tables.now { tasks = c.args.tables.now.tasks ++ made_facts (Some c.args.master) fs ∷ []; queues = c.args.tables.now.queues ++ replicate (entries_in fs) [] })
+    ∙ ap (λ (fs : List Family). record c.args.tables.now
+    { tasks = c.args.tables.now.tasks ++ made_facts (Some c.args.master) fs ∷ []; queues = c.args.tables.now.queues ++ replicate (entries_in fs) [] })
     (c.from_slice-declared.ensures ∙ c.as_slice.ensures.value))
 
 pub returns-clause-slots : goal.returns-clause-slots
 returns-clause-slots c =
-    made_slots c.args._event.now c.args._journal.now.events c.args.tables.now c.add_task.new.self c.args.master c.args.families.now c.requires.lawful c.requires.makes c.requires.stand c.requires.slots
+    made_slots c.args._event.now c.args._journal.now.events c.args.tables.now c.add_task.new.self c.args.master c.args.families.now c.requires.lawful
+    c.requires.makes c.requires.stand c.requires.slots
     (c.in_ok-add_task.ensures.ok
-    ∙ ap (λ (fs : List Family). record c.args.tables.now { tasks = c.args.tables.now.tasks ++ made_facts (Some c.args.master) fs ∷ []; queues = c.args.tables.now.queues ++ replicate (entries_in fs) [] })
+    ∙ ap (λ (fs : List Family). record c.args.tables.now
+    { tasks = c.args.tables.now.tasks ++ made_facts (Some c.args.master) fs ∷ []; queues = c.args.tables.now.queues ++ replicate (entries_in fs) [] })
     (c.from_slice-declared.ensures ∙ c.as_slice.ensures.value))

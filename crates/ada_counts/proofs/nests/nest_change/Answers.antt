@@ -2,7 +2,8 @@ use Rattle.std.proofs.Common.{refl, ap, arith}
 use Rattle.ada_events.specs.Says.{opening_in, meeting_in, released_in, left_in}
 use Rattle.ada_laws.proofs.LimitLaws.{events_are_few}
 use Rattle.ada_records.proofs.Noting.{release_holds}
-use Rattle.ada_counts.proofs.NestTurns.{nests_kept, nests_passed, nests_cancelled, nests_of_end, nests_of_failure, nests_opened, nests_met, nests_left, nests_elaborated, callee_of}
+use Rattle.ada_counts.proofs.NestTurns.{nests_kept, nests_passed, nests_cancelled, nests_of_end, nests_of_failure, nests_opened, nests_met, nests_left}
+use Rattle.ada_counts.proofs.NestTurns.{nests_elaborated, callee_of}
 use Rattle.ada_counts.proofs.nests.nest_change.Goals as goal
 
 pub overflow_add-result : goal.overflow_add-result
@@ -23,10 +24,13 @@ pub returns-in-Met : goal.returns-in-Met
 returns-in-Met c = nests_met c.args.event.now c.args.journal.now.events _ _ _ c.in-Met.is c.holder_at.ensures c.requires
 
 pub returns-in-Ended : goal.returns-in-Ended
-returns-in-Ended c = nests_of_end c.args.event.now c.args.journal.now.events _ _ _ _ c.in-Ended.is (callee_of c.args.journal.now.events _ _ c.callee_at.ensures) c.requires
+returns-in-Ended c =
+    nests_of_end c.args.event.now c.args.journal.now.events _ _ _ _ c.in-Ended.is (callee_of c.args.journal.now.events _ _ c.callee_at.ensures) c.requires
 
 pub returns-in-Failed : goal.returns-in-Failed
-returns-in-Failed c = nests_of_failure c.args.event.now c.args.journal.now.events _ _ c.in-Failed.is (callee_of c.args.journal.now.events _ _ c.callee_at-in-Failed.ensures) c.requires
+returns-in-Failed c =
+    nests_of_failure c.args.event.now c.args.journal.now.events _ _ c.in-Failed.is (callee_of c.args.journal.now.events _ _ c.callee_at-in-Failed.ensures)
+    c.requires
 
 pub returns-in-Left : goal.returns-in-Left
 returns-in-Left c = nests_left c.args.event.now c.args.journal.now.events _ _ c.in-Left.is c.holder_at-in-Left.ensures c.requires

@@ -10,4 +10,5 @@ set_phase-requires-clause-live c = live_in_tables c.args.tables.now c.args._jour
 
 pub returns : goal.returns
 returns c =
-    phase_followed c.args._event.now c.args._journal.now.events c.args.tables.now _ c.args.task.0 c.phase_of.result c.args.kept.now c.requires.lawful c.requires.stand c.requires.known c.requires.changes c.requires.right c.phase_of.ensures c.set_phase.ensures
+    phase_followed c.args._event.now c.args._journal.now.events c.args.tables.now _ c.args.task.0 c.phase_of.result c.args.kept.now c.requires.lawful
+    c.requires.stand c.requires.known c.requires.changes c.requires.right c.phase_of.ensures c.set_phase.ensures

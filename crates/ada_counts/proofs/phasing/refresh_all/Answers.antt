@@ -8,7 +8,15 @@ loop-task-init c = none_swept c.args._event.now c.args._journal.now.events c.arg
 
 pub bounds-records-task : goal.bounds-records-task
 bounds-records-task c =
-    omega (arith, c.loop-task-test.true, c.tasks-task-end.ensures.value, c.requires.nests.many, c.requires.records.many, task_count-same c.args._event.now c.args._journal.now.events c.requires.makes)
+    omega (
+      arith,
+      c.loop-task-test.true,
+      c.tasks-task-end.ensures.value,
+      c.requires.nests.many,
+      c.requires.records.many,
+      task_count-same c.args._event.now
+          c.args._journal.now.events c.requires.makes,
+    )
 
 pub refresh-requires : goal.refresh-requires
 refresh-requires c = omega (arith, c.loop-task-test.true, c.tasks-task-end.ensures.value, c.requires.nests.many, c.loop-task.invariant.0.many)
@@ -18,7 +26,15 @@ loop-task-preserved c =
     one_swept c.args._event.now c.args._journal.now.events c.args.tables.now c.loop-task.tables c.refresh.new.tables c.loop-task.task _ c.loop-task.invariant
     (omega (arith, c.loop-task-test.true, c.tasks-task-end.ensures.value, c.requires.nests.many))
     (c.requires.records.each c.loop-task.task
-    (omega (arith, c.loop-task-test.true, c.tasks-task-end.ensures.value, c.requires.nests.many, c.requires.records.many, task_count-same c.args._event.now c.args._journal.now.events c.requires.makes)))
+    (omega (
+      arith,
+      c.loop-task-test.true,
+      c.tasks-task-end.ensures.value,
+      c.requires.nests.many,
+      c.requires.records.many,
+      task_count-same c.args._event.now
+          c.args._journal.now.events c.requires.makes,
+    )))
     c.refresh.ensures
 
 pub returns-clause-phases : goal.returns-clause-phases

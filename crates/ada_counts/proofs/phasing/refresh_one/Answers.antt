@@ -10,7 +10,8 @@ bounds-records-task c =
 pub returns-in-Some-clause-phases : goal.returns-in-Some-clause-phases
 returns-in-Some-clause-phases c =
     one_refreshed c.args.event.now c.args.journal.now.events c.args.tables.now _ c.in-Some.task _ c.requires.makes c.in-Some.ensures c.requires.nests
-    (c.requires.records.each c.in-Some.task.0 (omega (arith, c.in-Some.ensures.0, c.requires.records.many, task_count-same c.args.event.now c.args.journal.now.events c.requires.makes)))
+    (c.requires.records.each c.in-Some.task.0 (omega
+    (arith, c.in-Some.ensures.0, c.requires.records.many, task_count-same c.args.event.now c.args.journal.now.events c.requires.makes)))
     c.refresh.ensures
 
 pub returns-in_default-clause-phases : goal.returns-in_default-clause-phases

@@ -11,7 +11,8 @@ bounds-records-named c =
     let main : TaskNo = record { 0 = 0 } in
     omega (
       arith,
-      named_exists c.args._event.now c.args._journal.now.events c.args.by c.as_slice-named.result.now c.loop-i.i main c.requires.lawful (c.requires.starts ∙ ap (Started c.args.by) (sym c.as_slice-named.ensures.value)) c.loop-i-test.true,
+      named_exists c.args._event.now c.args._journal.now.events c.args.by c.as_slice-named.result.now c.loop-i.i main c.requires.lawful
+          (c.requires.starts ∙ ap (Started c.args.by) (sym c.as_slice-named.ensures.value)) c.loop-i-test.true,
       c.requires.records.many,
       task_count-same c.args._event.now c.args._journal.now.events (start_makes c.args._event.now c.args.by c.args.tasks.now c.requires.starts),
     )
@@ -21,15 +22,18 @@ refresh-requires c =
     let main : TaskNo = record { 0 = 0 } in
     omega (
       arith,
-      named_exists c.args._event.now c.args._journal.now.events c.args.by c.as_slice-named.result.now c.loop-i.i main c.requires.lawful (c.requires.starts ∙ ap (Started c.args.by) (sym c.as_slice-named.ensures.value)) c.loop-i-test.true,
+      named_exists c.args._event.now c.args._journal.now.events c.args.by c.as_slice-named.result.now c.loop-i.i main c.requires.lawful
+          (c.requires.starts ∙ ap (Started c.args.by) (sym c.as_slice-named.ensures.value)) c.loop-i-test.true,
       c.loop-i.invariant.0.many,
     )
 
 pub loop-i-preserved : goal.loop-i-preserved
 loop-i-preserved c =
     let main : TaskNo = record { 0 = 0 } in
-    let known = named_exists c.args._event.now c.args._journal.now.events c.args.by c.as_slice-named.result.now c.loop-i.i main c.requires.lawful (c.requires.starts ∙ ap (Started c.args.by) (sym c.as_slice-named.ensures.value)) c.loop-i-test.true in
-    one_named c.args._event.now c.args._journal.now.events c.as_slice-named.result.now c.args.tables.now c.loop-i.tables c.refresh.new.tables c.loop-i.i _ _ c.loop-i.invariant c.loop-i-test.true known
+    let known = named_exists c.args._event.now c.args._journal.now.events c.args.by c.as_slice-named.result.now c.loop-i.i main c.requires.lawful
+    (c.requires.starts ∙ ap (Started c.args.by) (sym c.as_slice-named.ensures.value)) c.loop-i-test.true in
+    one_named c.args._event.now c.args._journal.now.events c.as_slice-named.result.now c.args.tables.now c.loop-i.tables c.refresh.new.tables c.loop-i.i _ _
+    c.loop-i.invariant c.loop-i-test.true known
     (c.requires.records.each _
     (omega (
       arith,
@@ -50,12 +54,18 @@ bounds-records-by c =
 
 pub refresh-requires-2 : goal.refresh-requires-2
 refresh-requires-2 c =
-    omega (arith, starter_exists c.args._event.now c.args._journal.now.events c.args.by c.args.tasks.now c.requires.lawful c.requires.starts, c.loop-i.invariant.0.many)
+    omega (
+      arith,
+      starter_exists c.args._event.now c.args._journal.now.events c.args.by c.args.tasks.now c.requires.lawful c.requires.starts,
+      c.loop-i.invariant.0.many,
+    )
 
 pub returns-clause-phases : goal.returns-clause-phases
 returns-clause-phases c =
     let makes = start_makes c.args._event.now c.args.by c.args.tasks.now c.requires.starts in
     let known = starter_exists c.args._event.now c.args._journal.now.events c.args.by c.args.tasks.now c.requires.lawful c.requires.starts in
-    all_named c.args._event.now c.args._journal.now.events c.args.by c.as_slice-named.result.now c.args.tables.now c.loop-i.tables c.refresh-2.new.tables c.loop-i.i _ c.requires.lawful
+    all_named c.args._event.now c.args._journal.now.events c.args.by c.as_slice-named.result.now c.args.tables.now c.loop-i.tables c.refresh-2.new.tables
+    c.loop-i.i _ c.requires.lawful
     (c.requires.starts ∙ ap (Started c.args.by) (sym c.as_slice-named.ensures.value)) makes c.loop-i-test.false c.loop-i.invariant known
-    (c.requires.records.each c.args.by.0 (omega (arith, known, c.requires.records.many, task_count-same c.args._event.now c.args._journal.now.events makes))) c.refresh-2.ensures
+    (c.requires.records.each c.args.by.0 (omega (arith, known, c.requires.records.many, task_count-same c.args._event.now c.args._journal.now.events makes)))
+    c.refresh-2.ensures

@@ -2,7 +2,8 @@ use Rattle.std.proofs.Common.{refl, ap, inl, inr}
 use Rattle.ada_events.specs.Says.{held_in, started_in, released_in, completed_in, gone_in, quit_in}
 use Rattle.ada_records.proofs.Noting.{release_holds}
 use Rattle.ada_records.proofs.TaskEnds.{completion_exists}
-use Rattle.ada_counts.proofs.TouchedTasks.{held_touches, released_touches, completed_touches, elaborated_touches, gone_touches, nobody_touched, start_excluded, quit_excluded}
+use Rattle.ada_counts.proofs.TouchedTasks.{held_touches, released_touches, completed_touches, elaborated_touches, gone_touches, nobody_touched, start_excluded}
+use Rattle.ada_counts.proofs.TouchedTasks.{quit_excluded}
 use Rattle.ada_counts.proofs.phasing.touched_by.Goals as goal
 
 pub holder_at-requires : goal.holder_at-requires
@@ -74,31 +75,43 @@ returns-in-Ended c = released_touches c.args.event.now _ c.args.journal.now.even
 
 pub returns-in-Failed : goal.returns-in-Failed
 unfolding released_in
-returns-in-Failed c = released_touches c.args.event.now _ c.args.journal.now.events c.holder_at-in-Failed.result _ c.in-Failed.is refl c.requires.lawful c.holder_at-in-Failed.ensures
+returns-in-Failed c =
+    released_touches c.args.event.now _ c.args.journal.now.events c.holder_at-in-Failed.result _ c.in-Failed.is refl c.requires.lawful
+    c.holder_at-in-Failed.ensures
 
 pub returns-in-Cancelled : goal.returns-in-Cancelled
 unfolding released_in
-returns-in-Cancelled c = released_touches c.args.event.now _ c.args.journal.now.events c.holder_at-in-Cancelled.result _ c.in-Cancelled.is refl c.requires.lawful c.holder_at-in-Cancelled.ensures
+returns-in-Cancelled c =
+    released_touches c.args.event.now _ c.args.journal.now.events c.holder_at-in-Cancelled.result _ c.in-Cancelled.is refl c.requires.lawful
+    c.holder_at-in-Cancelled.ensures
 
 pub returns-in-Met : goal.returns-in-Met
 unfolding released_in
-returns-in-Met c = released_touches c.args.event.now _ c.args.journal.now.events c.holder_at-in-Met.result _ c.in-Met.is refl c.requires.lawful c.holder_at-in-Met.ensures
+returns-in-Met c =
+    released_touches c.args.event.now _ c.args.journal.now.events c.holder_at-in-Met.result _ c.in-Met.is refl c.requires.lawful c.holder_at-in-Met.ensures
 
 pub returns-in-Passed : goal.returns-in-Passed
 unfolding released_in
-returns-in-Passed c = released_touches c.args.event.now _ c.args.journal.now.events c.holder_at-in-Passed.result _ c.in-Passed.is refl c.requires.lawful c.holder_at-in-Passed.ensures
+returns-in-Passed c =
+    released_touches c.args.event.now _ c.args.journal.now.events c.holder_at-in-Passed.result _ c.in-Passed.is refl c.requires.lawful
+    c.holder_at-in-Passed.ensures
 
 pub returns-in-Woken : goal.returns-in-Woken
 unfolding released_in
-returns-in-Woken c = released_touches c.args.event.now _ c.args.journal.now.events c.holder_at-in-Woken.result _ c.in-Woken.is refl c.requires.lawful c.holder_at-in-Woken.ensures
+returns-in-Woken c =
+    released_touches c.args.event.now _ c.args.journal.now.events c.holder_at-in-Woken.result _ c.in-Woken.is refl c.requires.lawful
+    c.holder_at-in-Woken.ensures
 
 pub returns-in-Activated : goal.returns-in-Activated
 unfolding released_in
-returns-in-Activated c = released_touches c.args.event.now _ c.args.journal.now.events c.holder_at-in-Activated.result _ c.in-Activated.is refl c.requires.lawful c.holder_at-in-Activated.ensures
+returns-in-Activated c =
+    released_touches c.args.event.now _ c.args.journal.now.events c.holder_at-in-Activated.result _ c.in-Activated.is refl c.requires.lawful
+    c.holder_at-in-Activated.ensures
 
 pub returns-in-Left : goal.returns-in-Left
 unfolding released_in
-returns-in-Left c = released_touches c.args.event.now _ c.args.journal.now.events c.holder_at-in-Left.result _ c.in-Left.is refl c.requires.lawful c.holder_at-in-Left.ensures
+returns-in-Left c =
+    released_touches c.args.event.now _ c.args.journal.now.events c.holder_at-in-Left.result _ c.in-Left.is refl c.requires.lawful c.holder_at-in-Left.ensures
 
 pub returns-in-Opened : goal.returns-in-Opened
 unfolding held_in started_in released_in completed_in gone_in quit_in
@@ -117,7 +130,8 @@ unfolding held_in started_in released_in completed_in gone_in quit_in
 returns-in-Ticked c = nobody_touched c.args.event.now _ c.args.journal.now.events c.in-Ticked.is refl refl refl refl refl refl c.requires.lawful
 
 pub returns-in-Elaborated : goal.returns-in-Elaborated
-returns-in-Elaborated c = elaborated_touches c.args.event.now c.args.journal.now.events c.in-Elaborated.by c.in-Elaborated.ok c.in-Elaborated.is c.requires.lawful
+returns-in-Elaborated c =
+    elaborated_touches c.args.event.now c.args.journal.now.events c.in-Elaborated.by c.in-Elaborated.ok c.in-Elaborated.is c.requires.lawful
 
 pub returns-in-Started : goal.returns-in-Started
 returns-in-Started c = start_excluded c.args.event.now c.args.journal.now.events _ _ c.in-Started.is c.requires.few

@@ -15,9 +15,11 @@ returns-in-Nothing-clause-queues c = queues_same c.args.event.now c.args.journal
 
 pub returns-in-Joins-clause-queues : goal.returns-in-Joins-clause-queues
 returns-in-Joins-clause-queues c =
-    queues_joined c.args.event.now c.args.journal.now.events c.args.tables.now c.enqueue_reserved.new.self c.in-Joins.by.0 c.in-Joins.callee.0 c.in-Joins.entry _ _ c.requires.hold c.requires.queues c.requires.slots c.in-Joins.ensures
+    queues_joined c.args.event.now c.args.journal.now.events c.args.tables.now c.enqueue_reserved.new.self c.in-Joins.by.0 c.in-Joins.callee.0 c.in-Joins.entry
+    _ _ c.requires.hold c.requires.queues c.requires.slots c.in-Joins.ensures
     (omega (arith, c.len.ensures)) c.enqueue_reserved.ensures
 
 pub returns-in-Leaves-clause-queues : goal.returns-in-Leaves-clause-queues
 returns-in-Leaves-clause-queues c =
-    queues_left_by c.args.event.now c.args.journal.now.events c.args.tables.now _ c.in-Leaves.task.0 c.requires.queues c.in-Leaves.ensures c.leave_queue.ensures.queues
+    queues_left_by c.args.event.now c.args.journal.now.events c.args.tables.now _ c.in-Leaves.task.0 c.requires.queues c.in-Leaves.ensures
+    c.leave_queue.ensures.queues

@@ -1,7 +1,8 @@
 use Rattle.std.proofs.Common.{refl, ap}
 use Rattle.ada_events.specs.Says.{call_in, meeting_in, released_in, completed_in}
 use Rattle.ada_records.proofs.Noting.{release_holds, met_holds}
-use Rattle.ada_counts.proofs.QueueTurns.{queues_kept, queues_passed, queues_left, queues_completed, queues_elaborated, queues_ended, queues_met, queues_halted, queues_called}
+use Rattle.ada_counts.proofs.QueueTurns.{queues_kept, queues_passed, queues_left, queues_completed, queues_elaborated, queues_ended, queues_met, queues_halted}
+use Rattle.ada_counts.proofs.QueueTurns.{queues_called}
 use Rattle.ada_counts.proofs.queues.queue_change.Goals as goal
 
 pub holder_at-requires-in-Met : goal.holder_at-requires-in-Met
@@ -9,7 +10,9 @@ holder_at-requires-in-Met c = (met_holds c.args.event.now c.args.journal.now.eve
 
 pub returns-in-Called : goal.returns-in-Called
 unfolding call_in
-returns-in-Called c = queues_called c.args.event.now c.args.journal.now.events _ c.in-Called.by c.in-Called.callee c.in-Called.entry (ap call_in c.in-Called.is) refl refl refl c.requires
+returns-in-Called c =
+    queues_called c.args.event.now c.args.journal.now.events _ c.in-Called.by c.in-Called.callee c.in-Called.entry (ap call_in c.in-Called.is) refl refl refl
+    c.requires
 
 pub returns-in-Met : goal.returns-in-Met
 returns-in-Met c = queues_met c.args.event.now c.args.journal.now.events _ _ _ c.in-Met.is c.holder_at-in-Met.ensures c.requires
@@ -48,7 +51,8 @@ holder_at-requires-in-Cancelled c = release_holds c.args.event.now c.args.journa
 
 pub returns-in-Cancelled : goal.returns-in-Cancelled
 unfolding released_in meeting_in call_in
-returns-in-Cancelled c = queues_ended c.args.event.now _ c.args.journal.now.events _ _ c.in-Cancelled.is refl refl refl c.holder_at-in-Cancelled.ensures c.requires
+returns-in-Cancelled c =
+    queues_ended c.args.event.now _ c.args.journal.now.events _ _ c.in-Cancelled.is refl refl refl c.holder_at-in-Cancelled.ensures c.requires
 
 pub returns-in-Passed : goal.returns-in-Passed
 unfolding released_in meeting_in call_in

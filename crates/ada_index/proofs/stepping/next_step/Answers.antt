@@ -17,4 +17,5 @@ loop-rank-preserved c =
 
 pub returns-clause-step : goal.returns-clause-step
 returns-clause-step c =
-    none_is_forced c.first.new.self c.args.state.now (subst (λ rows. IsAgendaOf rows c.args.state.now) (sym c.first.ensures.same) c.loop-rank.invariant) c.in_default.ensures.none
+    none_is_forced c.first.new.self c.args.state.now (subst (λ rows. IsAgendaOf rows c.args.state.now) (sym c.first.ensures.same) c.loop-rank.invariant)
+    c.in_default.ensures.none

@@ -12,7 +12,8 @@ put_holder-requires-clause-many c = c.loop-number.invariant.grows.many ∙ c.req
 
 pub loop-number-preserved : goal.loop-number-preserved
 loop-number-preserved c =
-    puts_more c.args.agenda.now c.loop-number.agenda c.put_holder.new.agenda (AsHolder c.args.state.now) c.loop-number.number c.loop-number.invariant c.put_holder.ensures
+    puts_more c.args.agenda.now c.loop-number.agenda c.put_holder.new.agenda (AsHolder c.args.state.now) c.loop-number.number c.loop-number.invariant
+    c.put_holder.ensures
 
 pub returns : goal.returns
 returns c =

@@ -12,9 +12,11 @@ put_due-requires-clause-many c = c.loop-number.invariant.grows.many ∙ c.requir
 
 pub loop-number-preserved : goal.loop-number-preserved
 loop-number-preserved c =
-    puts_more c.args.agenda.now c.loop-number.agenda c.put_due.new.agenda (AsDue c.args.state.now c.args.tick.now) c.loop-number.number c.loop-number.invariant c.put_due.ensures
+    puts_more c.args.agenda.now c.loop-number.agenda c.put_due.new.agenda (AsDue c.args.state.now c.args.tick.now) c.loop-number.number c.loop-number.invariant
+    c.put_due.ensures
 
 pub returns : goal.returns
 returns c =
-    puts_all c.args.agenda.now c.loop-number.agenda (AsDue c.args.state.now c.args.tick.now) c.loop-number.number (task_count c.args.state.now) c.loop-number.invariant
+    puts_all c.args.agenda.now c.loop-number.agenda (AsDue c.args.state.now c.args.tick.now) c.loop-number.number (task_count c.args.state.now)
+    c.loop-number.invariant
     (subst (λ n. n ≤ c.loop-number.number) (c.tasks-number-end.ensures.value ∙ c.tables.ensures.stand.many) c.loop-number-test.false)

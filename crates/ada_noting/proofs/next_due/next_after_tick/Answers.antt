@@ -8,7 +8,8 @@ use Rattle.ada_noting.proofs.next_due.next_after_tick.Goals as goal
 pub returns-then-is_reached_by : goal.returns-then-is_reached_by
 returns-then-is_reached_by c =
     bound_renewed c.args._event.now c.args.state.now c.args.now c.least_after.result c.requires.lawful c.requires.ticks
-    (subst (λ now. IsBoundOfFirst c.args.state.now now (task_count c.args.state.now) c.least_after.result) (to_z-of_z w64 c.args.now c.ranges.now) c.least_after.ensures)
+    (subst (λ now. IsBoundOfFirst c.args.state.now now (task_count c.args.state.now) c.least_after.result) (to_z-of_z w64 c.args.now c.ranges.now)
+    c.least_after.ensures)
 
 pub returns-else-is_reached_by : goal.returns-else-is_reached_by
 returns-else-is_reached_by c =

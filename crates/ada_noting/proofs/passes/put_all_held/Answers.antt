@@ -12,9 +12,11 @@ put_held-requires-clause-many c = c.loop-number.invariant.grows.many ∙ c.requi
 
 pub loop-number-preserved : goal.loop-number-preserved
 loop-number-preserved c =
-    puts_more c.args.agenda.now c.loop-number.agenda c.put_held.new.agenda (AsHeld c.args.state.now c.args.row) c.loop-number.number c.loop-number.invariant c.put_held.ensures
+    puts_more c.args.agenda.now c.loop-number.agenda c.put_held.new.agenda (AsHeld c.args.state.now c.args.row) c.loop-number.number c.loop-number.invariant
+    c.put_held.ensures
 
 pub returns : goal.returns
 returns c =
-    puts_all c.args.agenda.now c.loop-number.agenda (AsHeld c.args.state.now c.args.row) c.loop-number.number (task_count c.args.state.now) c.loop-number.invariant
+    puts_all c.args.agenda.now c.loop-number.agenda (AsHeld c.args.state.now c.args.row) c.loop-number.number (task_count c.args.state.now)
+    c.loop-number.invariant
     (subst (λ n. n ≤ c.loop-number.number) (c.tasks-number-end.ensures.value ∙ c.tables.ensures.stand.many) c.loop-number-test.false)

@@ -12,7 +12,8 @@ put_unstarted-requires-clause-many c = c.loop-number.invariant.grows.many ∙ c.
 
 pub loop-number-preserved : goal.loop-number-preserved
 loop-number-preserved c =
-    puts_more c.args.agenda.now c.loop-number.agenda c.put_unstarted.new.agenda (AsUnstarted c.args.state.now) c.loop-number.number c.loop-number.invariant c.put_unstarted.ensures
+    puts_more c.args.agenda.now c.loop-number.agenda c.put_unstarted.new.agenda (AsUnstarted c.args.state.now) c.loop-number.number c.loop-number.invariant
+    c.put_unstarted.ensures
 
 pub returns : goal.returns
 returns c =

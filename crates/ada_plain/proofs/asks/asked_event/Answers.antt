@@ -7,4 +7,5 @@ pub returns-in_ok-asked_tail-in-Wait-clause-ok : goal.returns-in_ok-asked_tail-i
 returns-in_ok-asked_tail-in-Wait-clause-ok c =
     rw (c.in_ok-from_slice-in-Wait.ensures.ok, c.as_slice-in-Wait.ensures.value)
     (wait_asked (reverse c.args.events.now) _ c.args.request.now c.in-Wait.by c.in-Wait.choices c.in-Wait.tail c.in-Wait.pick c.in_ok-asked_tail-in-Wait.field-0
-    (to_z-of_z w64 c.moment-in-Wait.result (record { sfits = c.moment-in-Wait.type_inv }) ∙ c.moment-in-Wait.ensures) c.in-Wait.is c.in_ok-asked_tail-in-Wait.ensures.ok c.requires.in_time)
+    (to_z-of_z w64 c.moment-in-Wait.result (record { sfits = c.moment-in-Wait.type_inv }) ∙ c.moment-in-Wait.ensures) c.in-Wait.is
+    c.in_ok-asked_tail-in-Wait.ensures.ok c.requires.in_time)

@@ -10,7 +10,8 @@ unfolding shows_count
 loop-slot-preserved c =
     filled_more (shows_count (reverse c.args.events.now)) c.loop-slot.shown c.loop-slot.slot c.from.result 1024 c.shows_count.result 0
     c.loop-slot-test.true c.from.ensures
-    (c.shows_count.ensures ∙ ap (λ s. if nat_lt c.loop-slot.slot s then count_at (reverse c.args.events.now) c.loop-slot.slot else 0) c.entries_of-slots.ensures)
+    (c.shows_count.ensures ∙ ap (λ s. if nat_lt c.loop-slot.slot s then count_at (reverse c.args.events.now) c.loop-slot.slot else 0)
+    c.entries_of-slots.ensures)
     c.loop-slot.invariant
 
 pub returns : goal.returns

@@ -8,4 +8,6 @@ use Rattle.ada_events.specs.Forced.{is_to_leave}
 use Rattle.ada_plain.proofs.forced.left.Given as goal
 
 abbrev pub invariant-loop-i : goal.invariant-loop-i
-invariant-loop-i l = l.found ≡ first_given (λ p e. option_and_then (λ (c : Closing). then_some (is_to_leave (reverse l.events) p c) (Left p)) (closing_in e)) (reverse (take l.i l.events))
+invariant-loop-i l =
+    l.found ≡ first_given (λ p e. option_and_then (λ (c : Closing). then_some (is_to_leave (reverse l.events) p c) (Left p)) (closing_in e))
+    (reverse (take l.i l.events))

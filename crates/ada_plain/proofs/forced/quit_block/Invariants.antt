@@ -9,4 +9,6 @@ use Rattle.ada_events.specs.Forced.{is_to_quit}
 use Rattle.ada_plain.proofs.forced.quit_block.Given as goal
 
 abbrev pub invariant-loop-i : goal.invariant-loop-i
-invariant-loop-i l = l.found ≡ first_given (λ p e. option_and_then (λ (_ : Opening). then_some (is_to_quit (reverse l.events) (Block p)) (Quit (Block p))) (opening_in e)) (reverse (take l.i l.events))
+invariant-loop-i l =
+    l.found ≡ first_given (λ p e. option_and_then (λ (_ : Opening). then_some (is_to_quit (reverse l.events) (Block p)) (Quit (Block p))) (opening_in e))
+    (reverse (take l.i l.events))

@@ -8,4 +8,6 @@ use Rattle.ada_events.specs.Forced.{is_to_wake}
 use Rattle.ada_plain.proofs.forced.woken.Given as goal
 
 abbrev pub invariant-loop-i : goal.invariant-loop-i
-invariant-loop-i l = l.found ≡ first_given (λ p e. option_and_then (λ (d : Delay). then_some (is_to_wake (reverse l.events) p d) (Woken p)) (delay_in e)) (reverse (take l.i l.events))
+invariant-loop-i l =
+    l.found ≡ first_given (λ p e. option_and_then (λ (d : Delay). then_some (is_to_wake (reverse l.events) p d) (Woken p)) (delay_in e))
+    (reverse (take l.i l.events))

@@ -7,4 +7,5 @@ use Rattle.ada_plain.proofs.nests.is_left.Given as goal
 
 abbrev pub invariant-loop-i : goal.invariant-loop-i
 invariant-loop-i l =
-    l.left ≡ any_event (λ p e. is_some_and (closing_in e) (λ (c : Closing). c.block == l.block) && is_left_close (reverse l.events) p) (reverse (take l.i l.events))
+    l.left ≡ any_event (λ p e. is_some_and (closing_in e) (λ (c : Closing). c.block == l.block) && is_left_close (reverse l.events) p)
+    (reverse (take l.i l.events))

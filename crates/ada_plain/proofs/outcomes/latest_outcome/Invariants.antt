@@ -6,7 +6,8 @@ use Rattle.ada_plain.proofs.outcomes.latest_outcome.Given as goal
 abbrev pub invariant-loop-left : goal.invariant-loop-left
 invariant-loop-left l =
     (l.left ≤ length l.events)
-    × (option_or l.latest (last_given (outcome_at (reverse l.events) l.task.0) (reverse (take l.left l.events))) ≡ last_given (outcome_at (reverse l.events) l.task.0) (reverse l.events))
+    × (option_or l.latest (last_given (outcome_at (reverse l.events) l.task.0) (reverse (take l.left l.events)))
+    ≡ last_given (outcome_at (reverse l.events) l.task.0) (reverse l.events))
 
 abbrev pub decreases-loop-left : goal.decreases-loop-left
 decreases-loop-left l = l.left

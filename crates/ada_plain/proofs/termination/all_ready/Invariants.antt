@@ -6,4 +6,6 @@ use Rattle.ada_events.specs.Termination.{is_ready_to_quit}
 use Rattle.ada_plain.proofs.termination.all_ready.Given as goal
 
 abbrev pub invariant-loop-task : goal.invariant-loop-task
-invariant-loop-task l = l.all ≡ all_below (λ u. not (depends_on (reverse l.events) u l.master) || is_terminated (reverse l.events) u || is_ready_to_quit (reverse l.events) u) l.task
+invariant-loop-task l =
+    l.all ≡ all_below (λ u. not (depends_on (reverse l.events) u l.master) || is_terminated (reverse l.events) u
+    || is_ready_to_quit (reverse l.events) u) l.task

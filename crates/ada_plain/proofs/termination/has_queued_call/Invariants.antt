@@ -6,4 +6,6 @@ use Rattle.ada_events.specs.Calls.{is_queued_at}
 use Rattle.ada_plain.proofs.termination.has_queued_call.Given as goal
 
 abbrev pub invariant-loop-i : goal.invariant-loop-i
-invariant-loop-i l = l.found ≡ any_event (λ p e. is_some_and (call_in e) (λ (c : Call). c.callee == l.task.0) && is_queued_at (reverse l.events) p e) (reverse (take l.i l.events))
+invariant-loop-i l =
+    l.found ≡ any_event (λ p e. is_some_and (call_in e) (λ (c : Call). c.callee == l.task.0) && is_queued_at (reverse l.events) p e)
+    (reverse (take l.i l.events))

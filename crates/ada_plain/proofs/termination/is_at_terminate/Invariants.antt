@@ -7,4 +7,6 @@ use Rattle.ada_events.specs.Termination.{is_open_terminate}
 use Rattle.ada_plain.proofs.termination.is_at_terminate.Given as goal
 
 abbrev pub invariant-loop-i : goal.invariant-loop-i
-invariant-loop-i l = l.found ≡ any_event (λ p e. is_some_and (wait_in e) (λ (w : Wait). (w.by == l.task.0) && is_open_terminate w.tail) && not (is_released (reverse l.events) p)) (reverse (take l.i l.events))
+invariant-loop-i l =
+    l.found ≡ any_event (λ p e. is_some_and (wait_in e) (λ (w : Wait). (w.by == l.task.0) && is_open_terminate w.tail)
+    && not (is_released (reverse l.events) p)) (reverse (take l.i l.events))

@@ -7,10 +7,12 @@ loop-i-init c = up_to_none c.args._event.now c.args._journal.now.events c.args.r
 
 pub loop-i-preserved : goal.loop-i-preserved
 loop-i-preserved c =
-    quit_step c.args._event.now c.args._journal.now.events c.args._master c.args.records.now c.loop-i.records c.loop-i.i c.quit_one.result _ c.requires.lawful c.requires.quits c.requires.stand c.loop-i.invariant c.loop-i-test.true
+    quit_step c.args._event.now c.args._journal.now.events c.args._master c.args.records.now c.loop-i.records c.loop-i.i c.quit_one.result _ c.requires.lawful
+    c.requires.quits c.requires.stand c.loop-i.invariant c.loop-i-test.true
     (c.requires.depend c.loop-i.i (omega (arith, c.requires.many, c.loop-i-test.true))) c.quit_one.ensures
 
 pub returns : goal.returns
 returns c =
-    up_to_all c.args._event.now c.args._journal.now.events c.args.records.now c.loop-i.records c.loop-i.i c.loop-i.invariant c.loop-i-test.false c.requires.stand
+    up_to_all c.args._event.now c.args._journal.now.events c.args.records.now c.loop-i.records c.loop-i.i c.loop-i.invariant c.loop-i-test.false
+    c.requires.stand
     (quit_makes_none c.args._event.now c.args._master c.requires.quits)

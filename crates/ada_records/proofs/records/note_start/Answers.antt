@@ -3,7 +3,12 @@ use Rattle.ada_records.proofs.Starting.{starter_exists, named_within, named_stil
 use Rattle.ada_records.proofs.records.note_start.Goals as goal
 
 pub bounds-records-by : goal.bounds-records-by
-bounds-records-by c = omega (arith, starter_exists c.args._event.now c.args.journal.now.events c.args.by c.args.tasks.now c.requires.lawful c.requires.starts, c.requires.stand.many)
+bounds-records-by c =
+    omega (
+      arith,
+      starter_exists c.args._event.now c.args.journal.now.events c.args.by c.args.tasks.now c.requires.lawful c.requires.starts,
+      c.requires.stand.many,
+    )
 
 pub loop-i-init : goal.loop-i-init
 loop-i-init c = named_none _ _
@@ -11,14 +16,17 @@ loop-i-init c = named_none _ _
 pub loop-i-preserved : goal.loop-i-preserved
 loop-i-preserved c =
     named_more _ c.loop-i.records c.as_slice-named.result.now c.loop-i.i _ c.start_one.result c.loop-i.invariant c.loop-i-test.true
-    (named_within c.args._event.now c.args.journal.now.events c.args.records.now c.args.by _ c.args.tasks.now c.as_slice-named.result.now c.loop-i.i _ c.requires.lawful c.requires.stand c.requires.starts c.as_slice-named.ensures.value c.loop-i-test.true)
+    (named_within c.args._event.now c.args.journal.now.events c.args.records.now c.args.by _ c.args.tasks.now c.as_slice-named.result.now c.loop-i.i _
+    c.requires.lawful c.requires.stand c.requires.starts c.as_slice-named.ensures.value c.loop-i-test.true)
     c.start_one.ensures
 
 pub bounds-records-named : goal.bounds-records-named
 bounds-records-named c =
-    named_still c.args._event.now c.args.journal.now.events c.args.records.now c.loop-i.records c.args.by _ c.args.tasks.now c.as_slice-named.result.now c.loop-i.i _ c.requires.lawful c.requires.stand c.requires.starts c.as_slice-named.ensures.value c.loop-i-test.true c.loop-i.auto.records
+    named_still c.args._event.now c.args.journal.now.events c.args.records.now c.loop-i.records c.args.by _ c.args.tasks.now c.as_slice-named.result.now
+    c.loop-i.i _ c.requires.lawful c.requires.stand c.requires.starts c.as_slice-named.ensures.value c.loop-i-test.true c.loop-i.auto.records
 
 pub returns : goal.returns
 returns c =
-    records_started c.args._event.now c.args.journal.now.events c.args.records.now c.loop-i.records c.held.result c.args.by c.args.tasks.now c.as_slice-named.result.now c.loop-i.i c.requires.lawful c.requires.stand c.requires.starts c.as_slice-named.ensures.value
+    records_started c.args._event.now c.args.journal.now.events c.args.records.now c.loop-i.records c.held.result c.args.by c.args.tasks.now
+    c.as_slice-named.result.now c.loop-i.i c.requires.lawful c.requires.stand c.requires.starts c.as_slice-named.ensures.value
     (rw (c.held.ensures, c.len.ensures) refl) c.loop-i.invariant c.loop-i-test.false c.loop-i.auto.i-end

@@ -10,7 +10,8 @@ use Rattle.ada_script.proofs.reading.read_line.Goals as goal
 pub returns-clause-lines : goal.returns-clause-lines
 returns-clause-lines c =
     let statement = c.read_statement.new.statement in
-    let says_it = says c.args.names.now c.args.lines.now.items (words_in c.args.line.now) statement c.requires (ap (statement_of c.args.names.now) (sym c.new-words.ensures) ∙ c.in_ok-read_statement.ensures.ok) in
+    let says_it = says c.args.names.now c.args.lines.now.items (words_in c.args.line.now) statement c.requires
+    (ap (statement_of c.args.names.now) (sym c.new-words.ensures) ∙ c.in_ok-read_statement.ensures.ok) in
     let added = record { line = c.args.number; statement = statement } ∷ [] in (
       added,
       (c.in_ok-check_line.ensures.ok, inr (statement, says_it, refl)),

@@ -15,10 +15,19 @@ pub bounds-families-place : goal.bounds-families-place
 bounds-families-place c = omega (arith, family_place c.args.families.now c.args.entry c.requires.known)
 
 pub overflow_add-result : goal.overflow_add-result
-overflow_add-result c = omega (arith, (sum_is c.args.families.now c.args.entry c.from-place.result c.entries_in.result c.offset_in.result _ c.requires.known c.from-place.ensures c.entries_in.ensures c.offset_in.ensures).1)
+overflow_add-result c =
+    omega (
+      arith,
+      (sum_is c.args.families.now c.args.entry c.from-place.result c.entries_in.result c.offset_in.result _ c.requires.known c.from-place.ensures
+          c.entries_in.ensures c.offset_in.ensures).1,
+    )
 
 pub returns-clause-value : goal.returns-clause-value
-returns-clause-value c = (sum_is c.args.families.now c.args.entry c.from-place.result c.entries_in.result c.offset_in.result _ c.requires.known c.from-place.ensures c.entries_in.ensures c.offset_in.ensures).0
+returns-clause-value c =
+    (sum_is c.args.families.now c.args.entry c.from-place.result c.entries_in.result c.offset_in.result _ c.requires.known c.from-place.ensures
+    c.entries_in.ensures c.offset_in.ensures).0
 
 pub returns-clause-below : goal.returns-clause-below
-returns-clause-below c = (sum_is c.args.families.now c.args.entry c.from-place.result c.entries_in.result c.offset_in.result _ c.requires.known c.from-place.ensures c.entries_in.ensures c.offset_in.ensures).1
+returns-clause-below c =
+    (sum_is c.args.families.now c.args.entry c.from-place.result c.entries_in.result c.offset_in.result _ c.requires.known c.from-place.ensures
+    c.entries_in.ensures c.offset_in.ensures).1

@@ -6,7 +6,9 @@ pub count-requires-clause-alone : goal.count-requires-clause-alone
 count-requires-clause-alone c = stand_alone c.args.tasks.now c.requires.counted
 
 pub returns-clause-counted : goal.returns-clause-counted
-returns-clause-counted c = (ended c.args.tasks.now c.count.new.tasks c.args.task c.index-tasks-task.result c.requires.counted c.requires.known c.requires.live c.count.ensures).0
+returns-clause-counted c =
+    (ended c.args.tasks.now c.count.new.tasks c.args.task c.index-tasks-task.result c.requires.counted c.requires.known c.requires.live c.count.ensures).0
 
 pub returns-clause-facts : goal.returns-clause-facts
-returns-clause-facts c = (ended c.args.tasks.now c.count.new.tasks c.args.task c.index-tasks-task.result c.requires.counted c.requires.known c.requires.live c.count.ensures).1
+returns-clause-facts c =
+    (ended c.args.tasks.now c.count.new.tasks c.args.task c.index-tasks-task.result c.requires.counted c.requires.known c.requires.live c.count.ensures).1

@@ -7,7 +7,8 @@ use Rattle.ada_board_bench.proofs.album.Album.add.Goals as goal
 pub invariant_of-self-in_err-push : goal.invariant_of-self-in_err-push
 invariant_of-self-in_err-push c = (
   rw (c.in_err-push.ensures.items) (
-      published_still c.self.inside.kernel c.step.new.self c.args.request c.in_ok-step.field-0 c.self.inside.boards.items c.self.invariant.0 c.in_ok-step.ensures.ok c.step.ensures.lawful),
+      published_still c.self.inside.kernel c.step.new.self c.args.request c.in_ok-step.field-0 c.self.inside.boards.items c.self.invariant.0
+      c.in_ok-step.ensures.ok c.step.ensures.lawful),
   c.step.ensures.settled,
 )
 
@@ -15,6 +16,7 @@ pub invariant_of-self-2 : goal.invariant_of-self-2
 invariant_of-self-2 c = (
   (let P : List Board → Type 0 = λ l. AreTrueOf c.step.new.self l in
       subst P (sym (c.in_ok-push.ensures.items ∙ ap (λ b. c.self.inside.boards.items ++ b ∷ []) c.board.ensures))
-      (published_next c.self.inside.kernel c.step.new.self c.args.request c.in_ok-step.field-0 c.self.inside.boards.items c.self.invariant.0 c.self.invariant.1 c.in_ok-step.ensures.ok)),
+      (published_next c.self.inside.kernel c.step.new.self c.args.request c.in_ok-step.field-0 c.self.inside.boards.items c.self.invariant.0 c.self.invariant.1
+      c.in_ok-step.ensures.ok)),
   c.step.ensures.settled,
 )

@@ -21,7 +21,8 @@ invariant_of-self-in_default g c =
 
 pub invariant_of-self-2 : goal.invariant_of-self-2
 invariant_of-self-2 g c = (
-  now_published c.self.inside.kernel c.step.new.self c.args.request c.in_ok-at.at c.self.inside.writer.published c.self.inside.writer.offered c.show.new.self.published
+  now_published c.self.inside.kernel c.step.new.self c.args.request c.in_ok-at.at c.self.inside.writer.published c.self.inside.writer.offered
+      c.show.new.self.published
       c.board-board.result c.self.invariant.0 c.self.invariant.1 c.in_ok-at.ensures.ok c.self.invariant.2 c.board-board.ensures
       (ap (λ p. p.published) c.show.ensures ∙ ap (λ p. p.published ++ p.offered) c.in-Ok.ensures.ok),
   c.step.ensures.settled,

@@ -14,7 +14,8 @@ returns-clause-ok c = record {
     lawful = tt;
     recorded =
         subst (λ (records : List Record). AreRecords records [])
-        (sym (c.push_reserved.ensures.items ∙ ap (λ (records : List Record). records ++ c.of_main.result ∷ []) (c.in_ok-reserve.ensures.items ∙ c.new-records.ensures.items)))
+        (sym (c.push_reserved.ensures.items ∙ ap (λ (records : List Record). records ++ c.of_main.result ∷ [])
+        (c.in_ok-reserve.ensures.items ∙ c.new-records.ensures.items)))
         c.of_main.ensures;
     tabled = c.in_ok-tables.ensures.stands;
     created =

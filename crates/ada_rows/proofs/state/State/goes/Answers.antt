@@ -7,7 +7,8 @@ use Rattle.ada_rows.proofs.state.State.goes.Goals as goal
 
 pub returns-then-task-tasks : goal.returns-then-task-tasks
 returns-then-task-tasks c =
-    unknown_stays c.args.self.now c.args.task.0 (le-ltb c.args.task.0 _ (subst (λ n. n ≤ c.args.task.0) (c.tasks.ensures.value ∙ c.tables.ensures.stand.many) c.if-task-tasks.true))
+    unknown_stays c.args.self.now c.args.task.0 (le-ltb c.args.task.0 _
+    (subst (λ n. n ≤ c.args.task.0) (c.tasks.ensures.value ∙ c.tables.ensures.stand.many) c.if-task-tasks.true))
 
 pub is_to_go-requires : goal.is_to_go-requires
 is_to_go-requires c = subst (λ n. c.args.task.0 < n) (c.tasks.ensures.value ∙ c.tables.ensures.stand.many) c.if-task-tasks.false

@@ -8,11 +8,13 @@ use Rattle.ada_rows.proofs.state.State.is_complete_at.Goals as goal
 pub is_within-requires : goal.is_within-requires
 unfolding opening_in
 is_within-requires c =
-    opener_exists c.args.self.now c.args.block c.args.event.now (record { by = c.in-Opened.by.0; under = c.in-Opened.under }) c.requires.lawful c.requires.opened (ap opening_in c.in-Opened.is)
+    opener_exists c.args.self.now c.args.block c.args.event.now (record { by = c.in-Opened.by.0; under = c.in-Opened.under }) c.requires.lawful
+    c.requires.opened (ap opening_in c.in-Opened.is)
 
 pub returns-then-not-is_within : goal.returns-then-not-is_within
 returns-then-not-is_within c =
-    left_complete c.args.self.now c.in-Opened.by c.in-Opened.under c.args.block (c.requires.opened ∙ ap Some c.in-Opened.is) (sym c.is_within.ensures ∙ c.if-not-is_within.true)
+    left_complete c.args.self.now c.in-Opened.by c.in-Opened.under c.args.block (c.requires.opened ∙ ap Some c.in-Opened.is)
+    (sym c.is_within.ensures ∙ c.if-not-is_within.true)
 
 pub is_complete_block-requires-clause-by : goal.is_complete_block-requires-clause-by
 unfolding opening_in

@@ -8,7 +8,8 @@ use Rattle.ada_rows.proofs.state.State.quits_body.Goals as goal
 
 pub returns-then-task-tasks : goal.returns-then-task-tasks
 returns-then-task-tasks c =
-    unknown_quits c.args.self.now c.args.task.0 (le-ltb c.args.task.0 _ (subst (λ n. n ≤ c.args.task.0) (c.tasks.ensures.value ∙ c.tables.ensures.stand.many) c.if-task-tasks.true))
+    unknown_quits c.args.self.now c.args.task.0 (le-ltb c.args.task.0 _
+    (subst (λ n. n ≤ c.args.task.0) (c.tasks.ensures.value ∙ c.tables.ensures.stand.many) c.if-task-tasks.true))
 
 pub is_to_quit-requires-clause-held : goal.is_to_quit-requires-clause-held
 is_to_quit-requires-clause-held c =

@@ -9,18 +9,22 @@ use Rattle.ada_statements.proofs.names.Names.bind_name.Goals.{in-Some-2, in-None
 
 pub returns-in_default : goal.returns-in_default
 returns-in_default c =
-    rw (← c.self.view_is) (sym (with_meaning-absent c.args.name.now c.self.inside.table.entries (bound_by c.args.binding) (nothing_is_there _ c.in_default.ensures.found)))
+    rw (← c.self.view_is) (sym (with_meaning-absent c.args.name.now c.self.inside.table.entries (bound_by c.args.binding)
+    (nothing_is_there _ c.in_default.ensures.found)))
 
 pub invariant_of-self-then-not-was_bound-2 : goal.invariant_of-self-then-not-was_bound-2
 invariant_of-self-then-not-was_bound-2 c =
-    rebound_kept c.self.inside.table.entries c.in-Some.place c.in-Some-get_index_mut.meaning.now c.bind.new.self c.self.inside.places c.take-places.result c.with_place.result
-    c.take-places.ensures.value (sym c.in-Some-get_index_mut.ensures.value) (c.is_bound-was_bound.ensures c.if-not-was_bound.true) c.self.invariant c.with_place.ensures
+    rebound_kept c.self.inside.table.entries c.in-Some.place c.in-Some-get_index_mut.meaning.now c.bind.new.self c.self.inside.places c.take-places.result
+    c.with_place.result
+    c.take-places.ensures.value (sym c.in-Some-get_index_mut.ensures.value) (c.is_bound-was_bound.ensures c.if-not-was_bound.true) c.self.invariant
+    c.with_place.ensures
 
 pub returns-then-not-was_bound : goal.returns-then-not-was_bound
 returns-then-not-was_bound c =
     let entries = c.self.inside.table.entries in
     let changed = ap (set_value_at entries c.in-Some.place) c.bind.ensures
-    ∙ set_at_place c.args.name.now (bound_by c.args.binding) c.in-Some-get_index_mut.meaning.now entries c.in-Some.place (sym c.in-Some.ensures.index) (sym c.in-Some-get_index_mut.ensures.value)
+    ∙ set_at_place c.args.name.now (bound_by c.args.binding) c.in-Some-get_index_mut.meaning.now entries c.in-Some.place (sym c.in-Some.ensures.index)
+    (sym c.in-Some-get_index_mut.ensures.value)
     ∙ ap (λ names. with_meaning names c.args.name.now (bound_by c.args.binding)) c.self.view_is in
     elim c.match-self-with_place.branch [ in-Some-2 w ↦ w.self-is ∙ changed | in-None-2 w ↦ w.self-is ∙ changed ]
 
@@ -28,6 +32,7 @@ pub returns-else-not-was_bound : goal.returns-else-not-was_bound
 returns-else-not-was_bound c =
     let entries = c.self.inside.table.entries in
     let changed = ap (set_value_at entries c.in-Some.place) c.bind.ensures
-    ∙ set_at_place c.args.name.now (bound_by c.args.binding) c.in-Some-get_index_mut.meaning.now entries c.in-Some.place (sym c.in-Some.ensures.index) (sym c.in-Some-get_index_mut.ensures.value)
+    ∙ set_at_place c.args.name.now (bound_by c.args.binding) c.in-Some-get_index_mut.meaning.now entries c.in-Some.place (sym c.in-Some.ensures.index)
+    (sym c.in-Some-get_index_mut.ensures.value)
     ∙ ap (λ names. with_meaning names c.args.name.now (bound_by c.args.binding)) c.self.view_is in
     elim c.match-places-2.branch [ in-Some-3 w ↦ w.self-is ∙ changed | in-None-3 w ↦ w.self-is ∙ changed ]

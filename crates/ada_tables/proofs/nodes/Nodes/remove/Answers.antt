@@ -8,10 +8,12 @@ within c = has_within c.self.inside.slab c.self.inside.keys.items c.args.caller 
 pub invariant_of-self : goal.invariant_of-self
 invariant_of-self c =
     (removed c.self.inside.slab c.remove.new.self c.in-Some.key c.args.caller c.self.inside.keys.items
-    c.self.invariant (within c) (key_read _ _ _ _ (within c) c.index.ensures c.in-Some.is) c.remove.ensures.updates c.remove.ensures.len c.remove.ensures.room c.remove.ensures.capacity).0
+    c.self.invariant (within c) (key_read _ _ _ _ (within c) c.index.ensures c.in-Some.is) c.remove.ensures.updates c.remove.ensures.len c.remove.ensures.room
+    c.remove.ensures.capacity).0
 
 pub returns-clause-rest : goal.returns-clause-rest
 returns-clause-rest c =
     rw (← c.self.view_is)
     (removed c.self.inside.slab c.remove.new.self c.in-Some.key c.args.caller c.self.inside.keys.items
-    c.self.invariant (within c) (key_read _ _ _ _ (within c) c.index.ensures c.in-Some.is) c.remove.ensures.updates c.remove.ensures.len c.remove.ensures.room c.remove.ensures.capacity).1
+    c.self.invariant (within c) (key_read _ _ _ _ (within c) c.index.ensures c.in-Some.is) c.remove.ensures.updates c.remove.ensures.len c.remove.ensures.room
+    c.remove.ensures.capacity).1

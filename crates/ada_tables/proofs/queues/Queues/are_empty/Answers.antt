@@ -10,7 +10,8 @@ loop-slot-init c = sym (all_of_none (λ slot. length (queue_at c.args.self.now.q
 
 pub returns-then-queue_len-ne0 : goal.returns-then-queue_len-ne0
 returns-then-queue_len-ne0 c =
-    sym (all_fails (λ slot. length (queue_at c.args.self.now.queues (c.args.first + slot)) == 0) c.args.many c.loop-slot.slot c.loop-slot-test.true (ne_eqb _ 0 (λ none. c.if-queue_len-ne0.true (c.queue_len.ensures.value ∙ none))))
+    sym (all_fails (λ slot. length (queue_at c.args.self.now.queues (c.args.first + slot)) == 0) c.args.many c.loop-slot.slot c.loop-slot-test.true
+    (ne_eqb _ 0 (λ none. c.if-queue_len-ne0.true (c.queue_len.ensures.value ∙ none))))
 
 pub loop-slot-preserved : goal.loop-slot-preserved
 loop-slot-preserved c =

@@ -3,7 +3,13 @@ use Rattle.ada_tables.proofs.Turns.{popped, same_known}
 use Rattle.ada_tables.proofs.tasks.Tasks.pop_nest.Goals as goal
 
 pub invariant_of-self : goal.invariant_of-self
-invariant_of-self c = (popped c.self.inside.tasks.items c.args.task c.index_mut-record.result.now c.pop.new.self c.self.invariant (rw (← c.self.view_is, length-map) at c.requires.known) c.index_mut-record.ensures.value c.pop.ensures (rw (← c.self.view_is) at c.requires.inside) (rw (← c.self.view_is) at c.requires.idle)).0
+invariant_of-self c =
+    (popped c.self.inside.tasks.items c.args.task c.index_mut-record.result.now c.pop.new.self c.self.invariant
+    (rw (← c.self.view_is, length-map) at c.requires.known) c.index_mut-record.ensures.value c.pop.ensures (rw (← c.self.view_is) at c.requires.inside)
+    (rw (← c.self.view_is) at c.requires.idle)).0
 
 pub returns : goal.returns
-returns c = rw (← c.self.view_is) (same_known _ _ _ (popped c.self.inside.tasks.items c.args.task c.index_mut-record.result.now c.pop.new.self c.self.invariant (rw (← c.self.view_is, length-map) at c.requires.known) c.index_mut-record.ensures.value c.pop.ensures (rw (← c.self.view_is) at c.requires.inside) (rw (← c.self.view_is) at c.requires.idle)).1)
+returns c =
+    rw (← c.self.view_is) (same_known _ _ _ (popped c.self.inside.tasks.items c.args.task c.index_mut-record.result.now c.pop.new.self c.self.invariant
+    (rw (← c.self.view_is, length-map) at c.requires.known) c.index_mut-record.ensures.value c.pop.ensures (rw (← c.self.view_is) at c.requires.inside)
+    (rw (← c.self.view_is) at c.requires.idle)).1)

@@ -3,7 +3,13 @@ use Rattle.ada_tables.proofs.Turns.{phased, same_known, not_terminated}
 use Rattle.ada_tables.proofs.tasks.Tasks.set_phase.Goals as goal
 
 pub invariant_of-self-in_default : goal.invariant_of-self-in_default
-invariant_of-self-in_default c = (phased c.self.inside.tasks.items c.args.task c.index_mut-record.result.now c.args.phase c.self.invariant (rw (← c.self.view_is, length-map) at c.requires.known) c.index_mut-record.ensures.value (rw (← c.self.view_is) at c.requires.live) (not_terminated c.args.phase c.in_default.not-Terminated)).0
+invariant_of-self-in_default c =
+    (phased c.self.inside.tasks.items c.args.task c.index_mut-record.result.now c.args.phase c.self.invariant
+    (rw (← c.self.view_is, length-map) at c.requires.known) c.index_mut-record.ensures.value (rw (← c.self.view_is) at c.requires.live)
+    (not_terminated c.args.phase c.in_default.not-Terminated)).0
 
 pub returns-in_default : goal.returns-in_default
-returns-in_default c = rw (← c.self.view_is) (same_known _ _ _ (phased c.self.inside.tasks.items c.args.task c.index_mut-record.result.now c.args.phase c.self.invariant (rw (← c.self.view_is, length-map) at c.requires.known) c.index_mut-record.ensures.value (rw (← c.self.view_is) at c.requires.live) (not_terminated c.args.phase c.in_default.not-Terminated)).1)
+returns-in_default c =
+    rw (← c.self.view_is) (same_known _ _ _ (phased c.self.inside.tasks.items c.args.task c.index_mut-record.result.now c.args.phase c.self.invariant
+    (rw (← c.self.view_is, length-map) at c.requires.known) c.index_mut-record.ensures.value (rw (← c.self.view_is) at c.requires.live)
+    (not_terminated c.args.phase c.in_default.not-Terminated)).1)
