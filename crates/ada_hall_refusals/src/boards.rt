@@ -121,7 +121,6 @@ fn offer_first<J: Naming, R: Wait + AllocGlobal>(
     Ok(seen)
 }
 
-#[tactic(auto, using(crate::proofs::Alone::may_offer))]
 fn offer<J: Naming, R: Wait>(
     rt: &R,
     writer: &mut BoardWriter<J>,

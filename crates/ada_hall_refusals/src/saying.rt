@@ -149,7 +149,7 @@ pub fn is_at<J: Session>(hall: &Hall<'_, J>, lines: usize) -> bool {
     hall.answers().len() == said
         && hall.journal().len() == end
         && hall.total() as usize == said
-        && (0..LINES).all(|place| is_answered(hall, place, place < said))
+        && (0..LINES as u32).all(|place| is_answered(hall, place, said))
 }
 
 // The position of the last event that the first so many lines lead to.
@@ -160,10 +160,11 @@ fn end_of(lines: usize) -> u32 {
     }
 }
 
-// Whether a line has its own answer, if it was said, and else none.
-fn is_answered<J: Session>(hall: &Hall<'_, J>, place: usize, said: bool) -> bool {
-    let given = hall.answer(place as u32);
-    if !said {
+// Whether the line at a place has its own answer, if it is one of the first so many, and else none.
+fn is_answered<J: Session>(hall: &Hall<'_, J>, place: u32, lines: usize) -> bool {
+    let given = hall.answer(place);
+    let place = place as usize;
+    if place >= lines {
         return given.is_none();
     }
     let first = end_of(place).saturating_add(1);

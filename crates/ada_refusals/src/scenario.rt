@@ -13,7 +13,7 @@ pub const EVENTS: usize = 44;
 
 /// A script that leads to each kind of event.
 pub const SCRIPT: &[u8] = b"main: open B
-main: create S under B E F 1 3
+main: create S under B E F 1 3 G
 main: create A under B
 main: create C under B E
 main: activate S A
@@ -36,7 +36,7 @@ tick 12
 S: select 0 accept E else
 S: select 0 closed accept E
 A: call S E
-main: abort A
+main: abort A C A C A C A C A
 S: select 0 accept E or terminate
 main: close
 main: complete
