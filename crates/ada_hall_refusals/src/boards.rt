@@ -34,7 +34,7 @@ pub fn shows<J: Naming>(reader: &mut BoardReader<J>, board: &Board) -> bool {
     true
 }
 
-/// Opens a board. What is left of one that was refused is nothing, so it is opened again on a new history.
+/// Opens a board. Nothing is left of one that was refused, so it is opened again on a new history.
 pub fn try_open<R: Wait + AllocGlobal>(rt: &R, reach: Reach) -> Option<Seen> {
     if reach == Reach::Before {
         return None;
@@ -106,8 +106,8 @@ fn offered<J: Naming, R: Wait + AllocGlobal>(
     seen
 }
 
-// Offers the board of a kernel with a task, the first on a new board.
-fn offer_first<J: Naming, R: Wait + AllocGlobal>(
+/// Offers the board of a kernel with a task, the first to a writer.
+pub fn offer_first<J: Naming, R: Wait + AllocGlobal>(
     rt: &R,
     writer: &mut BoardWriter<J>,
     reader: &mut BoardReader<J>,

@@ -1,9 +1,11 @@
 //! Trials of the hall.
-ghost use Rattle.std.specs.Prelude.{◌≡◌, ◌<◌};
+ghost use Rattle.std.specs.Prelude.{◌≡◌, ◌<◌, []};
+ghost use Rattle.ada_board.specs.Sights.{Posted};
 
+use crate::boards::offer_first;
 use crate::saying::{SCRIPT, is_at, try_say};
 use crate::stepping::try_step;
-use ada_board::{History, open_board};
+use ada_board::{BoardWriter, History, Readers, open_board};
 use ada_events::Refusal;
 use ada_hall::{Hall, Session};
 use ada_script::{Script, read};
@@ -44,7 +46,8 @@ pub fn answer_of(cause: Refusal) -> Answer {
     }
 }
 
-// Makes a hall, and where that is refused another, with a board and shares of its own: those of the first are gone.
+// Makes a hall, and where that is refused another, on a board and with a book of shares of its own, since the first book
+// is used up. All that is left of the first is its writer, which is looked at there.
 fn made_twice<R: Wait + AllocGlobal>(
     rt: &R,
     script: &Script,
@@ -83,7 +86,7 @@ fn made<J: Session, R: Wait + AllocGlobal>(
     requires script { script.now ≡ J.script }
     requires ledger { (blank.name ≡ J.name) × (blank.parts ≡ J.parts) }
 {
-    let (writer, _places) = open_board::<J, R>(rt, rt.alloc(), history, 1)?;
+    let (writer, mut places) = open_board::<J, R>(rt, rt.alloc(), history, 1)?;
     let (book, _share) = blank.open::<J>();
     if reach == Reach::Before {
         writer.close(rt);
@@ -95,10 +98,35 @@ fn made<J: Session, R: Wait + AllocGlobal>(
             hall.close(rt);
             Ok(told(reach, if good { Answer::Done } else { Answer::Failed }))
         }
-        Err((cause, writer)) => {
+        Err((cause, mut writer)) => {
+            let whole = publishes(rt, &mut writer, &mut places);
             writer.close(rt);
-            Ok(told(reach, answer_of(cause)))
+            Ok(told(
+                reach,
+                if whole {
+                    answer_of(cause)
+                } else {
+                    Answer::Failed
+                },
+            ))
         }
+    }
+}
+
+// Whether a writer that was given back, to which nothing was offered, publishes a first board.
+fn publishes<J: Session, R: Wait + AllocGlobal>(
+    rt: &R,
+    writer: &mut BoardWriter<J>,
+    places: &mut Readers<J>,
+) -> bool
+    requires { writer.old ≡ record { published = []; offered = [] } }
+{
+    let Ok(mut reader) = places.take() else {
+        return false;
+    };
+    match offer_first(rt, writer, &mut reader, Reach::Whole) {
+        Ok(Some(seen)) => seen.answer == Answer::Done && seen.again,
+        _ => false,
     }
 }
 

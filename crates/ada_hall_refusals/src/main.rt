@@ -47,18 +47,28 @@ fn main(rt: HostRuntime) -> anyhow::Result<()> {
 
 fn try_all<R: Wait + AllocGlobal + Print>(rt: &R) -> anyhow::Result<()> {
     for (name, numbers) in CALLS {
-        for before in 0..numbers {
-            let number = before + 1;
-            if let Some(seen) = go(rt, name, number, Reach::Whole)? {
-                check(seen)?;
-                println!(rt; "{name} {number}")?;
-            }
+        try_each(rt, name, numbers)?;
+    }
+    Ok(())
+}
+
+// Makes each trial of the call of this name.
+fn try_each<R: Wait + AllocGlobal + Print>(
+    rt: &R,
+    name: &str,
+    numbers: usize,
+) -> anyhow::Result<()> {
+    for before in 0..numbers {
+        let number = before + 1;
+        if let Some(seen) = go(rt, name, number, Reach::Whole)? {
+            check(seen)?;
+            println!(rt; "{name} {number}")?;
         }
     }
     Ok(())
 }
 
-/// Goes so far in the trial of this name and number.
+// Goes so far in the trial of this name and number.
 fn go<R: Wait + AllocGlobal>(
     rt: &R,
     name: &str,

@@ -10,7 +10,7 @@ mod scripts;
 mod tables;
 
 use ada_trials::{Order, Reach, check, order_of, report};
-use calls::CALLS;
+use calls::{CALLS, Call};
 use std::env;
 
 /// Without a word, makes each trial, and prints its name and number where it came out as promised. With the words
@@ -30,17 +30,24 @@ fn main(rt: HostRuntime) -> anyhow::Result<()> {
 
 fn try_all(rt: &HostRuntime) -> anyhow::Result<()> {
     for call in CALLS {
-        for before in 0..call.numbers() {
-            let number = before + 1;
-            if let Some(seen) = call.go(rt.alloc(), number, Reach::Whole)? {
-                check(seen)?;
-                println!(rt; "{} {number}", call.name())?;
-            }
+        try_each(rt, call)?;
+    }
+    Ok(())
+}
+
+// Makes each trial of a call.
+fn try_each(rt: &HostRuntime, call: Call) -> anyhow::Result<()> {
+    for before in 0..call.numbers() {
+        let number = before + 1;
+        if let Some(seen) = call.go(rt.alloc(), number, Reach::Whole)? {
+            check(seen)?;
+            println!(rt; "{} {number}", call.name())?;
         }
     }
     Ok(())
 }
 
+// Goes so far in a trial of the call of this name.
 fn try_one(rt: &HostRuntime, reach: Reach, name: &str, number: usize) -> anyhow::Result<()> {
     for call in CALLS {
         if call.name() == name {
