@@ -101,14 +101,12 @@ fn made<J: Session, R: Wait + AllocGlobal>(
         Err((cause, mut writer)) => {
             let whole = publishes(rt, &mut writer, &mut places);
             writer.close(rt);
-            Ok(told(
-                reach,
-                if whole {
-                    answer_of(cause)
-                } else {
-                    Answer::Failed
-                },
-            ))
+            let answer = if whole {
+                answer_of(cause)
+            } else {
+                Answer::Failed
+            };
+            Ok(told(reach, answer))
         }
     }
 }

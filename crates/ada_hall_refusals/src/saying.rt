@@ -1,5 +1,5 @@
 //! Trials of saying the lines of a script in a hall.
-ghost use Rattle.std.specs.Prelude.{◌≡◌, ◌<◌, ◌≤◌};
+ghost use Rattle.std.specs.Prelude.{◌≡◌, ◌<◌};
 
 use crate::halls::answer_of;
 use crate::stepping::told_step;

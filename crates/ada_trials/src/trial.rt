@@ -18,7 +18,7 @@ pub enum Answer {
 pub enum Reach {
     /// Up to the call.
     Before,
-    /// The call, and nothing behind it.
+    /// The call, and nothing behind it that takes memory.
     Call,
     /// What the call left is looked at, it is made again where it was refused, and what follows is played.
     Whole,
@@ -28,7 +28,7 @@ pub enum Reach {
 #[derive(Clone, Copy, Debug, PartialEq, Eq)]
 pub struct Seen {
     pub answer: Answer,
-    /// Whether it was done, or left everything as it was.
+    /// Whether it left what its answer promises: everything as it was, where it was refused.
     pub unchanged: bool,
     /// Whether it was done in the end, and from then on nothing told it from one that was never refused.
     pub again: bool,
