@@ -46,8 +46,8 @@ pub fn answer_of(cause: Refusal) -> Answer {
     }
 }
 
-// Makes a hall, and where that is refused another, on a board and with a book of shares of its own, since the first book
-// is used up. All that is left of the first is its writer, which is looked at there.
+// Makes a hall, and where that is refused another, on a board and with a book of shares of its own, since the first
+// book is used up. All that is left of the first is its writer, which is looked at there.
 fn made_twice<R: Wait + AllocGlobal>(
     rt: &R,
     script: &Script,
