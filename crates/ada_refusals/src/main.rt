@@ -1,6 +1,6 @@
 //! Makes each call of the kernel, the tables, the journal, scripts and printing that takes memory, for
-//! `tools/try_refusals`, which refuses each growth of it in turn: the call answers want of memory and leaves all that can
-//! be asked as it was, and made again it answers as if nothing had been refused.
+//! `tools/try_refusals`, which refuses each growth of it in turn: the call answers want of memory and leaves all that
+//! can be asked as it was, and made again it answers as if nothing had been refused.
 #![tactic(auto)]
 
 mod calls;
