@@ -39,7 +39,8 @@ impl Model for Kernel {
 
     ghost view = { λ k. k.journal.events };
 
-    ghost invariant = { λ k. IsLawful k.journal.events × IsSettled k.journal.events × IsIndexOf k.index k.journal.events };
+    ghost invariant = { λ k. IsLawful k.journal.events
+        × IsSettled k.journal.events × IsIndexOf k.index k.journal.events };
 }
 
 impl Kernel {

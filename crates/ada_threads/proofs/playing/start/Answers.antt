@@ -29,5 +29,6 @@ spawn-requires-send-F g c κs within =
         ∷ [] in
     let sent : AllSend taken =
         (shr_send _ _ _ c.type_bounds.sync-R, (shr_send _ _ _ (SharedCrosses.the_sync _ (param 1 g.row.J) _ _ _), (shr_send _ _ _ ScriptCrosses.the_sync,
-            (plain_send _ _ _ _ _, (reader_is_send (param 1 g.row.J) _, (ShareCrosses.the_send (param 1 g.row.J) _, (shr_send _ _ _ c.type_bounds.sync-G, tt))))))) in
+            (plain_send _ _ _ _ _, (reader_is_send (param 1 g.row.J) _,
+                (ShareCrosses.the_send (param 1 g.row.J) _, (shr_send _ _ _ c.type_bounds.sync-G, tt))))))) in
     param_send 1 _ (arg_send _ no _ (captures_are_send _ taken sent))

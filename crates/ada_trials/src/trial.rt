@@ -1,0 +1,78 @@
+//! A library call that is tried where memory may be refused to it.
+
+/// What a call answered.
+#[derive(Clone, Copy, Debug, PartialEq, Eq)]
+pub enum Answer {
+    /// It did its work.
+    Done,
+    /// It did its work, and what it publishes is behind for want of memory.
+    Behind,
+    /// It was refused for want of memory.
+    Refused,
+    /// It failed for another cause.
+    Failed,
+}
+
+/// How far a trial goes.
+#[derive(Clone, Copy, Debug, PartialEq, Eq)]
+pub enum Reach {
+    /// Up to the call.
+    Before,
+    /// The call, and nothing behind it that takes memory.
+    Call,
+    /// What the call left is looked at, it is made again where it was refused, and what follows is played.
+    Whole,
+}
+
+/// What was seen of a call.
+#[derive(Clone, Copy, Debug, PartialEq, Eq)]
+pub struct Seen {
+    pub answer: Answer,
+    /// Whether it left what its answer promises: everything as it was, where it was refused.
+    pub unchanged: bool,
+    /// Whether it was done in the end, and from then on nothing told it from one that was never refused.
+    pub again: bool,
+}
+
+/// A library call that takes memory, and what it is made on.
+pub trait Trial: Drop {
+    /// Makes the call, and keeps what it gave.
+    fn call(&mut self) -> Answer;
+
+    /// Makes what follows the call, if anything does.
+    fn go_on(&mut self);
+
+    /// Whether no query tells this from another trial.
+    fn is_like(&self, other: &Self) -> bool;
+}
+
+/// Goes as far as it is asked in a trial, of which the second is a twin that is never refused. Gives what was
+/// seen of a whole trial.
+pub fn go<T: Trial>(mut trial: T, mut twin: T, reach: Reach) -> Option<Seen> {
+    match reach {
+        Reach::Before => None,
+        Reach::Call => {
+            let _ = trial.call();
+            None
+        }
+        Reach::Whole => Some(look(&mut trial, &mut twin)),
+    }
+}
+
+fn look<T: Trial>(trial: &mut T, twin: &mut T) -> Seen {
+    let answer = trial.call();
+    let unchanged = answer == Answer::Done || trial.is_like(twin);
+    let last = match answer {
+        Answer::Refused => trial.call(),
+        _ => answer,
+    };
+    let done = last == Answer::Done && twin.call() == Answer::Done;
+    let alike = trial.is_like(twin);
+    trial.go_on();
+    twin.go_on();
+    Seen {
+        answer,
+        unchanged,
+        again: done && alike && trial.is_like(twin),
+    }
+}
