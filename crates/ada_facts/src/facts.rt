@@ -1,47 +1,18 @@
-//! The facts of an event.
+//! What is to be known of an event beside what it says, before it is appended to its journal.
 
 ghost use Rattle.std.specs.Prelude.{◌≡◌, ℕ, true, length};
 ghost use Rattle.ada_events.specs.Outcomes as outcomes;
 ghost use Rattle.ada_events.specs.Tasks.{task_count};
 ghost use Rattle.ada_events.specs.declared.event.Event.TheVariants.{Met as MetEvent};
-ghost use Rattle.ada_records.specs.Records.{TellsOfLive, AreFacts, is_touched, touches_many};
+ghost use Rattle.ada_records.specs.Records.{TellsOfLive, is_touched, touches_many};
 
 use crate::touched::{Flags, dependents, hit};
 use ada_events::Event;
 use ada_rows::State;
 
-/// What is to be known of an event beside what it says, before it is appended to its journal.
-#[derive(Drop)]
-pub struct Facts {
-    /// The number of the choice by which the wait takes the call, counted over all of its choices from 0, where the
-    /// event begins a rendezvous (9.7.1). Of another event it says nothing.
-    pub choice: u8,
-    touched: Flags,
-}
-
-impl Facts {
-    /// The facts of an event that a journal is to go on with.
-    pub fn of(state: &State, event: &Event) -> Self
-        ensures { AreFacts state.now event.now result.choice result.touched }
-    {
-        Facts {
-            choice: choice(state, event),
-            touched: touched(state, event),
-        }
-    }
-
-    /// A flag for each task, by number, where the event may touch many: whether the task depends on the master whose
-    /// dependents terminate together (9.4), or is hit by the abort (9.10). Of a task that is terminated already its
-    /// flag says nothing, and of another event the list says nothing.
-    pub fn touched(&self) -> &[bool]
-        ensures { result.now ≡ self.now.touched }
-    {
-        self.touched.as_slice()
-    }
-}
-
-// The number of the choice by which the wait takes the call, where the event begins a rendezvous.
-fn choice(state: &State, event: &Event) -> u8
+/// The number of the choice by which the wait takes the call, counted over all of its choices from 0, where the event
+/// begins a rendezvous (9.7.1). Of another event it says nothing.
+pub fn choice_of(state: &State, event: &Event) -> u8
     ensures { (call wait : ℕ) → event.now ≡ MetEvent call wait
         → result ≡ outcomes.choice_met state.now wait }
 {
@@ -51,8 +22,10 @@ fn choice(state: &State, event: &Event) -> u8
     }
 }
 
-// Whom the event touches, where it may touch many.
-fn touched(state: &State, event: &Event) -> Flags
+/// A flag for each task, by number, where the event may touch many: whether the task depends on the master whose
+/// dependents terminate together (9.4), or is hit by the abort (9.10). Of a task that is terminated already its flag
+/// says nothing, and of another event the list says nothing.
+pub fn touched_by(state: &State, event: &Event) -> Flags
     ensures listed { touches_many event.now ≡ true → length result ≡ task_count state.now }
     ensures tells { touches_many event.now ≡ true
         → TellsOfLive state.now result (is_touched state.now event.now) }

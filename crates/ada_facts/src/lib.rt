@@ -4,4 +4,5 @@
 mod facts;
 mod touched;
 
-pub use facts::Facts;
+pub use facts::{choice_of, touched_by};
+pub use touched::Flags;

@@ -18,7 +18,7 @@ use ada_events::{Bounded, Event, Master, TaskNo};
 use ada_rows::State;
 
 /// A flag for each task.
-pub(crate) type Flags = Bounded<bool, MOST_TASKS>;
+pub type Flags = Bounded<bool, MOST_TASKS>;
 
 // Whether a task that isn't terminated depends on a master (9.4).
 fn is_dependent(state: &State, task: TaskNo, master: Master) -> bool

@@ -6,11 +6,12 @@ ghost use Rattle.ada_events.specs.Lawful.{IsLawful};
 ghost use Rattle.ada_events.specs.Says.{creation_in};
 ghost use Rattle.ada_events.specs.Tasks as tasks;
 ghost use Rattle.ada_index.specs.Indexes.{IsIndexOf};
+ghost use Rattle.ada_records.specs.Records.{AreFacts};
 
 use crate::Index;
 use ada_counts::follow::{follow, follow_creation};
 use ada_events::{Event, FamilyList, Journal, Master, Refusal};
-use ada_facts::Facts;
+use ada_facts::{choice_of, touched_by};
 use ada_noting::note as note_keys;
 use ada_records::events::note as note_records;
 use ada_records::records::note_created;
@@ -38,6 +39,27 @@ impl Index {
         requires room { HaveRoomFor self.old.tables event.now }
         ensures { IsIndexOf self.new (event.now ∷ journal.now.events) }
     {
+        match event {
+            Event::Quit { .. } | Event::Aborted { .. } => {
+                let touched = touched_by(&self.state(journal), event);
+                self.note_facts(journal, event, 0, touched.as_slice());
+            }
+            _ => {
+                let choice = choice_of(&self.state(journal), event);
+                self.note_facts(journal, event, choice, &[]);
+            }
+        }
+    }
+
+    // Notes the same with what is to be known of the event beside what it says.
+    fn note_facts(&mut self, journal: &Journal, event: &Event, choice: u8, touched: &[bool])
+        requires lawful { IsLawful (event.now ∷ journal.now.events) }
+        requires stands { IsIndexOf self.old journal.now.events }
+        requires makes { creation_in event.now ≡ None }
+        requires room { HaveRoomFor self.old.tables event.now }
+        requires facts { AreFacts journal.now.events event.now choice touched.now }
+        ensures { IsIndexOf self.new (event.now ∷ journal.now.events) }
+    {
         let state = State::new(
             journal,
             &self.records,
@@ -45,15 +67,8 @@ impl Index {
             &self.made,
             self.moment,
         );
-        let facts = Facts::of(&state, event);
         note_keys(&mut self.agenda, &mut self.next_due, &state, event);
-        note_records(
-            &mut self.records,
-            journal,
-            event,
-            facts.choice,
-            facts.touched(),
-        );
+        note_records(&mut self.records, journal, event, choice, touched);
         follow(&mut self.tables, &self.records, journal, event);
         self.moment = moment_after(self.moment, journal, event);
     }

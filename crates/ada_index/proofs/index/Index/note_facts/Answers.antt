@@ -4,7 +4,7 @@ use Rattle.ada_laws.proofs.LimitLaws.{events_are_few}
 use Rattle.ada_noting.specs.Bounds.{IsDueBound}
 use Rattle.ada_touching.specs.Keeping.{IsAgendaOf}
 use Rattle.ada_index.proofs.Creations.{made_same}
-use Rattle.ada_index.proofs.index.Index.note_in_room.Goals as goal
+use Rattle.ada_index.proofs.index.Index.note_facts.Goals as goal
 
 pub note-requires-2-clause-room : goal.note-requires-2-clause-room
 note-requires-2-clause-room c = omega (arith, events_are_few c.args.journal.now.events c.requires.lawful.0)
