@@ -48,11 +48,11 @@ module _ (T : RattleType) (g : Naming.Ghosts T.Denot) where
   place_is_send : IsSend place
   place_is_send =
       ReaderCrosses.the_send Shown.the_row (Array Board.the_row tt 0) (Publishing.the_row T) Global.the_row (Protocol.ghosts T g Protocol.no_dict) ghosts
-          GlobalCrosses.the_send ShownCrosses.the_sync GlobalCrosses.the_sync frees
+      GlobalCrosses.the_send ShownCrosses.the_sync GlobalCrosses.the_sync frees
 
   pub reader_is_send : IsSend (BoardReader.the_row T g)
   reader_is_send =
       let inside : IsSend (TheInside.the_row T g) =
-          declared_send (TheInside.the_type T g)
-              (OptionCrosses.the_send place place_is_send, (EditionCrosses.the_send, (search (SeenCrosses.the_send, crosses, sendable), (told_is_send, tt)))) in
+      declared_send (TheInside.the_type T g)
+      (OptionCrosses.the_send place place_is_send, (EditionCrosses.the_send, (search (SeenCrosses.the_send, crosses, sendable), (told_is_send, tt)))) in
       view_send (TheInside.the_row T g) _ _ _ _ inside

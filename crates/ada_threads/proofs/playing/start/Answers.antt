@@ -18,17 +18,29 @@ use Rattle.ada_threads.proofs.playing.start.Goals as goal
 pub spawn-requires-send-F : goal.spawn-requires-send-F
 spawn-requires-send-F g c κs within =
     let taken : List RattleType =
-        (shr_ref_field record { mir = named 5; lft = κs.1.1.1.1.1.0 } (param 2 g.row.R) tt).row
-        ∷ (shr_ref_field record { mir = named 6; lft = κs.1.1.1.1.1.1.0 }
-            (Shared.the_row record { mir = named 7; lft = κs.1.1.1.1.1.1.1.0 } (param 1 g.row.J) g.J.Session g.J.Naming g.J.Ledger) tt).row
-        ∷ (shr_ref_field record { mir = named 8; lft = κs.1.1.1.1.1.1.1.1.0 } Script.the_row tt).row
-        ∷ u32-field.row
-        ∷ BoardReader.the_row (param 1 g.row.J) g.J.Naming
-        ∷ Share.the_row (param 1 g.row.J) g.J.Ledger
-        ∷ (shr_ref_field record { mir = named 9; lft = κs.1.1.1.1.1.1.1.1.1.0 } (param 3 g.row.G) tt).row
-        ∷ [] in
-    let sent : AllSend taken =
-        (shr_send _ _ _ c.type_bounds.sync-R, (shr_send _ _ _ (SharedCrosses.the_sync _ (param 1 g.row.J) _ _ _), (shr_send _ _ _ ScriptCrosses.the_sync,
-            (plain_send _ _ _ _ _, (reader_is_send (param 1 g.row.J) _,
-                (ShareCrosses.the_send (param 1 g.row.J) _, (shr_send _ _ _ c.type_bounds.sync-G, tt))))))) in
+    (shr_ref_field record { mir = named 5; lft = κs.1.1.1.1.1.0 } (param 2 g.row.R) tt).row
+    ∷ (shr_ref_field record { mir = named 6; lft = κs.1.1.1.1.1.1.0 }
+    (Shared.the_row record { mir = named 7; lft = κs.1.1.1.1.1.1.1.0 } (param 1 g.row.J) g.J.Session g.J.Naming g.J.Ledger) tt).row
+    ∷ (shr_ref_field record { mir = named 8; lft = κs.1.1.1.1.1.1.1.1.0 } Script.the_row tt).row
+    ∷ u32-field.row
+    ∷ BoardReader.the_row (param 1 g.row.J) g.J.Naming
+    ∷ Share.the_row (param 1 g.row.J) g.J.Ledger
+    ∷ (shr_ref_field record { mir = named 9; lft = κs.1.1.1.1.1.1.1.1.1.0 } (param 3 g.row.G) tt).row
+    ∷ [] in
+    let sent : AllSend taken = (
+      shr_send _ _ _ c.type_bounds.sync-R,
+      (
+        shr_send _ _ _ (SharedCrosses.the_sync _ (param 1 g.row.J) _ _ _),
+        (
+          shr_send _ _ _ ScriptCrosses.the_sync,
+          (
+            plain_send _ _ _ _ _,
+            (
+              reader_is_send (param 1 g.row.J) _,
+              (ShareCrosses.the_send (param 1 g.row.J) _, (shr_send _ _ _ c.type_bounds.sync-G, tt)),
+            ),
+          ),
+        ),
+      ),
+    ) in
     param_send 1 _ (arg_send _ no _ (captures_are_send _ taken sent))
