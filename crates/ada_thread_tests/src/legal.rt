@@ -73,6 +73,12 @@ struct Moment {
 }
 
 impl Moment {
+    /// What a new kernel shows.
+    fn first(alloc: Global, names: &Names, lines: &[Line]) -> Result<Moment, Fail> {
+        let kernel = Kernel::new(alloc)?;
+        Moment::of(alloc, &kernel, names, lines)
+    }
+
     fn of(alloc: Global, kernel: &Kernel, names: &Names, lines: &[Line]) -> Result<Moment, Fail> {
         let mut refused = Vec::new(alloc);
         for line in lines {
@@ -99,15 +105,49 @@ struct Referee {
 
 impl Referee {
     fn new(alloc: Global, script: &Script) -> Result<Referee, Fail> {
-        let kernel = Kernel::new(alloc)?;
         let names = script.names()?;
         let mut moments = Vec::new(alloc);
-        moments.push(Moment::of(alloc, &kernel, &names, script.lines())?)?;
+        moments.push(Moment::first(alloc, &names, script.lines())?)?;
+        let kernel = Kernel::new(alloc)?;
         Ok(Referee {
             kernel,
             names,
             moments,
         })
+    }
+
+    /// Whether each answer may be given, in their order.
+    fn judges_all(
+        &mut self,
+        alloc: Global,
+        text: &[u8],
+        lines: &[Line],
+        answers: &[Kept],
+        events: &[Event],
+    ) -> Result<bool, Fail> {
+        for at in 0..answers.len() {
+            let kept = &answers[at];
+            let Some(line) = lines.get(kept.place as usize) else {
+                return Ok(false);
+            };
+            let Some(since) = last_of(text, lines, &answers[..at], kept, line.line) else {
+                return Ok(false);
+            };
+            if !self.judges(alloc, line, kept.answer, events, since)? {
+                return Ok(false);
+            }
+            self.keep_moment(alloc, lines)?;
+        }
+        Ok(answers.len() == lines.len() && self.kernel.journal().as_slice() == events)
+    }
+
+    /// Makes the requests of all lines.
+    fn say_all(&mut self, alloc: Global, lines: &[Line]) -> Result<(), Fail> {
+        let mut text = Vec::new(alloc);
+        for line in lines {
+            self.say(line, &mut text)?;
+        }
+        Ok(())
     }
 
     /// Makes the request of a line, and appends what it prints.
@@ -221,31 +261,14 @@ pub fn is_legal(
     answers: &[Kept],
     events: &[Event],
 ) -> Result<bool, Fail> {
-    let lines = script.lines();
     let mut referee = Referee::new(alloc, script)?;
-    for at in 0..answers.len() {
-        let kept = &answers[at];
-        let Some(line) = lines.get(kept.place as usize) else {
-            return Ok(false);
-        };
-        let Some(since) = last_of(text, lines, &answers[..at], kept, line.line) else {
-            return Ok(false);
-        };
-        if !referee.judges(alloc, line, kept.answer, events, since)? {
-            return Ok(false);
-        }
-        referee.keep_moment(alloc, lines)?;
-    }
-    Ok(answers.len() == lines.len() && referee.kernel.journal().as_slice() == events)
+    referee.judges_all(alloc, text, script.lines(), answers, events)
 }
 
 /// A kernel that has played the lines of a script in their order.
 pub fn replayed(alloc: Global, script: &Script) -> Result<Kernel, Fail> {
     let mut referee = Referee::new(alloc, script)?;
-    let mut text = Vec::new(alloc);
-    for line in script.lines() {
-        referee.say(line, &mut text)?;
-    }
+    referee.say_all(alloc, script.lines())?;
     let Referee {
         kernel,
         names: _names,

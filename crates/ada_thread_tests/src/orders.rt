@@ -3,8 +3,9 @@
 use crate::legal::{is_legal, replayed};
 use crate::rows::RENDEZVOUS;
 use crate::together::play;
-use ada_hall::Answer;
-use ada_script::read;
+use ada_events::Event;
+use ada_hall::{Answer, Kept};
+use ada_script::{Script, read};
 use ada_threads::InTurn;
 use std::process::Abort;
 use std::sync::Wait;
@@ -44,14 +45,23 @@ fn other_answers_are_not_legal(rt: HostRuntime) -> Result<(), Fail> {
     let script = read(rt.alloc(), RENDEZVOUS)?;
     let mut answers = play(&rt, RENDEZVOUS, &InTurn)?.answers;
     let kernel = replayed(rt.alloc(), &script)?;
-    let events = kernel.journal().as_slice();
+    assert_no_others(&rt, &script, &mut answers, kernel.journal().as_slice())
+}
+
+/// Looks that the answers to one rendezvous are legal, without the last one not, and with another last one not.
+fn assert_no_others<R: Abort + AllocGlobal>(
+    rt: &R,
+    script: &Script,
+    answers: &mut Vec<Kept>,
+    events: &[Event],
+) -> Result<(), Fail> {
     let text = RENDEZVOUS;
-    assert!(rt; is_legal(rt.alloc(), text, &script, &answers, events)?);
+    assert!(rt; is_legal(rt.alloc(), text, script, answers, events)?);
     let _ = answers.pop();
-    assert!(rt; !is_legal(rt.alloc(), text, &script, &answers, events)?);
+    assert!(rt; !is_legal(rt.alloc(), text, script, answers, events)?);
     if let Some(last) = answers.last_mut() {
         last.answer = Answer::Group { first: 8, last: 8 };
     }
-    assert!(rt; !is_legal(rt.alloc(), text, &script, &answers, events)?);
+    assert!(rt; !is_legal(rt.alloc(), text, script, answers, events)?);
     Ok(())
 }
