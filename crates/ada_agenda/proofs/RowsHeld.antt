@@ -3,7 +3,8 @@ use Rattle.std.proofs.Common.{◌≡◌, ℕ, zero, suc, ◌-◌, ◌<◌, ◌�
 use Rattle.std.proofs.lemmas.Bool.{cases_lt, true≢false, false_from_ne_true}
 use Rattle.std.proofs.lemmas.List.{get_or_past, get_or_append_left, get_or-append_right}
 use Rattle.ada_agenda.specs.Bits.{has}
-use Rattle.ada_agenda.specs.Rows.{keeps, AreFilled}
+use Rattle.ada_agenda.specs.Rows.{keeps}
+use Rattle.ada_agenda.specs.internal.Rows.{AreFilled}
 use Rattle.ada_agenda.proofs.ThreeLevels.{none_held}
 
 -- there is nothing beyond the last row

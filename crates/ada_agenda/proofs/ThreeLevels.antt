@@ -5,7 +5,8 @@ use Rattle.std.specs.Int.{bit_at}
 use Rattle.std.proofs.lemmas.Bool.{cases_eq, cases_lt, ne_eqb, true≢false, false_from_ne_true}
 use Rattle.std.proofs.lemmas.List.{length-set, get_or_past}
 use Rattle.std.proofs.lemmas.Nat.Bits.{bit_at-zero}
-use Rattle.ada_agenda.specs.Bits.{has, with_bit, without_bit, AreHeads, AreLevels}
+use Rattle.ada_agenda.specs.Bits.{has}
+use Rattle.ada_agenda.specs.internal.Bits.{with_bit, without_bit, AreHeads, AreLevels}
 use Rattle.ada_agenda.proofs.Words.{set_others, heads_put, heads_emptied, heads_kept, word_some}
 
 -- setting or clearing a bit leaves the number of words

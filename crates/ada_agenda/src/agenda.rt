@@ -1,7 +1,8 @@
 //! Sets of numbers in rows, of which the first comes first.
 
 ghost use Rattle.std.specs.Prelude.{◌≡◌, ◌≢◌, ◌<◌, ◌≤◌, ◌⊎◌, ℕ, true, false, length, IfOk, IfSome, IfNone};
-ghost use Rattle.ada_agenda.specs.Rows.{keeps, weight};
+ghost use Rattle.ada_agenda.specs.Rows.{keeps};
+ghost use Rattle.ada_agenda.specs.internal.Rows.{weight};
 
 use crate::{Numbers, bits};
 use std::alloc::{AllocError, Global};
@@ -19,7 +20,7 @@ pub struct Agenda {
 
 impl Model for Agenda {
     ghost use Rattle.std.specs.Prelude.{List, ℕ};
-    ghost use Rattle.ada_agenda.specs.Rows.{AreFilled};
+    ghost use Rattle.ada_agenda.specs.internal.Rows.{AreFilled};
 
     ghost Value = { List (List ℕ) };
 

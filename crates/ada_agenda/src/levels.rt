@@ -1,7 +1,8 @@
 //! Three levels of bits: the least number of all is found by one word of each.
 
 ghost use Rattle.std.specs.Prelude.{◌≡◌, ◌≢◌, ℕ, ◌<◌, ◌*◌, true, false, length, slice_index};
-ghost use Rattle.ada_agenda.specs.Bits.{has, without_bit, word_sum, AreHeads, AreLevels};
+ghost use Rattle.ada_agenda.specs.Bits.{has};
+ghost use Rattle.ada_agenda.specs.internal.Bits.{without_bit, word_sum, AreHeads, AreLevels};
 
 use crate::bits::{insert, least_in, remove};
 

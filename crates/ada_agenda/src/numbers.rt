@@ -1,7 +1,8 @@
 //! A set of small numbers.
 
 ghost use Rattle.std.specs.Prelude.{◌≡◌, ◌≢◌, ◌<◌, ℕ, true, false, length, slice_index_or, IfOk, IfSome, IfNone};
-ghost use Rattle.ada_agenda.specs.Bits.{has, word_sum};
+ghost use Rattle.ada_agenda.specs.Bits.{has};
+ghost use Rattle.ada_agenda.specs.internal.Bits.{word_sum};
 
 use crate::levels::{first, put, take};
 use std::alloc::{AllocError, Global};
@@ -35,7 +36,7 @@ pub struct Numbers {
 
 impl Model for Numbers {
     ghost use Rattle.std.specs.Prelude.{List, ℕ};
-    ghost use Rattle.ada_agenda.specs.Bits.{AreLevels};
+    ghost use Rattle.ada_agenda.specs.internal.Bits.{AreLevels};
 
     ghost Value = { List ℕ };
 

@@ -10,7 +10,8 @@ use Rattle.ada_events.specs.declared.board.Board.{Board}
 use Rattle.ada_events.specs.Boards.{AreTrue, board_of}
 use Rattle.ada_laws.proofs.ShowingLaws.{true_boards_are_few}
 use Rattle.ada_board.specs.Answers.{latest}
-use Rattle.ada_board.specs.Histories.{IsKept, Adds, IsEdition}
+use Rattle.ada_board.specs.Histories.{IsKept, Adds}
+use Rattle.ada_board.specs.internal.Histories.{IsEdition}
 use Rattle.ada_board.proofs.Beginnings.{prefix_whole}
 use Rattle.ada_board.proofs.Truth.{latest_added}
 

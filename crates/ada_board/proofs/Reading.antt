@@ -7,7 +7,7 @@ use Rattle.logbook.specs.Pages.{Book}
 use Rattle.ada_events.specs.declared.board.Board.{Board}
 use Rattle.ada_events.specs.Boards.{AreTrue}
 use Rattle.ada_board.specs.Histories.{Known}
-use Rattle.ada_board.specs.Readers.{IsReader}
+use Rattle.ada_board.specs.internal.Readers.{IsReader}
 use Rattle.ada_board.specs.Sights.{Reads}
 use Rattle.ada_board.proofs.Beginnings.{prefix_trans}
 

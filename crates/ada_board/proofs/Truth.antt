@@ -4,7 +4,8 @@ use Rattle.ada_events.specs.declared.board.Board.{Board}
 use Rattle.ada_events.specs.Boards.{AreTrue, board_of}
 use Rattle.ada_laws.proofs.ShowingLaws.{no_boards_are_true}
 use Rattle.ada_board.specs.Answers.{latest_behind, latest}
-use Rattle.ada_board.specs.Histories.{IsKept, IsEdition}
+use Rattle.ada_board.specs.Histories.{IsKept}
+use Rattle.ada_board.specs.internal.Histories.{IsEdition}
 
 pub nothing_is_true : AreTrue []
 nothing_is_true = ([], no_boards_are_true [] tt)

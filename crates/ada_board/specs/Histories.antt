@@ -1,20 +1,15 @@
 -- The history of a board: the list of all boards that were offered, of which every thread may know a
 -- beginning. It exists in proofs alone; its one word in memory is its length.
 use Rattle.std.specs.Prelude.{ℕ, ◌≡◌, ◌==◌, true, List, [], ◌∷◌, ◌++◌, length, MatchBool}
-use Rattle.logbook.specs.Pages.{Cell, Step, View, Book, Named}
+use Rattle.logbook.specs.Pages.{Cell, Step, View, Book}
 use Rattle.ada_events.specs.declared.board.Board.{Board}
 use Rattle.ada_events.specs.Boards.{AreTrue}
-use Rattle.ada_board.specs.Answers.{latest}
 
 -- the first word is the length of the history, which is true. A book has two words, of which this one
 -- leaves the second at 0
 pub record IsKept (cells : List Cell) (history : List Board) : Type 0 where
   pub words : cells ≡ (length history, true) ∷ (0, true) ∷ []
   pub true_list : AreTrue history
-
--- the first word of a book
-abbrev pub head_of : Book → Named
-head_of book = record { tracked = true; key = 0; book = book }
 
 -- the board was added to all that had been seen; or the history was found to be longer
 abbrev pub Adds : Step Board → View Board ℕ → ℕ → View Board ℕ → Type 0
@@ -24,9 +19,3 @@ Adds step before found after = MatchBool (found == step.old) ((after.0 ≡ befor
 pub record Known : Type 0 where
   pub book : Book
   pub boards : List Board
-
--- the number of a list's boards, and its board
-pub record IsEdition (number : ℕ) (board : Board) (boards : List Board) : Type 0 where
-  pub counted : number ≡ length boards
-  pub newest : board ≡ latest boards
-  pub true_list : AreTrue boards

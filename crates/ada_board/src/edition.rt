@@ -3,7 +3,7 @@ ghost use Rattle.std.specs.Prelude.{◌≡◌, ◌++◌, ◌∷◌, [], MatchBoo
 ghost use mathlib.Core.List.{IsPrefix};
 ghost use Rattle.ada_events.specs.Boards.{AreTrue};
 ghost use Rattle.ada_board.specs.Answers.{latest};
-ghost use Rattle.ada_board.specs.Histories.{head_of};
+ghost use Rattle.ada_board.specs.internal.Histories.{head_of};
 
 use crate::answers::opening_board;
 use crate::history::{Add, Head, Law, Nothing, Reached};
@@ -21,7 +21,8 @@ pub struct Edition {
 }
 
 impl Model for Edition {
-    ghost use Rattle.ada_board.specs.Histories.{Known, IsEdition};
+    ghost use Rattle.ada_board.specs.Histories.{Known};
+    ghost use Rattle.ada_board.specs.internal.Histories.{IsEdition};
 
     ghost Value = { Known };
 

@@ -1,6 +1,6 @@
 //! The history of a board, and the name under which its ends go together.
 ghost use Rattle.std.specs.Prelude.{◌≡◌, []};
-ghost use Rattle.ada_board.specs.Histories.{head_of};
+ghost use Rattle.ada_board.specs.internal.Histories.{head_of};
 
 use ada_events::Board;
 use logbook::{Gain, Plain, Play, Rule, Seen, Start, Word};
@@ -81,7 +81,7 @@ pub struct History {
 impl Model for History {
     ghost use Rattle.std.specs.Prelude.{◌≡◌, []};
     ghost use Rattle.logbook.specs.Pages.{Book};
-    ghost use Rattle.ada_board.specs.Histories.{head_of};
+    ghost use Rattle.ada_board.specs.internal.Histories.{head_of};
 
     ghost Value = { Book };
 

@@ -36,7 +36,7 @@ impl<J: Naming> Model for BoardReader<J> {
     ghost use mathlib.Core.List.{IsPrefix};
     ghost use Rattle.left_right.specs.Sides.{view as sight_of};
     ghost use Rattle.ada_board.specs.Sights.{Sight};
-    ghost use Rattle.ada_board.specs.Readers.{IsReader};
+    ghost use Rattle.ada_board.specs.internal.Readers.{IsReader};
 
     ghost Value = { Sight };
 

@@ -3,7 +3,7 @@ ghost use Rattle.std.specs.Prelude.{◌≡◌, [], ◌∷◌, ◌++◌, drop, fo
 ghost use Rattle.std.specs.Option.{option_map_or};
 ghost use mathlib.Core.List.{IsPrefix};
 ghost use Rattle.ada_events.specs.Boards.{AreTrue};
-ghost use Rattle.ada_board.specs.Histories.{head_of};
+ghost use Rattle.ada_board.specs.internal.Histories.{head_of};
 ghost use Rattle.ada_board.specs.Sights.{Posted};
 
 use crate::edition::Edition;
@@ -32,9 +32,11 @@ pub struct BoardWriter<J: Naming> {
 impl<J: Naming> Model for BoardWriter<J> {
     ghost use Rattle.std.specs.Prelude.{◌≡◌, [], drop};
     ghost use Rattle.std.specs.Option.{option_map_or};
-    ghost use Rattle.ada_board.specs.Histories.{Known, head_of};
+    ghost use Rattle.ada_board.specs.Histories.{Known};
+    ghost use Rattle.ada_board.specs.internal.Histories.{head_of};
     ghost use Rattle.ada_board.specs.Sights.{Posted};
-    ghost use Rattle.ada_board.specs.Writers.{posted, IsWriter};
+    ghost use Rattle.ada_board.specs.Writers.{posted};
+    ghost use Rattle.ada_board.specs.internal.Writers.{IsWriter};
 
     ghost Value = { Posted };
 

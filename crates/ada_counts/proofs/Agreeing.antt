@@ -19,7 +19,8 @@ use Rattle.ada_tables.proofs.Keeping.{count_same}
 use Rattle.ada_laws.proofs.Suspending.{is_suspended-from}
 use Rattle.ada_laws.proofs.Saying.{held_in-wait}
 use Rattle.ada_laws.proofs.Searching.{any_event-found, option_map_or-true}
-use Rattle.ada_counts.specs.Facing.{HoldFacts, SameDependents}
+use Rattle.ada_counts.specs.Facing.{HoldFacts}
+use Rattle.ada_counts.specs.internal.Facing.{SameDependents}
 
 ends_live : (c s q r : Bool) → ends (if c then Completed else (if s then (if q then Quittable else Held) else (if r then Active else Unstarted))) ≡ false
 ends_live true s q r = refl

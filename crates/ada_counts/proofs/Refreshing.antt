@@ -16,11 +16,13 @@ use Rattle.ada_laws.proofs.Growing.{task_count-same, is_terminated-more}
 use Rattle.ada_records.specs.declared.record.Record.{Record}
 use Rattle.ada_records.specs.Records.{IsRecordOf}
 use Rattle.ada_tables.specs.declared.phase.Phase.{Phase}
-use Rattle.ada_tables.specs.Dependents.{Facts, nobody, task_at, with_phase, is_terminated as ends}
+use Rattle.ada_tables.specs.Dependents.{Facts, nobody, task_at, is_terminated as ends}
+use Rattle.ada_tables.specs.internal.Dependents.{with_phase}
 use Rattle.ada_tables.specs.Tables.{State}
 use Rattle.ada_tables.specs.Standing.{phase_of, facts_in}
 use Rattle.ada_counts.specs.Facing.{HoldFacts}
-use Rattle.ada_counts.specs.Phasing.{TouchesOnly, facts_between, AreBetween, AreRenested, refreshed}
+use Rattle.ada_counts.specs.Phasing.{TouchesOnly, facts_between, AreBetween, AreRenested}
+use Rattle.ada_counts.specs.internal.Phasing.{refreshed}
 use Rattle.ada_counts.specs.Telling.{phase_by}
 use Rattle.ada_counts.proofs.Agreeing.{ends_phase}
 use Rattle.ada_counts.proofs.Following.{same_facts}

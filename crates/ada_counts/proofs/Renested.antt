@@ -7,7 +7,8 @@ use Rattle.ada_events.specs.declared.names.Member.TheVariants.{Block, Rendezvous
 use Rattle.ada_events.specs.Tasks.{task_count}
 use Rattle.ada_events.specs.Nests.{innermost}
 use Rattle.ada_events.specs.Lawful.{IsLawful}
-use Rattle.ada_tables.specs.Dependents.{Facts, task_at, IsIdle}
+use Rattle.ada_tables.specs.Dependents.{Facts, task_at}
+use Rattle.ada_tables.specs.internal.Dependents.{IsIdle}
 use Rattle.ada_counts.specs.Facing.{HoldFacts}
 use Rattle.ada_counts.specs.Renesting.{IsIdleIn, CanLeave}
 use Rattle.ada_counts.proofs.Agreeing.{live_alike}

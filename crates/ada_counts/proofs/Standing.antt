@@ -6,7 +6,8 @@ use Rattle.ada_events.specs.Lawful.{IsLawful}
 use Rattle.ada_tables.specs.Dependents.{Stands}
 use Rattle.ada_tables.specs.Tables.{State}
 use Rattle.ada_tables.specs.Standing.{StandFor}
-use Rattle.ada_counts.specs.Facing.{HoldFacts, HoldQueues, SameDependents}
+use Rattle.ada_counts.specs.Facing.{HoldFacts, HoldQueues}
+use Rattle.ada_counts.specs.internal.Facing.{SameDependents}
 use Rattle.ada_counts.proofs.Agreeing.{live_alike, unready_alike}
 use Rattle.ada_counts.proofs.Empty.{empty_alike}
 use Rattle.ada_counts.specs.Holders.{HeldTablesStand}

@@ -13,7 +13,8 @@ use Rattle.ada_events.specs.Phases.{is_terminated}
 use Rattle.ada_events.specs.Nests.{nest}
 use Rattle.ada_events.specs.Lawful.{IsLawful}
 use Rattle.ada_tables.specs.Dependents.{Facts, holds, encloses, reaches}
-use Rattle.ada_counts.specs.Facing.{HoldFacts, SameDependents}
+use Rattle.ada_counts.specs.Facing.{HoldFacts}
+use Rattle.ada_counts.specs.internal.Facing.{SameDependents}
 use Rattle.ada_counts.proofs.Enclosing.{reaches_held}
 use Rattle.ada_counts.proofs.LiveHolders.{masters_are_held}
 

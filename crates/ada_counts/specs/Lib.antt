@@ -7,3 +7,4 @@ pub mod Phasing
 pub mod Renesting
 pub mod Requeuing
 pub mod Noting
+pub mod internal

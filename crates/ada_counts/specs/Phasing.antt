@@ -5,11 +5,8 @@ use Rattle.ada_events.specs.declared.names.TaskNo.{TaskNo}
 use Rattle.ada_events.specs.Says.{start_in, quit_in}
 use Rattle.ada_events.specs.Tasks.{task_count}
 use Rattle.ada_events.specs.Nests.{nest}
-use Rattle.ada_tables.specs.Dependents.{Facts, task_at, is_terminated, with_phase}
-use Rattle.ada_tables.specs.Tables.{State}
+use Rattle.ada_tables.specs.Dependents.{Facts, task_at}
 use Rattle.ada_tables.specs.Standing.{phase_of, facts_in}
-use Rattle.ada_records.specs.declared.record.Record.{Record}
-use Rattle.ada_counts.specs.Telling.{phase_by}
 
 -- the event neither starts an activation (9.3) nor terminates all that depend on a master (9.4)
 pub record TouchesFew (event : Event) : Type 0 where
@@ -40,10 +37,3 @@ pub record AreBetween (event : Event) (before : List Event) (done : ℕ → Bool
 -- nests are changed, and no phase is
 abbrev pub AreRenested : Event → List Event → List Facts → Type 0
 AreRenested event before tasks = AreBetween event before (λ _. false) tasks
-
--- tables after a task that isn't terminated got the phase that its record tells
-abbrev pub refreshed : ℕ → Record → State → State
-refreshed task kept tables =
-    if is_terminated (task_at tables.tasks task).phase
-    then tables
-    else record tables { tasks = with_phase task (phase_by kept) tables.tasks }

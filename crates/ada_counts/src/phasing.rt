@@ -4,7 +4,8 @@ ghost use Rattle.ada_events.specs.Lawful.{IsLawful};
 ghost use Rattle.ada_events.specs.Says.{creation_in};
 ghost use Rattle.ada_records.specs.Records.{AreRecords, record_at};
 ghost use Rattle.ada_counts.specs.Facing.{HoldFacts};
-ghost use Rattle.ada_counts.specs.Phasing.{TouchesFew, TouchesOnly, AreRenested, refreshed};
+ghost use Rattle.ada_counts.specs.Phasing.{TouchesFew, TouchesOnly, AreRenested};
+ghost use Rattle.ada_counts.specs.internal.Phasing.{refreshed};
 ghost use Rattle.ada_events.specs.declared.event.Event.TheVariants.{Started as StartedEvent};
 
 use crate::phases::phase_of;

@@ -6,7 +6,7 @@ use Rattle.std.proofs.lemmas.List.Folds.{list_any_more}
 use Rattle.ada_events.specs.declared.limits.TheConstants.{MOST_TASKS}
 use Rattle.ada_events.specs.declared.names.TaskNo.{TaskNo}
 use Rattle.ada_events.specs.Phases.{lists_task}
-use Rattle.ada_facts.specs.Hitting.{AreNamed}
+use Rattle.ada_facts.specs.internal.Hitting.{AreNamed}
 
 or_true : (b : Bool) → (b || true) ≡ true
 or_true true = refl

@@ -21,7 +21,7 @@ use Rattle.ada_tables.specs.Dependents.{holds}
 use Rattle.ada_counts.proofs.Enclosing.{reaches_held}
 use Rattle.ada_counts.proofs.LiveHolders.{masters_are_held}
 use Rattle.ada_counts.proofs.Owners.{block_in_nest}
-use Rattle.ada_facts.specs.Hitting.{hits_bodies}
+use Rattle.ada_facts.specs.internal.Hitting.{hits_bodies}
 
 any_same : (one other : TaskNo → Bool) (tasks : List TaskNo) → ((t : TaskNo) → one t ≡ other t) → list_any one tasks ≡ list_any other tasks
 any_same one other [] same = refl

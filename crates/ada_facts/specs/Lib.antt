@@ -1,1 +1,1 @@
-pub mod Hitting
+pub mod internal

@@ -11,7 +11,7 @@ ghost use Rattle.ada_events.specs.Says.{Opening, opening_at};
 ghost use Rattle.ada_events.specs.Tasks.{task_count};
 ghost use Rattle.ada_tables.specs.Dependents.{holds};
 ghost use Rattle.ada_records.specs.Records as records;
-ghost use Rattle.ada_facts.specs.Hitting.{AreNamed, hits_bodies};
+ghost use Rattle.ada_facts.specs.internal.Hitting.{AreNamed, hits_bodies};
 
 use ada_events::limits::MOST_TASKS;
 use ada_events::{Bounded, Event, Master, TaskNo};

@@ -19,7 +19,8 @@ use Rattle.ada_hall.specs.Answers.{answer_at}
 use Rattle.ada_hall.specs.Counting.{asked_count}
 use Rattle.ada_hall.specs.History.{IsAnswerTo}
 use Rattle.ada_hall.specs.Stations.{Showing}
-use Rattle.ada_hall.specs.Halls.{IsHall, IsHistory, held, open_line, gained, IsOfShow}
+use Rattle.ada_hall.specs.Halls.{IsHistory, held, open_line, gained}
+use Rattle.ada_hall.specs.internal.Halls.{IsHall, IsOfShow}
 use Rattle.ada_hall.proofs.Counts.{accepted_counts, count_within, nothing_counted}
 use Rattle.ada_hall.proofs.Telling.{history_begins, history_goes_on, history_push, accepted_goes_on, gives_value, gives_answer}
 

@@ -29,7 +29,8 @@ use Rattle.ada_hall.specs.declared.answer.Answer.{Answer}
 use Rattle.ada_hall.specs.declared.answer.Answer.TheVariants.{Group, Refused, Shown}
 use Rattle.ada_hall.specs.declared.answer.Kept.{Kept}
 use Rattle.ada_hall.specs.History.{IsGroupOf, AnswersRequest, AnswersShow, IsAnswerTo, IsGiven, AreGiven}
-use Rattle.ada_hall.specs.Printing.{Continues, ArePrinted, EndsWithin, PrintsOne}
+use Rattle.ada_hall.specs.Printing.{Continues, ArePrinted}
+use Rattle.ada_hall.specs.internal.Printing.{EndsWithin, PrintsOne}
 
 -- ---- journals that go on
 

@@ -25,7 +25,8 @@ use Rattle.ada_hall.specs.declared.answer.Answer.{Answer}
 use Rattle.ada_hall.specs.declared.answer.Answer.TheVariants.{Group, Refused, Shown}
 use Rattle.ada_hall.specs.declared.answer.Kept.{Kept}
 use Rattle.ada_hall.specs.History.{IsAnswerTo, AnswersRequest, AnswersShow, GoesOn, IsGiven, AreGiven}
-use Rattle.ada_hall.specs.Halls.{IsHistory, IsOfShow}
+use Rattle.ada_hall.specs.Halls.{IsHistory}
+use Rattle.ada_hall.specs.internal.Halls.{IsOfShow}
 
 -- ---- going on
 

@@ -14,7 +14,6 @@ use Rattle.ada_hall.specs.declared.answer.Answer.TheVariants.{Group, Refused, Sh
 use Rattle.ada_hall.specs.declared.answer.Kept.{Kept}
 use Rattle.ada_hall.specs.Answers.{answer_at}
 use Rattle.ada_hall.specs.Stations.{Showing, GoesOnShowing}
-use Rattle.ada_hall.specs.Counting.{asked_count}
 use Rattle.ada_hall.specs.History.{GoesOn, IsAnswerTo, AreGiven}
 
 -- the kernel with what is published of it, what names are bound to, and the answers that were given
@@ -80,15 +79,3 @@ noted script place answer hall =
     if is_some (open_show script hall.answers place)
     then held hall.showing hall.names (hall.answers ++ kept_at place hall.showing.journal answer ∷ [])
     else hall
-
--- an answer that isn't a group
-abbrev pub IsOfShow : Answer → Type 0
-IsOfShow (Group first last) = ⊥
-IsOfShow (Refused cause) = Unit {0}
-IsOfShow (Shown value) = Unit {0}
-
--- what every hall keeps
-pub record IsHall (script : List Line) (places total : ℕ) (held : Held) : Type 0 where
-  pub places_are : places ≡ length script
-  pub history : IsHistory script held.answers (state_of held)
-  pub counted : total ≡ asked_count held.showing.journal

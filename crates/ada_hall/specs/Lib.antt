@@ -6,3 +6,4 @@ pub mod History
 pub mod Asking
 pub mod Halls
 pub mod Printing
+pub mod internal

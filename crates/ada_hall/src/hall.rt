@@ -10,7 +10,8 @@ ghost use Rattle.ada_hall.specs.Answers.{answer_at, AreAll, AreApart};
 ghost use Rattle.ada_hall.specs.Asking.{Asks};
 ghost use Rattle.ada_hall.specs.Counting.{asked_count};
 ghost use Rattle.ada_replay.specs.Play.{shown as shown_of};
-ghost use Rattle.ada_hall.specs.Halls.{state_of, IsHistory, Says, noted, opening, IsOfShow};
+ghost use Rattle.ada_hall.specs.Halls.{state_of, IsHistory, Says, noted, opening};
+ghost use Rattle.ada_hall.specs.internal.Halls.{IsOfShow};
 ghost use Rattle.ada_hall.specs.Stations.{Publishes, IsTied};
 
 use crate::answer::{Answer, Kept};
@@ -46,7 +47,8 @@ pub struct Hall<'s, J: Session> {
 
 impl<'s, J: Session> Model for Hall<'s, J> {
     ghost use Rattle.std.specs.Prelude.{◌≡◌, ◌==◌};
-    ghost use Rattle.ada_hall.specs.Halls.{Held, held, IsHall};
+    ghost use Rattle.ada_hall.specs.Halls.{Held, held};
+    ghost use Rattle.ada_hall.specs.internal.Halls.{IsHall};
 
     ghost Value = { Held };
 

@@ -4,7 +4,8 @@ ghost use Rattle.ada_script.specs.Script.{scope_of};
 ghost use Rattle.ada_replay.specs.Play.{State};
 ghost use Rattle.ada_replay.specs.Ends.{IsShortage, IsWritten, IsCutShort};
 ghost use Rattle.ada_hall.specs.Answers.{AreJoined};
-ghost use Rattle.ada_hall.specs.Printing.{ArePrinted, EndsWithin, PrintsOne};
+ghost use Rattle.ada_hall.specs.Printing.{ArePrinted};
+ghost use Rattle.ada_hall.specs.internal.Printing.{EndsWithin, PrintsOne};
 
 use crate::answer::{Answer, Kept};
 use crate::hall::Hall;

@@ -12,7 +12,7 @@ use Rattle.ada_forcing.specs.Rows.{rank, step_at}
 use Rattle.ada_forcing.proofs.Keys.{forced_first, forced_nothing, agenda_less}
 use Rattle.ada_agenda.specs.Rows.{keeps}
 use Rattle.ada_touching.specs.Keeping.{has_key, IsAgendaOf}
-use Rattle.ada_index.specs.Indexes.{IsStepOfRank}
+use Rattle.ada_index.specs.internal.Indexes.{IsStepOfRank}
 
 abbrev all_rows : List Row
 all_rows = Halting ∷ Failing ∷ Taking ∷ Cancelling ∷ Passing ∷ Waking ∷ Activating ∷ Going ∷ QuittingBody ∷ QuittingBlock ∷ Leaving ∷ []

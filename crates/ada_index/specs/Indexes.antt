@@ -1,8 +1,6 @@
 -- What is kept of a journal, so that none has to search it.
-use Rattle.std.specs.Prelude.{◌≡◌, ℕ, Option, List}
+use Rattle.std.specs.Prelude.{List}
 use Rattle.ada_events.specs.declared.event.Event.{Event}
-use Rattle.ada_forcing.specs.declared.row.Row.{Row}
-use Rattle.ada_forcing.specs.Rows.{rank, step_at}
 use Rattle.ada_counts.specs.Noting.{HaveAllQueues}
 use Rattle.ada_noting.specs.Bounds.{IsDueBound}
 use Rattle.ada_rows.specs.States.{IsKept}
@@ -17,9 +15,3 @@ pub record IsIndexOf (index : Index) (journal : List Event) : Type 0 where
   pub slots : HaveAllQueues index.tables journal
   pub agenda : IsAgendaOf index.agenda journal
   pub due : IsDueBound journal index.next_due
-
--- what the row of that rank gives at a key
-pub record IsStepOfRank (journal : List Event) (place key : ℕ) (step : Option Event) : Type 0 where
-  pub row : Row
-  pub ranked : rank row ≡ place
-  pub gives : step ≡ step_at journal row key

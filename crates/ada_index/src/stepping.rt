@@ -2,7 +2,7 @@
 
 ghost use Rattle.std.specs.Prelude.{◌≡◌, ◌<◌};
 ghost use Rattle.ada_events.specs.Forced.{forced};
-ghost use Rattle.ada_index.specs.Indexes.{IsStepOfRank};
+ghost use Rattle.ada_index.specs.internal.Indexes.{IsStepOfRank};
 ghost use Rattle.ada_touching.specs.Keeping.{IsAgendaOf};
 
 use ada_agenda::Agenda;

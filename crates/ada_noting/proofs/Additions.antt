@@ -22,10 +22,10 @@ use Rattle.ada_touching.proofs.Acting.{created_exists}
 use Rattle.ada_touching.proofs.Adding.{agendas_stay}
 use Rattle.ada_touching.proofs.Noting.{grown, own_is}
 use Rattle.ada_touching.proofs.Places.{closing_open}
-use Rattle.ada_noting.specs.Keys.{Puts, Both, OfFirst, AsKey, AsHeld, AsUnstarted}
-use Rattle.ada_noting.specs.Keys.AsKey.{itself}
-use Rattle.ada_noting.specs.Keys.AsHeld.{held}
-use Rattle.ada_noting.specs.Keys.AsUnstarted.{goes}
+use Rattle.ada_noting.specs.internal.Keys.{Puts, Both, OfFirst, AsKey, AsHeld, AsUnstarted}
+use Rattle.ada_noting.specs.internal.Keys.AsKey.{itself}
+use Rattle.ada_noting.specs.internal.Keys.AsHeld.{held}
+use Rattle.ada_noting.specs.internal.Keys.AsUnstarted.{goes}
 use Rattle.ada_noting.proofs.Holding.{block_fits}
 
 -- an agenda into which all was put that the event adds

@@ -20,7 +20,8 @@ use Rattle.ada_touching.specs.Keeping.{IsAgendaOf}
 use Rattle.ada_touching.specs.Kinds.{due_in, OfTick, Adds}
 use Rattle.ada_touching.specs.Kinds.OfTick.{comes_due}
 use Rattle.ada_touching.proofs.Noting.{grown, grows_same, held_there}
-use Rattle.ada_noting.specs.Bounds.{IsSuspendedUntil, IsDueBound, IsBoundOfFirst, IsDueAfter}
+use Rattle.ada_noting.specs.Bounds.{IsSuspendedUntil, IsDueBound}
+use Rattle.ada_noting.specs.internal.Bounds.{IsBoundOfFirst, IsDueAfter}
 
 -- moments
 up_to : (a b c : ℤ) → int_le a b ≡ true → int_le b c ≡ true → int_le a c ≡ true

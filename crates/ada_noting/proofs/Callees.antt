@@ -24,10 +24,10 @@ use Rattle.ada_touching.specs.Kinds.OfHalt.{completes, quits_block, empties}
 use Rattle.ada_touching.specs.Kinds.OfCancellation.{quits as quits_with}
 use Rattle.ada_touching.proofs.Noting.{grows_same, held_there}
 use Rattle.ada_counts.proofs.Owners.{has_contained}
-use Rattle.ada_noting.specs.Keys.{Puts, Both, AsHolder, AsDependent, AsCalleeAt}
-use Rattle.ada_noting.specs.Keys.AsHolder.{quits}
-use Rattle.ada_noting.specs.Keys.AsDependent.{through}
-use Rattle.ada_noting.specs.Keys.AsCalleeAt.{called}
+use Rattle.ada_noting.specs.internal.Keys.{Puts, Both, AsHolder, AsDependent, AsCalleeAt}
+use Rattle.ada_noting.specs.internal.Keys.AsHolder.{quits}
+use Rattle.ada_noting.specs.internal.Keys.AsDependent.{through}
+use Rattle.ada_noting.specs.internal.Keys.AsCalleeAt.{called}
 use Rattle.ada_noting.proofs.Additions.{noted}
 use Rattle.ada_noting.proofs.Ends.{dependent_held}
 

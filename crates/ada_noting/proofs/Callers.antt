@@ -14,9 +14,9 @@ use Rattle.ada_touching.specs.Keeping.{has_key, IsAgendaOf}
 use Rattle.ada_touching.specs.Kinds.{OfEnd, Adds}
 use Rattle.ada_touching.specs.Kinds.OfEnd.{halts}
 use Rattle.ada_touching.proofs.Noting.{grows_same}
-use Rattle.ada_noting.specs.Keys.{Puts, AsKey, AsCallerAt}
-use Rattle.ada_noting.specs.Keys.AsKey.{itself}
-use Rattle.ada_noting.specs.Keys.AsCallerAt.{made}
+use Rattle.ada_noting.specs.internal.Keys.{Puts, AsKey, AsCallerAt}
+use Rattle.ada_noting.specs.internal.Keys.AsKey.{itself}
+use Rattle.ada_noting.specs.internal.Keys.AsCallerAt.{made}
 use Rattle.ada_noting.proofs.Additions.{noted}
 
 caller_said : (before : List Event) (at : ℕ) (c : Call) → IsCallAt before c at → option_map (λ (c : Call). c.by) (call_at before at) ≡ Some c.by

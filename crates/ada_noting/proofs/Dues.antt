@@ -20,9 +20,9 @@ use Rattle.ada_touching.specs.Keeping.{has_key, IsAgendaOf, Grows}
 use Rattle.ada_touching.specs.Kinds.{due_in, due_row, OfTick, Adds}
 use Rattle.ada_touching.specs.Kinds.OfTick.{comes_due}
 use Rattle.ada_touching.proofs.Noting.{grows_same, held_there}
-use Rattle.ada_noting.specs.Keys.{Puts, OfFirst, AsDue, AsDueAt, is_due_by}
-use Rattle.ada_noting.specs.Keys.AsDue.{comes}
-use Rattle.ada_noting.specs.Keys.AsDueAt.{comes_at}
+use Rattle.ada_noting.specs.internal.Keys.{Puts, OfFirst, AsDue, AsDueAt, is_due_by}
+use Rattle.ada_noting.specs.internal.Keys.AsDue.{comes}
+use Rattle.ada_noting.specs.internal.Keys.AsDueAt.{comes_at}
 use Rattle.ada_noting.proofs.Additions.{noted}
 
 -- an event stands at a position that isn't 0

@@ -35,14 +35,14 @@ use Rattle.ada_counts.specs.Holders.{IsHeld}
 use Rattle.ada_counts.proofs.LiveHolders.{of_master}
 use Rattle.ada_counts.proofs.Owners.{has_contained}
 use Rattle.ada_rows.proofs.Orphans.{gone_stays}
-use Rattle.ada_noting.specs.Keys.{Puts, Both, OfFirst, AsKey, AsHeld, AsUnstarted, AsCaller, AsHolder, AsDependent, AsActivation}
-use Rattle.ada_noting.specs.Keys.AsKey.{itself}
-use Rattle.ada_noting.specs.Keys.AsHeld.{held}
-use Rattle.ada_noting.specs.Keys.AsUnstarted.{goes}
-use Rattle.ada_noting.specs.Keys.AsCaller.{fails}
-use Rattle.ada_noting.specs.Keys.AsHolder.{quits, goes as holder_goes, leaves}
-use Rattle.ada_noting.specs.Keys.AsDependent.{through}
-use Rattle.ada_noting.specs.Keys.AsActivation.{activates}
+use Rattle.ada_noting.specs.internal.Keys.{Puts, Both, OfFirst, AsKey, AsHeld, AsUnstarted, AsCaller, AsHolder, AsDependent, AsActivation}
+use Rattle.ada_noting.specs.internal.Keys.AsKey.{itself}
+use Rattle.ada_noting.specs.internal.Keys.AsHeld.{held}
+use Rattle.ada_noting.specs.internal.Keys.AsUnstarted.{goes}
+use Rattle.ada_noting.specs.internal.Keys.AsCaller.{fails}
+use Rattle.ada_noting.specs.internal.Keys.AsHolder.{quits, goes as holder_goes, leaves}
+use Rattle.ada_noting.specs.internal.Keys.AsDependent.{through}
+use Rattle.ada_noting.specs.internal.Keys.AsActivation.{activates}
 use Rattle.ada_noting.proofs.Additions.{noted, fails_held}
 
 -- a master on which a live task depends is held

@@ -25,11 +25,11 @@ use Rattle.ada_tables.specs.declared.layers.Layer.{Layer}
 use Rattle.ada_tables.specs.Layers.{member_of, members}
 use Rattle.std.proofs.lemmas.List.{length-map}
 use Rattle.ada_noting.proofs.Putting.{puts_more, puts_all}
-use Rattle.ada_noting.specs.Keys.{Puts, Both, OfFirst, AsKey, AsHeld, AsMember, AsBlock, AsHolder}
-use Rattle.ada_noting.specs.Keys.AsKey.{itself}
-use Rattle.ada_noting.specs.Keys.AsHeld.{held}
-use Rattle.ada_noting.specs.Keys.AsMember.{block}
-use Rattle.ada_noting.specs.Keys.AsHolder.{quits, goes, leaves}
+use Rattle.ada_noting.specs.internal.Keys.{Puts, Both, OfFirst, AsKey, AsHeld, AsMember, AsBlock, AsHolder}
+use Rattle.ada_noting.specs.internal.Keys.AsKey.{itself}
+use Rattle.ada_noting.specs.internal.Keys.AsHeld.{held}
+use Rattle.ada_noting.specs.internal.Keys.AsMember.{block}
+use Rattle.ada_noting.specs.internal.Keys.AsHolder.{quits, goes, leaves}
 
 number_of : Member → ℕ
 number_of (BlockMember p) = p

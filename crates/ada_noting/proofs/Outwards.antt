@@ -25,8 +25,8 @@ use Rattle.ada_touching.proofs.Noting.{grows_same, grows_on}
 use Rattle.ada_counts.proofs.LiveHolders.{within, masters_are_held}
 use Rattle.ada_counts.proofs.Enclosing.{reaches_held}
 use Rattle.ada_counts.proofs.Owners.{block_in_nest, one_holder}
-use Rattle.ada_noting.specs.Keys.{Puts, AsHolder, AsDependent, holder_of, holder_above}
-use Rattle.ada_noting.specs.Keys.AsDependent.{through}
+use Rattle.ada_noting.specs.internal.Keys.{Puts, AsHolder, AsDependent, holder_of, holder_above}
+use Rattle.ada_noting.specs.internal.Keys.AsDependent.{through}
 
 holds_enclosed : (task : ℕ) (members : List Member) (from to : Master) → encloses task members from to ≡ true → holds task members to ≡ true
 holds_enclosed task members from (Body t) inside = inside

@@ -12,11 +12,11 @@ use Rattle.ada_forcing.specs.declared.row.Row.TheVariants.{Failing, Going}
 use Rattle.ada_records.specs.Records.{IsHeldAt}
 use Rattle.ada_touching.specs.Keeping.{has_key, Grows}
 use Rattle.ada_touching.proofs.Noting.{grows_same, grows_on, held_there}
-use Rattle.ada_noting.specs.Keys.{Puts, Both, OfFirst, AsKey, AsHeld, AsUnstarted, AsCaller, calls}
-use Rattle.ada_noting.specs.Keys.AsKey.{itself}
-use Rattle.ada_noting.specs.Keys.AsHeld.{held}
-use Rattle.ada_noting.specs.Keys.AsCaller.{fails}
-use Rattle.ada_noting.specs.Keys.AsUnstarted.{goes}
+use Rattle.ada_noting.specs.internal.Keys.{Puts, Both, OfFirst, AsKey, AsHeld, AsUnstarted, AsCaller, calls}
+use Rattle.ada_noting.specs.internal.Keys.AsKey.{itself}
+use Rattle.ada_noting.specs.internal.Keys.AsHeld.{held}
+use Rattle.ada_noting.specs.internal.Keys.AsCaller.{fails}
+use Rattle.ada_noting.specs.internal.Keys.AsUnstarted.{goes}
 
 pub puts_none : (old : List (List ℕ)) (Key : ℕ → Row → ℕ → Type 0) → Puts old old (OfFirst Key 0)
 puts_none old Key = record { grows = grows_same old; here = λ row key first. absurd (omega (arith, first.among)) }

@@ -18,11 +18,11 @@ use Rattle.ada_touching.specs.Keeping.{has_key, IsAgendaOf}
 use Rattle.ada_touching.specs.Kinds.{itself as own, quitting_row, quitting_key, OfWait, Adds}
 use Rattle.ada_touching.specs.Kinds.OfWait.{takes, passes, quits as wait_quits}
 use Rattle.ada_touching.proofs.Noting.{grows_same, own_is}
-use Rattle.ada_noting.specs.Keys.{Puts, Both, When, AsKey, AsDependent}
-use Rattle.ada_noting.specs.Keys.AsKey.{itself}
-use Rattle.ada_noting.specs.Keys.AsHolder.{quits}
-use Rattle.ada_noting.specs.Keys.AsDependent.{through}
-use Rattle.ada_noting.specs.Keys.When.{holds_so}
+use Rattle.ada_noting.specs.internal.Keys.{Puts, Both, When, AsKey, AsDependent}
+use Rattle.ada_noting.specs.internal.Keys.AsKey.{itself}
+use Rattle.ada_noting.specs.internal.Keys.AsHolder.{quits}
+use Rattle.ada_noting.specs.internal.Keys.AsDependent.{through}
+use Rattle.ada_noting.specs.internal.Keys.When.{holds_so}
 use Rattle.ada_noting.proofs.Additions.{noted}
 use Rattle.ada_noting.proofs.Ends.{dependent_held}
 

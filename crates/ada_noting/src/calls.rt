@@ -10,7 +10,7 @@ ghost use Rattle.ada_events.specs.declared.names.TaskNo.{TaskNo as Number};
 ghost use Rattle.ada_touching.specs.Keeping.{IsAgendaOf};
 ghost use Rattle.ada_events.specs.Termination as ending;
 ghost use Rattle.ada_forcing.specs.Newly.{IsCallOf};
-ghost use Rattle.ada_noting.specs.Keys.{Puts, When, AsDependent, AsCalleeAt, AsCallerAt};
+ghost use Rattle.ada_noting.specs.internal.Keys.{Puts, When, AsDependent, AsCalleeAt, AsCallerAt};
 
 use crate::masters::put_dependent;
 use crate::passes::put_key;

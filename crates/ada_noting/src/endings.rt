@@ -10,7 +10,7 @@ ghost use Rattle.ada_events.specs.declared.event.Event.TheVariants.{Completed as
 ghost use Rattle.ada_events.specs.declared.event.Event.TheVariants.{Gone as GoneEvent, Quit as QuitEvent};
 ghost use Rattle.ada_touching.specs.Keeping.{IsAgendaOf};
 ghost use Rattle.ada_touching.specs.Kinds.{OfCompletion};
-ghost use Rattle.ada_noting.specs.Keys.{Puts, AsActivation, AsCalleeAt};
+ghost use Rattle.ada_noting.specs.internal.Keys.{Puts, AsActivation, AsCalleeAt};
 
 use crate::calls::put_callee;
 use crate::masters::{put_all_holders, put_dependent, put_holder};

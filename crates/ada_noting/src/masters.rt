@@ -9,8 +9,8 @@ ghost use Rattle.ada_events.specs.Says.{Opening, opening_at};
 ghost use Rattle.ada_events.specs.Tasks.{task_count};
 ghost use Rattle.ada_events.specs.declared.names.TaskNo.{TaskNo as Number};
 ghost use Rattle.ada_events.specs.declared.names.Member.TheVariants.{Block as BlockMember};
-ghost use Rattle.ada_noting.specs.Keys as keys;
-ghost use Rattle.ada_noting.specs.Keys.{Puts, OfFirst, AsMember, AsBlock, AsHolder, AsDependent};
+ghost use Rattle.ada_noting.specs.internal.Keys as keys;
+ghost use Rattle.ada_noting.specs.internal.Keys.{Puts, OfFirst, AsMember, AsBlock, AsHolder, AsDependent};
 
 use crate::passes::{put_held, put_key};
 use ada_agenda::Agenda;

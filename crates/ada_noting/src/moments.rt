@@ -8,8 +8,8 @@ ghost use Rattle.ada_events.specs.declared.event.Event.TheVariants.{Ticked as Ti
 ghost use Rattle.ada_touching.specs.Keeping.{IsAgendaOf};
 ghost use Rattle.ada_touching.specs.Kinds as kinds;
 ghost use Rattle.ada_noting.specs.Bounds.{IsDueBound};
-ghost use Rattle.ada_noting.specs.Keys as keys;
-ghost use Rattle.ada_noting.specs.Keys.{Puts, OfFirst, AsDue, AsDueAt};
+ghost use Rattle.ada_noting.specs.internal.Keys as keys;
+ghost use Rattle.ada_noting.specs.internal.Keys.{Puts, OfFirst, AsDue, AsDueAt};
 
 use crate::next_due::NextDue;
 use crate::passes::put_at_if;

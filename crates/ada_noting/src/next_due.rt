@@ -5,7 +5,8 @@ ghost use Rattle.ada_events.specs.Lawful.{IsLawful};
 ghost use Rattle.ada_events.specs.Tasks.{task_count};
 ghost use Rattle.ada_events.specs.Waits as waits;
 ghost use Rattle.ada_events.specs.declared.event.Event.TheVariants.{Ticked as TickedEvent};
-ghost use Rattle.ada_noting.specs.Bounds.{IsDueBound, IsBoundOfFirst, IsDueAfter};
+ghost use Rattle.ada_noting.specs.Bounds.{IsDueBound};
+ghost use Rattle.ada_noting.specs.internal.Bounds.{IsBoundOfFirst, IsDueAfter};
 
 use crate::moments::due_in;
 use ada_events::{Event, TaskNo};

@@ -5,7 +5,7 @@ ghost use Rattle.ada_events.specs.Lawful.{IsLawful};
 ghost use Rattle.ada_events.specs.Search.{is_some_and, event_at};
 ghost use Rattle.ada_events.specs.Tasks.{task_count};
 ghost use Rattle.ada_touching.specs.Keeping.{Grows, has_key};
-ghost use Rattle.ada_noting.specs.Keys.{Puts, OfFirst, AsKey, AsHeld, AsUnstarted, AsCaller, calls};
+ghost use Rattle.ada_noting.specs.internal.Keys.{Puts, OfFirst, AsKey, AsHeld, AsUnstarted, AsCaller, calls};
 
 use ada_agenda::Agenda;
 use ada_events::{Event, TaskNo};

@@ -12,7 +12,7 @@ use Rattle.ada_events.specs.declared.names.Member.{Member}
 use Rattle.ada_events.specs.declared.names.Member.TheVariants.{Block, Rendezvous}
 use Rattle.ada_events.specs.Search.{gathered}
 use Rattle.ada_events.specs.Nests.{innermost, innermost_block}
-use Rattle.ada_plain.specs.Frames.{frame_with}
+use Rattle.ada_plain.specs.internal.Frames.{frame_with}
 use Rattle.ada_plain.proofs.Loops.{gathered_more}
 
 -- the step of a loop that folds what the events give

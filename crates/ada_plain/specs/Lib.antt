@@ -1,3 +1,3 @@
-pub mod Frames
 pub mod Makings
 pub mod Places
+pub mod internal

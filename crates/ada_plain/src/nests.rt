@@ -8,7 +8,7 @@ ghost use Rattle.ada_events.specs.Says as said;
 ghost use Rattle.ada_events.specs.Calls as calls;
 ghost use Rattle.ada_events.specs.Nests as nests;
 ghost use Rattle.ada_events.specs.Refusals as refusals;
-ghost use Rattle.ada_plain.specs.Frames.{frame_with};
+ghost use Rattle.ada_plain.specs.internal.Frames.{frame_with};
 
 use crate::calls::is_open_call;
 use crate::says;

@@ -8,7 +8,8 @@ ghost use Rattle.ada_events.specs.Entries as entries;
 ghost use Rattle.ada_events.specs.Limits as limits;
 ghost use Rattle.ada_events.specs.Slots as places;
 ghost use Rattle.ada_events.specs.Lawful.{IsLawful};
-ghost use Rattle.ada_plain.specs.Places.{capped, entry_here, place_made, place_seen};
+ghost use Rattle.ada_plain.specs.Places.{capped, place_seen};
+ghost use Rattle.ada_plain.specs.internal.Places.{entry_here, place_made};
 ghost use Rattle.ada_events.specs.declared.limits.TheConstants.{MOST_FAMILIES};
 
 use crate::attributes::short_count;

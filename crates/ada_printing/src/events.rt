@@ -3,7 +3,7 @@
 ghost use Rattle.std.specs.Prelude.{◌≡◌, ◌++◌, OnOk, codes, decimal, if◌then◌else◌};
 ghost use Rattle.std.specs.Fmt.{signed_decimal};
 ghost use Rattle.std.specs.List.{flat_map};
-ghost use Rattle.ada_printing.specs.Appending.{KeepsStarts};
+ghost use Rattle.ada_printing.specs.internal.Appending.{KeepsStarts};
 ghost use Rattle.ada_printing.specs.Texts.{task_text, master_text, listed_text, way_text, created_text, called_text, waiting_text, event_text};
 ghost use Rattle.ada_printing.specs.Texts.{call_verb as verb_text};
 ghost use Rattle.ada_events.specs.declared.event.Event.TheVariants as events;

@@ -1,7 +1,7 @@
 //! The lines that a replay prints.
 
 ghost use Rattle.std.specs.Prelude.{◌≡◌, ◌++◌, take, IsOk, OnOk, OnErr, IsOkUnless};
-ghost use Rattle.ada_printing.specs.Appending.{KeepsStarts};
+ghost use Rattle.ada_printing.specs.internal.Appending.{KeepsStarts};
 ghost use Rattle.ada_printing.specs.Texts.{event_line, refusal_text, refusal_name, shown_text, value_text};
 
 use crate::Value;

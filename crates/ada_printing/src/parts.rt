@@ -3,7 +3,7 @@
 ghost use Rattle.std.specs.Prelude.{◌≡◌, ◌++◌, OnOk, decimal};
 ghost use Rattle.std.specs.Fmt.{signed_decimal};
 ghost use Rattle.std.specs.List.{flat_map};
-ghost use Rattle.ada_printing.specs.Appending.{KeepsStarts};
+ghost use Rattle.ada_printing.specs.internal.Appending.{KeepsStarts};
 ghost use Rattle.ada_printing.specs.Texts.{task_text, made_text, block_text, master_text, family_text, entry_text, listed_text, families_text, range_text};
 ghost use Rattle.ada_printing.specs.Texts.{family_bounds_text, until_text, guard_text, choice_text, due_text, tail_text, way_text};
 

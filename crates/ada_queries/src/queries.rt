@@ -6,7 +6,7 @@ ghost use Rattle.ada_events.specs.Attributes.{is_callable, is_finished};
 ghost use Rattle.ada_events.specs.Outcomes.{outcome_of};
 ghost use Rattle.ada_events.specs.Phases.{is_running, is_terminated};
 ghost use Rattle.ada_events.specs.Tasks.{has_task, task_count};
-ghost use Rattle.ada_queries.specs.Knowing.{IsKnown};
+ghost use Rattle.ada_queries.specs.internal.Knowing.{IsKnown};
 
 use ada_events::{Outcome, TaskNo};
 use ada_records::Record;

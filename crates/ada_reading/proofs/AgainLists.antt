@@ -7,7 +7,8 @@ use Rattle.std.proofs.lemmas.List.Concat.{flat_map-cons}
 use Rattle.ada_statements.specs.declared.statement.Declaration.{Declaration}
 use Rattle.ada_spelling.specs.Spelling.{family_words, bounds_words}
 use Rattle.ada_statements.specs.Scope.{Scope, IsTaskName, AreTaskNames, IsFamily, AreFamilies, AreApart}
-use Rattle.ada_reading.specs.Reading.{Read, repeat_at, task_at, tasks_at, family_at, families_at, is_over, number_is_next}
+use Rattle.ada_reading.specs.Reading.{is_over}
+use Rattle.ada_reading.specs.internal.Reading.{Read, repeat_at, task_at, tasks_at, family_at, families_at, number_is_next}
 use Rattle.ada_reading.proofs.AgainParts.{task_again, name_again, bounds_again, name_begins}
 use Rattle.ada_reading.proofs.TakenLists.{Chain, flat_map-single, list_any-names, map-push}
 

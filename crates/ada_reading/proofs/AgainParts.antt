@@ -13,11 +13,12 @@ use Rattle.std.proofs.lemmas.Str.Parse.{digit_at}
 use Rattle.ada_events.specs.declared.names.Family.{Family}
 use Rattle.ada_statements.specs.declared.statement.EntryName.{EntryName}
 use Rattle.ada_statements.specs.Text.{is_name, is_digit, is_letter, is_name_byte}
-use Rattle.ada_reading.specs.Number.{integer_of}
+use Rattle.ada_reading.specs.internal.Number.{integer_of}
 use Rattle.ada_spelling.specs.Spelling.{index_words, entry_words, bounds_words}
 use Rattle.ada_statements.specs.Scope.{Scope, IsTaskName, IsMasterName, IsNewName, IsEntryName, IsIndex, IsMoment}
-use Rattle.ada_reading.specs.Reading.{keyword_at, moment_at, index_at, pick_at, begins_number, optional_index_at, number_is_next, bounds_at, name_at, task_at}
-use Rattle.ada_reading.specs.Reading.{master_at, new_name_at, entry_at}
+use Rattle.ada_reading.specs.internal.Reading.{keyword_at, moment_at, index_at, pick_at, begins_number, optional_index_at}
+use Rattle.ada_reading.specs.internal.Reading.{number_is_next, bounds_at, name_at, task_at}
+use Rattle.ada_reading.specs.internal.Reading.{master_at, new_name_at, entry_at}
 use Rattle.ada_reading.proofs.Numbers.{natural_of-spelled, IsInteger}
 
 -- ---- words and names

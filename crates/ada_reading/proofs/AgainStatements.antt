@@ -17,8 +17,9 @@ use Rattle.ada_statements.specs.declared.statement.EntryName.{EntryName}
 use Rattle.ada_statements.specs.declared.statement.Alternative.{Alternative}
 use Rattle.ada_spelling.specs.Spelling.{speaker, entry_words, family_words, select_words, words_of}
 use Rattle.ada_statements.specs.Scope.{Scope, IsTaskName, IsEntryName, MayStand}
-use Rattle.ada_reading.specs.Reading.{entry_at, verb_at, tick_at, open_at, create_at, activate_at, abort_at, call_at, try_at, accept_at, delay_at, select_at}
-use Rattle.ada_reading.specs.Reading.{show_at, act_at, before_colon, speaker_of, speech_at, statement_at, statement_of}
+use Rattle.ada_reading.specs.internal.Reading.{entry_at, verb_at, tick_at, open_at, create_at, activate_at, abort_at, call_at}
+use Rattle.ada_reading.specs.internal.Reading.{try_at, accept_at, delay_at, select_at}
+use Rattle.ada_reading.specs.internal.Reading.{show_at, act_at, before_colon, speaker_of, speech_at, statement_at, statement_of}
 use Rattle.ada_spelling.specs.Verbs.{verb_word, verb_of}
 use Rattle.ada_reading.proofs.AgainParts.{keyword_again, task_again, master_again, new_name_again, moment_again, pick_again, entry_again}
 use Rattle.ada_reading.proofs.AgainLists.{tasks_again, families_again}

@@ -5,7 +5,7 @@ use Rattle.ada_reading.specs.declared.fault.Fault.{Fault}
 use Rattle.ada_reading.specs.declared.select.Branch.{Branch}
 use Rattle.ada_statements.specs.declared.statement.Alternative.{Alternative}
 use Rattle.ada_statements.specs.Scope.{Scope}
-use Rattle.ada_reading.specs.Reading.{branch_at, choice_at, choices_at, tail_from, with_tail, is_accept}
+use Rattle.ada_reading.specs.internal.Reading.{branch_at, choice_at, choices_at, tail_from, with_tail, is_accept}
 
 module _ (names : Scope) (by : List ℕ) where
   pub choices_fail : (room : ℕ) (before : List Alternative) (words : List (List ℕ)) (e : Fault) → branch_at words ≡ Err e

@@ -12,7 +12,7 @@ use Rattle.std.proofs.lemmas.Int.{to_z-of_z}
 use Rattle.std.proofs.lemmas.Slice.Eq.{bytes_eq-Decides}
 use Rattle.std.proofs.lemmas.Fmt.{decimal_is_IsNumeral, parse-decimal, IsAscii-decimal}
 use Rattle.std.proofs.lemmas.Str.{IsUtf8-from_ascii}
-use Rattle.ada_reading.specs.Number.{natural_of, positive, negative, integer_of}
+use Rattle.ada_reading.specs.internal.Number.{natural_of, positive, negative, integer_of}
 
 -- the bytes of no number are other than text
 pub no_text : (word : List ℕ) → (IsUtf8 word → ⊥) → (n : ℕ) → n < 2 ^ 64 → decimal n ≡ word → ⊥

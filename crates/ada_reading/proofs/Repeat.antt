@@ -3,7 +3,8 @@ use Rattle.std.proofs.Common.{◌≡◌, ℕ, suc, ◌-◌, ◌<◌, ◌≤◌, 
 use Rattle.std.proofs.lemmas.Bool.{true≢false, false≢true, cases_lt, eqb-false}
 use Rattle.ada_reading.specs.declared.fault.Fault.{Fault}
 use Rattle.ada_reading.specs.declared.fault.Fault.TheVariants.{BadStatement}
-use Rattle.ada_reading.specs.Reading.{Read, repeat_at, is_over}
+use Rattle.ada_reading.specs.Reading.{is_over}
+use Rattle.ada_reading.specs.internal.Reading.{Read, repeat_at}
 
 module _ {X : Type 0} (step : List X → List (List ℕ) → Read X) where
   pub repeat_step : (limit : ℕ) (before : List X) (words : List (List ℕ)) (x : X) (rest : List (List ℕ)) → is_over words ≡ false → length before < limit

@@ -10,11 +10,12 @@ use Rattle.ada_events.specs.declared.names.Family.{Family}
 use Rattle.ada_reading.specs.declared.fault.Fault.{Fault}
 use Rattle.ada_statements.specs.declared.statement.EntryName.{EntryName}
 use Rattle.ada_statements.specs.Text.{is_name}
-use Rattle.ada_reading.specs.Number.{natural_of, integer_of}
+use Rattle.ada_reading.specs.internal.Number.{natural_of, integer_of}
 use Rattle.ada_spelling.specs.Spelling.{index_words, entry_words, bounds_words}
 use Rattle.ada_statements.specs.Scope.{Scope, is_task, is_declared, has_entry, IsTaskName, IsMasterName, IsNewName, IsEntryName, IsIndex, IsMoment}
-use Rattle.ada_reading.specs.Reading.{◌>>=◌, word_at, keyword_at, number_from, moment_at, index_at, below_2_32, pick_at, optional_index_at, number_is_next}
-use Rattle.ada_reading.specs.Reading.{bounds_at, name_at, task_at, master_at, new_name_at, entry_at}
+use Rattle.ada_reading.specs.internal.Reading.{◌>>=◌, word_at, keyword_at, number_from, moment_at, index_at}
+use Rattle.ada_reading.specs.internal.Reading.{below_2_32, pick_at, optional_index_at, number_is_next}
+use Rattle.ada_reading.specs.internal.Reading.{bounds_at, name_at, task_at, master_at, new_name_at, entry_at}
 use Rattle.ada_reading.proofs.Numbers.{integer_of-reads, natural_of-reads, FitsSigned-32, FitsSigned-64}
 
 -- the value of a step that did not fail

@@ -8,7 +8,7 @@ use Rattle.std.proofs.lemmas.List.Concat.{flat_map-cons}
 use Rattle.ada_statements.specs.declared.statement.Declaration.{Declaration}
 use Rattle.ada_spelling.specs.Spelling.{family_words}
 use Rattle.ada_statements.specs.Scope.{Scope, IsTaskName, AreTaskNames, IsFamily, AreFamilies, AreApart}
-use Rattle.ada_reading.specs.Reading.{Read, repeat_at, task_at, tasks_at, family_at, families_at, name_at, bounds_at}
+use Rattle.ada_reading.specs.internal.Reading.{Read, repeat_at, task_at, tasks_at, family_at, families_at, name_at, bounds_at}
 use Rattle.ada_reading.proofs.Taken.{bind_ok, unless_ok, ok_is, task_reads, name_reads, bounds_reads}
 
 -- each of them stands behind those before it

@@ -16,8 +16,10 @@ use Rattle.ada_reading.specs.declared.select.Branch.TheVariants as branches
 use Rattle.ada_statements.specs.declared.statement.Alternative.{Alternative}
 use Rattle.ada_spelling.specs.Spelling.{entry_words, guard_words, choice_words, pause_words, tail_alternatives, else_words, joined_by_or, select_words}
 use Rattle.ada_statements.specs.Scope.{Scope, IsEntryName, IsMoment, IsTail, AreChoices}
-use Rattle.ada_reading.specs.Reading.{word_at, keyword_at, moment_at, entry_at, is_over, passed_over, kind_of, branch_at, tail_of, link_at, pause_at}
-use Rattle.ada_reading.specs.Reading.{pause_from, next_pause_at, pauses_at, choice_at, tail_from, is_accept, with_tail, ended_by, choices_at, alternatives_at}
+use Rattle.ada_reading.specs.Reading.{is_over}
+use Rattle.ada_reading.specs.internal.Reading.{word_at, keyword_at, moment_at, entry_at, passed_over, kind_of, branch_at, tail_of, link_at, pause_at}
+use Rattle.ada_reading.specs.internal.Reading.{pause_from, next_pause_at, pauses_at, choice_at, tail_from, is_accept}
+use Rattle.ada_reading.specs.internal.Reading.{with_tail, ended_by, choices_at, alternatives_at}
 use Rattle.ada_reading.proofs.Taken.{bind_ok, if_ok, chosen, ok_is, done, word_reads, keyword_reads, moment_reads, entry_reads}
 use Rattle.ada_reading.proofs.TakenLists.{Chain, repeat_reads}
 

@@ -16,10 +16,12 @@ use Rattle.ada_statements.specs.declared.statement.Statement.TheVariants.{Raise,
 use Rattle.ada_statements.specs.Text.{is_name}
 use Rattle.ada_spelling.specs.Spelling.{speaker, entry_words, family_words, words_of}
 use Rattle.ada_statements.specs.Scope.{Scope, is_task, IsTaskName, MayStand}
-use Rattle.ada_reading.specs.Reading.{word_at, end_at, keyword_at, moment_at, pick_at, task_at, new_name_at, master_at, entry_at, tasks_at, families_at}
-use Rattle.ada_reading.specs.Reading.{alternatives_at, is_over, verb_from, verb_at, tick_at, open_at, create_at, activate_at, abort_at, call_at, try_at}
-use Rattle.ada_reading.specs.Reading.{accept_at, delay_at, select_at, show_at, act_at, before_colon, speaker_from, speaker_of, speech_at, statement_at}
-use Rattle.ada_reading.specs.Reading.{statement_of}
+use Rattle.ada_reading.specs.internal.Reading.{word_at, end_at, keyword_at, moment_at, pick_at, task_at, new_name_at}
+use Rattle.ada_reading.specs.internal.Reading.{master_at, entry_at, tasks_at, families_at}
+use Rattle.ada_reading.specs.Reading.{is_over}
+use Rattle.ada_reading.specs.internal.Reading.{alternatives_at, verb_from, verb_at, tick_at, open_at, create_at, activate_at, abort_at, call_at, try_at}
+use Rattle.ada_reading.specs.internal.Reading.{accept_at, delay_at, select_at, show_at, act_at, before_colon, speaker_from, speaker_of, speech_at, statement_at}
+use Rattle.ada_reading.specs.internal.Reading.{statement_of}
 use Rattle.ada_spelling.specs.Verbs.{verb_word, all_verbs, verb_of}
 use Rattle.ada_statements.proofs.Found.{found_passes}
 use Rattle.ada_reading.proofs.Taken.{bind_ok, if_ok, chosen, ok_is, done, word_reads, keyword_reads, moment_reads, pick_reads, task_reads, master_reads}

@@ -1,3 +1,3 @@
 pub mod Fault
-pub mod Number
 pub mod Reading
+pub mod internal

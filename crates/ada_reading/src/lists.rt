@@ -3,7 +3,7 @@
 ghost use Rattle.std.specs.Prelude.{◌≡◌};
 ghost use Rattle.std.specs.Str.{bytes_eq};
 ghost use Rattle.std.specs.List.{list_any};
-ghost use Rattle.ada_reading.specs.Reading.{Gives, GivesInMemory, tasks_at, family_at, families_at};
+ghost use Rattle.ada_reading.specs.internal.Reading.{Gives, GivesInMemory, tasks_at, family_at, families_at};
 
 use crate::cursor::Words;
 use crate::fault::Fault;
@@ -37,7 +37,7 @@ fn is_family(families: &Declarations, name: &Name) -> bool
 }
 
 /// Takes a family of entries, which has another name than those before it.
-#[tactic(auto, unfolding(crate::specs::Reading::family_at))]
+#[tactic(auto, unfolding(crate::specs::internal::Reading::family_at))]
 fn read_family(families: &Declarations, words: &mut Words) -> Result<Declaration, Fault>
     ensures { Gives result words.new (family_at families.now words.old) }
 {

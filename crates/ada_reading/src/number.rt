@@ -1,7 +1,7 @@
 //! Reading a word as a number. Each number has one spelling.
 
 ghost use Rattle.std.specs.Prelude.{◌≡◌, ◌<◌, ◌≤◌, ◌^◌, ℕ, MatchOption, IfSome, decimal};
-ghost use Rattle.ada_reading.specs.Number.{natural_of, integer_of, positive, negative};
+ghost use Rattle.ada_reading.specs.internal.Number.{natural_of, integer_of, positive, negative};
 
 use itoa::Buffer;
 use std::str;
@@ -56,7 +56,7 @@ fn negative_from(limit: u64, magnitude: u64) -> Option<i64>
 }
 
 /// The number whose spelling the word is, from `-limit` on and below `limit`.
-#[tactic(auto, unfolding(crate::specs::Number::integer_of))]
+#[tactic(auto, unfolding(crate::specs::internal::Number::integer_of))]
 fn integer_within(limit: u64, word: &[u8]) -> Option<i64>
     requires { limit ≤ 2 ^ 63 }
     ensures { result ≡ integer_of limit word.now }

@@ -4,8 +4,9 @@ ghost use Rattle.std.specs.Prelude.{◌≡◌, ◌≤◌, length, IfOk, IsTrue};
 ghost use Rattle.std.specs.List.{list_all};
 ghost use Rattle.ada_statements.specs.Scope.{is_task, is_declared, has_entry};
 ghost use Rattle.ada_statements.specs.Text.{is_name as name_form, is_name_byte as name_byte};
-ghost use Rattle.ada_reading.specs.Reading.{Gives, GivesWord, word_at, end_at, keyword_at, moment_at, index_at, pick_at, below_2_32 as low_number};
-ghost use Rattle.ada_reading.specs.Reading.{begins_number, number_is_next, optional_index_at, bounds_at, name_at, task_at, master_at, new_name_at, entry_at};
+ghost use Rattle.ada_reading.specs.internal.Reading.{Gives, GivesWord, word_at, end_at, keyword_at, moment_at, index_at, pick_at, below_2_32 as low_number};
+ghost use Rattle.ada_reading.specs.internal.Reading.{begins_number, number_is_next, optional_index_at, bounds_at, name_at, task_at};
+ghost use Rattle.ada_reading.specs.internal.Reading.{master_at, new_name_at, entry_at};
 
 use crate::cursor::Words;
 use crate::fault::Fault;
@@ -31,7 +32,7 @@ pub fn read_end(words: &mut Words) -> Result<(), Fault>
 }
 
 /// Takes a word that must be this one.
-#[tactic(auto, unfolding(crate::specs::Reading::keyword_at))]
+#[tactic(auto, unfolding(crate::specs::internal::Reading::keyword_at))]
 pub fn read_keyword(keyword: &[u8], words: &mut Words) -> Result<(), Fault>
     ensures { Gives result words.new (keyword_at keyword.now words.old) }
 {
@@ -44,7 +45,7 @@ pub fn read_keyword(keyword: &[u8], words: &mut Words) -> Result<(), Fault>
 }
 
 /// Takes a moment or a duration.
-#[tactic(auto, unfolding(crate::specs::Reading::moment_at))]
+#[tactic(auto, unfolding(crate::specs::internal::Reading::moment_at))]
 pub fn read_moment(words: &mut Words) -> Result<i64, Fault>
     ensures { Gives result words.new (moment_at words.old) }
 {
@@ -53,7 +54,7 @@ pub fn read_moment(words: &mut Words) -> Result<i64, Fault>
 }
 
 /// Takes an index or a bound.
-#[tactic(auto, unfolding(crate::specs::Reading::index_at))]
+#[tactic(auto, unfolding(crate::specs::internal::Reading::index_at))]
 fn read_index(words: &mut Words) -> Result<i32, Fault>
     ensures { Gives result words.new (index_at words.old) }
 {
@@ -72,7 +73,7 @@ fn below_2_32(number: Option<u64>) -> Option<u32>
 }
 
 /// Takes the pick of a selective wait.
-#[tactic(auto, unfolding(crate::specs::Reading::pick_at))]
+#[tactic(auto, unfolding(crate::specs::internal::Reading::pick_at))]
 pub fn read_pick(words: &mut Words) -> Result<u32, Fault>
     ensures { Gives result words.new (pick_at words.old) }
 {
@@ -101,7 +102,7 @@ fn is_number_next(words: &Words) -> bool
 }
 
 /// Takes an index, where one is written.
-#[tactic(auto, unfolding(crate::specs::Reading::optional_index_at))]
+#[tactic(auto, unfolding(crate::specs::internal::Reading::optional_index_at))]
 fn read_optional_index(words: &mut Words) -> Result<Option<i32>, Fault>
     ensures { Gives result words.new (optional_index_at words.old) }
 {
@@ -113,7 +114,7 @@ fn read_optional_index(words: &mut Words) -> Result<Option<i32>, Fault>
 }
 
 /// Takes the bounds of a family, where they are written.
-#[tactic(auto, unfolding(crate::specs::Reading::bounds_at))]
+#[tactic(auto, unfolding(crate::specs::internal::Reading::bounds_at))]
 pub fn read_bounds(words: &mut Words) -> Result<Option<Family>, Fault>
     ensures { Gives result words.new (bounds_at words.old) }
 {
@@ -154,7 +155,7 @@ pub fn is_name(word: &[u8]) -> bool
 }
 
 /// Takes a word that has the form of a name.
-#[tactic(auto, unfolding(crate::specs::Reading::name_at))]
+#[tactic(auto, unfolding(crate::specs::internal::Reading::name_at))]
 fn read_name_word<'a>(words: &mut Words<'a>) -> Result<&'a [u8], Fault>
     ensures word { GivesWord result words.new (name_at words.old) }
     ensures short { IfOk result (λ word. length word.now ≤ 16) }
@@ -176,7 +177,7 @@ pub fn read_name(words: &mut Words) -> Result<Name, Fault>
 }
 
 /// Takes a word that is the name of a declared task.
-#[tactic(auto, unfolding(crate::specs::Reading::task_at))]
+#[tactic(auto, unfolding(crate::specs::internal::Reading::task_at))]
 pub fn read_task_word<'a>(names: &Names, words: &mut Words<'a>) -> Result<&'a [u8], Fault>
     ensures word { GivesWord result words.new (task_at names.now words.old) }
     ensures short { IfOk result (λ word. length word.now ≤ 16) }
@@ -198,7 +199,7 @@ pub fn read_task(names: &Names, words: &mut Words) -> Result<Name, Fault>
 }
 
 /// Takes the name of a task or a block that is declared.
-#[tactic(auto, unfolding(crate::specs::Reading::master_at))]
+#[tactic(auto, unfolding(crate::specs::internal::Reading::master_at))]
 pub fn read_master(names: &Names, words: &mut Words) -> Result<Name, Fault>
     ensures { Gives result words.new (master_at names.now words.old) }
 {
@@ -211,7 +212,7 @@ pub fn read_master(names: &Names, words: &mut Words) -> Result<Name, Fault>
 }
 
 /// Takes a name that isn't declared yet.
-#[tactic(auto, unfolding(crate::specs::Reading::new_name_at))]
+#[tactic(auto, unfolding(crate::specs::internal::Reading::new_name_at))]
 pub fn read_new_name(names: &Names, words: &mut Words) -> Result<Name, Fault>
     ensures { Gives result words.new (new_name_at names.now words.old) }
 {
@@ -224,7 +225,7 @@ pub fn read_new_name(names: &Names, words: &mut Words) -> Result<Name, Fault>
 }
 
 /// Takes the name of an entry of a task, and its index where one is written.
-#[tactic(auto, unfolding(crate::specs::Reading::entry_at))]
+#[tactic(auto, unfolding(crate::specs::internal::Reading::entry_at))]
 pub fn read_entry(names: &Names, task: &Name, words: &mut Words) -> Result<EntryName, Fault>
     ensures { Gives result words.new (entry_at names.now task.now words.old) }
 {

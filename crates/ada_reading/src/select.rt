@@ -1,8 +1,9 @@
 //! Reading selective waits.
 
 ghost use Rattle.std.specs.Prelude.{◌≡◌, ◌⊎◌, [], Ok, Err, IfOk, IfErr};
-ghost use Rattle.ada_reading.specs.Reading.{Gives, GivesInMemory, passed_over, kind_of, branch_at, tail_of, link_at, pause_at, next_pause_at, pauses_at};
-ghost use Rattle.ada_reading.specs.Reading.{choice_at, tail_from, choices_at, alternatives_at};
+ghost use Rattle.ada_reading.specs.internal.Reading.{Gives, GivesInMemory, passed_over, kind_of, branch_at, tail_of};
+ghost use Rattle.ada_reading.specs.internal.Reading.{link_at, pause_at, next_pause_at, pauses_at};
+ghost use Rattle.ada_reading.specs.internal.Reading.{choice_at, tail_from, choices_at, alternatives_at};
 ghost use Rattle.ada_events.specs.declared.limits.TheConstants.{MOST_CHOICES};
 
 use crate::cursor::Words;
@@ -21,7 +22,7 @@ pub enum Branch {
 }
 
 impl Branch {
-    ghost use Rattle.ada_reading.specs.Reading.{is_accept};
+    ghost use Rattle.ada_reading.specs.internal.Reading.{is_accept};
 
     /// Whether this is an accept alternative.
     fn is_accept(self) -> bool
@@ -46,7 +47,7 @@ fn pass_over(keyword: &[u8], words: &mut Words) -> bool
 }
 
 /// The kind of an alternative that begins with this word.
-#[tactic(auto, unfolding(crate::specs::Reading::kind_of))]
+#[tactic(auto, unfolding(crate::specs::internal::Reading::kind_of))]
 fn branch_of(word: &[u8]) -> Result<Branch, Fault>
     ensures { result ≡ kind_of word.now }
 {
@@ -62,7 +63,7 @@ fn branch_of(word: &[u8]) -> Result<Branch, Fault>
 }
 
 /// Takes the guard of an alternative, and which kind it is.
-#[tactic(auto, unfolding(crate::specs::Reading::branch_at))]
+#[tactic(auto, unfolding(crate::specs::internal::Reading::branch_at))]
 fn read_branch(words: &mut Words) -> Result<(bool, Branch), Fault>
     ensures { Gives result words.new (branch_at words.old) }
 {
@@ -74,7 +75,7 @@ fn read_branch(words: &mut Words) -> Result<(bool, Branch), Fault>
 
 /// What ends a wait behind an accept alternative, at this word: nothing, where another alternative
 /// follows.
-#[tactic(auto, unfolding(crate::specs::Reading::tail_of))]
+#[tactic(auto, unfolding(crate::specs::internal::Reading::tail_of))]
 fn link_of(alloc: Global, word: &[u8]) -> Result<Option<Stored<Tail>>, Fault>
     ensures ok { IfOk result (λ tail. tail_of word.now ≡ Ok tail) }
     ensures err { IfErr result (λ fault.
@@ -90,7 +91,7 @@ fn link_of(alloc: Global, word: &[u8]) -> Result<Option<Stored<Tail>>, Fault>
 }
 
 /// Takes what follows an accept alternative: a tail, or none where another alternative follows.
-#[tactic(auto, unfolding(crate::specs::Reading::link_at))]
+#[tactic(auto, unfolding(crate::specs::internal::Reading::link_at))]
 fn read_link(alloc: Global, words: &mut Words) -> Result<Option<Stored<Tail>>, Fault>
     ensures { GivesInMemory result words.new (link_at words.old) }
 {
@@ -101,7 +102,7 @@ fn read_link(alloc: Global, words: &mut Words) -> Result<Option<Stored<Tail>>, F
 }
 
 /// Takes the duration of a delay alternative.
-#[tactic(auto, unfolding(crate::specs::Reading::pause_at))]
+#[tactic(auto, unfolding(crate::specs::internal::Reading::pause_at))]
 fn read_pause(guard: bool, words: &mut Words) -> Result<Pause, Fault>
     ensures { Gives result words.new (pause_at guard words.old) }
 {
@@ -110,7 +111,7 @@ fn read_pause(guard: bool, words: &mut Words) -> Result<Pause, Fault>
 }
 
 /// Takes one more delay alternative.
-#[tactic(auto, unfolding(crate::specs::Reading::next_pause_at))]
+#[tactic(auto, unfolding(crate::specs::internal::Reading::next_pause_at))]
 fn read_next_pause(words: &mut Words) -> Result<Pause, Fault>
     ensures { Gives result words.new (next_pause_at words.old) }
 {
@@ -123,7 +124,7 @@ fn read_next_pause(words: &mut Words) -> Result<Pause, Fault>
 }
 
 /// Takes delay alternatives, the first of which stands next behind its guard.
-#[tactic(auto, unfolding(crate::specs::Reading::pauses_at))]
+#[tactic(auto, unfolding(crate::specs::internal::Reading::pauses_at))]
 fn read_pauses(guard: bool, words: &mut Words) -> Result<Pauses, Fault>
     ensures { Gives result words.new (pauses_at guard words.old) }
 {
@@ -141,7 +142,7 @@ fn read_pauses(guard: bool, words: &mut Words) -> Result<Pauses, Fault>
 }
 
 /// Takes an accept alternative behind its guard, and what follows it.
-#[tactic(auto, unfolding(crate::specs::Reading::choice_at))]
+#[tactic(auto, unfolding(crate::specs::internal::Reading::choice_at))]
 fn read_choice(
     alloc: Global,
     names: &Names,
@@ -157,7 +158,7 @@ fn read_choice(
 }
 
 /// Takes the tail behind the accept alternatives.
-#[tactic(auto, unfolding(crate::specs::Reading::tail_from))]
+#[tactic(auto, unfolding(crate::specs::internal::Reading::tail_from))]
 fn read_tail(
     alloc: Global,
     branch: Branch,
@@ -202,7 +203,7 @@ fn read_choices(
 }
 
 /// Takes the alternatives of a selective wait to the end of the line.
-#[tactic(auto, unfolding(crate::specs::Reading::alternatives_at))]
+#[tactic(auto, unfolding(crate::specs::internal::Reading::alternatives_at))]
 pub fn read_alternatives(
     alloc: Global,
     names: &Names,

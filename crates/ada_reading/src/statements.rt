@@ -1,8 +1,9 @@
 //! Reading the statements.
 
 ghost use Rattle.std.specs.Prelude.{◌≡◌, ◌⊎◌, Ok, Err, option_copied, OnOk, IfErr};
-ghost use Rattle.ada_reading.specs.Reading.{Gives, Writes, verb_at, open_at, create_at, activate_at, abort_at, call_at, try_at, accept_at, delay_at, tick_at};
-ghost use Rattle.ada_reading.specs.Reading.{select_at, show_at, act_at, before_colon, speaker_of, speech_at, statement_at, statement_of};
+ghost use Rattle.ada_reading.specs.internal.Reading.{Gives, Writes, verb_at, open_at, create_at, activate_at, abort_at, call_at};
+ghost use Rattle.ada_reading.specs.internal.Reading.{try_at, accept_at, delay_at, tick_at};
+ghost use Rattle.ada_reading.specs.internal.Reading.{select_at, show_at, act_at, before_colon, speaker_of, speech_at, statement_at, statement_of};
 
 use crate::cursor::Words;
 use crate::fault::Fault;
@@ -17,7 +18,7 @@ use ada_statements::{Name, Names, Statement};
 use std::alloc::Global;
 
 /// Takes a verb.
-#[tactic(auto, unfolding(crate::specs::Reading::verb_at))]
+#[tactic(auto, unfolding(crate::specs::internal::Reading::verb_at))]
 fn read_verb(words: &mut Words) -> Result<Verb, Fault>
     ensures { Gives result words.new (verb_at words.old) }
 {
@@ -25,7 +26,7 @@ fn read_verb(words: &mut Words) -> Result<Verb, Fault>
     verb_of(word).ok_or(Fault::BadStatement)
 }
 
-#[tactic(auto, unfolding(crate::specs::Reading::tick_at))]
+#[tactic(auto, unfolding(crate::specs::internal::Reading::tick_at))]
 fn read_tick(words: &mut Words, statement: &mut Statement) -> Result<(), Fault>
     ensures { Writes result statement.new words.new (tick_at words.old) }
 {
@@ -34,7 +35,7 @@ fn read_tick(words: &mut Words, statement: &mut Statement) -> Result<(), Fault>
     Ok(())
 }
 
-#[tactic(auto, unfolding(crate::specs::Reading::open_at))]
+#[tactic(auto, unfolding(crate::specs::internal::Reading::open_at))]
 fn read_open(
     names: &Names,
     by: Name,
@@ -48,7 +49,7 @@ fn read_open(
     Ok(())
 }
 
-#[tactic(auto, unfolding(crate::specs::Reading::create_at))]
+#[tactic(auto, unfolding(crate::specs::internal::Reading::create_at))]
 fn read_create(
     alloc: Global,
     names: &Names,
@@ -71,7 +72,7 @@ fn read_create(
     Ok(())
 }
 
-#[tactic(auto, unfolding(crate::specs::Reading::activate_at))]
+#[tactic(auto, unfolding(crate::specs::internal::Reading::activate_at))]
 fn read_activate(
     alloc: Global,
     names: &Names,
@@ -86,7 +87,7 @@ fn read_activate(
     Ok(())
 }
 
-#[tactic(auto, unfolding(crate::specs::Reading::abort_at))]
+#[tactic(auto, unfolding(crate::specs::internal::Reading::abort_at))]
 fn read_abort(
     alloc: Global,
     names: &Names,
@@ -101,7 +102,7 @@ fn read_abort(
     Ok(())
 }
 
-#[tactic(auto, unfolding(crate::specs::Reading::call_at))]
+#[tactic(auto, unfolding(crate::specs::internal::Reading::call_at))]
 fn read_call(
     names: &Names,
     by: Name,
@@ -127,7 +128,7 @@ fn read_call(
     Ok(())
 }
 
-#[tactic(auto, unfolding(crate::specs::Reading::try_at))]
+#[tactic(auto, unfolding(crate::specs::internal::Reading::try_at))]
 fn read_try(
     names: &Names,
     by: Name,
@@ -142,7 +143,7 @@ fn read_try(
     Ok(())
 }
 
-#[tactic(auto, unfolding(crate::specs::Reading::accept_at))]
+#[tactic(auto, unfolding(crate::specs::internal::Reading::accept_at))]
 fn read_accept(
     names: &Names,
     by: Name,
@@ -156,7 +157,7 @@ fn read_accept(
     Ok(())
 }
 
-#[tactic(auto, unfolding(crate::specs::Reading::delay_at))]
+#[tactic(auto, unfolding(crate::specs::internal::Reading::delay_at))]
 fn read_delay(by: Name, words: &mut Words, statement: &mut Statement) -> Result<(), Fault>
     ensures { Writes result statement.new words.new (delay_at by words.old) }
 {
@@ -165,7 +166,7 @@ fn read_delay(by: Name, words: &mut Words, statement: &mut Statement) -> Result<
     Ok(())
 }
 
-#[tactic(auto, unfolding(crate::specs::Reading::select_at))]
+#[tactic(auto, unfolding(crate::specs::internal::Reading::select_at))]
 fn read_select(
     alloc: Global,
     names: &Names,
@@ -186,7 +187,7 @@ fn read_select(
     Ok(())
 }
 
-#[tactic(auto, unfolding(crate::specs::Reading::show_at))]
+#[tactic(auto, unfolding(crate::specs::internal::Reading::show_at))]
 fn read_show(
     names: &Names,
     by: Name,
@@ -212,7 +213,7 @@ fn read_show(
 }
 
 /// Takes what the speaker does behind its verb.
-#[tactic(auto, unfolding(crate::specs::Reading::act_at))]
+#[tactic(auto, unfolding(crate::specs::internal::Reading::act_at))]
 fn read_act(
     alloc: Global,
     names: &Names,
@@ -272,7 +273,7 @@ fn before_last_colon(word: &[u8]) -> Option<&[u8]>
 }
 
 /// The speaker, whose name stands before a colon.
-#[tactic(auto, unfolding(crate::specs::Reading::speaker_of))]
+#[tactic(auto, unfolding(crate::specs::internal::Reading::speaker_of))]
 fn speaker(names: &Names, word: &[u8]) -> Result<Name, Fault>
     ensures { result ≡ speaker_of names.now word.now }
 {
@@ -290,7 +291,7 @@ fn speaker(names: &Names, word: &[u8]) -> Result<Name, Fault>
 }
 
 /// Takes the statement of the speaker that the line's first word names.
-#[tactic(auto, unfolding(crate::specs::Reading::speech_at))]
+#[tactic(auto, unfolding(crate::specs::internal::Reading::speech_at))]
 fn read_speech(
     alloc: Global,
     names: &Names,
@@ -305,7 +306,7 @@ fn read_speech(
     read_act(alloc, names, by, verb, words, statement)
 }
 
-#[tactic(auto, unfolding(crate::specs::Reading::statement_at))]
+#[tactic(auto, unfolding(crate::specs::internal::Reading::statement_at))]
 fn read_open_statement(
     alloc: Global,
     names: &Names,
@@ -324,7 +325,7 @@ fn read_open_statement(
 
 /// Reads the statement of a line's words, where these names are declared. On an `Err` the place has some
 /// statement.
-#[tactic(auto, unfolding(crate::specs::Reading::statement_of))]
+#[tactic(auto, unfolding(crate::specs::internal::Reading::statement_of))]
 pub fn read_statement(
     alloc: Global,
     names: &Names,

@@ -24,7 +24,7 @@ use Rattle.ada_records.specs.declared.record.Doing.{Doing}
 use Rattle.ada_records.specs.declared.record.Record.{Record}
 use Rattle.ada_records.specs.declared.record.Stage.{Stage}
 use Rattle.ada_records.specs.Records.{no_record, record_at, IsDoingOf, IsStageOf, IsRecordOf, AreRecords, HoldsSomebody, IsPlainHold, IsPlainRelease, freed}
-use Rattle.ada_records.specs.Records.{may_terminate}
+use Rattle.ada_records.specs.internal.Records.{may_terminate}
 use Rattle.ada_records.proofs.Holding.{hold_only, quiet_ends, holder_ran}
 use Rattle.ada_records.proofs.Queues.{ends}
 use Rattle.ada_records.proofs.Saying.{IsPlain, number_none, number_other, no_meeting, other_call, release_only, held_apart, met_frees, call_not_wait}

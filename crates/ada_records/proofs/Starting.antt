@@ -17,7 +17,8 @@ use Rattle.ada_events.specs.Lawful.{IsLawful}
 use Rattle.ada_laws.proofs.Growing.{task_count-same}
 use Rattle.ada_records.specs.declared.record.Doing.{Doing}
 use Rattle.ada_records.specs.declared.record.Record.{Record}
-use Rattle.ada_records.specs.Records.{no_record, record_at, IsDoingOf, IsStageOf, IsRecordOf, AreRecords, start_record, HaveStarted}
+use Rattle.ada_records.specs.Records.{no_record, record_at, IsDoingOf, IsStageOf, IsRecordOf, AreRecords}
+use Rattle.ada_records.specs.internal.Records.{start_record, HaveStarted}
 use Rattle.ada_records.proofs.Doings.{doing_held, doing_same}
 use Rattle.ada_records.proofs.Existing.{started_at_exists}
 use Rattle.ada_records.proofs.Holding.{holder_ran}

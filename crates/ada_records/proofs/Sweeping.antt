@@ -17,7 +17,8 @@ use Rattle.ada_events.specs.Outcomes.{raised_in}
 use Rattle.ada_events.specs.Lawful.{IsLawful}
 use Rattle.ada_laws.proofs.Growing.{task_count-same, has_ended-terminated}
 use Rattle.ada_records.specs.declared.record.Record.{Record}
-use Rattle.ada_records.specs.Records.{no_record, record_at, IsDoingOf, IsStageOf, IsRecordOf, AreRecords, is_hit, quit_record, abort_record, AreUpTo}
+use Rattle.ada_records.specs.Records.{no_record, record_at, IsDoingOf, IsStageOf, IsRecordOf, AreRecords, is_hit}
+use Rattle.ada_records.specs.internal.Records.{quit_record, abort_record, AreUpTo}
 use Rattle.ada_records.proofs.Doings.{doing_same, doing_ended}
 use Rattle.ada_records.proofs.Noting.{untouched}
 use Rattle.ada_records.proofs.Stages.{stage_more}

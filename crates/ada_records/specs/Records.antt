@@ -1,20 +1,19 @@
 -- Records that stand for a journal: each field is what the definitions give.
-use Rattle.std.specs.Prelude.{◌≡◌, ◌⊎◌, ℕ, ◌<◌, ◌≤◌, Bool, true, false, not, ◌==◌, ◌||◌, ◌&&◌, ◌∷◌, Some, None, IsSome, List, [], length, take, slice_index_or}
+use Rattle.std.specs.Prelude.{◌≡◌, ◌⊎◌, ℕ, ◌<◌, Bool, true, false, not, ◌==◌, ◌||◌, ◌&&◌, ◌∷◌, Some, None, IsSome, List, [], length, slice_index_or}
 use Rattle.std.specs.List.{list_any}
 use Rattle.ada_events.specs.declared.event.Event.{Event}
 use Rattle.ada_events.specs.declared.event.Event.TheVariants.{Aborted, Completed, Halted, Met, Quit}
 use Rattle.ada_events.specs.declared.names.TaskNo.{TaskNo}
 use Rattle.ada_events.specs.declared.names.Master.TheVariants.{Body}
 use Rattle.ada_events.specs.declared.outcome.Outcome.{Outcome}
-use Rattle.ada_events.specs.declared.outcome.Outcome.TheVariants.{Dead, Held, Nothing}
-use Rattle.ada_events.specs.Search.{is_some_and}
-use Rattle.ada_events.specs.Says.{Wait, creation_in, wait_in, held_in, started_in, released_in, meeting_in}
+use Rattle.ada_events.specs.declared.outcome.Outcome.TheVariants.{Dead, Nothing}
+use Rattle.ada_events.specs.Says.{creation_in, held_in, started_in, released_in, meeting_in}
 use Rattle.ada_events.specs.Tasks.{task_count}
 use Rattle.ada_events.specs.Masters.{depends_on}
-use Rattle.ada_events.specs.Phases.{lists_task, has_start, is_started, is_elaborated, has_failed, is_completed, has_ended, is_abnormal, is_terminated}
+use Rattle.ada_events.specs.Phases.{has_start, is_started, is_elaborated, has_failed, is_completed, has_ended, is_abnormal, is_terminated}
 use Rattle.ada_events.specs.Phases.{is_suspended}
 use Rattle.ada_events.specs.Calls.{is_met}
-use Rattle.ada_events.specs.Termination.{is_open_terminate, is_at_open_terminate}
+use Rattle.ada_events.specs.Termination.{is_at_open_terminate}
 use Rattle.ada_events.specs.Outcomes.{raised_in, choice_met}
 use Rattle.ada_laws.specs.Suspension.{IsSuspendedAt}
 use Rattle.ada_records.specs.declared.record.Doing.{Doing}
@@ -25,10 +24,6 @@ use Rattle.ada_records.specs.Latest.{latest_outcome}
 -- what is left of a task's latest doing once it isn't suspended any more
 abbrev pub freed : Outcome → Doing
 freed outcome = record { at = 0; joined = false; quittable = false; outcome = outcome }
-
--- what is kept of the latest doing of a task that an event at a position holds up
-abbrev pub held : ℕ → Bool → Doing
-held at quittable = record { at = at; joined = false; quittable = quittable; outcome = Held }
 
 -- a task of which nothing has become
 abbrev pub no_stage : Stage
@@ -94,10 +89,6 @@ TellsOfLive journal flags test =
 abbrev pub is_hit : List Event → List TaskNo → ℕ → Bool
 is_hit journal tasks task = list_any (λ (t : TaskNo). t.0 == task || depends_on journal task (Body t)) tasks
 
--- the wait has an open terminate alternative
-abbrev pub may_terminate : Event → Bool
-may_terminate event = is_some_and (wait_in event) (λ (w : Wait). is_open_terminate w.tail)
-
 -- the event holds the task up, and starts nobody
 pub record IsPlainHold (event : Event) (task : ℕ) : Type 0 where
   pub holds : held_in event ≡ Some task
@@ -117,47 +108,6 @@ pub record IsPlainRelease (event : Event) (position : ℕ) : Type 0 where
 -- the task completes: by itself, or it is halted (9.4, 9.10)
 abbrev pub IsCompletion : Event → TaskNo → Type 0
 IsCompletion event task = (event ≡ Completed task) ⊎ (event ≡ Halted task)
-
--- a record after its task ended its activation (9.3)
-abbrev pub elaborated_record : Bool → Record → Record
-elaborated_record true r = record r { stage = record r.stage { elaborated = true } }
-elaborated_record false r = record {
-  doing = freed r.doing.outcome;
-  stage = record r.stage { elaborated = true; failed = true; completed = true };
-}
-
--- a record after all that depend on a master terminated together
-abbrev pub quit_record : Bool → Record → Record
-quit_record true r = record { doing = freed r.doing.outcome; stage = record r.stage { terminated = true } }
-quit_record false r = r
-
--- a record after an abort
-abbrev pub abort_record : Bool → Record → Record
-abort_record hit r = record r {
-  stage = record r.stage {
-    abnormal = hit && not r.stage.terminated || r.stage.abnormal;
-  };
-}
-
--- a record after a start, by whether that names the task (9.3)
-abbrev pub start_record : Bool → Record → Record
-start_record named r = record r {
-  stage = record r.stage {
-    named = named || r.stage.named;
-    started = named && not (r.stage.completed || r.stage.terminated) || r.stage.started;
-  };
-}
-
--- the first so many records stand for the journal with one more event, and the others are as they were
-pub record AreUpTo (event : Event) (before : List Event) (old new : List Record) (many : ℕ) : Type 0 where
-  pub same : length new ≡ length old
-  pub done : (task : ℕ) → task < many → task < length old → IsRecordOf (event ∷ before) task (record_at new task)
-  pub rest : (task : ℕ) → many ≤ task → record_at new task ≡ record_at old task
-
--- the records after the first so many tasks were named by a start
-pub record HaveStarted (first now : List Record) (tasks : List TaskNo) (many : ℕ) : Type 0 where
-  pub same : length now ≡ length first
-  pub each : (task : ℕ) → task < length first → record_at now task ≡ start_record (lists_task task (take many tasks)) (record_at first task)
 
 -- the tasks that an event touches all at once: those that depend on a master and terminate together (9.4), or those
 -- that an abort hits (9.10)

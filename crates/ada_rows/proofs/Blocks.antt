@@ -38,8 +38,8 @@ use Rattle.ada_touching.proofs.Completing.{any_at}
 use Rattle.ada_tables.specs.Dependents.{has_block}
 use Rattle.ada_counts.proofs.Owners.{block_in_nest, nest_has_block}
 use Rattle.ada_counts.proofs.LiveHolders.{a_left_block_has_no_live_dependent}
-use Rattle.ada_rows.specs.Ending.{closes, closes_at}
-use Rattle.ada_rows.specs.States.{IsHeldBySome}
+use Rattle.ada_rows.specs.internal.Ending.{closes, closes_at}
+use Rattle.ada_rows.specs.internal.States.{IsHeldBySome}
 use Rattle.ada_rows.proofs.Closing.{closed_at}
 use Rattle.ada_rows.proofs.Pending.{held_there}
 use Rattle.ada_rows.proofs.Quitting.{deserted_stays}

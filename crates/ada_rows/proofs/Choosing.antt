@@ -22,13 +22,14 @@ use Rattle.ada_laws.proofs.Searching.{event_at-cases}
 use Rattle.ada_laws.proofs.Accepting.{is_accepted}
 use Rattle.ada_laws.proofs.Stepping.{forced-step}
 use Rattle.ada_laws.proofs.Saying.{held_in-wait}
-use Rattle.ada_tables.specs.Queues.{QueuedCall, queue_at, front_call}
+use Rattle.ada_tables.specs.Queues.{QueuedCall, queue_at}
+use Rattle.ada_tables.specs.internal.Queues.{front_call}
 use Rattle.ada_tables.specs.Tables.{State, slot_at, HasEntry}
 use Rattle.ada_tables.specs.Standing.{AreQueued, StandFor}
 use Rattle.ada_tables.specs.Dependents.{Facts}
 use Rattle.ada_touching.proofs.Acting.{any_none}
 use Rattle.ada_counts.proofs.Entries.{has_number, families_stay, declarer_exists}
-use Rattle.ada_rows.specs.Choosing.{IsDeclared, IsOfTask, AreOfTask}
+use Rattle.ada_rows.specs.internal.Choosing.{IsDeclared, IsOfTask, AreOfTask}
 
 declared_later : (event : Event) (before : List Event) (task : ℕ) (entry : Entry) → IsDeclared before task entry → IsDeclared (event ∷ before) task entry
 declared_later event before task entry (n, is) =

@@ -32,7 +32,7 @@ use Rattle.ada_records.proofs.Within.{nest_open, next_unreleased}
 use Rattle.ada_touching.specs.Kinds.{IsCloseAt}
 use Rattle.ada_touching.proofs.Completions.{one_owner}
 use Rattle.ada_touching.proofs.Places.{closer_owns, later_block}
-use Rattle.ada_rows.specs.Ending.{closes}
+use Rattle.ada_rows.specs.internal.Ending.{closes}
 
 pub record SaysNothingElse (e : Event) : Type 0 where
   pub calls : call_in e ≡ None

@@ -30,7 +30,7 @@ use Rattle.ada_records.specs.Telling.{has_ended_by}
 use Rattle.ada_records.proofs.Callers.{joined_caller}
 use Rattle.ada_records.proofs.Existing.{positive}
 use Rattle.ada_records.proofs.Unmade.{unmade}
-use Rattle.ada_rows.specs.Deciding.{is_met_by, is_to_halt_by, is_done_by, is_lost_by, is_queued_by}
+use Rattle.ada_rows.specs.internal.Deciding.{is_met_by, is_to_halt_by, is_done_by, is_lost_by, is_queued_by}
 use Rattle.ada_rows.proofs.Pending.{held_there, pending_told}
 
 positive_at : (n : ℕ) → n ≢ 0 → 0 < n

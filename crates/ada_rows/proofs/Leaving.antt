@@ -22,7 +22,7 @@ use Rattle.ada_tables.specs.Standing.{live_count, StandFor}
 use Rattle.ada_touching.proofs.Places.{closer_within}
 use Rattle.ada_touching.proofs.Waiting.{suspended_at}
 use Rattle.ada_counts.proofs.Owners.{has_contained}
-use Rattle.ada_rows.specs.States.{IsHeldBySome}
+use Rattle.ada_rows.specs.internal.States.{IsHeldBySome}
 
 -- a master that a task holds stands in the tables
 pub held_stands : (tables : State) (journal : List Event) (master : Master) → StandFor tables journal → IsHeldBySome journal master → Stands tables.tasks master

@@ -28,7 +28,7 @@ use Rattle.ada_touching.proofs.Places.{closer_owns}
 use Rattle.ada_tables.specs.Dependents.{has_block}
 use Rattle.ada_counts.proofs.Entries.{creation_exists}
 use Rattle.ada_counts.proofs.Owners.{nest_has_block}
-use Rattle.ada_rows.specs.Ending.{closes}
+use Rattle.ada_rows.specs.internal.Ending.{closes}
 use Rattle.ada_rows.proofs.Closing.{any_found}
 
 -- no task has no creation

@@ -19,7 +19,7 @@ use Rattle.ada_forcing.specs.Rows.{step_at}
 use Rattle.ada_tables.specs.Dependents.{count_below}
 use Rattle.ada_tables.specs.Tables.{State, unready_dependents}
 use Rattle.ada_tables.specs.Standing.{unready_count, StandFor}
-use Rattle.ada_rows.specs.States.{IsHeldBySome}
+use Rattle.ada_rows.specs.internal.States.{IsHeldBySome}
 use Rattle.ada_rows.proofs.Leaving.{held_stands, none_counted}
 
 ready_bits : (t r d : Bool) → (not d || t || r) ≡ not (not t && not r && d)

@@ -1,4 +1,2 @@
-pub mod Choosing
-pub mod Deciding
-pub mod Ending
 pub mod States
+pub mod internal

@@ -11,7 +11,7 @@ ghost use Rattle.ada_events.specs.Search.{event_at};
 ghost use Rattle.ada_events.specs.declared.event.Event.TheVariants as step;
 ghost use Rattle.ada_forcing.specs.Rows.{step_at};
 ghost use Rattle.ada_forcing.specs.declared.row.Row.TheVariants as row;
-ghost use Rattle.ada_rows.specs.Deciding.{is_to_halt_by, is_lost_by as lost, is_queued_by as queued};
+ghost use Rattle.ada_rows.specs.internal.Deciding.{is_to_halt_by, is_lost_by as lost, is_queued_by as queued};
 
 use crate::state::State;
 use ada_events::{Event, Patience, TaskNo};

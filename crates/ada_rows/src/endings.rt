@@ -15,8 +15,8 @@ ghost use Rattle.ada_events.specs.declared.names.Master.TheVariants.{Body as Bod
 ghost use Rattle.ada_forcing.specs.Rows.{at_event, step_at};
 ghost use Rattle.ada_forcing.specs.declared.row.Row.TheVariants as row;
 ghost use Rattle.ada_events.specs.Tasks.{task_count};
-ghost use Rattle.ada_rows.specs.Ending.{IsOpenedBy, closes_at};
-ghost use Rattle.ada_rows.specs.States.{IsHeldBySome};
+ghost use Rattle.ada_rows.specs.internal.Ending.{IsOpenedBy, closes_at};
+ghost use Rattle.ada_rows.specs.internal.States.{IsHeldBySome};
 ghost use Rattle.ada_tables.specs.Dependents.{has_block};
 
 use crate::state::State;

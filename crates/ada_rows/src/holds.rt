@@ -11,7 +11,7 @@ ghost use Rattle.ada_events.specs.declared.event.Event.TheVariants as step;
 ghost use Rattle.ada_events.specs.declared.names.TaskNo.{TaskNo as Number};
 ghost use Rattle.ada_forcing.specs.Rows.{at_event, step_at};
 ghost use Rattle.ada_forcing.specs.declared.row.Row.TheVariants as row;
-ghost use Rattle.ada_rows.specs.Deciding.{is_done_by as done};
+ghost use Rattle.ada_rows.specs.internal.Deciding.{is_done_by as done};
 
 use crate::state::State;
 use ada_events::{Event, TaskNo};

@@ -11,7 +11,7 @@ ghost use Rattle.ada_events.specs.declared.event.Event.TheVariants as step;
 ghost use Rattle.ada_events.specs.declared.limits.TheConstants.{MOST_CHOICES};
 ghost use Rattle.ada_forcing.specs.Rows.{at_event, step_at};
 ghost use Rattle.ada_forcing.specs.declared.row.Row.TheVariants as row;
-ghost use Rattle.ada_rows.specs.Choosing.{IsOfTask, AreOfTask};
+ghost use Rattle.ada_rows.specs.internal.Choosing.{IsOfTask, AreOfTask};
 
 use crate::state::State;
 use ada_events::{Choice, Event, TaskNo, Way};

@@ -16,7 +16,8 @@ use Rattle.ada_hall.specs.History.{GoesOn, AnswersRequest, AnswersShow, IsGiven,
 use Rattle.ada_hall.specs.Printing.{Continues, ArePrinted}
 use Rattle.ada_replay.proofs.Breaking.{keeps_same}
 use Rattle.ada_threads.specs.Opening.{IsOpeningFault}
-use Rattle.ada_run.specs.Running.{Follow, IsRun, AreWhole, BreaksRun}
+use Rattle.ada_run.specs.Running.{Follow, IsRun, BreaksRun}
+use Rattle.ada_run.specs.internal.Running.{AreWhole}
 
 -- a journal that went on by nothing is the same
 same_journal : (old new : List Event) → Continues old new → length old ≡ length new → new ≡ old

@@ -11,7 +11,7 @@ use Rattle.ada_replay.specs.Play.{State}
 use Rattle.ada_replay.specs.Ends.{IsWritten, IsCutShort}
 use Rattle.ada_replay.specs.Replay.{beginning, Tells, IsFaultOf, IsReadOf}
 use Rattle.ada_hall.specs.declared.answer.Kept.{Kept}
-use Rattle.ada_hall.specs.Answers.{AreAll, AreApart, AreJoined}
+use Rattle.ada_hall.specs.Answers.{AreAll, AreApart}
 use Rattle.ada_hall.specs.History.{IsGiven}
 use Rattle.ada_hall.specs.Speakers.{created}
 
@@ -29,13 +29,6 @@ pub record IsRun (script : List Line) (text : List ℕ) (new : State) : Type 0 w
   pub all : AreAll (length script) answers
   pub apart : AreApart answers
   pub follow : Follow script answers (beginning script) text new
-
--- each line of the script has one answer, and each answer was given where the one before it ended, the first at the
--- beginning, up to so many events
-pub record AreWhole (script : List Line) (answers : List Kept) (events : ℕ) : Type 0 where
-  pub all : AreAll (length script) answers
-  pub apart : AreApart answers
-  pub joined : AreJoined answers 0 events
 
 -- there are more tasks than there may be, the main program counted among them
 abbrev pub HasTooMany : List Line → Type 0

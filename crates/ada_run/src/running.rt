@@ -4,7 +4,8 @@ ghost use Rattle.ada_replay.specs.Input.{most_bytes, TakesAtMost};
 ghost use Rattle.ada_replay.specs.Replay.{Tells};
 ghost use Rattle.ada_hall.specs.Speakers.{created};
 ghost use Rattle.ada_threads.specs.Opening.{IsOpeningFault};
-ghost use Rattle.ada_run.specs.Running.{AreWhole, IsScriptRun, BreaksRun, IsTextRun, IsTextBroken, IsUnread, Runs, RunBreaks};
+ghost use Rattle.ada_run.specs.Running.{IsScriptRun, BreaksRun, IsTextRun, IsTextBroken, IsUnread, Runs, RunBreaks};
+ghost use Rattle.ada_run.specs.internal.Running.{AreWhole};
 
 use ada_board::History;
 use ada_hall::printing::{are_joined, write_answers};

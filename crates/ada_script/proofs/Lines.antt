@@ -10,7 +10,7 @@ use Rattle.ada_statements.specs.declared.statement.Statement.{Statement}
 use Rattle.ada_statements.specs.Scope.{Scope, MayStand}
 use Rattle.ada_statements.specs.Text.{words_in}
 use Rattle.ada_script.specs.Script.{Adds, Reads, Says, SaysNothing, IsPlain, IsFault, IsOfWords, Stops, is_skipped, scope_of}
-use Rattle.ada_reading.specs.Reading.{statement_of}
+use Rattle.ada_reading.specs.internal.Reading.{statement_of}
 use Rattle.ada_reading.specs.Fault.{cause_of}
 use Rattle.ada_reading.proofs.TakenStatements.{statement_reads}
 use Rattle.ada_reading.proofs.AgainStatements.{statement_again}

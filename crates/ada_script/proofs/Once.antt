@@ -13,7 +13,7 @@ use Rattle.ada_statements.specs.Text.{words_in, is_name}
 use Rattle.ada_spelling.specs.Spelling.{speaker, words_of}
 use Rattle.ada_statements.specs.Scope.{Scope, MayStand}
 use Rattle.ada_script.specs.Script.{IsPlain, IsUnplain, begins_comment, is_skipped, Says, Adds, Reads, IsFault, Stops, scope_of}
-use Rattle.ada_reading.specs.Reading.{statement_of}
+use Rattle.ada_reading.specs.internal.Reading.{statement_of}
 use Rattle.ada_reading.proofs.AgainParts.{name_letter}
 use Rattle.ada_reading.proofs.AgainStatements.{statement_again}
 

@@ -6,7 +6,7 @@ use Rattle.std.proofs.Math.Dec.{eqb-suc-zero}
 use Rattle.ada_events.specs.declared.request.Tail.{Tail}
 use Rattle.ada_statements.specs.declared.statement.Alternative.{Alternative}
 use Rattle.ada_spelling.specs.Spelling.{choice_words, tail_alternatives, else_words, joined_by_or, select_words}
-use Rattle.ada_spelling.specs.Writing.{or_words, linked_by_or}
+use Rattle.ada_spelling.specs.internal.Writing.{or_words, linked_by_or}
 
 joined_linked : (first : List (List ℕ)) (others : List (List (List ℕ))) → joined_by_or (first ∷ others) ≡ first ++ linked_by_or false others
 joined_linked first [] = sym (append-nil first)

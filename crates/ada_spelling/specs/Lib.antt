@@ -1,3 +1,3 @@
 pub mod Spelling
 pub mod Verbs
-pub mod Writing
+pub mod internal

@@ -6,7 +6,7 @@ ghost use Rattle.std.specs.List.{flat_map};
 ghost use Rattle.ada_spelling.specs.Verbs.{verb_word};
 ghost use Rattle.ada_spelling.specs.Spelling.{speaker, entry_words, index_words, bounds_words, family_words, guard_words, choice_words, pause_words};
 ghost use Rattle.ada_spelling.specs.Spelling.{select_words, tail_alternatives, else_words, words_of};
-ghost use Rattle.ada_spelling.specs.Writing.{or_words, linked_by_or};
+ghost use Rattle.ada_spelling.specs.internal.Writing.{or_words, linked_by_or};
 ghost use Rattle.ada_statements.specs.declared.statement.Statement.TheVariants as statements;
 ghost use Rattle.ada_spelling.specs.declared.verb.Verb.TheVariants as verbs;
 

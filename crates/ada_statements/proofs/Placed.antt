@@ -14,7 +14,7 @@ use Rattle.ada_statements.specs.declared.places.Places.{Places}
 use Rattle.ada_statements.specs.Scope.{Scope}
 use Rattle.ada_statements.specs.Binding.{with_meaning}
 use Rattle.ada_statements.specs.Binding.{is_bound_to, bound_to}
-use Rattle.ada_statements.specs.Places.{kept, place_bound_to, AreKept, IsNoted}
+use Rattle.ada_statements.specs.internal.Places.{kept, place_bound_to, AreKept, IsNoted}
 
 module _ {X : Type 0} (test : X → Bool) where
   -- places that are counted from the next number

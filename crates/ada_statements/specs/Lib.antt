@@ -1,4 +1,4 @@
 pub mod Text
 pub mod Scope
 pub mod Binding
-pub mod Places
+pub mod internal

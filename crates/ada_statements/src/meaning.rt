@@ -55,7 +55,7 @@ pub enum Meaning {
 }
 
 impl Meaning {
-    ghost use Rattle.ada_statements.specs.Places.{bound_by};
+    ghost use Rattle.ada_statements.specs.internal.Places.{bound_by};
     ghost use Rattle.ada_statements.specs.Binding.{is_bound_to};
 
     /// Binds a task or a block. A task stays as it is where a block is opened, and a block where a

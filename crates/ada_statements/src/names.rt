@@ -2,7 +2,7 @@
 
 ghost use Rattle.std.specs.Prelude.{◌≡◌, ◌≤◌, None, Some, Ok, Err, length, map, option_map, IfOk, IfSome, OnOk, OnErr, IsOkUnless, option_copied};
 ghost use Rattle.ada_statements.specs.Binding.{place_of as found_place};
-ghost use Rattle.ada_statements.specs.Places.{kept, AreKept, IsNoted};
+ghost use Rattle.ada_statements.specs.internal.Places.{kept, AreKept, IsNoted};
 ghost use Rattle.ada_events.specs.declared.limits.TheConstants.{MOST_FAMILIES};
 
 use crate::meaning::{Binding, Bound};
@@ -30,14 +30,14 @@ impl Model for Names {
     ghost view = { λ n. n.table.entries };
 
     ghost use Rattle.std.specs.Prelude.{IfSome};
-    ghost use Rattle.ada_statements.specs.Places.{AreKept};
+    ghost use Rattle.ada_statements.specs.internal.Places.{AreKept};
 
     ghost invariant = { λ n. IfSome n.places (AreKept n.table.entries) };
 }
 
 impl Names {
     ghost use Rattle.ada_statements.specs.Binding.{task_of, master_of, family_number, entry_of, with_meaning, bind};
-    ghost use Rattle.ada_statements.specs.Places.{bound_by};
+    ghost use Rattle.ada_statements.specs.internal.Places.{bound_by};
     ghost use Rattle.ada_statements.specs.Binding.{bound_to, families_in};
     ghost use Rattle.ada_statements.specs.Scope.{main_alone, meaning_of, is_declared, is_task, has_entry, declare, with_name};
 

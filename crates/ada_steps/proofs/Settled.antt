@@ -9,7 +9,7 @@ use Rattle.ada_events.specs.Asks.{asked_event}
 use Rattle.ada_events.specs.Lawful.{IsLawful, IsSettled, Forces, nothing, one_more}
 use Rattle.ada_laws.specs.Work.{work_left}
 use Rattle.ada_laws.proofs.LimitLaws.{steps_lessen_the_work, work_left-most, asked_lawful, events_are_few}
-use Rattle.ada_steps.specs.Settling.{IsSettling}
+use Rattle.ada_steps.specs.internal.Settling.{IsSettling}
 
 pub room_left : (from : List Event) (journal : Kept) (step : Event) → IsSettling from journal → forced journal.events ≡ Some step → 0 < journal.spare
 room_left from journal step settling found =

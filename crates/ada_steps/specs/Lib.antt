@@ -1,1 +1,1 @@
-pub mod Settling
+pub mod internal

@@ -7,15 +7,16 @@ use Rattle.std.proofs.lemmas.List.{length-map, get_or_append_left, get_or_push, 
 use Rattle.ada_events.specs.declared.names.Master.{Master}
 use Rattle.ada_events.specs.declared.names.Master.TheVariants.{Body, Block}
 use Rattle.ada_tables.specs.declared.task.Task.{Task}
-use Rattle.ada_tables.specs.Layers.{live_at}
+use Rattle.ada_tables.specs.internal.Layers.{live_at}
 use Rattle.ada_tables.specs.Dependents.{Facts, nobody, task_at, has_block, holds, reaches, is_terminated, is_live_dependent, live_dependents, depends_on}
 use Rattle.ada_tables.specs.Dependents.{count_below}
-use Rattle.ada_tables.specs.Counts.{facts_of, facts, no_task, record_at, ChangesAlong, StandAlone, AreCounted, IsLed, is_led}
+use Rattle.ada_tables.specs.Counts.{facts_of, facts}
+use Rattle.ada_tables.specs.internal.Counts.{no_task, record_at, ChangesAlong, StandAlone, AreCounted, IsLed, is_led}
 use Rattle.ada_tables.proofs.Reaching.{body_below, Alike, alike_same, reaches_alike, led_alike, led_from}
 use Rattle.ada_events.specs.declared.names.Family.{Family}
 use Rattle.ada_tables.specs.declared.change.Change.TheVariants.{Added}
-use Rattle.ada_tables.specs.Dependents.{IsOpen}
-use Rattle.ada_tables.specs.Counts.{made}
+use Rattle.ada_tables.specs.internal.Dependents.{IsOpen}
+use Rattle.ada_tables.specs.internal.Counts.{made}
 use Rattle.ada_tables.proofs.Alongs.{along_begins, along_same}
 use Rattle.ada_tables.proofs.Keeping.{count_same, count_le, count_nobody}
 

@@ -10,10 +10,12 @@ use Rattle.ada_events.specs.declared.names.Master.TheVariants.{Body, Block}
 use Rattle.ada_events.specs.declared.names.Member.{Member}
 use Rattle.ada_tables.specs.declared.task.Task.{Task}
 use Rattle.ada_tables.specs.declared.change.Change.{Change}
-use Rattle.ada_tables.specs.Changes.{changed}
-use Rattle.ada_tables.specs.Layers.{members, live_at}
+use Rattle.ada_tables.specs.internal.Changes.{changed}
+use Rattle.ada_tables.specs.Layers.{members}
+use Rattle.ada_tables.specs.internal.Layers.{live_at}
 use Rattle.ada_tables.specs.Dependents.{Facts, nobody, task_at, has_block, holds, encloses, reaches, depends_on}
-use Rattle.ada_tables.specs.Counts.{facts_of, facts, no_task, record_at, counted, ChangesAlong, StandAlone, IsLed}
+use Rattle.ada_tables.specs.Counts.{facts_of, facts}
+use Rattle.ada_tables.specs.internal.Counts.{no_task, record_at, counted, ChangesAlong, StandAlone, IsLed}
 use Rattle.ada_tables.proofs.Nests.{members-moved_to, live_at-moved_to}
 use Rattle.ada_tables.proofs.Reaching.{reaches_none, passes_holds, reached_held, body_below, Leads, leads}
 

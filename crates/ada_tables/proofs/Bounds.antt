@@ -6,7 +6,8 @@ use Rattle.ada_events.specs.declared.names.Master.{Master}
 use Rattle.ada_events.specs.declared.names.Master.TheVariants.{Body}
 use Rattle.ada_tables.specs.declared.task.Task.{Task}
 use Rattle.ada_tables.specs.Dependents.{Facts, reaches, depends_on, count_below, live_dependents}
-use Rattle.ada_tables.specs.Counts.{facts, no_task, AreCounted}
+use Rattle.ada_tables.specs.Counts.{facts}
+use Rattle.ada_tables.specs.internal.Counts.{no_task, AreCounted}
 use Rattle.ada_tables.specs.Queues.{QueuedCall}
 use Rattle.ada_tables.specs.Tables.{is_unready}
 

@@ -2,7 +2,7 @@
 use Rattle.std.proofs.Common.{◌≡◌, ℕ, ◌+◌, ◌<◌, ◌≤◌, true, false, List, ◌∷◌, ◌++◌, length, get_or, set, take, drop, refl, ap, sym, ◌∙◌, arith}
 use Rattle.std.proofs.lemmas.List.{drop_more, drop_all, take_all, take_more_set, drop-set-lt, append_assoc, append-nil, length-set, take-append-drop, drop-drop}
 use Rattle.ada_tables.specs.declared.layers.Layer.{Layer}
-use Rattle.ada_tables.specs.Layers.{live_of, moved, moved_to, is_block_at, live_at}
+use Rattle.ada_tables.specs.internal.Layers.{live_of, moved, moved_to, is_block_at, live_at}
 
 -- the layers so far are counted, and the others are as they were
 pub record IsCounted (count : ℕ → ℕ) (block : ℕ) (old now : List Layer) (at : ℕ) : Type 0 where

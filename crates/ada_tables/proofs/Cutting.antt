@@ -7,14 +7,16 @@ use Rattle.ada_events.specs.declared.names.Master.TheVariants.{Body, Block}
 use Rattle.ada_tables.specs.declared.task.Task.{Task}
 use Rattle.ada_tables.specs.declared.layers.Layer.{Layer}
 use Rattle.ada_tables.specs.declared.layers.Layer.TheVariants.{Block as BlockLayer, Rendezvous as RendezvousLayer}
-use Rattle.ada_tables.specs.Layers.{members, member_of, live_at}
+use Rattle.ada_tables.specs.Layers.{members, member_of}
+use Rattle.ada_tables.specs.internal.Layers.{live_at}
 use Rattle.ada_tables.specs.Dependents.{Facts, task_at, is_block, has_block, up_to, holds, encloses}
-use Rattle.ada_tables.specs.Counts.{facts, record_at, AreCounted}
+use Rattle.ada_tables.specs.Counts.{facts}
+use Rattle.ada_tables.specs.internal.Counts.{record_at, AreCounted}
 use Rattle.ada_tables.proofs.Reaching.{Alike}
 use Rattle.std.specs.List.{position, position_or_len, remove}
 use Rattle.std.specs.Option.{option_map_or}
 use Rattle.std.proofs.lemmas.Bool.{cases_lt, lt-ltb, le-ltb}
-use Rattle.ada_tables.specs.Layers.{is_block_at, is_rendezvous_at, cut_layers}
+use Rattle.ada_tables.specs.internal.Layers.{is_block_at, is_rendezvous_at, cut_layers}
 use Rattle.ada_tables.proofs.Nests.{is_block-member}
 use Rattle.ada_tables.proofs.Keeping.{nest_changed, ways_alike}
 use Rattle.ada_tables.specs.Dependents.{is_rendezvous, cut}

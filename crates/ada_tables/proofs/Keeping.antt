@@ -7,9 +7,11 @@ use Rattle.ada_events.specs.declared.names.Master.{Master}
 use Rattle.ada_events.specs.declared.names.Master.TheVariants.{Body, Block}
 use Rattle.ada_tables.specs.declared.task.Task.{Task}
 use Rattle.ada_tables.specs.declared.layers.Layer.{Layer}
-use Rattle.ada_tables.specs.Layers.{members, live_at}
+use Rattle.ada_tables.specs.Layers.{members}
+use Rattle.ada_tables.specs.internal.Layers.{live_at}
 use Rattle.ada_tables.specs.Dependents.{Facts, task_at, has_block, reaches, depends_on, is_terminated, is_live_dependent, live_dependents, count_below}
-use Rattle.ada_tables.specs.Counts.{facts_of, facts, no_task, record_at, AreCounted, IsLed}
+use Rattle.ada_tables.specs.Counts.{facts_of, facts}
+use Rattle.ada_tables.specs.internal.Counts.{no_task, record_at, AreCounted, IsLed}
 use Rattle.ada_tables.proofs.Reaching.{reached_held, Alike, AlikeBut, alike_same, reaches_alike, led_alike, led_but}
 use Rattle.ada_tables.proofs.Alongs.{facts_at}
 

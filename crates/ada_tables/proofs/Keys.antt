@@ -8,7 +8,8 @@ use Rattle.std.proofs.lemmas.List.Sums.{sum_by-set}
 use Rattle.slab.specs.Slab.{Slab, get, slab_len, Updates, with_value}
 use Rattle.slab.proofs.SlabLemmas.{Updates-with_value, ContainsKey-within}
 use Rattle.ada_tables.specs.declared.nodes.Node.{Node}
-use Rattle.ada_tables.specs.Nodes.{Kept, node_of, node_under, AreOwn}
+use Rattle.ada_tables.specs.Nodes.{Kept, node_of, node_under}
+use Rattle.ada_tables.specs.internal.Nodes.{AreOwn}
 
 -- the node of a caller is the one under its key
 pub node_of-map : (slab : Slab Node) (keys : List (Option ℕ)) (caller : ℕ)

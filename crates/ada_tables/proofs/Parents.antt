@@ -6,10 +6,13 @@ use Rattle.std.proofs.lemmas.Bool.{cases_eq, both_ways, false_from_ne_true}
 use Rattle.std.proofs.lemmas.List.{drop_more, drop_all, length-map, get_or_default}
 use Rattle.ada_tables.specs.declared.layers.Layer.{Layer}
 use Rattle.ada_tables.specs.declared.task.Task.{Task}
-use Rattle.ada_tables.specs.Layers.{members, member_of, is_block_at}
+use Rattle.ada_tables.specs.Layers.{members, member_of}
+use Rattle.ada_tables.specs.internal.Layers.{is_block_at}
 use Rattle.ada_events.specs.declared.names.Master.TheVariants.{Block}
-use Rattle.ada_tables.specs.Dependents.{Facts, task_at, has_block, block_of, outside, parent_within, parent_from, Stands}
-use Rattle.ada_tables.specs.Counts.{facts_of, facts, no_task, record_at, StandAlone}
+use Rattle.ada_tables.specs.Dependents.{Facts, task_at, has_block, Stands}
+use Rattle.ada_tables.specs.internal.Dependents.{block_of, outside, parent_within, parent_from}
+use Rattle.ada_tables.specs.Counts.{facts_of, facts}
+use Rattle.ada_tables.specs.internal.Counts.{no_task, record_at, StandAlone}
 use Rattle.ada_tables.proofs.Nesting.{nest_is}
 use Rattle.ada_tables.proofs.Nests.{is_block-member}
 

@@ -9,7 +9,8 @@ use Rattle.ada_events.specs.Search.{all_below}
 use Rattle.ada_tables.specs.declared.task.Task.{Task}
 use Rattle.ada_tables.specs.Layers.{members}
 use Rattle.ada_tables.specs.Dependents.{Facts, task_at, encloses, reaches, depends_on, count_below}
-use Rattle.ada_tables.specs.Counts.{facts, no_task, record_at, IsLed}
+use Rattle.ada_tables.specs.Counts.{facts}
+use Rattle.ada_tables.specs.internal.Counts.{no_task, record_at, IsLed}
 use Rattle.ada_tables.proofs.Reaching.{reaches_none, Leads, leads}
 use Rattle.ada_tables.proofs.Alongs.{facts_at, master_read}
 

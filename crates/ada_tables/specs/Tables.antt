@@ -1,7 +1,6 @@
 -- What a contract sees of the tables: what is known of each task, the calls that wait at each slot, and how
 -- many more calls find room.
-use Rattle.std.specs.Prelude.{◌≡◌, ℕ, ◌+◌, ◌<◌, ◌≤◌, Bool, true, false, not, ◌==◌, ◌&&◌, IsSome, List, map, length, take, slice_index}
-use Rattle.ada_events.specs.declared.limits.TheConstants.{MOST_SLOTS}
+use Rattle.std.specs.Prelude.{ℕ, ◌+◌, ◌<◌, Bool, true, false, not, ◌==◌, ◌&&◌, IsSome, List, map, length, take}
 use Rattle.std.specs.List.{sum_by}
 use Rattle.std.specs.Option.{unwrap_or}
 use Rattle.ada_events.specs.declared.names.Entry.{Entry}
@@ -36,15 +35,6 @@ slot_at tasks task entry = slots_before (declared tasks) task + unwrap_or (numbe
 pub record HasEntry (tasks : List Facts) (task : ℕ) (entry : Entry) : Type 0 where
   pub known : task < length tasks
   pub declares : IsSome (number_within (task_at tasks task).families entry)
-
--- each task may call, the queues are those of all entries, and each task's slots come behind those of the
--- tasks made before
-pub record AreTied (tasks : List Facts) (queues : List (List QueuedCall)) (callers : ℕ) (firsts : List ℕ) : Type 0 where
-  pub callers_known : callers ≡ length tasks
-  pub firsts_known : length firsts ≡ length tasks
-  pub first : (task : ℕ) → task < length tasks → slice_index firsts task ≡ slots_before (declared tasks) task
-  pub all : length queues ≡ slots_before (declared tasks) (length tasks)
-  pub few : length queues ≤ MOST_SLOTS
 
 -- no call waits at any entry of the task
 abbrev pub has_no_calls : List Facts → List (List QueuedCall) → ℕ → Bool

@@ -1,6 +1,6 @@
 //! How a count of live dependents changes.
 ghost use Rattle.std.specs.Prelude.{◌≡◌};
-ghost use Rattle.ada_tables.specs.Changes.{changed};
+ghost use Rattle.ada_tables.specs.internal.Changes.{changed};
 
 /// What happened to a dependent.
 #[derive(Clone, Copy)]

@@ -2,10 +2,12 @@
 ghost use Rattle.std.specs.Prelude.{◌≡◌, None, ◌+◌, ◌-◌, ◌<◌, ◌≤◌, ◌==◌, [], ◌∷◌, ◌++◌, length, take, position, slice_get, if◌then◌else◌};
 ghost use Rattle.std.specs.Option.{option_map};
 ghost use Rattle.std.specs.List.{list_any};
-ghost use Rattle.ada_tables.specs.Layers as nests;
+ghost use Rattle.ada_tables.specs.Layers.{member_of, members};
+ghost use Rattle.ada_tables.specs.internal.Layers as nests;
 ghost use Rattle.ada_tables.specs.declared.layers.Layer.TheVariants.{Block};
-ghost use Rattle.ada_tables.specs.Dependents.{has_block, up_to, block_of, outside};
-ghost use Rattle.ada_tables.specs.Changes.{changed};
+ghost use Rattle.ada_tables.specs.Dependents.{has_block, up_to};
+ghost use Rattle.ada_tables.specs.internal.Dependents.{block_of, outside};
+ghost use Rattle.ada_tables.specs.internal.Changes.{changed};
 ghost use Rattle.ada_events.specs.declared.limits.TheConstants.{MOST_MEMBERS};
 
 use crate::change::Change;
@@ -46,7 +48,7 @@ impl Layer {
 
     /// The member that it is.
     pub fn member(self) -> Member
-        ensures { result ≡ nests.member_of self }
+        ensures { result ≡ member_of self }
     {
         match self {
             Layer::Block { opening, .. } => Member::Block(opening),
@@ -71,7 +73,7 @@ impl Layer {
 
     // The position of its opening, if this is a block.
     fn block(self) -> Option<u32>
-        ensures { result ≡ block_of (nests.member_of self) }
+        ensures { result ≡ block_of (member_of self) }
     {
         match self {
             Layer::Block { opening, .. } => Some(opening),
@@ -132,7 +134,7 @@ fn has_block(layers: &[Layer], block: u32) -> bool
 
 // Whether the second block is the first or stands outside it.
 fn encloses(layers: &[Layer], inner: u32, block: u32) -> bool
-    ensures { result ≡ has_block block (up_to inner (nests.members layers.now)) }
+    ensures { result ≡ has_block block (up_to inner (members layers.now)) }
 {
     for layer in layers {
         if layer.is_block_at(block) {
@@ -147,7 +149,7 @@ fn encloses(layers: &[Layer], inner: u32, block: u32) -> bool
 
 // The block that is next outside another.
 fn outside(layers: &[Layer], block: u32) -> Option<u32>
-    ensures { result ≡ outside block None (nests.members layers.now) }
+    ensures { result ≡ outside block None (members layers.now) }
 {
     let mut before = None;
     for layer in layers {
@@ -221,7 +223,7 @@ impl Layers {
 
     /// The member at a place, 0 for the outermost.
     pub fn get(&self, place: usize) -> Option<Member>
-        ensures { result ≡ slice_get (nests.members self.now) place }
+        ensures { result ≡ slice_get (members self.now) place }
     {
         let layer = self.layers.as_slice().get(place)?;
         Some(layer.member())
@@ -260,21 +262,21 @@ impl Layers {
 
     /// Whether a block stands in the nest.
     pub fn has_block(&self, block: u32) -> bool
-        ensures { result ≡ has_block block (nests.members self.now) }
+        ensures { result ≡ has_block block (members self.now) }
     {
         has_block(self.layers.as_slice(), block)
     }
 
     /// Whether the second block is the first or stands outside it.
     pub(crate) fn encloses(&self, inner: u32, block: u32) -> bool
-        ensures { result ≡ has_block block (up_to inner (nests.members self.now)) }
+        ensures { result ≡ has_block block (up_to inner (members self.now)) }
     {
         encloses(self.layers.as_slice(), inner, block)
     }
 
     /// The block that is next outside another, if there is one.
     pub(crate) fn outside(&self, block: u32) -> Option<u32>
-        ensures { result ≡ outside block None (nests.members self.now) }
+        ensures { result ≡ outside block None (members self.now) }
     {
         outside(self.layers.as_slice(), block)
     }

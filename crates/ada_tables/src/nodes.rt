@@ -1,8 +1,9 @@
 //! The nodes of queued calls, each found from its caller.
 ghost use Rattle.std.specs.Prelude.{◌≡◌, ◌+◌, ◌-◌, ◌<◌, ◌≤◌, ◌==◌, [], ◌∷◌, ◌++◌, Some, None, IsSome, OnOk, OnErr, length, slice_set};
 ghost use Rattle.std.specs.Option.{option_map, ForSome};
-ghost use Rattle.ada_tables.specs.Nodes.{node_of, with_after, with_before};
-ghost use Rattle.ada_tables.specs.Links.{joined};
+ghost use Rattle.ada_tables.specs.Nodes.{node_of};
+ghost use Rattle.ada_tables.specs.internal.Nodes.{with_after, with_before};
+ghost use Rattle.ada_tables.specs.internal.Links.{joined};
 
 use slab::Slab;
 use std::alloc::{AllocError, Global};
@@ -31,7 +32,8 @@ pub(crate) struct Nodes {
 impl Model for Nodes {
     ghost use Rattle.std.specs.Prelude.{map, ◌-◌};
     ghost use Rattle.slab.specs.Slab.{slab_len};
-    ghost use Rattle.ada_tables.specs.Nodes.{Kept, node_under, AreOwn};
+    ghost use Rattle.ada_tables.specs.Nodes.{Kept, node_under};
+    ghost use Rattle.ada_tables.specs.internal.Nodes.{AreOwn};
 
     ghost Value = { Kept };
 

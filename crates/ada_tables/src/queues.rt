@@ -2,7 +2,8 @@
 ghost use Rattle.std.specs.Prelude.{◌≡◌, ◌+◌, ◌-◌, ◌<◌, ◌≤◌, true, false, [], ◌++◌, Some, None, OnOk, OnErr, is_none, if◌then◌else◌, ◌==◌, length, replicate};
 ghost use Rattle.std.specs.Option.{option_or};
 ghost use Rattle.ada_events.specs.Search.{all_below};
-ghost use Rattle.ada_tables.specs.Queues.{queue_at, waits, with_last, without, front_call};
+ghost use Rattle.ada_tables.specs.Queues.{queue_at};
+ghost use Rattle.ada_tables.specs.internal.Queues.{waits, with_last, without, front_call};
 ghost use Rattle.ada_events.specs.declared.limits.TheConstants.{MOST_SLOTS, MOST_TASKS};
 
 use crate::nodes::{Node, Nodes};
@@ -79,7 +80,8 @@ impl Model for Queues {
 
     ghost Value = { Waiting };
 
-    ghost use Rattle.ada_tables.specs.Links.{calls_in, AreLinked};
+    ghost use Rattle.ada_tables.specs.Links.{calls_in};
+    ghost use Rattle.ada_tables.specs.internal.Links.{AreLinked};
 
     ghost view = { λ q. record {
       queues = map (calls_in q.nodes.nodes) q.queues.items;

@@ -5,9 +5,12 @@ ghost use Rattle.std.specs.Option.{ForSome};
 ghost use Rattle.ada_events.specs.Entries.{entries_in};
 ghost use Rattle.ada_events.specs.Nests.{innermost};
 ghost use Rattle.ada_tables.specs.Layers.{members};
-ghost use Rattle.ada_tables.specs.Dependents.{task_at, depends_on, parent_of, made_facts, main_facts, with_nest, with_phase, cut, is_terminated};
-ghost use Rattle.ada_tables.specs.Dependents.{live_dependents, IsOpen, IsFresh, IsIdle, Stands};
-ghost use Rattle.ada_tables.specs.Queues.{queue_at, waits, with_last, without, front_call};
+ghost use Rattle.ada_tables.specs.Dependents.{task_at, depends_on, cut, is_terminated};
+ghost use Rattle.ada_tables.specs.internal.Dependents.{parent_of, made_facts, main_facts, with_nest, with_phase};
+ghost use Rattle.ada_tables.specs.Dependents.{live_dependents, Stands};
+ghost use Rattle.ada_tables.specs.internal.Dependents.{IsOpen, IsFresh, IsIdle};
+ghost use Rattle.ada_tables.specs.Queues.{queue_at};
+ghost use Rattle.ada_tables.specs.internal.Queues.{waits, with_last, without, front_call};
 ghost use Rattle.ada_tables.specs.Standing.{StandFor};
 ghost use Rattle.ada_tables.specs.Tables.{slot_at, slots_before, declared, has_no_calls, is_unready, unready_dependents, HasEntry};
 ghost use Rattle.ada_events.specs.declared.limits.TheConstants.{MOST_MEMBERS, MOST_SLOTS, MOST_TASKS};
@@ -31,7 +34,8 @@ pub struct Tables {
 }
 
 impl Model for Tables {
-    ghost use Rattle.ada_tables.specs.Tables.{State, AreTied};
+    ghost use Rattle.ada_tables.specs.Tables.{State};
+    ghost use Rattle.ada_tables.specs.internal.Tables.{AreTied};
 
     ghost Value = { State };
 

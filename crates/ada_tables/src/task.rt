@@ -1,9 +1,11 @@
 //! The record of one task.
 ghost use Rattle.std.specs.Prelude.{◌≡◌, false};
-ghost use Rattle.ada_tables.specs.Changes.{changed};
-ghost use Rattle.ada_tables.specs.Layers.{members, moved_to};
-ghost use Rattle.ada_tables.specs.Dependents.{encloses, parent_within};
-ghost use Rattle.ada_tables.specs.Counts.{counted, made};
+ghost use Rattle.ada_tables.specs.internal.Changes.{changed};
+ghost use Rattle.ada_tables.specs.Layers.{members};
+ghost use Rattle.ada_tables.specs.internal.Layers.{moved_to};
+ghost use Rattle.ada_tables.specs.Dependents.{encloses};
+ghost use Rattle.ada_tables.specs.internal.Dependents.{parent_within};
+ghost use Rattle.ada_tables.specs.internal.Counts.{counted, made};
 
 use crate::change::Change;
 use crate::{Layers, Phase};

@@ -15,7 +15,8 @@ use Rattle.ada_events.specs.Termination.{is_open_terminate}
 use Rattle.ada_events.specs.Lawful.{IsLawful}
 use Rattle.ada_forcing.specs.declared.row.Row.{Row}
 use Rattle.ada_forcing.specs.declared.row.Row.TheVariants.{Taking, Passing}
-use Rattle.ada_touching.specs.Keeping.{has_key, IsAgendaOf, Grows, ArePutUpTo, IsOpenUnder, IsReadyUnder}
+use Rattle.ada_touching.specs.Keeping.{has_key, IsAgendaOf, Grows, IsOpenUnder, IsReadyUnder}
+use Rattle.ada_touching.specs.internal.Keeping.{ArePutUpTo}
 use Rattle.ada_touching.specs.Kinds.{itself, quitting_row, quitting_key, OfWait, OfCancellation, Adds}
 use Rattle.ada_touching.specs.Kinds.OfWait.{takes, passes, quits}
 use Rattle.ada_touching.specs.Kinds.OfCancellation.{quits as quits_with}

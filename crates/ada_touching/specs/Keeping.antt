@@ -1,6 +1,5 @@
 -- Agendas that are kept as sets of numbers, one for each row of the forced steps.
-use Rattle.std.specs.Prelude.{◌≡◌, ℕ, Bool, true, Option, Some, None, List, ◌∷◌, length, take}
-use Rattle.std.specs.List.{All}
+use Rattle.std.specs.Prelude.{◌≡◌, ℕ, Bool, true, Option, Some, None, List, ◌∷◌, length}
 use Rattle.ada_events.specs.declared.event.Event.{Event}
 use Rattle.ada_events.specs.declared.event.Event.TheVariants.{Ended, Failed}
 use Rattle.ada_events.specs.declared.names.Master.{Master}
@@ -12,7 +11,6 @@ use Rattle.ada_laws.specs.Calls.{IsCallAt}
 use Rattle.ada_forcing.specs.declared.row.Row.{Row}
 use Rattle.ada_forcing.specs.Rows.{rank, IsAgenda}
 use Rattle.ada_agenda.specs.Rows.{keeps}
-use Rattle.ada_touching.specs.Kinds.{quitting_row, quitting_key}
 
 -- the key is kept for the row
 abbrev pub has_key : List (List ℕ) → Row → ℕ → Bool
@@ -45,11 +43,6 @@ pub record IsMadeBy (journal : List Event) (task maker : ℕ) : Type 0 where
   pub creation : Creation
   pub made : creation_of journal task ≡ Some creation
   pub by : creation.by ≡ maker
-
--- the sets keep each of the first so many masters in the row in which it quits, and all that was kept
-pub record ArePutUpTo (old new : List (List ℕ)) (masters : List Master) (many : ℕ) : Type 0 where
-  pub grows : Grows old new
-  pub here : All (λ m. has_key new (quitting_row m) (quitting_key m) ≡ true) (take many masters)
 
 -- the event lets a task wait at an open terminate alternative that depends on the master
 pub record IsOpenUnder (event : Event) (before : List Event) (master : Master) : Type 0 where

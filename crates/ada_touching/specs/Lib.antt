@@ -1,3 +1,4 @@
 pub mod Additions
 pub mod Keeping
 pub mod Kinds
+pub mod internal

@@ -1,7 +1,7 @@
 use Rattle.std.proofs.Common.{Some, List, [], ◌∷◌, ◌++◌, replicate, arith, ap, ◌∙◌}
 use Rattle.ada_events.specs.declared.names.Family.{Family}
 use Rattle.ada_events.specs.Entries.{entries_in}
-use Rattle.ada_tables.specs.Dependents.{made_facts}
+use Rattle.ada_tables.specs.internal.Dependents.{made_facts}
 use Rattle.ada_counts.proofs.Made.{made_open, made_tasks, made_entries, made_stand, made_slots}
 use Rattle.ada_counts.proofs.follow.follow_creation.Goals as goal
 

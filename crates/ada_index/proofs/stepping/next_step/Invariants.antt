@@ -1,4 +1,4 @@
-use Rattle.ada_agenda.specs.Rows.{weight}
+use Rattle.ada_agenda.specs.internal.Rows.{weight}
 use Rattle.ada_touching.specs.Keeping.{IsAgendaOf}
 use Rattle.ada_index.proofs.stepping.next_step.Given as goal
 

@@ -1,4 +1,4 @@
-use Rattle.ada_noting.specs.Keys.{Puts, OfFirst, AsHolder}
+use Rattle.ada_noting.specs.internal.Keys.{Puts, OfFirst, AsHolder}
 use Rattle.ada_noting.proofs.masters.put_all_holders.Given as goal
 
 abbrev pub invariant-loop-number : goal.invariant-loop-number

@@ -1,7 +1,7 @@
 use Rattle.std.proofs.Common.{◌∙◌, ◌≤◌, ap, subst}
 use Rattle.ada_events.specs.Nests.{nest}
 use Rattle.ada_tables.specs.Dependents.{Facts}
-use Rattle.ada_noting.specs.Keys.{AsBlock}
+use Rattle.ada_noting.specs.internal.Keys.{AsBlock}
 use Rattle.ada_noting.proofs.Putting.{puts_none}
 use Rattle.ada_noting.proofs.Holding.{blocks_put, all_blocks_put, got_fits}
 use Rattle.ada_noting.proofs.masters.put_blocks.Goals as goal

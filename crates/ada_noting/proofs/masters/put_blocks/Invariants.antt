@@ -1,5 +1,5 @@
 use Rattle.ada_events.specs.Nests.{nest}
-use Rattle.ada_noting.specs.Keys.{Puts, OfFirst, AsBlock}
+use Rattle.ada_noting.specs.internal.Keys.{Puts, OfFirst, AsBlock}
 use Rattle.ada_noting.proofs.masters.put_blocks.Given as goal
 
 abbrev pub invariant-loop-place : goal.invariant-loop-place

@@ -1,6 +1,6 @@
 use Rattle.std.proofs.Common.{◌∙◌, ◌≤◌, subst}
 use Rattle.ada_events.specs.Tasks.{task_count}
-use Rattle.ada_noting.specs.Keys.{AsDue}
+use Rattle.ada_noting.specs.internal.Keys.{AsDue}
 use Rattle.ada_noting.proofs.Putting.{puts_none, puts_more, puts_all}
 use Rattle.ada_noting.proofs.moments.put_all_due.Goals as goal
 

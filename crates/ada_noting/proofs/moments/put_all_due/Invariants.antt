@@ -1,4 +1,4 @@
-use Rattle.ada_noting.specs.Keys.{Puts, OfFirst, AsDue}
+use Rattle.ada_noting.specs.internal.Keys.{Puts, OfFirst, AsDue}
 use Rattle.ada_noting.proofs.moments.put_all_due.Given as goal
 
 abbrev pub invariant-loop-number : goal.invariant-loop-number

@@ -1,5 +1,5 @@
 use Rattle.std.proofs.Common.{◌+◌, sym, subst}
-use Rattle.ada_noting.specs.Bounds.{IsBoundOfFirst}
+use Rattle.ada_noting.specs.internal.Bounds.{IsBoundOfFirst}
 use Rattle.ada_noting.proofs.Bounds.{first_more}
 use Rattle.ada_noting.proofs.next_due.least_after.Goals as goal
 

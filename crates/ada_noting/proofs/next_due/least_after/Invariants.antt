@@ -1,4 +1,4 @@
-use Rattle.ada_noting.specs.Bounds.{IsBoundOfFirst}
+use Rattle.ada_noting.specs.internal.Bounds.{IsBoundOfFirst}
 use Rattle.ada_noting.proofs.next_due.least_after.Given as goal
 
 abbrev pub invariant-loop-number : goal.invariant-loop-number

@@ -1,7 +1,7 @@
 use Rattle.std.proofs.Common.{subst, w64}
 use Rattle.std.proofs.lemmas.Int.{to_z-of_z}
 use Rattle.ada_events.specs.Tasks.{task_count}
-use Rattle.ada_noting.specs.Bounds.{IsBoundOfFirst}
+use Rattle.ada_noting.specs.internal.Bounds.{IsBoundOfFirst}
 use Rattle.ada_noting.proofs.Bounds.{bound_kept, bound_renewed, tick_waits_not}
 use Rattle.ada_noting.proofs.next_due.next_after_tick.Goals as goal
 

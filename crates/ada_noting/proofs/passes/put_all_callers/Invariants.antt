@@ -1,4 +1,4 @@
-use Rattle.ada_noting.specs.Keys.{Puts, OfFirst, AsCaller}
+use Rattle.ada_noting.specs.internal.Keys.{Puts, OfFirst, AsCaller}
 use Rattle.ada_noting.proofs.passes.put_all_callers.Given as goal
 
 abbrev pub invariant-loop-number : goal.invariant-loop-number

@@ -1,4 +1,4 @@
-use Rattle.ada_noting.specs.Keys.{Puts, OfFirst, AsHeld}
+use Rattle.ada_noting.specs.internal.Keys.{Puts, OfFirst, AsHeld}
 use Rattle.ada_noting.proofs.passes.put_all_held.Given as goal
 
 abbrev pub invariant-loop-number : goal.invariant-loop-number

@@ -1,6 +1,6 @@
 use Rattle.std.proofs.Common.{◌∙◌, ◌≤◌, subst}
 use Rattle.ada_events.specs.Tasks.{task_count}
-use Rattle.ada_noting.specs.Keys.{AsUnstarted}
+use Rattle.ada_noting.specs.internal.Keys.{AsUnstarted}
 use Rattle.ada_noting.proofs.Putting.{puts_none, puts_more, puts_all}
 use Rattle.ada_noting.proofs.passes.put_all_unstarted.Goals as goal
 

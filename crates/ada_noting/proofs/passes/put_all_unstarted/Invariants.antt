@@ -1,4 +1,4 @@
-use Rattle.ada_noting.specs.Keys.{Puts, OfFirst, AsUnstarted}
+use Rattle.ada_noting.specs.internal.Keys.{Puts, OfFirst, AsUnstarted}
 use Rattle.ada_noting.proofs.passes.put_all_unstarted.Given as goal
 
 abbrev pub invariant-loop-number : goal.invariant-loop-number

@@ -1,5 +1,5 @@
 use Rattle.std.proofs.Common.{◌≡◌, ◌++◌, drop}
-use Rattle.ada_printing.specs.Appending.{KeepsStarts}
+use Rattle.ada_printing.specs.internal.Appending.{KeepsStarts}
 use Rattle.ada_printing.specs.Texts.{bounds_text}
 use Rattle.ada_printing.proofs.parts.put_families.Given as goal
 

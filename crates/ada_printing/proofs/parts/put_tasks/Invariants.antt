@@ -1,6 +1,6 @@
 use Rattle.std.proofs.Common.{◌≡◌, ◌++◌, take}
 use Rattle.std.specs.List.{flat_map}
-use Rattle.ada_printing.specs.Appending.{KeepsStarts}
+use Rattle.ada_printing.specs.internal.Appending.{KeepsStarts}
 use Rattle.ada_printing.specs.Texts.{listed_text}
 use Rattle.ada_printing.proofs.parts.put_tasks.Given as goal
 

@@ -1,5 +1,5 @@
 use Rattle.std.proofs.Common.{◌≡◌, ◌-◌, ◌≤◌, length}
-use Rattle.ada_reading.specs.Reading.{repeat_at, family_at, families_at}
+use Rattle.ada_reading.specs.internal.Reading.{repeat_at, family_at, families_at}
 use Rattle.ada_reading.proofs.lists.read_families.Given as goal
 
 abbrev pub invariant-loop-families : goal.invariant-loop-families

@@ -1,5 +1,5 @@
 use Rattle.std.proofs.Common.{◌≡◌, ◌-◌, ◌≤◌, length}
-use Rattle.ada_reading.specs.Reading.{repeat_at, task_at, tasks_at}
+use Rattle.ada_reading.specs.internal.Reading.{repeat_at, task_at, tasks_at}
 use Rattle.ada_reading.proofs.lists.read_tasks.Given as goal
 
 abbrev pub invariant-loop-tasks : goal.invariant-loop-tasks

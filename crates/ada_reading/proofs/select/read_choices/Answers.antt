@@ -1,7 +1,7 @@
 use Rattle.std.proofs.Common.{◌≡◌, inl, inr, suc, Some, None, Ok, sym, ap, ◌∙◌, ◌-◌, length, length-append, [], ◌∷◌, ◌++◌, arith}
 use Rattle.std.proofs.lemmas.Bool.{eqb-true}
 use Rattle.std.proofs.lemmas.Result.{err_from_is_err_and}
-use Rattle.ada_reading.specs.Reading.{choices_at, choice_at, with_tail, tail_from}
+use Rattle.ada_reading.specs.internal.Reading.{choices_at, choice_at, with_tail, tail_from}
 use Rattle.ada_reading.proofs.Repeat.{room_left}
 use Rattle.ada_reading.proofs.Choices.{choices_fail, choices_end, choices_full, choice_fails, choice_ends, choice_goes_on}
 use Rattle.ada_reading.proofs.select.read_choices.Goals as goal

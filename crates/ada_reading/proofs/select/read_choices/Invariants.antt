@@ -1,5 +1,5 @@
 use Rattle.std.proofs.Common.{◌≡◌, ◌-◌, ◌≤◌, length, []}
-use Rattle.ada_reading.specs.Reading.{choices_at}
+use Rattle.ada_reading.specs.internal.Reading.{choices_at}
 use Rattle.ada_reading.proofs.select.read_choices.Given as goal
 
 abbrev pub invariant-alternatives : goal.invariant-alternatives

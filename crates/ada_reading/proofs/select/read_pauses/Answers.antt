@@ -1,7 +1,7 @@
 use Rattle.std.proofs.Common.{sym, ◌∙◌, ◌-◌, length, length-append, [], ◌∷◌, arith}
 use Rattle.std.proofs.lemmas.Bool.{eqb-true}
 use Rattle.std.proofs.lemmas.Result.{err_from_is_err_and}
-use Rattle.ada_reading.specs.Reading.{next_pause_at}
+use Rattle.ada_reading.specs.internal.Reading.{next_pause_at}
 use Rattle.ada_reading.proofs.Repeat.{repeat_step, repeat_fails, repeat_full, repeat_over, room_left}
 use Rattle.ada_reading.proofs.select.read_pauses.Goals as goal
 

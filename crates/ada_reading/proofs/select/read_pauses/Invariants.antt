@@ -1,5 +1,5 @@
 use Rattle.std.proofs.Common.{◌≡◌, ◌-◌, ◌≤◌, length}
-use Rattle.ada_reading.specs.Reading.{repeat_at, next_pause_at, pauses_at}
+use Rattle.ada_reading.specs.internal.Reading.{repeat_at, next_pause_at, pauses_at}
 use Rattle.ada_reading.proofs.select.read_pauses.Given as goal
 
 abbrev pub invariant-loop-pauses : goal.invariant-loop-pauses

@@ -1,4 +1,4 @@
-use Rattle.ada_records.specs.Records.{HaveStarted}
+use Rattle.ada_records.specs.internal.Records.{HaveStarted}
 use Rattle.ada_records.proofs.records.note_start.Given as goal
 
 abbrev pub invariant-loop-i : goal.invariant-loop-i

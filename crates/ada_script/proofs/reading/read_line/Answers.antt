@@ -1,7 +1,7 @@
 use Rattle.std.proofs.Common.{refl, sym, ◌∙◌, ap, inr, [], ◌∷◌, ◌++◌}
 use Rattle.ada_statements.specs.Text.{words_in}
 use Rattle.ada_script.specs.Script.{is_skipped}
-use Rattle.ada_reading.specs.Reading.{statement_of}
+use Rattle.ada_reading.specs.internal.Reading.{statement_of}
 use Rattle.ada_script.proofs.Lines.{of_these}
 use Rattle.std.proofs.lemmas.Result.{err_from_is_err_and}
 use Rattle.ada_script.proofs.Lines.{says, words_fail}

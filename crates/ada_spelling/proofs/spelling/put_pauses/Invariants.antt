@@ -1,6 +1,6 @@
 use Rattle.std.proofs.Common.{◌≡◌, ◌++◌, ◌==◌, ◌&&◌, map, drop}
 use Rattle.ada_spelling.specs.Spelling.{pause_words}
-use Rattle.ada_spelling.specs.Writing.{linked_by_or}
+use Rattle.ada_spelling.specs.internal.Writing.{linked_by_or}
 use Rattle.ada_spelling.proofs.spelling.put_pauses.Given as goal
 
 abbrev pub invariant-loop-i : goal.invariant-loop-i

@@ -1,5 +1,5 @@
 use Rattle.ada_laws.specs.Work.{work_left}
-use Rattle.ada_steps.specs.Settling.{IsSettling}
+use Rattle.ada_steps.specs.internal.Settling.{IsSettling}
 use Rattle.ada_steps.proofs.answering.settle.Given as goal
 
 abbrev pub invariant-loop : goal.invariant-loop

@@ -1,7 +1,7 @@
 use Rattle.std.proofs.Common.{sym, arith, ◌∙◌}
 use Rattle.std.proofs.lemmas.List.{get_or_default}
 use Rattle.ada_tables.proofs.Counting.{counting_goes_on, counting_stops, counting_ends}
-use Rattle.ada_tables.specs.Changes.{changed}
+use Rattle.ada_tables.specs.internal.Changes.{changed}
 use Rattle.ada_tables.proofs.layers.count.Goals as goal
 
 pub loop-layer-preserved : goal.loop-layer-preserved

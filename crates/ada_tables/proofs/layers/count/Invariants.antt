@@ -1,4 +1,4 @@
-use Rattle.ada_tables.specs.Changes.{changed}
+use Rattle.ada_tables.specs.internal.Changes.{changed}
 use Rattle.ada_tables.proofs.Counting.{IsCounted}
 use Rattle.ada_tables.proofs.layers.count.Given as goal
 

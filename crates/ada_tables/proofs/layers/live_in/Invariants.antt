@@ -1,5 +1,5 @@
 use Rattle.std.proofs.Common.{◌≡◌, drop}
-use Rattle.ada_tables.specs.Layers.{live_at}
+use Rattle.ada_tables.specs.internal.Layers.{live_at}
 use Rattle.ada_tables.proofs.layers.live_in.Given as goal
 
 abbrev pub invariant-loop-layer : goal.invariant-loop-layer

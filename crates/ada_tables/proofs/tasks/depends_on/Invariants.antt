@@ -1,6 +1,7 @@
 use Rattle.std.proofs.Common.{◌≡◌, ◌<◌, length}
 use Rattle.ada_tables.specs.Dependents.{depends_on}
-use Rattle.ada_tables.specs.Counts.{facts, IsLed}
+use Rattle.ada_tables.specs.Counts.{facts}
+use Rattle.ada_tables.specs.internal.Counts.{IsLed}
 use Rattle.ada_tables.proofs.tasks.depends_on.Given as goal
 
 abbrev pub invariant-loop-number : goal.invariant-loop-number

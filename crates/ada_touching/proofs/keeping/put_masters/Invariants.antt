@@ -1,4 +1,4 @@
-use Rattle.ada_touching.specs.Keeping.{ArePutUpTo}
+use Rattle.ada_touching.specs.internal.Keeping.{ArePutUpTo}
 use Rattle.ada_touching.proofs.keeping.put_masters.Given as goal
 
 abbrev pub invariant-loop-i : goal.invariant-loop-i

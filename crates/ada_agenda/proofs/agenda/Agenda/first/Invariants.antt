@@ -1,6 +1,6 @@
 use Rattle.std.proofs.Common.{◌≡◌}
-use Rattle.ada_agenda.specs.Bits.{word_sum}
-use Rattle.ada_agenda.specs.Rows.{AreFilled}
+use Rattle.ada_agenda.specs.internal.Bits.{word_sum}
+use Rattle.ada_agenda.specs.internal.Rows.{AreFilled}
 use Rattle.ada_agenda.proofs.agenda.Agenda.first.Given as goal
 
 abbrev pub invariant-loop-self : goal.invariant-loop-self

@@ -1,6 +1,6 @@
 use Rattle.std.proofs.Common.{sym, ap, ◌∙◌}
 use Rattle.ada_statements.specs.Binding.{with_meaning}
-use Rattle.ada_statements.specs.Places.{bound_by}
+use Rattle.ada_statements.specs.internal.Places.{bound_by}
 use Rattle.indexmap.specs.IndexMap.{set_value_at}
 use Rattle.ada_statements.proofs.BoundNames.{with_meaning-absent}
 use Rattle.ada_statements.proofs.Placed.{set_at_place, rebound_kept, nothing_is_there}

@@ -1,5 +1,5 @@
 use Rattle.std.proofs.Common.{take}
-use Rattle.ada_statements.specs.Places.{AreKept}
+use Rattle.ada_statements.specs.internal.Places.{AreKept}
 use Rattle.ada_statements.proofs.names.Names.noted_in.Given as goal
 
 abbrev pub invariant-loop-place : goal.invariant-loop-place

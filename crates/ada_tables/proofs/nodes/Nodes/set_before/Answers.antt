@@ -1,6 +1,6 @@
 use Rattle.std.proofs.Common.{◌<◌, length, refl, sym, ap, ◌∙◌}
 use Rattle.std.specs.Option.{option_copied_mut}
-use Rattle.ada_tables.specs.Nodes.{with_before}
+use Rattle.ada_tables.specs.internal.Nodes.{with_before}
 use Rattle.ada_tables.proofs.Keys.{rewritten, has_within, key_read}
 use Rattle.ada_tables.proofs.nodes.Nodes.set_before.Goals as goal
 

@@ -1,6 +1,6 @@
 use Rattle.std.proofs.Common.{◌≡◌, length, subst, sym, arith}
 use Rattle.std.proofs.lemmas.List.{with_items_is}
-use Rattle.ada_tables.specs.Counts.{AreCounted}
+use Rattle.ada_tables.specs.internal.Counts.{AreCounted}
 use Rattle.ada_tables.proofs.Turns.{made_alone, made_led, task_made}
 use Rattle.ada_tables.proofs.tasks.Tasks.add_reserved.Goals as goal
 

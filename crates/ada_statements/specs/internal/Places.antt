@@ -1,6 +1,6 @@
 -- Where the names that are bound stand among the names of a script. It stands for nothing by itself: names are seen
 -- as the list of them, and what a name is bound to is looked for there.
-use Rattle.std.specs.Prelude.{◌≡◌, ℕ, false, true, Option, Some, None, List, slice_get}
+use Rattle.std.specs.Prelude.{◌≡◌, ℕ, false, true, Option, Some, None, slice_get}
 use Rattle.std.specs.List.{position_from}
 use Rattle.ada_statements.specs.declared.meaning.Meaning.{Meaning}
 use Rattle.ada_statements.specs.declared.meaning.Bound.{Bound}
@@ -9,7 +9,7 @@ use Rattle.ada_statements.specs.declared.meaning.Binding.{Binding}
 use Rattle.ada_statements.specs.declared.meaning.Binding.TheVariants as bindings
 use Rattle.ada_statements.specs.declared.places.Places.{Places}
 use Rattle.ada_statements.specs.declared.places.Spot.{Spot}
-use Rattle.ada_statements.specs.declared.places.Spot.TheVariants.{Nothing, Task, Block}
+use Rattle.ada_statements.specs.declared.places.Spot.TheVariants.{Task, Block}
 use Rattle.ada_statements.specs.Scope.{Scope}
 use Rattle.ada_statements.specs.Binding.{with_made, with_opened}
 use Rattle.ada_statements.specs.Binding.{is_bound_to}

@@ -1,0 +1,61 @@
+-- Records that stand for a journal: each field is what the definitions give.
+use Rattle.std.specs.Prelude.{◌≡◌, ℕ, ◌<◌, ◌≤◌, Bool, true, false, not, ◌||◌, ◌&&◌, ◌∷◌, List, [], length, take}
+use Rattle.ada_events.specs.declared.event.Event.{Event}
+use Rattle.ada_events.specs.declared.names.TaskNo.{TaskNo}
+use Rattle.ada_events.specs.declared.outcome.Outcome.TheVariants.{Held}
+use Rattle.ada_events.specs.Search.{is_some_and}
+use Rattle.ada_events.specs.Says.{Wait, wait_in}
+use Rattle.ada_events.specs.Phases.{lists_task}
+use Rattle.ada_events.specs.Termination.{is_open_terminate}
+use Rattle.ada_records.specs.declared.record.Doing.{Doing}
+use Rattle.ada_records.specs.declared.record.Record.{Record}
+use Rattle.ada_records.specs.Records.{freed, record_at, IsRecordOf}
+
+-- what is kept of the latest doing of a task that an event at a position holds up
+abbrev pub held : ℕ → Bool → Doing
+held at quittable = record { at = at; joined = false; quittable = quittable; outcome = Held }
+
+-- the wait has an open terminate alternative
+abbrev pub may_terminate : Event → Bool
+may_terminate event = is_some_and (wait_in event) (λ (w : Wait). is_open_terminate w.tail)
+
+-- a record after its task ended its activation (9.3)
+abbrev pub elaborated_record : Bool → Record → Record
+elaborated_record true r = record r { stage = record r.stage { elaborated = true } }
+elaborated_record false r = record {
+  doing = freed r.doing.outcome;
+  stage = record r.stage { elaborated = true; failed = true; completed = true };
+}
+
+-- a record after all that depend on a master terminated together
+abbrev pub quit_record : Bool → Record → Record
+quit_record true r = record { doing = freed r.doing.outcome; stage = record r.stage { terminated = true } }
+quit_record false r = r
+
+-- a record after an abort
+abbrev pub abort_record : Bool → Record → Record
+abort_record hit r = record r {
+  stage = record r.stage {
+    abnormal = hit && not r.stage.terminated || r.stage.abnormal;
+  };
+}
+
+-- a record after a start, by whether that names the task (9.3)
+abbrev pub start_record : Bool → Record → Record
+start_record named r = record r {
+  stage = record r.stage {
+    named = named || r.stage.named;
+    started = named && not (r.stage.completed || r.stage.terminated) || r.stage.started;
+  };
+}
+
+-- the first so many records stand for the journal with one more event, and the others are as they were
+pub record AreUpTo (event : Event) (before : List Event) (old new : List Record) (many : ℕ) : Type 0 where
+  pub same : length new ≡ length old
+  pub done : (task : ℕ) → task < many → task < length old → IsRecordOf (event ∷ before) task (record_at new task)
+  pub rest : (task : ℕ) → many ≤ task → record_at new task ≡ record_at old task
+
+-- the records after the first so many tasks were named by a start
+pub record HaveStarted (first now : List Record) (tasks : List TaskNo) (many : ℕ) : Type 0 where
+  pub same : length now ≡ length first
+  pub each : (task : ℕ) → task < length first → record_at now task ≡ start_record (lists_task task (take many tasks)) (record_at first task)

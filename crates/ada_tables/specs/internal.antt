@@ -1,0 +1,9 @@
+-- What only private contracts and invariants cite: no caller meets it.
+pub mod Changes
+pub mod Counts
+pub mod Dependents
+pub mod Layers
+pub mod Links
+pub mod Nodes
+pub mod Queues
+pub mod Tables
