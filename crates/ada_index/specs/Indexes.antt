@@ -2,16 +2,17 @@
 use Rattle.std.specs.Prelude.{List}
 use Rattle.ada_events.specs.declared.event.Event.{Event}
 use Rattle.ada_counts.specs.Noting.{HaveAllQueues}
-use Rattle.ada_noting.specs.Bounds.{IsDueBound}
+use Rattle.ada_noting.specs.Bounds.{IsDueBound, IsStartBound}
 use Rattle.ada_rows.specs.States.{IsKept}
 use Rattle.ada_touching.specs.Keeping.{IsAgendaOf}
 use Rattle.ada_index.specs.declared.index.Index.{Index}
 
 -- the journal is lawful, and all that is kept of it is right: records, tables with a queue for each entry, positions of
--- creations, moment, an agenda that misses no step, and a bound of the moments for which tasks are
--- suspended
+-- creations, moment, an agenda that misses no step, a bound of the moments for which tasks are suspended, and one of
+-- the tasks that were started
 pub record IsIndexOf (index : Index) (journal : List Event) : Type 0 where
   pub kept : IsKept journal index.records.items index.tables index.made.items index.moment
   pub slots : HaveAllQueues index.tables journal
   pub agenda : IsAgendaOf index.agenda journal
   pub due : IsDueBound journal index.next_due
+  pub unstarted : IsStartBound journal index.unstarted

@@ -7,7 +7,7 @@ ghost use Rattle.ada_index.specs.Indexes.{IsIndexOf};
 use crate::stepping::next_step;
 use ada_agenda::Agenda;
 use ada_events::{Event, Journal, Refusal};
-use ada_noting::NextDue;
+use ada_noting::{FirstUnstarted, NextDue};
 use ada_records::Record;
 use ada_rows::State;
 use ada_tables::Tables;
@@ -17,8 +17,8 @@ use std::alloc::Global;
 const ROWS: usize = 11;
 
 /// What is kept of a journal beside the journal: a record of each task, the tables, the positions of the creations
-/// of all tasks, the moment in milliseconds, the agenda of where a step may be forced, and the next moment for which a
-/// task is suspended.
+/// of all tasks, the moment in milliseconds, the agenda of where a step may be forced, the next moment for which a task
+/// is suspended, and the first task that may not be started.
 #[derive(Drop)]
 pub struct Index {
     pub(crate) records: Vec<Record>,
@@ -27,6 +27,7 @@ pub struct Index {
     pub(crate) moment: i64,
     pub(crate) agenda: Agenda,
     pub(crate) next_due: NextDue,
+    pub(crate) unstarted: FirstUnstarted,
 }
 
 impl Index {
@@ -44,6 +45,7 @@ impl Index {
         let tables = Tables::new(alloc)?;
         let agenda = Agenda::new(alloc, ROWS)?;
         let next_due = NextDue::new();
+        let unstarted = FirstUnstarted::new();
         Ok(Index {
             records,
             tables,
@@ -51,6 +53,7 @@ impl Index {
             moment: 0,
             agenda,
             next_due,
+            unstarted,
         })
     }
 

@@ -67,7 +67,13 @@ impl Index {
             &self.made,
             self.moment,
         );
-        note_keys(&mut self.agenda, &mut self.next_due, &state, event);
+        note_keys(
+            &mut self.agenda,
+            &mut self.next_due,
+            &mut self.unstarted,
+            &state,
+            event,
+        );
         note_records(&mut self.records, journal, event, choice, touched);
         follow(&mut self.tables, &self.records, journal, event);
         self.moment = moment_after(self.moment, journal, event);

@@ -56,7 +56,7 @@ close_key : (before : List Event) (at block : ℕ) (row : Row) (key : ℕ) → a
 close_key before at block row key same close_leaves = inl (inl (rw same itself))
 close_key before at block row key same close_quits = inl (inr itself)
 close_key before at block row key same (close_abandons u of) =
-    inr (record { task = u; among = created_exists before u of.creation of.made; of = goes of.never })
+    inr (record { task = u; among = created_exists before u of.creation of.made; of = goes of.creation of.made of.never })
 
 pub close_noted : (event : Event) (before : List Event) (old new : List (List ℕ)) (by : TaskNo) (block at : ℕ) → IsLawful (event ∷ before)
     → IsAgendaOf old before → event ≡ Closed by block → at ≡ length before + 1 → Puts old new (CloseKeys before at block) → IsAgendaOf new (event ∷ before)

@@ -1,5 +1,5 @@
 -- What the end of a task adds to an agenda.
-use Rattle.std.proofs.Common.{◌≡◌, ℕ, ◌<◌, true, false, List, Some, None, ◌∷◌, sym, refl, ap, ◌∙◌, subst, arith, inl, inr}
+use Rattle.std.proofs.Common.{◌≡◌, ℕ, ◌<◌, true, false, not, List, Some, None, ◌∷◌, sym, refl, ap, ◌∙◌, subst, arith, inl, inr}
 use Rattle.std.specs.Option.{option_map}
 use Rattle.std.proofs.lemmas.Bool.{true≢false, eq-eqb, false_from_ne_true}
 use Rattle.std.proofs.lemmas.Option.{none-some, same_Some}
@@ -20,6 +20,7 @@ use Rattle.ada_laws.proofs.Suspending.{suspended_exists}
 use Rattle.ada_laws.proofs.Depending.{depends_exists, depends_reaches, depends_after}
 use Rattle.ada_laws.proofs.Reaching.{reaches_known}
 use Rattle.ada_laws.proofs.DependentLaws.{going}
+use Rattle.ada_forcing.specs.Touching.{is_lost}
 use Rattle.ada_forcing.specs.declared.row.Row.{Row}
 use Rattle.ada_forcing.specs.declared.row.Row.TheVariants.{Failing, Activating, Going, QuittingBody, Leaving}
 use Rattle.ada_touching.specs.Keeping.{has_key, IsAgendaOf}
@@ -35,11 +36,12 @@ use Rattle.ada_counts.specs.Holders.{IsHeld}
 use Rattle.ada_counts.proofs.LiveHolders.{of_master}
 use Rattle.ada_counts.proofs.Owners.{has_contained}
 use Rattle.ada_rows.proofs.Orphans.{gone_stays}
-use Rattle.ada_noting.specs.internal.Keys.{Puts, Both, OfFirst, AsKey, AsHeld, AsUnstarted, AsCaller, AsHolder, AsDependent, AsActivation}
+use Rattle.ada_noting.specs.internal.Keys.{Puts, Both, OfFirst, AsKey, AsHeld, AsUnstarted, AsCaller, AsLost, AsHolder, AsDependent, AsActivation}
 use Rattle.ada_noting.specs.internal.Keys.AsKey.{itself}
 use Rattle.ada_noting.specs.internal.Keys.AsHeld.{held}
 use Rattle.ada_noting.specs.internal.Keys.AsUnstarted.{goes}
 use Rattle.ada_noting.specs.internal.Keys.AsCaller.{fails}
+use Rattle.ada_noting.specs.internal.Keys.When.{holds_so}
 use Rattle.ada_noting.specs.internal.Keys.AsHolder.{quits, goes as holder_goes, leaves}
 use Rattle.ada_noting.specs.internal.Keys.AsDependent.{through}
 use Rattle.ada_noting.specs.internal.Keys.AsActivation.{activates}
@@ -83,20 +85,23 @@ caller_key before task p lawful of =
     let suspended = open_calls_suspend before of.call p of.opened in
     record { task = of.call.by; among = suspended_exists before of.call.by p lawful suspended; of = fails of.call p of.opened.stands suspended of.to }
 
+lost_key : (before : List Event) (task p : ℕ) → IsLawful before → is_lost before task ≡ false → IsOpenCallTo before task p → AsLost before task Failing p
+lost_key before task p lawful was of = holds_so (ap not was) (caller_key before task p lawful of)
+
 -- all that was put for a completion
 abbrev pub CompletionKeys : List Event → TaskNo → Row → ℕ → Type 0
 CompletionKeys before task =
-    Both (Both (Both (Both (AsKey Going task.0) (AsKey QuittingBody task.0)) (OfFirst (AsCaller before task.0) (task_count before))) (AsActivation before task))
+    Both (Both (Both (Both (AsKey Going task.0) (AsKey QuittingBody task.0)) (AsLost before task.0)) (AsActivation before task))
     (OfFirst (AsUnstarted before) (task_count before))
 
 completion_key : (before : List Event) (task : TaskNo) (row : Row) (key : ℕ) → IsLawful before → OfCompletion before task row key
     → CompletionKeys before task row key
 completion_key before task row key lawful task_goes = inl (inl (inl (inl itself)))
 completion_key before task row key lawful body_quits = inl (inl (inl (inr itself)))
-completion_key before task row key lawful (call_fails p of) = inl (inl (inr (caller_key before task.0 p lawful of)))
+completion_key before task row key lawful (call_fails p was of) = inl (inl (inr (lost_key before task.0 p lawful was of)))
 completion_key before task row key lawful (start_ends p active) = inl (inr (activates p active))
 completion_key before task row key lawful (task_abandons u of) =
-    inr (record { task = u; among = created_exists before u of.creation of.made; of = goes of.never })
+    inr (record { task = u; among = created_exists before u of.creation of.made; of = goes of.creation of.made of.never })
 
 pub completion_put : (before : List Event) (old new : List (List ℕ)) (task : TaskNo) → IsLawful before → Puts old new (CompletionKeys before task)
     → Puts old new (OfCompletion before task)
@@ -126,11 +131,11 @@ goer_live event before task lawful is =
 -- all that was put for a termination
 abbrev pub TerminationKeys : List Event → TaskNo → Row → ℕ → Type 0
 TerminationKeys before task =
-    Both (Both (OfFirst (AsCaller before task.0) (task_count before)) (AsActivation before task)) (AsDependent before task.0)
+    Both (Both (AsLost before task.0) (AsActivation before task)) (AsDependent before task.0)
 
 termination_key : (before : List Event) (task : TaskNo) (row : Row) (key : ℕ) → IsLawful before → is_terminated before task.0 ≡ false
     → OfTermination before task row key → TerminationKeys before task row key
-termination_key before task row key lawful live (end_fails p of) = inl (inl (caller_key before task.0 p lawful of))
+termination_key before task row key lawful live (end_fails p was of) = inl (inl (lost_key before task.0 p lawful was of))
 termination_key before task row key lawful live (end_activates p active) = inl (inr (activates p active))
 termination_key before task row key lawful live (end_goes t depends) =
     inr (through t.0 (Body t) Going t.0 live depends (eq-eqb t.0 t.0 refl) holder_goes)
@@ -156,7 +161,7 @@ QuitKeys before =
 
 ended_key : (before : List Event) (t : TaskNo) (row : Row) (key : ℕ) → IsLawful before → is_terminated before t.0 ≡ false → OfTermination before t row key
     → QuitKeys before row key
-ended_key before t row key lawful live (end_fails p of) = inl (inl (fails_held before Failing t.0 p lawful of))
+ended_key before t row key lawful live (end_fails p was of) = inl (inl (fails_held before Failing t.0 p lawful of))
 ended_key before t row key lawful live (end_activates p active) =
     inl (inr (record { task = active.creation.by; among = suspended_exists before active.creation.by p lawful active.suspended; of = held p active.suspended }))
 ended_key before t row key lawful live (end_goes u depends) =

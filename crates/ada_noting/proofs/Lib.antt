@@ -7,4 +7,5 @@ pub mod Holding
 pub mod Additions
 pub mod Outwards
 pub mod Putting
+pub mod Starts
 pub mod Waits

@@ -1,22 +1,21 @@
 -- Keys that are put into an agenda.
-use Rattle.std.proofs.Common.{◌≡◌, ℕ, ◌+◌, ◌<◌, ◌≤◌, true, false, List, sym, ap, ◌∙◌, subst, arith, inl, inr}
-use Rattle.std.proofs.lemmas.Bool.{cases_lt, eq-eqb}
+use Rattle.std.proofs.Common.{◌≡◌, ℕ, ◌+◌, ◌<◌, ◌≤◌, Bool, true, false, List, sym, ap, ◌∙◌, subst, arith, inl, inr}
+use Rattle.std.proofs.lemmas.Bool.{true≢false, cases_lt, eq-eqb}
 use Rattle.ada_events.specs.declared.event.Event.{Event}
 use Rattle.ada_events.specs.Search.{is_some_and, event_at}
 use Rattle.ada_events.specs.Says.{Call}
-use Rattle.ada_events.specs.Phases.{has_start}
 use Rattle.ada_events.specs.Lawful.{IsLawful}
 use Rattle.ada_laws.specs.Calls.{IsCallAt}
 use Rattle.ada_forcing.specs.declared.row.Row.{Row}
-use Rattle.ada_forcing.specs.declared.row.Row.TheVariants.{Failing, Going}
+use Rattle.ada_forcing.specs.declared.row.Row.TheVariants.{Failing}
 use Rattle.ada_records.specs.Records.{IsHeldAt}
 use Rattle.ada_touching.specs.Keeping.{has_key, Grows}
 use Rattle.ada_touching.proofs.Noting.{grows_same, grows_on, held_there}
-use Rattle.ada_noting.specs.internal.Keys.{Puts, Both, OfFirst, AsKey, AsHeld, AsUnstarted, AsCaller, calls}
+use Rattle.ada_noting.specs.internal.Keys.{Puts, Both, OfFirst, AsKey, When, AsHeld, AsCaller, calls}
 use Rattle.ada_noting.specs.internal.Keys.AsKey.{itself}
 use Rattle.ada_noting.specs.internal.Keys.AsHeld.{held}
 use Rattle.ada_noting.specs.internal.Keys.AsCaller.{fails}
-use Rattle.ada_noting.specs.internal.Keys.AsUnstarted.{goes}
+use Rattle.ada_noting.specs.internal.Keys.When.{holds_so}
 
 pub puts_none : (old : List (List ℕ)) (Key : ℕ → Row → ℕ → Type 0) → Puts old old (OfFirst Key 0)
 puts_none old Key = record { grows = grows_same old; here = λ row key first. absurd (omega (arith, first.among)) }
@@ -80,13 +79,17 @@ pub held_put : (journal : List Event) (old new : List (List ℕ)) (at : Row) (ta
 held_put journal old new at task p lawful is grows here =
     record { grows = grows; here = λ row key of. has_held journal new at task p row key lawful is here of }
 
-has_unstarted : (journal : List Event) (new : List (List ℕ)) (task : ℕ) (row : Row) (key : ℕ) → (has_start journal task ≡ false → has_key new Going task ≡ true)
-    → AsUnstarted journal task row key → has_key new row key ≡ true
-has_unstarted journal new task row key here (goes never) = here never
+so_key : (so : Bool) (Key : Row → ℕ → Type 0) (row : Row) (key : ℕ) → When so Key row key → Key row key
+so_key so Key row key (holds_so is of) = of
 
-pub unstarted_put : (journal : List Event) (old new : List (List ℕ)) (task : ℕ) → Grows old new
-    → (has_start journal task ≡ false → has_key new Going task ≡ true) → Puts old new (AsUnstarted journal task)
-unstarted_put journal old new task grows here = record { grows = grows; here = λ row key of. has_unstarted journal new task row key here of }
+pub so_put : (old new : List (List ℕ)) (so : Bool) (Key : Row → ℕ → Type 0) → Puts old new Key → Puts old new (When so Key)
+so_put old new so Key puts = record { grows = puts.grows; here = λ row key of. puts.here row key (so_key so Key row key of) }
+
+not_key : (new : List (List ℕ)) (so : Bool) (Key : Row → ℕ → Type 0) (row : Row) (key : ℕ) → so ≡ false → When so Key row key → has_key new row key ≡ true
+not_key new so Key row key not_so (holds_so is of) = absurd (true≢false (sym is ∙ not_so))
+
+pub not_put : (old : List (List ℕ)) (so : Bool) (Key : Row → ℕ → Type 0) → so ≡ false → Puts old old (When so Key)
+not_put old so Key not_so = record { grows = grows_same old; here = λ row key of. not_key old so Key row key not_so of }
 
 -- a call to the callee at a position
 is_called : (journal : List Event) (callee p : ℕ) (call : Call) → IsCallAt journal call p → call.callee ≡ callee

@@ -21,22 +21,10 @@ use Rattle.ada_touching.proofs.Noting.{grows_same, own_is}
 use Rattle.ada_noting.specs.internal.Keys.{Puts, Both, When, AsKey, AsDependent}
 use Rattle.ada_noting.specs.internal.Keys.AsKey.{itself}
 use Rattle.ada_noting.specs.internal.Keys.AsHolder.{quits}
-use Rattle.ada_noting.specs.internal.Keys.AsDependent.{through}
 use Rattle.ada_noting.specs.internal.Keys.When.{holds_so}
+use Rattle.ada_noting.specs.internal.Keys.AsDependent.{through}
 use Rattle.ada_noting.proofs.Additions.{noted}
 use Rattle.ada_noting.proofs.Ends.{dependent_held}
-
-so_key : (so : Bool) (Key : Row → ℕ → Type 0) (row : Row) (key : ℕ) → When so Key row key → Key row key
-so_key so Key row key (holds_so is of) = of
-
-pub so_put : (old new : List (List ℕ)) (so : Bool) (Key : Row → ℕ → Type 0) → Puts old new Key → Puts old new (When so Key)
-so_put old new so Key puts = record { grows = puts.grows; here = λ row key of. puts.here row key (so_key so Key row key of) }
-
-not_key : (new : List (List ℕ)) (so : Bool) (Key : Row → ℕ → Type 0) (row : Row) (key : ℕ) → so ≡ false → When so Key row key → has_key new row key ≡ true
-not_key new so Key row key not_so (holds_so is of) = absurd (true≢false (sym is ∙ not_so))
-
-pub not_put : (old : List (List ℕ)) (so : Bool) (Key : Row → ℕ → Type 0) → so ≡ false → Puts old old (When so Key)
-not_put old so Key not_so = record { grows = grows_same old; here = λ row key of. not_key old so Key row key not_so of }
 
 -- who waits isn't terminated
 waiter_held : (event : Event) (by : TaskNo) (pick : ℕ) (choices : List Choice) (tail : EventTail) → event ≡ Waiting by pick choices tail

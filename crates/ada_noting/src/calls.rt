@@ -137,7 +137,7 @@ fn is_open_terminate(tail: &EventTail) -> bool
 }
 
 // Puts what the masters may force on which a task depends, where that is so.
-#[tactic(auto, using(crate::proofs::Waits::so_put, crate::proofs::Waits::not_put))]
+#[tactic(auto, using(crate::proofs::Putting::so_put, crate::proofs::Putting::not_put))]
 fn put_dependent_if(agenda: &mut Agenda, state: &State, task: TaskNo, so: bool)
     requires lawful { IsLawful state.now }
     requires many { length agenda.old ≡ 11 }

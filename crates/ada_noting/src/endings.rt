@@ -10,11 +10,13 @@ ghost use Rattle.ada_events.specs.declared.event.Event.TheVariants.{Completed as
 ghost use Rattle.ada_events.specs.declared.event.Event.TheVariants.{Gone as GoneEvent, Quit as QuitEvent};
 ghost use Rattle.ada_touching.specs.Keeping.{IsAgendaOf};
 ghost use Rattle.ada_touching.specs.Kinds.{OfCompletion};
+ghost use Rattle.ada_noting.specs.Bounds.{IsStartBound};
 ghost use Rattle.ada_noting.specs.internal.Keys.{Puts, AsActivation, AsCalleeAt};
 
 use crate::calls::put_callee;
 use crate::masters::{put_all_holders, put_dependent, put_holder};
-use crate::passes::{put_all_callers, put_all_held, put_all_unstarted, put_held, put_key};
+use crate::passes::{put_all_held, put_held, put_key, put_lost_calls};
+use crate::unstarted::{FirstUnstarted, put_all_unstarted};
 use ada_agenda::Agenda;
 use ada_events::{Event, Master, TaskNo};
 use ada_forcing::Row;
@@ -56,49 +58,75 @@ fn put_activation(agenda: &mut Agenda, state: &State, task: TaskNo)
 }
 
 // Puts all that the completion of a task may force.
-fn put_completion(agenda: &mut Agenda, state: &State, task: TaskNo)
+fn put_completion(agenda: &mut Agenda, first: &mut FirstUnstarted, state: &State, task: TaskNo)
     requires lawful { IsLawful state.now }
     requires many { length agenda.old ≡ 11 }
-    ensures { Puts agenda.old agenda.new (OfCompletion state.now task) }
+    requires bound { IsStartBound state.now first.old }
+    ensures put { Puts agenda.old agenda.new (OfCompletion state.now task) }
+    ensures bound { IsStartBound state.now first.new }
 {
     put_key(agenda, Row::Going, task.0 as usize);
     put_key(agenda, Row::QuittingBody, task.0 as usize);
-    put_all_callers(agenda, state, task);
+    put_lost_calls(agenda, state, task);
     put_activation(agenda, state, task);
-    put_all_unstarted(agenda, state);
+    put_all_unstarted(agenda, first, state);
 }
 
 /// Notes that a task completes (9.4): that it goes, that dependents of its body quit, that calls to it fail, that the
 /// activation ends that names it, and that tasks go that were never started, may be forced.
-pub fn note_completion(agenda: &mut Agenda, state: &State, _event: &Event, task: TaskNo)
+pub fn note_completion(
+    agenda: &mut Agenda,
+    first: &mut FirstUnstarted,
+    state: &State,
+    _event: &Event,
+    task: TaskNo,
+)
     requires lawful { IsLawful (_event.now ∷ state.now) }
     requires stands { IsAgendaOf agenda.old state.now }
+    requires bound { IsStartBound state.now first.old }
     requires completes { _event.now ≡ CompletedEvent task }
-    ensures { IsAgendaOf agenda.new (_event.now ∷ state.now) }
+    ensures stands { IsAgendaOf agenda.new (_event.now ∷ state.now) }
+    ensures bound { IsStartBound state.now first.new }
 {
-    put_completion(agenda, state, task);
+    put_completion(agenda, first, state, task);
 }
 
 /// Notes that a task's activation ends by an exception (9.3), which completes it: what a completion may force may be
 /// forced.
-pub fn note_failed_activation(agenda: &mut Agenda, state: &State, _event: &Event, task: TaskNo)
+pub fn note_failed_activation(
+    agenda: &mut Agenda,
+    first: &mut FirstUnstarted,
+    state: &State,
+    _event: &Event,
+    task: TaskNo,
+)
     requires lawful { IsLawful (_event.now ∷ state.now) }
     requires stands { IsAgendaOf agenda.old state.now }
+    requires bound { IsStartBound state.now first.old }
     requires raises { _event.now ≡ ElaboratedEvent task false }
-    ensures { IsAgendaOf agenda.new (_event.now ∷ state.now) }
+    ensures stands { IsAgendaOf agenda.new (_event.now ∷ state.now) }
+    ensures bound { IsStartBound state.now first.new }
 {
-    put_completion(agenda, state, task);
+    put_completion(agenda, first, state, task);
 }
 
 /// Notes that an abnormal task is halted (9.10): what a completion may force, that dependents of blocks quit that the
 /// task is within, and what the masters may force on which the callee of its call depends, may be forced.
-pub fn note_halt(agenda: &mut Agenda, state: &State, _event: &Event, task: TaskNo)
+pub fn note_halt(
+    agenda: &mut Agenda,
+    first: &mut FirstUnstarted,
+    state: &State,
+    _event: &Event,
+    task: TaskNo,
+)
     requires lawful { IsLawful (_event.now ∷ state.now) }
     requires stands { IsAgendaOf agenda.old state.now }
+    requires bound { IsStartBound state.now first.old }
     requires halts { _event.now ≡ HaltedEvent task }
-    ensures { IsAgendaOf agenda.new (_event.now ∷ state.now) }
+    ensures stands { IsAgendaOf agenda.new (_event.now ∷ state.now) }
+    ensures bound { IsStartBound state.now first.new }
 {
-    put_completion(agenda, state, task);
+    put_completion(agenda, first, state, task);
     put_holder(agenda, state, task);
     put_callee(agenda, state, state.record(task).doing.at);
 }
@@ -111,7 +139,7 @@ pub fn note_termination(agenda: &mut Agenda, state: &State, _event: &Event, task
     requires goes { _event.now ≡ GoneEvent task }
     ensures { IsAgendaOf agenda.new (_event.now ∷ state.now) }
 {
-    put_all_callers(agenda, state, task);
+    put_lost_calls(agenda, state, task);
     put_activation(agenda, state, task);
     put_dependent(agenda, state, task);
 }

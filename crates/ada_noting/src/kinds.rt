@@ -5,10 +5,12 @@ ghost use Rattle.ada_events.specs.Lawful.{IsLawful};
 ghost use Rattle.ada_events.specs.Nests.{nest};
 ghost use Rattle.ada_events.specs.Tasks.{task_count};
 ghost use Rattle.ada_events.specs.declared.event.Event.TheVariants.{Closed as ClosedEvent, Aborted as AbortedEvent};
+ghost use Rattle.ada_noting.specs.Bounds.{IsStartBound};
 ghost use Rattle.ada_touching.specs.Keeping.{IsAgendaOf};
 ghost use Rattle.ada_touching.specs.Additions.{adds_nothing};
 
-use crate::passes::{put_all_held, put_all_unstarted, put_key, put_tasks};
+use crate::passes::{put_all_held, put_key, put_tasks};
+use crate::unstarted::{FirstUnstarted, put_all_unstarted};
 use ada_agenda::Agenda;
 use ada_events::{Event, TaskNo};
 use ada_forcing::Row;
@@ -27,15 +29,24 @@ pub fn note_nothing(_agenda: &mut Agenda, _state: &State, _event: &Event)
 
 /// Notes that a task closes a block (9.4): that it leaves the block, that the block's dependents quit, and that tasks
 /// go that were never started, may be forced.
-pub fn note_close(agenda: &mut Agenda, state: &State, event: &Event, _by: TaskNo, block: u32)
+pub fn note_close(
+    agenda: &mut Agenda,
+    first: &mut FirstUnstarted,
+    state: &State,
+    event: &Event,
+    _by: TaskNo,
+    block: u32,
+)
     requires lawful { IsLawful (event.now ∷ state.now) }
     requires stands { IsAgendaOf agenda.old state.now }
+    requires bound { IsStartBound state.now first.old }
     requires closes { event.now ≡ ClosedEvent _by block }
-    ensures { IsAgendaOf agenda.new (event.now ∷ state.now) }
+    ensures stands { IsAgendaOf agenda.new (event.now ∷ state.now) }
+    ensures bound { IsStartBound state.now first.new }
 {
     put_key(agenda, Row::Leaving, own_key(state.journal(), event));
     put_key(agenda, Row::QuittingBlock, block as usize);
-    put_all_unstarted(agenda, state);
+    put_all_unstarted(agenda, first, state);
 }
 
 /// Notes that tasks are aborted (9.10): that a task is halted, and that a call fails, may be forced.

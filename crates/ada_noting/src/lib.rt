@@ -10,6 +10,8 @@ pub mod moments;
 mod next_due;
 pub mod noting;
 mod passes;
+mod unstarted;
 
 pub use next_due::NextDue;
 pub use noting::note;
+pub use unstarted::FirstUnstarted;

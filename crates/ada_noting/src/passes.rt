@@ -5,7 +5,7 @@ ghost use Rattle.ada_events.specs.Lawful.{IsLawful};
 ghost use Rattle.ada_events.specs.Search.{is_some_and, event_at};
 ghost use Rattle.ada_events.specs.Tasks.{task_count};
 ghost use Rattle.ada_touching.specs.Keeping.{Grows, has_key};
-ghost use Rattle.ada_noting.specs.internal.Keys.{Puts, OfFirst, AsKey, AsHeld, AsUnstarted, AsCaller, calls};
+ghost use Rattle.ada_noting.specs.internal.Keys.{Puts, OfFirst, AsKey, AsHeld, AsCaller, AsLost, calls};
 
 use ada_agenda::Agenda;
 use ada_events::{Event, TaskNo};
@@ -54,28 +54,6 @@ pub(crate) fn put_all_held(agenda: &mut Agenda, state: &State, row: Row)
     }
 }
 
-// Puts a task that was never started into the row of those that go.
-fn put_unstarted(agenda: &mut Agenda, state: &State, task: TaskNo)
-    requires lawful { IsLawful state.now }
-    requires many { length agenda.old ≡ 11 }
-    ensures { Puts agenda.old agenda.new (AsUnstarted state.now task.0) }
-{
-    if !state.record(task).stage.named {
-        put(agenda, Row::Going, task.0 as usize);
-    }
-}
-
-/// Puts the tasks that were never started into the row of those that go.
-pub(crate) fn put_all_unstarted(agenda: &mut Agenda, state: &State)
-    requires lawful { IsLawful state.now }
-    requires many { length agenda.old ≡ 11 }
-    ensures { Puts agenda.old agenda.new (OfFirst (AsUnstarted state.now) (task_count state.now)) }
-{
-    for number in 0..state.tables().tasks() {
-        put_unstarted(agenda, state, TaskNo(number));
-    }
-}
-
 // Puts a position into a row where that is so, unless it is 0, which is none.
 pub(crate) fn put_at_if(agenda: &mut Agenda, row: Row, at: u32, so: bool)
     requires many { length agenda.old ≡ 11 }
@@ -120,8 +98,8 @@ fn put_caller(agenda: &mut Agenda, state: &State, callee: TaskNo, task: TaskNo)
     put_at_if(agenda, Row::Failing, at, calls);
 }
 
-/// Puts the calls to a task at which tasks are suspended into the row of those that fail.
-pub(crate) fn put_all_callers(agenda: &mut Agenda, state: &State, callee: TaskNo)
+// Puts the calls to a task at which tasks are suspended into the row of those that fail.
+fn put_all_callers(agenda: &mut Agenda, state: &State, callee: TaskNo)
     requires lawful { IsLawful state.now }
     requires many { length agenda.old ≡ 11 }
     ensures { Puts agenda.old agenda.new
@@ -129,5 +107,18 @@ pub(crate) fn put_all_callers(agenda: &mut Agenda, state: &State, callee: TaskNo
 {
     for number in 0..state.tables().tasks() {
         put_caller(agenda, state, callee, TaskNo(number));
+    }
+}
+
+/// Puts the calls to a task into the row of those that fail, unless they failed already, since the task has ended or is
+/// abnormal.
+#[tactic(auto, using(crate::proofs::Putting::so_put, crate::proofs::Putting::not_put))]
+pub(crate) fn put_lost_calls(agenda: &mut Agenda, state: &State, callee: TaskNo)
+    requires lawful { IsLawful state.now }
+    requires many { length agenda.old ≡ 11 }
+    ensures { Puts agenda.old agenda.new (AsLost state.now callee.0) }
+{
+    if !state.is_lost(callee) {
+        put_all_callers(agenda, state, callee);
     }
 }

@@ -65,9 +65,9 @@ impl<'a> State<'a> {
         is_to_halt(&self.record(task))
     }
 
-    // Whether no call to the task can be served any more: it has ended, or is abnormal.
+    /// Whether no call to the task can be served any more (9.5, 9.10): it has ended, or is abnormal.
     #[tactic(auto, using(crate::proofs::Deciding::lost_told))]
-    fn is_lost(&self, task: TaskNo) -> bool
+    pub fn is_lost(&self, task: TaskNo) -> bool
         ensures { result ≡ (has_ended self.now task.0 || is_abnormal self.now task.0) }
     {
         is_lost_by(&self.record(task))

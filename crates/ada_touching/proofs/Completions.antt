@@ -33,6 +33,7 @@ use Rattle.ada_laws.proofs.Framing.{IsBlockOf}
 use Rattle.ada_laws.proofs.Queueing.{is_open_at-call, open_call_suspends}
 use Rattle.ada_laws.proofs.Stepping.{queued_open}
 use Rattle.ada_laws.proofs.Suspending.{is_suspended-from}
+use Rattle.ada_forcing.specs.Touching.{is_lost}
 use Rattle.ada_forcing.specs.declared.row.Row.{Row}
 use Rattle.ada_forcing.specs.declared.row.Row.TheVariants.{Failing, Activating, Going, QuittingBody}
 use Rattle.ada_records.proofs.Queues.{ends}
@@ -171,10 +172,12 @@ ready_key e before task m v only (inr left) ready depends =
     ]
 
 lost_key : (e : Event) (before : List Event) (task : TaskNo) (u p : ℕ) → OnlyCompletes e task → IsOpenCallTo before u p
-    → IsHit e before u ⊎ IsNewlyOver e before u → OfHalt e before task Failing p
-lost_key e before task u p only call (inl new) = absurd (no_hit e before task u only new)
-lost_key e before task u p only call (inr over) =
-    completes Failing p (fails p (subst (λ (n : ℕ). IsOpenCallTo before n p) (over_one e before task u only over) call))
+    → is_lost before u ≡ false → IsHit e before u ⊎ IsNewlyOver e before u → OfHalt e before task Failing p
+lost_key e before task u p only call was (inl new) = absurd (no_hit e before task u only new)
+lost_key e before task u p only call was (inr over) =
+    let is = over_one e before task u only over in
+    completes Failing p
+    (fails p (subst (λ (n : ℕ). is_lost before n ≡ false) is was) (subst (λ (n : ℕ). IsOpenCallTo before n p) is call))
 
 done_key : (e : Event) (before : List Event) (task t : TaskNo) (p : ℕ) → OnlyCompletes e task → IsActivationOf before t p
     → (elaborated_in e ≡ Some t.0) ⊎ IsNewlyOver e before t.0 → OfHalt e before task Activating p
@@ -189,7 +192,7 @@ completion_key e before task row key lawful only (own same says) = absurd (no_ow
 completion_key e before task row key lawful only (made c says) = absurd (none-some c (sym only.makes ∙ says))
 completion_key e before task row key lawful only (hit u new) = absurd (no_hit e before task u only new)
 completion_key e before task row key lawful only (freed u p call released at by abnormal) = absurd (none-some p (sym only.releases ∙ released))
-completion_key e before task row key lawful only (lost u p call was now) = lost_key e before task u p only call (newly_lost e before u was now)
+completion_key e before task row key lawful only (lost u p call was now) = lost_key e before task u p only call was (newly_lost e before u was now)
 completion_key e before task row key lawful only (called call p says waits) = absurd (none-some call (sym only.silent.calls ∙ says))
 completion_key e before task row key lawful only (due now same p says comes) = absurd (none-some now (sym only.silent.moment ∙ says))
 completion_key e before task row key lawful only (done t p of was now) = done_key e before task t p only of (newly_done e before t was now)

@@ -22,6 +22,7 @@ use Rattle.ada_laws.proofs.Growing.{has_ended-completed}
 use Rattle.ada_laws.proofs.Framing.{IsBlockOf}
 use Rattle.ada_laws.proofs.DependentLaws.{IsEnd, is_terminated-cases}
 use Rattle.ada_laws.proofs.DependentLaws.IsEnd.{alone, together, earlier}
+use Rattle.ada_forcing.specs.Touching.{is_lost}
 use Rattle.ada_forcing.specs.declared.row.Row.{Row}
 use Rattle.ada_forcing.specs.declared.row.Row.TheVariants.{Failing, Activating, Going, QuittingBlock, Leaving}
 use Rattle.ada_records.proofs.Queues.{ends, has_ended-more}
@@ -117,9 +118,9 @@ idle_why e before m v Ends of (inr left) =
     ]
 
 lost_why : (e : Event) (before : List Event) (u p : ℕ) (Ends : ℕ → Type 0) → IsEndOf e before Ends → IsOpenCallTo before u p
-    → IsHit e before u ⊎ IsNewlyOver e before u → EndKey before e Ends Failing p
-lost_why e before u p Ends of call (inl new) = absurd (unhit e before u of.only new)
-lost_why e before u p Ends of call (inr over) = each (task_no u) Failing p (of.over u over) (fails p call)
+    → is_lost before u ≡ false → IsHit e before u ⊎ IsNewlyOver e before u → EndKey before e Ends Failing p
+lost_why e before u p Ends of call was (inl new) = absurd (unhit e before u of.only new)
+lost_why e before u p Ends of call was (inr over) = each (task_no u) Failing p (of.over u over) (fails p was call)
 
 done_why : (e : Event) (before : List Event) (t : TaskNo) (p : ℕ) (Ends : ℕ → Type 0) → IsEndOf e before Ends → IsActivationOf before t p
     → (elaborated_in e ≡ Some t.0) ⊎ IsNewlyOver e before t.0 → EndKey before e Ends Activating p
@@ -132,7 +133,7 @@ end_key e before row key Ends lawful of (own same says) = absurd (no_own e row o
 end_key e before row key Ends lawful of (made c says) = absurd (none-some c (sym of.only.makes ∙ says))
 end_key e before row key Ends lawful of (hit u new) = absurd (unhit e before u of.only new)
 end_key e before row key Ends lawful of (freed u p call released at by abnormal) = absurd (none-some p (sym of.only.releases ∙ released))
-end_key e before row key Ends lawful of (lost u p call was now) = lost_why e before u p Ends of call (newly_lost e before u was now)
+end_key e before row key Ends lawful of (lost u p call was now) = lost_why e before u p Ends of call was (newly_lost e before u was now)
 end_key e before row key Ends lawful of (called call p says waits) = absurd (none-some call (sym of.only.silent.calls ∙ says))
 end_key e before row key Ends lawful of (due now same p says comes) = absurd (none-some now (sym of.only.silent.moment ∙ says))
 end_key e before row key Ends lawful of (done t p active was now) = done_why e before t p Ends of active (newly_done e before t was now)

@@ -21,6 +21,7 @@ use Rattle.ada_events.specs.Waits.{least_due}
 use Rattle.ada_events.specs.Termination.{is_open_terminate, is_ready_to_quit}
 use Rattle.ada_laws.specs.Calls.{IsCallAt, IsOpenCallAt}
 use Rattle.ada_laws.specs.Suspension.{IsSuspendedAt}
+use Rattle.ada_forcing.specs.Touching.{is_lost}
 use Rattle.ada_forcing.specs.declared.row.Row.{Row}
 use Rattle.ada_forcing.specs.declared.row.Row.TheVariants.{Halting, Failing, Taking, Cancelling, Passing, Waking, Activating, Going, QuittingBody}
 use Rattle.ada_forcing.specs.declared.row.Row.TheVariants.{QuittingBlock, Leaving}
@@ -178,12 +179,12 @@ pub data OfCancellation (event : Event) (before : List Event) (call : ℕ) : Row
       → depends_on before called.callee m ≡ true
       → OfCancellation event before call (quitting_row m) (quitting_key m)
 
--- a completion (9.4): the task and its body, the open calls to it, the start that names it, and the
--- tasks that it made and that were never started
+-- a completion (9.4): the task and its body, the open calls to it, unless they failed already since the task
+-- is abnormal, the start that names it, and the tasks that it made and that were never started
 pub data OfCompletion (before : List Event) (task : TaskNo) : Row → ℕ → Type 0 where
   goes : OfCompletion before task Going task.0
   quits : OfCompletion before task QuittingBody task.0
-  fails : (p : ℕ) → IsOpenCallTo before task.0 p → OfCompletion before task Failing p
+  fails : (p : ℕ) → is_lost before task.0 ≡ false → IsOpenCallTo before task.0 p → OfCompletion before task Failing p
   activates : (p : ℕ) → IsActivationOf before task p → OfCompletion before task Activating p
   abandons : (u : ℕ) → IsUnstartedBy before u task.0 → OfCompletion before task Going u
 
@@ -209,10 +210,11 @@ pub data OfAbort (event : Event) (before : List Event) : Row → ℕ → Type 0 
 pub data OfTick (before : List Event) (now : ℤ) : Row → ℕ → Type 0 where
   comes_due : (row : Row) (p : ℕ) → ComesDue before now row p → OfTick before now row p
 
--- where a task terminates (9.4): the open calls to it, the start that names it, and of each master on
--- which it depends its quitting, its task's going, and its being left
+-- where a task terminates (9.4): the open calls to it, unless they failed already since the task is completed or
+-- abnormal, the start that names it, and of each master on which it depends its quitting, its task's going, and its
+-- being left
 pub data OfTermination (before : List Event) (task : TaskNo) : Row → ℕ → Type 0 where
-  fails : (p : ℕ) → IsOpenCallTo before task.0 p → OfTermination before task Failing p
+  fails : (p : ℕ) → is_lost before task.0 ≡ false → IsOpenCallTo before task.0 p → OfTermination before task Failing p
   activates : (p : ℕ) → IsActivationOf before task p → OfTermination before task Activating p
   goes : (t : TaskNo) → depends_on before task.0 (Body t) ≡ true → OfTermination before task Going t.0
   quits : (m : Master) → depends_on before task.0 m ≡ true

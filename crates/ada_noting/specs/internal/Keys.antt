@@ -1,5 +1,5 @@
 -- Keys that are put into an agenda together, and who holds what a task was made under.
-use Rattle.std.specs.Prelude.{◌≡◌, ◌⊎◌, ℕ, ◌<◌, ◌==◌, Bool, true, false, Option, Some, List, slice_get}
+use Rattle.std.specs.Prelude.{◌≡◌, ◌⊎◌, ℕ, ◌<◌, ◌==◌, Bool, true, false, not, Option, Some, List, slice_get}
 use Rattle.std.specs.Option.{option_map, option_and_then}
 use Rattle.ada_events.specs.declared.event.Event.{Event}
 use Rattle.ada_events.specs.declared.names.Master.{Master}
@@ -10,12 +10,13 @@ use Rattle.ada_events.specs.declared.names.Member.TheVariants.{Block as BlockMem
 use Rattle.ada_events.specs.Search.{is_some_and, event_at}
 use Rattle.ada_events.specs.Says.{Opening, Creation, Call, call_in, moment_in, opening_at}
 use Rattle.ada_events.specs.Waits.{is_due}
-use Rattle.ada_events.specs.Tasks.{creation_of}
+use Rattle.ada_events.specs.Tasks.{task_count, creation_of}
 use Rattle.ada_events.specs.Masters.{depends_on}
 use Rattle.ada_events.specs.Phases.{has_start, is_terminated}
 use Rattle.ada_events.specs.Nests.{nest}
 use Rattle.ada_laws.specs.Calls.{IsCallAt}
 use Rattle.ada_laws.specs.Suspension.{IsSuspendedAt}
+use Rattle.ada_forcing.specs.Touching.{is_lost}
 use Rattle.ada_forcing.specs.declared.row.Row.{Row}
 use Rattle.ada_forcing.specs.declared.row.Row.TheVariants.{Halting, Failing, Activating, Going, QuittingBlock, Leaving}
 use Rattle.ada_tables.specs.Dependents.{holds}
@@ -49,14 +50,18 @@ pub data AsKey (at : Row) (k : ℕ) : Row → ℕ → Type 0 where
 pub data AsHeld (journal : List Event) (at : Row) (task : ℕ) : Row → ℕ → Type 0 where
   held : (p : ℕ) → IsSuspendedAt journal task p → AsHeld journal at task at p
 
--- a task that was never started (9.3)
+-- a task that was made and never started (9.3)
 pub data AsUnstarted (journal : List Event) (task : ℕ) : Row → ℕ → Type 0 where
-  goes : has_start journal task ≡ false → AsUnstarted journal task Going task
+  goes : (creation : Creation) → creation_of journal task ≡ Some creation → has_start journal task ≡ false → AsUnstarted journal task Going task
 
 -- the call to that task at which a task is suspended (9.5)
 pub data AsCaller (journal : List Event) (callee task : ℕ) : Row → ℕ → Type 0 where
   fails : (call : Call) (p : ℕ) → IsCallAt journal call p → IsSuspendedAt journal task p → call.callee ≡ callee
       → AsCaller journal callee task Failing p
+
+-- the calls to a task at which tasks are suspended, unless no call to it could be served before (9.5, 9.10)
+abbrev pub AsLost : List Event → ℕ → Row → ℕ → Type 0
+AsLost journal callee = When (not (is_lost journal callee)) (OfFirst (AsCaller journal callee) (task_count journal))
 
 -- the moment that is waited for at an event has come by a tick (9.6)
 abbrev pub is_due_by : Event → Event → Bool

@@ -1,7 +1,7 @@
 use Rattle.ada_noting.proofs.Ends.{completion_noted}
 use Rattle.ada_noting.proofs.endings.note_completion.Goals as goal
 
-pub returns : goal.returns
-returns c =
+pub returns-clause-stands : goal.returns-clause-stands
+returns-clause-stands c =
     completion_noted c.args._event.now c.args.state.now c.args.agenda.now c.put_completion.new.agenda c.args.task c.requires.lawful c.requires.stands
-    c.requires.completes c.put_completion.ensures
+    c.requires.completes c.put_completion.ensures.put

@@ -8,10 +8,10 @@ pub put_holder-requires-clause-known : goal.put_holder-requires-clause-known
 put_holder-requires-clause-known c =
     completion_exists c.args._event.now c.args.state.now c.args.task c.requires.lawful (inr c.requires.halts)
 
-pub returns : goal.returns
-returns c =
+pub returns-clause-stands : goal.returns-clause-stands
+returns-clause-stands c =
     let old = c.args.agenda.now in
     halt_noted c.args._event.now c.args.state.now old c.put_callee.new.agenda c.args.task c.record.result.doing.at c.requires.lawful c.requires.stands
     c.requires.halts c.record.ensures.right.doing.at
     (both_put old c.put_holder.new.agenda c.put_callee.new.agenda _ _
-    (both_put old c.put_completion.new.agenda c.put_holder.new.agenda _ _ c.put_completion.ensures c.put_holder.ensures) c.put_callee.ensures)
+    (both_put old c.put_completion.new.agenda c.put_holder.new.agenda _ _ c.put_completion.ensures.put c.put_holder.ensures) c.put_callee.ensures)

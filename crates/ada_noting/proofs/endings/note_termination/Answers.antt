@@ -7,4 +7,4 @@ returns c =
     let old = c.args.agenda.now in
     termination_noted c.args._event.now c.args.state.now old c.put_dependent.new.agenda c.args.task c.requires.lawful c.requires.stands c.requires.goes
     (both_put old c.put_activation.new.agenda c.put_dependent.new.agenda _ _
-    (both_put old c.put_all_callers.new.agenda c.put_activation.new.agenda _ _ c.put_all_callers.ensures c.put_activation.ensures) c.put_dependent.ensures)
+    (both_put old c.put_lost_calls.new.agenda c.put_activation.new.agenda _ _ c.put_lost_calls.ensures c.put_activation.ensures) c.put_dependent.ensures)

@@ -27,4 +27,5 @@ returns-clause-ok c = record {
   slots = ap length c.in_ok-tables.ensures.queues;
   agenda = empty_agenda c.in_ok-agenda.agenda c.in_ok-agenda.ensures.rows;
   due = c.new-next_due.ensures.bound;
+  unstarted = c.new-unstarted.ensures.bound;
 }

@@ -1,6 +1,7 @@
 use Rattle.std.proofs.Common.{arith, ◌∙◌, ◌+◌, ◌∷◌, ◌++◌, [], ap, sym, subst}
 use Rattle.ada_laws.proofs.LimitLaws.{events_are_few}
 use Rattle.ada_noting.proofs.Bounds.{creation_keeps_bound}
+use Rattle.ada_noting.proofs.Starts.{bound_stays}
 use Rattle.ada_records.proofs.EventKinds.{makes_some}
 use Rattle.ada_rows.specs.States.{AreMade}
 use Rattle.ada_index.proofs.Creations.{made_more, creation_made, moment_kept}
@@ -31,5 +32,6 @@ returns-clause-ok c =
       };
       slots = c.in_ok-follow_creation.ensures.slots;
       agenda = c.note_creation.ensures;
+      unstarted = bound_stays c.args.event.now c.args.journal.now.events c.args.self.now.unstarted c.requires.stands.unstarted;
       due = creation_keeps_bound c.args.event.now c.args.journal.now.events c.args.self.now.next_due creation c.requires.lawful c.requires.stands.due makes;
     }

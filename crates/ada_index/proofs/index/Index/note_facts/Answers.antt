@@ -1,7 +1,7 @@
 use Rattle.std.proofs.Common.{arith, ◌∙◌, ◌∷◌, subst, w64}
 use Rattle.std.proofs.lemmas.Int.{to_z-of_z}
 use Rattle.ada_laws.proofs.LimitLaws.{events_are_few}
-use Rattle.ada_noting.specs.Bounds.{IsDueBound}
+use Rattle.ada_noting.specs.Bounds.{IsDueBound, IsStartBound}
 use Rattle.ada_touching.specs.Keeping.{IsAgendaOf}
 use Rattle.ada_index.proofs.Creations.{made_same}
 use Rattle.ada_index.proofs.index.Index.note_facts.Goals as goal
@@ -20,5 +20,6 @@ returns c = record {
   };
   slots = c.follow.ensures.slots;
   agenda = subst (λ journal. IsAgendaOf c.note.new.agenda (c.args.event.now ∷ journal)) c.new-state.ensures c.note.ensures.stands;
-  due = subst (λ journal. IsDueBound (c.args.event.now ∷ journal) c.note.new.next) c.new-state.ensures c.note.ensures.bound;
+  due = subst (λ journal. IsDueBound (c.args.event.now ∷ journal) c.note.new.next) c.new-state.ensures c.note.ensures.due;
+  unstarted = subst (λ journal. IsStartBound (c.args.event.now ∷ journal) c.note.new.first) c.new-state.ensures c.note.ensures.started;
 }

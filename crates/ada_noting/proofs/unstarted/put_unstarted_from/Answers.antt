@@ -1,11 +1,12 @@
 use Rattle.std.proofs.Common.{◌∙◌, ◌≤◌, subst}
 use Rattle.ada_events.specs.Tasks.{task_count}
 use Rattle.ada_noting.specs.internal.Keys.{AsUnstarted}
-use Rattle.ada_noting.proofs.Putting.{puts_none, puts_more, puts_all}
-use Rattle.ada_noting.proofs.passes.put_all_unstarted.Goals as goal
+use Rattle.ada_noting.proofs.Putting.{puts_more, puts_all}
+use Rattle.ada_noting.proofs.Starts.{none_below}
+use Rattle.ada_noting.proofs.unstarted.put_unstarted_from.Goals as goal
 
 pub loop-number-init : goal.loop-number-init
-loop-number-init c = puts_none c.args.agenda.now (AsUnstarted c.args.state.now)
+loop-number-init c = none_below c.args.state.now c.args.agenda.now c.args.from c.requires.bound
 
 pub put_unstarted-requires-clause-many : goal.put_unstarted-requires-clause-many
 put_unstarted-requires-clause-many c = c.loop-number.invariant.grows.many ∙ c.requires.many
