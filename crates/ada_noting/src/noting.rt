@@ -42,7 +42,9 @@ fn note_keys(
         }
         Event::Started { .. } => note_start(agenda, state.journal(), event),
         Event::Elaborated { by, ok: true } => note_elaboration(agenda, state, event, *by),
-        Event::Elaborated { by, ok: false } => note_failed_activation(agenda, first, state, event, *by),
+        Event::Elaborated { by, ok: false } => note_failed_activation(
+            agenda, first, state, event, *by,
+        ),
         Event::Called { callee, .. } => note_call(agenda, state, event, *callee),
         Event::Waiting {
             by,

@@ -1,8 +1,9 @@
 -- The command line: what its words order, by the words of `clap`.
-use Rattle.std.specs.Prelude.{Bool, false, if◌then◌else◌, List, Option, Some, None, codes}
+use Rattle.std.specs.Prelude.{Bool, true, false, if◌then◌else◌, List, Option, Some, None, codes}
 use Rattle.std.specs.Option.{option_map_or}
 use Rattle.std.specs.Str.{bytes_eq}
-use Rattle.clap.specs.Words.{App, Row, Rule, Text, Kinds, first_of, new_app, new_rule, with_rule, with_subcommand, subcommand_of}
+use Rattle.clap.specs.Words.{App, Row, Rule, Shape, Text, Kinds, first_of, new_app, new_rule, with_rule, with_subcommand, subcommand_of}
+use Rattle.clap.specs.Simple.{on_top}
 use Rattle.clap.specs.Faults.{fault_of}
 use Rattle.clap.specs.declared.builder.action.ArgAction.TheVariants.{SetTrue}
 use Rattle.ada_run.specs.declared.order.Order.{Order}
@@ -18,9 +19,13 @@ free_flag = record (new_rule (codes "free")) { long = Some (codes "free"); actio
 abbrev pub run_command : App
 run_command = with_rule (new_app (codes "run")) free_flag
 
--- the program, which has the two subcommands `replay` and `run`
+-- the program, which has a version
+abbrev pub bare : App
+bare = on_top (λ (s : Shape). record s { has_version = true }) (new_app (codes "adatask"))
+
+-- the program with its two subcommands `replay` and `run`
 abbrev pub adatask : App
-adatask = with_subcommand (with_subcommand (new_app (codes "adatask")) replay_command.top) run_command.top
+adatask = with_subcommand (with_subcommand bare replay_command.top) run_command.top
 
 -- the flag was met
 abbrev pub is_free : List Row → Bool
@@ -36,6 +41,6 @@ ordered (Some subcommand) =
 abbrev pub order_named : List Text → Order
 order_named words = ordered (subcommand_of adatask words)
 
--- why the words are refused or answered with help; empty where they aren't
+-- why the words are refused, or answered with help or the version; empty where they aren't
 abbrev pub refused_kinds : List Text → Kinds
 refused_kinds words = fault_of adatask words

@@ -21,6 +21,8 @@ pub enum Order {
 static ABOUT: &str =
     "Play a script of requests to a kernel of Ada tasks, and print the journal of what happens";
 
+static VERSION: &str = "0.1.0";
+
 static REPLAY: &str = "Replay the script on standard input, line by line (also without a command)";
 
 static RUN: &str =
@@ -47,8 +49,8 @@ Exit status:
 ";
 
 /// What the words of a command line order, of which the first is the program's name: `replay`, or nothing,
-/// to replay; `run` to run, with `--free` as the threads come. Any other word is refused, and `--help` is
-/// answered, by an error that has the text and the status; want of memory is an error of that kind.
+/// to replay; `run` to run, with `--free` as the threads come. Any other word is refused, and `--help` and
+/// `--version` are answered, by an error that has the text and the status; want of memory is an error of that kind.
 pub fn order_of<'a, S: AsStr>(alloc: Global, words: &'a [S]) -> Result<Order, Error>
     ensures ok { IfOk result (λ order. order ≡ order_named (map S.text words.entry.now)) }
     ensures refused { FailsBy (refused_kinds (map S.text words.entry.now)) result }
@@ -69,6 +71,7 @@ fn program<'a>(alloc: Global) -> Result<Command<'a>, AllocError>
     let run = Command::new(alloc, "run").about(RUN).arg(free)?;
     Command::new(alloc, "adatask")
         .about(ABOUT)
+        .version(VERSION)
         .after_help(HELP)
         .subcommand(replay)?
         .subcommand(run)

@@ -85,3 +85,17 @@ fn help_is_shown(rt: HostRuntime) -> Result<(), Fail> {
     }
     Ok(())
 }
+
+#[test]
+fn the_version_is_shown(rt: HostRuntime) -> Result<(), Fail> {
+    is_answered(&rt, &["adatask", "-V"], ErrorKind::DisplayVersion, 0)?;
+    match order_of(rt.alloc(), &["adatask", "--version"]) {
+        Ok(_) => assert!(rt; false),
+        Err(version) => {
+            let text = format!(in rt.alloc(); "{version}")?;
+            assert!(rt; text == "adatask 0.1.0\n");
+            assert!(rt; !version.use_stderr());
+        }
+    }
+    Ok(())
+}
