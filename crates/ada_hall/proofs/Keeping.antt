@@ -41,7 +41,8 @@ pub hall_steps : (script : List Line) (places total next : ℕ) (old new : Showi
     → IsHall script places next (held new names answers)
 hall_steps script places total next old new names answers request at hall accepted more = record {
   places_are = hall.places_are;
-  history = history_goes_on script answers (state old.journal names) (state new.journal names) hall.history (accepted_goes_on old.journal new.journal names request at accepted);
+  history = history_goes_on script answers (state old.journal names) (state new.journal names) hall.history
+      (accepted_goes_on old.journal new.journal names request at accepted);
   counted = more ∙ ap (λ n. n + 1) hall.counted ∙ sym (accepted_counts old.journal request new.journal accepted.after);
 }
 
@@ -75,31 +76,35 @@ open_within script places total showing names answers place line hall is =
     let same : places ≡ length script = hall.places_are in
     omega arith
 
-pub hall_notes : (script : List Line) (places total : ℕ) (showing : Showing) (names : Scope) (answers : List Kept) (place events tasks : ℕ) (answer : Answer) (line : Line)
-    → IsHall script places total (held showing names answers) → open_line script answers place ≡ Some line → is_show line.statement ≡ true → IsOfShow answer
+pub hall_notes : (script : List Line) (places total : ℕ) (showing : Showing) (names : Scope) (answers : List Kept) (place events tasks : ℕ)
+    (answer : Answer) (line : Line) → IsHall script places total (held showing names answers)
+    → open_line script answers place ≡ Some line → is_show line.statement ≡ true → IsOfShow answer
     → IsLawful showing.journal → IsSettled showing.journal → events ≡ length showing.journal → tasks ≡ task_count showing.journal
     → IsHall script places total (held showing names (answers ++ record { place = place; events = events; tasks = tasks; answer = answer } ∷ []))
 hall_notes script places total showing names answers place events tasks answer line hall is shows of_show lawful settled long many =
     let given =
-    gives_value script line place events tasks answer (state showing.journal names) (open_stands script answers place line is) shows of_show lawful settled long many in
+    gives_value script line place events tasks answer (state showing.journal names) (open_stands script answers place line is) shows of_show
+    lawful settled long many in
     record {
       places_are = hall.places_are;
-      history = history_push script answers (record { place = place; events = events; tasks = tasks; answer = answer }) (state showing.journal names) (state showing.journal names)
-          given.0 hall.history given.1;
+      history = history_push script answers (record { place = place; events = events; tasks = tasks; answer = answer })
+          (state showing.journal names) (state showing.journal names) given.0 hall.history given.1;
       counted = hall.counted;
     }
 
-pub hall_says : (script : List Line) (places total next : ℕ) (old new : Showing) (names bound : Scope) (answers : List Kept) (place events tasks : ℕ) (answer : Answer)
-    (line : Line)
+pub hall_says : (script : List Line) (places total next : ℕ) (old new : Showing) (names bound : Scope) (answers : List Kept)
+    (place events tasks : ℕ) (answer : Answer) (line : Line)
     → IsHall script places total (held old names answers) → open_line script answers place ≡ Some line → IsLawful old.journal → IsSettled old.journal
     → ((text : List ℕ) × IsAnswerTo line (state old.journal names) answer text (state new.journal bound))
-    → asked_count new.journal ≡ asked_count old.journal + gained answer → next ≡ total + gained answer → events ≡ length old.journal → tasks ≡ task_count old.journal
+    → asked_count new.journal ≡ asked_count old.journal + gained answer → next ≡ total + gained answer → events ≡ length old.journal
+    → tasks ≡ task_count old.journal
     → IsHall script places next (held new bound (answers ++ record { place = place; events = events; tasks = tasks; answer = answer } ∷ []))
 hall_says script places total next old new names bound answers place events tasks answer line hall is lawful settled said gains more long many =
     let kept : Kept = record { place = place; events = events; tasks = tasks; answer = answer } in
     record {
       places_are = hall.places_are;
       history = history_push script answers kept (state old.journal names) (state new.journal bound) said.0 hall.history
-          (gives_answer script line kept (state old.journal names) (state new.journal bound) said.0 (open_stands script answers place line is) lawful settled long many said.1);
+          (gives_answer script line kept (state old.journal names) (state new.journal bound) said.0
+          (open_stands script answers place line is) lawful settled long many said.1);
       counted = more ∙ ap (λ n. n + gained answer) hall.counted ∙ sym gains;
     }

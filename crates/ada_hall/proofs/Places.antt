@@ -1,5 +1,6 @@
 -- Answers at places of their own: there are never more than places.
-use Rattle.std.proofs.Common.{◌≡◌, ◌≢◌, ℕ, zero, suc, ◌<◌, ◌≤◌, ◌==◌, Bool, true, false, cond, Option, Some, None, List, [], ◌∷◌, ◌++◌, length, map, get_or, refl, sym, ◌∙◌, arith}
+use Rattle.std.proofs.Common.{◌≡◌, ◌≢◌, ℕ, zero, suc, ◌<◌, ◌≤◌, ◌==◌, Bool, true, false, cond, Option, Some, None, List, [], ◌∷◌, ◌++◌, length}
+use Rattle.std.proofs.Common.{map, get_or, refl, sym, ◌∙◌, arith}
 use Rattle.std.specs.Prelude.{find, option_map, IsSome}
 use Rattle.std.specs.List.{All, AllPairs, Contains}
 use Rattle.std.proofs.lemmas.Option.{none-some}
@@ -64,7 +65,8 @@ few answers places apart within =
     let below : (get_or answers found.0 dummy).place < places = within found.0 dummy inside in
     omega arith in
     let short : length numbers ≤ places =
-    length-le_from_distinct_below numbers places (IsDistinct-from_AllPairs Decides-eqb numbers distinct) (λ q found. bounded q (Contains-from_any eqb-true q numbers found)) in
+    length-le_from_distinct_below numbers places (IsDistinct-from_AllPairs Decides-eqb numbers distinct)
+    (λ q found. bounded q (Contains-from_any eqb-true q numbers found)) in
     omega (arith, length-map answers place_of)
 
 -- so there is room for the answer to a place that has none

@@ -28,7 +28,8 @@ none_applies false false false false none = refl
 may_count : (journal : List Event) (by : ℕ) (entry : Entry) → count_refusal journal by entry ≡ None
     → (lacks_family journal by entry || is_outside journal by entry) ≡ false
 unfolding count_refusal
-may_count journal by entry none = none_applies (not (has_task journal by)) (not (is_running journal by)) (lacks_family journal by entry) (is_outside journal by entry) none
+may_count journal by entry none =
+    none_applies (not (has_task journal by)) (not (is_running journal by)) (lacks_family journal by entry) (is_outside journal by entry) none
 
 unrefused : (journal : List Event) (by : ℕ) (entry : Entry) (refused : Option Refusal) → count_refusal journal by entry ≡ refused
     → IsOk (elim refused [ None ↦ Ok (count_of journal by entry) | Some named ↦ Err named ]) → refused ≡ None

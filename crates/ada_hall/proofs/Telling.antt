@@ -1,5 +1,6 @@
 -- The history of a hall: what goes on, and one more answer.
-use Rattle.std.proofs.Common.{◌≡◌, ℕ, true, Option, Some, None, List, [], ◌∷◌, ◌++◌, length, refl, sym, ap, subst, ◌∙◌, append_assoc, append-nil, inl, inr, MatchOption}
+use Rattle.std.proofs.Common.{◌≡◌, ℕ, true, Option, Some, None, List, [], ◌∷◌, ◌++◌, length}
+use Rattle.std.proofs.Common.{refl, sym, ap, subst, ◌∙◌, append_assoc, append-nil, inl, inr, MatchOption}
 use Rattle.std.proofs.lemmas.Bool.{false≢true}
 use Rattle.std.specs.Prelude.{slice_get}
 use Rattle.ada_events.specs.declared.event.Event.{Event}
@@ -17,7 +18,8 @@ use Rattle.ada_script.specs.declared.script.Line.{Line}
 use Rattle.ada_statements.specs.Scope.{Scope}
 use Rattle.ada_statements.specs.Binding.{bind, is_show, request_of}
 use Rattle.ada_statements.specs.declared.statement.Statement.{Statement}
-use Rattle.ada_statements.specs.declared.statement.Statement.TheVariants.{Tick, Open, Create, Activate, Up, Fail, Call, CallWithin, Try, Accept, Select, End, Raise, Close, Delay, Complete, Abort, ShowCallable, ShowTerminated, ShowCount}
+use Rattle.ada_statements.specs.declared.statement.Statement.TheVariants.{Tick, Open, Create, Activate, Up, Fail, Call, CallWithin, Try, Accept, Select, End}
+use Rattle.ada_statements.specs.declared.statement.Statement.TheVariants.{Raise, Close, Delay, Complete, Abort, ShowCallable, ShowTerminated, ShowCount}
 use Rattle.ada_printing.specs.Texts.{refusal_text, shown_text}
 use Rattle.ada_replay.specs.Play.{State, group_text}
 use Rattle.ada_replay.specs.Replay.{beginning}
@@ -55,8 +57,16 @@ given_push : (script : List Line) (answers : List Kept) (kept : Kept) (old last 
     → GoesOn last before → IsGiven script kept before said after → AreGiven script (answers ++ kept ∷ []) old (text ++ said) after
 given_push script [] kept old last before after text said (empty, same) on given =
     (before, after, said, [], subst (λ s. GoesOn s before) same on, given, (refl, refl), ap (λ t. t ++ said) empty ∙ sym (append-nil said))
-given_push script (first ∷ others) kept old last before after text said (b, a, s, rest, first_on, first_given, others_given, whole) on given =
-    (b, a, s, rest ++ said, first_on, first_given, given_push script others kept a last before after rest said others_given on given, ap (λ t. t ++ said) whole ∙ append_assoc s rest said)
+given_push script (first ∷ others) kept old last before after text said (b, a, s, rest, first_on, first_given, others_given, whole) on given = (
+  b,
+  a,
+  s,
+  rest ++ said,
+  first_on,
+  first_given,
+  given_push script others kept a last before after rest said others_given on given,
+  ap (λ t. t ++ said) whole ∙ append_assoc s rest said,
+)
 
 pub history_begins : (script : List Line) → IsHistory script [] (beginning script)
 history_begins script = record { text = []; last = beginning script; given = (refl, refl); goes_on = stays (beginning script) }

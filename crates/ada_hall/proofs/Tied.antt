@@ -1,5 +1,6 @@
 -- What is published stays true of the journal that goes on, and falls behind where it isn't added to.
-use Rattle.std.proofs.Common.{◌≡◌, ℕ, ◌+◌, ◌<◌, ◌≤◌, Bool, true, false, Option, Some, None, List, [], ◌∷◌, ◌++◌, length, refl, ap, sym, subst, append_assoc, ◌∙◌, arith, length-append, MatchOption}
+use Rattle.std.proofs.Common.{◌≡◌, ℕ, ◌+◌, ◌<◌, ◌≤◌, Bool, true, false, Option, Some, None, List, [], ◌∷◌, ◌++◌, length}
+use Rattle.std.proofs.Common.{refl, ap, sym, subst, append_assoc, ◌∙◌, arith, length-append, MatchOption}
 use Rattle.std.specs.Prelude.{is_some, not}
 use Rattle.std.proofs.lemmas.Bool.{not-true, not-false}
 use Rattle.std.specs.List.{All}
@@ -92,15 +93,20 @@ tied_behind old new request at published true_of accepted lawful ends = record {
 }
 
 -- what is published, once a board was offered and shown or refused
-pub tied_after : (old new : List Event) (request : Request) (at : ℕ) (before after : Posted) (board : Board) (mark : Option (List Board)) (behind : Bool) → AreTrueOf old before.published
+pub tied_after : (old new : List Event) (request : Request) (at : ℕ) (before after : Posted) (board : Board) (mark : Option (List Board))
+    (behind : Bool) → AreTrueOf old before.published
     → IsSettled old → IsAccepted old request at new → IsLawful new → IsSettled new → before.offered ≡ [] → board ≡ board_of new
     → MatchOption mark (after ≡ before) (λ m. (m ≡ after.published) × (after ≡ record { published = before.published ++ board ∷ []; offered = [] }))
     → is_some mark ≡ not behind → IsTied new after.published behind × (after.offered ≡ [])
 tied_after old new request at before after board None behind true_of settled accepted lawful ends none is said behind_is =
     let P : Posted → Type 0 = λ p. IsTied new p.published true in
-    rw (not-false behind (sym behind_is)) (subst P (sym said) (tied_behind old new request at before.published true_of accepted lawful ends), ap (λ p. p.offered) said ∙ none)
+    rw (not-false behind (sym behind_is)) (
+      subst P (sym said) (tied_behind old new request at before.published true_of accepted lawful ends),
+      ap (λ p. p.offered) said ∙ none,
+    )
 tied_after old new request at before after board (Some m) behind true_of settled accepted lawful ends none is said behind_is =
     rw (not-true behind (sym behind_is)) (
-      tied_on old new request at before.published after.published true_of settled accepted ends (ap (λ p. p.published) said.1 ∙ ap (λ b. before.published ++ b ∷ []) is),
+      tied_on old new request at before.published after.published true_of settled accepted ends
+          (ap (λ p. p.published) said.1 ∙ ap (λ b. before.published ++ b ∷ []) is),
       ap (λ p. p.offered) said.1,
     )

@@ -6,7 +6,8 @@ use Rattle.std.specs.List.{count_by, filter_map}
 use Rattle.ada_script.specs.declared.script.Line.{Line}
 use Rattle.ada_statements.specs.Binding.{is_show}
 use Rattle.ada_statements.specs.declared.statement.Statement.{Statement}
-use Rattle.ada_statements.specs.declared.statement.Statement.TheVariants.{Tick, Open, Create, Activate, Up, Fail, Call, CallWithin, Try, Accept, Select, End, Raise, Close, Delay, Complete, Abort, ShowCallable, ShowTerminated, ShowCount}
+use Rattle.ada_statements.specs.declared.statement.Statement.TheVariants.{Tick, Open, Create, Activate, Up, Fail, Call, CallWithin, Try, Accept, Select, End}
+use Rattle.ada_statements.specs.declared.statement.Statement.TheVariants.{Raise, Close, Delay, Complete, Abort, ShowCallable, ShowTerminated, ShowCount}
 
 -- the name of the task that speaks a statement; a tick names none
 abbrev pub speaker_in : Statement → Option (List ℕ)

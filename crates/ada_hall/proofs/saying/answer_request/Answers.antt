@@ -9,7 +9,8 @@ use Rattle.ada_hall.proofs.saying.answer_request.Goals as goal
 pub returns-in-Ok-clause-ok : goal.returns-in-Ok-clause-ok
 returns-in-Ok-clause-ok g c =
     answers_group c.args.line.now c.asked-request.result (state c.args.station.now.journal c.args.names.now) (state c.step.new.self.journal c.bind.new.self)
-    c.in-Ok.told.at c.len-last.result c.next_task-made.result (sym c.asked-request.ensures) c.in-Ok.ensures.ok (c.next_task-made.ensures ∙ ap task_count c.kernel.ensures.journal) c.bind.ensures
+    c.in-Ok.told.at c.len-last.result c.next_task-made.result (sym c.asked-request.ensures) c.in-Ok.ensures.ok
+    (c.next_task-made.ensures ∙ ap task_count c.kernel.ensures.journal) c.bind.ensures
     (c.len-last.ensures ∙ ap length (c.journal.ensures.events ∙ c.kernel-in-Ok.ensures.journal))
 
 pub returns-in-Ok-clause-counted : goal.returns-in-Ok-clause-counted
@@ -17,7 +18,8 @@ returns-in-Ok-clause-counted g c = accepted_counts c.args.station.now.journal c.
 
 pub returns-in-Err : goal.returns-in-Err
 returns-in-Err g c = record {
-  ok = answers_refusal c.args.line.now c.asked-request.result (state c.args.station.now.journal c.args.names.now) (state c.step.new.self.journal c.args.names.now)
+  ok = answers_refusal c.args.line.now c.asked-request.result (state c.args.station.now.journal c.args.names.now)
+      (state c.step.new.self.journal c.args.names.now)
       c.in-Err.cause (sym c.asked-request.ensures) c.in-Err.ensures.err (search rules) refl;
   showing = inl c.in-Err.ensures.unchanged;
   counted = omega (arith, ap (λ s. asked_count s.journal) c.in-Err.ensures.unchanged);

@@ -11,8 +11,8 @@ add-requires-clause-fits g c =
 pub invariant_of-self-2 : goal.invariant_of-self-2
 invariant_of-self-2 g c = (
   c.self.invariant.0,
-  hall_steps g.J.Session.script c.self.inside.answers.places c.self.inside.tally c.add.new.self c.self.inside.station c.step.new.self c.self.inside.names c.self.inside.answers.kept
-      c.args.request c.in_ok-told.told.at c.self.invariant.1 c.in_ok-told.ensures.ok c.add.ensures.total,
+  hall_steps g.J.Session.script c.self.inside.answers.places c.self.inside.tally c.add.new.self c.self.inside.station c.step.new.self c.self.inside.names
+      c.self.inside.answers.kept c.args.request c.in_ok-told.told.at c.self.invariant.1 c.in_ok-told.ensures.ok c.add.ensures.total,
 )
 
 pub returns-clause-share : goal.returns-clause-share
