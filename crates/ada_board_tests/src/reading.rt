@@ -5,7 +5,7 @@ use crate::Station;
 use crate::opened::{make_clients, opened};
 use ada_board::{BoardFault, BoardReader, History, Mark, Naming, Readers};
 use ada_events::{Patience, Request, TaskNo};
-use ada_requests::{entry, tasks};
+use ada_requests::{MAIN, SINGLE, create, entry, tasks};
 use std::marker::Brand;
 use std::sync::Wait;
 use std::test::Fail;
@@ -101,6 +101,35 @@ fn all_taken<J: Naming, R: Wait + AllocGlobal>(rt: &R, history: History) -> Resu
 #[test]
 fn board_never_opens(rt: HostRuntime) -> Result<(), Fail> {
     assert!(rt; all_taken::<Brand, _>(&rt, History::new())?);
+    Ok(())
+}
+
+/// Publishes the board of a first task, which a reader that is told of it sees.
+fn is_offered<J: Naming, R: Wait>(
+    rt: &R,
+    station: &mut Station<J>,
+    places: &mut Readers<J>,
+) -> Result<bool, Fail> {
+    let mut reader = places.take()?;
+    let (created, mark) = station.step(rt, create(0, MAIN, &[SINGLE]))?;
+    reader.learn(mark);
+    let seen = reader.callable(SERVER) == Some(true) && reader.count(0) == Some(0);
+    Ok(seen && created == 1)
+}
+
+fn board_offered<J: Naming, R: Wait + AllocGlobal>(rt: &R, history: History) -> Result<bool, Fail>
+    requires { history ≡ J.book }
+{
+    let (mut station, mut places) = opened::<J, R>(rt, history, 1)?;
+    let came = is_offered(rt, &mut station, &mut places);
+    station.close(rt);
+    came
+}
+
+// Where there is memory, a board opens, and what is offered is seen.
+#[test]
+fn always_out_of_memory(rt: HostRuntime) -> Result<(), Fail> {
+    assert!(rt; board_offered::<Brand, _>(&rt, History::new())?);
     Ok(())
 }
 

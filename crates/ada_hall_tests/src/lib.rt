@@ -3,6 +3,8 @@
 
 #[cfg(test)]
 mod answering;
+#[cfg(test)]
+mod memory;
 pub mod opened;
 #[cfg(test)]
 mod stepping;

@@ -15,6 +15,8 @@ mod kinds;
 #[cfg(test)]
 mod limits;
 #[cfg(test)]
+mod memory;
+#[cfg(test)]
 mod queries;
 #[cfg(test)]
 mod random;

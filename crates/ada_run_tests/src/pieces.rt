@@ -19,7 +19,8 @@ S: complete
 main: complete
 ";
 
-const PRINTED: &[u8] = b"1 main created S under main with E(0..0)
+/// What it prints.
+pub const PRINTED: &[u8] = b"1 main created S under main with E(0..0)
 2 main created C under main
 3 main started S C
 4 S up

@@ -1,4 +1,4 @@
-//! A reader that comes in pieces or fails, and writers that take a byte or all at a time, and fail.
+//! Readers that come in pieces, fail or are interrupted, and writers that take a byte or all at a time, and fail.
 
 use std::io;
 use std::io::ErrorKind;
@@ -21,6 +21,30 @@ impl io::Read for Pieces<'_> {
         buf[..count].copy_from_slice(&self.text[..count]);
         self.text = &self.text[count..];
         Ok(count)
+    }
+}
+
+/// Gives a text in pieces, but for one read, which a signal interrupts; behind that it goes on.
+#[derive(Drop)]
+pub struct Interrupted<'a> {
+    pub pieces: Pieces<'a>,
+    /// How many reads are still made before that one.
+    pub reads_before: Option<usize>,
+}
+
+impl io::Read for Interrupted<'_> {
+    fn read(&mut self, buf: &mut [u8]) -> io::Result<usize> {
+        match self.reads_before {
+            None => self.pieces.read(buf),
+            Some(0) => {
+                self.reads_before = None;
+                Err(io::Error::from(ErrorKind::Interrupted))
+            }
+            Some(reads) => {
+                self.reads_before = Some(reads - 1);
+                self.pieces.read(buf)
+            }
+        }
     }
 }
 

@@ -33,6 +33,17 @@ fn bound_names(rt: &impl Abort, script: &Script) -> Result<Names, Cause> {
     Ok(names)
 }
 
+// Where there is memory, a script has its names, and an event its line.
+#[test]
+fn always_out_of_memory(rt: HostRuntime) -> Result<(), Fail> {
+    let alloc = rt.alloc();
+    let names = read(alloc, RENDEZVOUS)?.names()?;
+    let mut out = Vec::new(alloc);
+    write_event(1, &Event::Ticked { now: -5 }, &names, &mut out)?;
+    assert_eq!(rt; out.as_slice(), b"1 ticked -5\n".as_slice());
+    Ok(())
+}
+
 #[test]
 fn asks_what_is_written(rt: HostRuntime) -> Result<(), Fail> {
     let alloc = rt.alloc();
@@ -92,8 +103,9 @@ fn names_what_has_no_room(rt: HostRuntime) -> Result<(), Fail> {
     Ok(())
 }
 
+// Where there is memory, a line that shows COUNT or another attribute is printed, and one that is refused.
 #[test]
-fn answers_on_a_line(rt: HostRuntime) -> Result<(), Fail> {
+fn count_always_refuses(rt: HostRuntime) -> Result<(), Fail> {
     let mut out = Vec::new(rt.alloc());
     write_refusal(14, Refusal::NotInAccept, &mut out)?;
     write_shown(15, Value::Truth(true), &mut out)?;

@@ -59,8 +59,9 @@ fn spelled(alloc: Global, script: &Script) -> Result<Vec<u8>, Cause> {
     Ok(text)
 }
 
+// Where there is memory, each form is read, and its words are found.
 #[test]
-fn spells_each_statement(rt: HostRuntime) -> Result<(), Fail> {
+fn reader_of_scripts_gives_up(rt: HostRuntime) -> Result<(), Fail> {
     let alloc = rt.alloc();
     let script = read(alloc, STATEMENTS)?;
     assert_eq!(rt; spelled(alloc, &script)?.as_slice(), STATEMENTS);

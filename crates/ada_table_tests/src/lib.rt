@@ -7,6 +7,8 @@ mod chains;
 #[cfg(test)]
 mod checked_tables;
 #[cfg(test)]
+mod memory;
+#[cfg(test)]
 mod names;
 #[cfg(test)]
 mod nests;
