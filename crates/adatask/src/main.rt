@@ -47,9 +47,11 @@ fn answer<R: Print + Eprint>(rt: &R, fault: &Error) -> ExitCode {
     if fault.kind() == ErrorKind::OutOfMemory {
         return end(rt, &Err(RunFault::Memory));
     }
-    match fault.print(rt) {
-        Ok(()) => ExitCode::from(fault.exit_code() as u8),
-        Err(_) => end(rt, &Err(RunFault::Write)),
+    // Where standard error can't be written, the words are refused all the same.
+    if fault.print(rt).is_ok() || fault.use_stderr() {
+        ExitCode::from(fault.exit_code() as u8)
+    } else {
+        end(rt, &Err(RunFault::Write))
     }
 }
 
