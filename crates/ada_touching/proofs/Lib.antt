@@ -10,7 +10,6 @@ pub mod Newcomers
 pub mod Endings
 pub mod Holds
 pub mod Noting
-pub mod Outward
 pub mod Places
 pub mod Quietly
 pub mod Quitting

@@ -1,17 +1,15 @@
 -- Agendas that are kept up with their journal.
-use Rattle.std.proofs.Common.{◌≡◌, ◌≢◌, ℕ, ◌+◌, ◌<◌, ◌≤◌, true, Some, List, ◌∷◌, length, sym, refl, ap, ◌∙◌, subst, arith, ◌⊎◌, inl, inr}
+use Rattle.std.proofs.Common.{◌≡◌, ◌≢◌, ℕ, ◌+◌, ◌<◌, ◌≤◌, true, List, ◌∷◌, length, sym, refl, ap, ◌∙◌, subst, arith, ◌⊎◌, inl, inr}
 use Rattle.std.specs.Option.{is_some}
 use Rattle.std.proofs.lemmas.Bool.{cases_eq, cases_lt, false≢true, both_ways}
 use Rattle.std.proofs.lemmas.Option.{none-some, same_Some}
 use Rattle.ada_events.specs.declared.event.Event.{Event}
-use Rattle.ada_events.specs.declared.event.Event.TheVariants.{Opened, Created, Started, Elaborated, Called, Paused, Ended, Failed}
+use Rattle.ada_events.specs.declared.event.Event.TheVariants.{Opened, Created, Started, Called, Paused}
 use Rattle.ada_events.specs.declared.limits.TheConstants.{MOST_EVENTS, MOST_TASKS}
-use Rattle.ada_events.specs.declared.names.TaskNo.{TaskNo}
-use Rattle.ada_events.specs.Says.{Call, Creation, call_in, start_in, delay_in, creation_in}
+use Rattle.ada_events.specs.Says.{Call, call_in, start_in, delay_in, creation_in}
 use Rattle.ada_events.specs.Tasks.{task_count}
 use Rattle.ada_events.specs.Phases.{is_suspended}
 use Rattle.ada_events.specs.Lawful.{IsLawful}
-use Rattle.ada_laws.specs.Calls.{IsCallAt}
 use Rattle.ada_laws.specs.Suspension.{IsSuspendedAt}
 use Rattle.ada_laws.proofs.LimitLaws.{events_are_few, tasks_are_few}
 use Rattle.ada_laws.proofs.Searching.{event_at-within}
@@ -23,16 +21,13 @@ use Rattle.ada_forcing.specs.Newly.{IsCallOf}
 use Rattle.ada_forcing.specs.Rows.{rank}
 use Rattle.ada_agenda.specs.Rows.{keeps}
 use Rattle.ada_records.specs.Records.{IsHeldAt}
-use Rattle.ada_touching.specs.Keeping.{has_key, IsAgendaOf, Grows, ended_call, IsCalledBy, IsMadeBy}
-use Rattle.ada_touching.specs.Kinds.{itself, OfCreation, OfStart, OfElaboration, OfCall, OfDelay, OfEnd, Adds}
+use Rattle.ada_touching.specs.Keeping.{has_key, IsAgendaOf, Grows}
+use Rattle.ada_touching.specs.Kinds.{itself, OfCreation, OfStart, OfCall, OfDelay, Adds}
 use Rattle.ada_touching.specs.Kinds.OfCreation.{goes}
 use Rattle.ada_touching.specs.Kinds.OfStart.{is_over}
-use Rattle.ada_touching.specs.Kinds.OfElaboration.{activates}
 use Rattle.ada_touching.specs.Kinds.OfCall.{fails, is_cancelled, is_taken}
 use Rattle.ada_touching.specs.Kinds.OfDelay.{wakes}
-use Rattle.ada_touching.specs.Kinds.OfEnd.{halts}
 use Rattle.ada_touching.proofs.Adding.{agendas_grow}
-use Rattle.ada_touching.proofs.Releases.{same_event}
 
 pub rank_below : (row : Row) → rank row < 11
 rank_below Halting = omega arith
@@ -185,44 +180,3 @@ pub call_noted : (event : Event) (before : List Event) (old new : List (List ℕ
 call_noted event before old new callee at own lawful agenda calls held same grows has =
     grown event before old new lawful agenda grows (λ row key added.
     has_call_key before new callee at own row key lawful.0 held (own_is before own same) has (of_call event before callee row key calls added))
-
--- the end of a rendezvous, and the failure of a call
-of_end : (event : Event) (before : List Event) (call : ℕ) (row : Row) (key : ℕ) → ended_call event ≡ Some call → Adds before event row key
-    → OfEnd before call row key
-of_end (Ended by ended raised) before call row key ends added = subst (λ (n : ℕ). OfEnd before n row key) (same_Some ended call ends) added
-of_end (Failed failed) before call row key ends added = subst (λ (n : ℕ). OfEnd before n row key) (same_Some failed call ends) added
-of_end _ before call row key ends added = absurd (none-some call ends)
-
--- the caller of a call
-pub caller_is : (before : List Event) (p caller : ℕ) (c : Call) → IsCalledBy before p caller → IsCallAt before c p → c.by ≡ caller
-caller_is before p caller c of at =
-    let one = same_event before p at.event of.stands.event at.stands of.stands.stands in
-    ap (λ (c : Call). c.by) (same_Some c of.call (sym at.says ∙ (ap call_in one ∙ of.stands.says))) ∙ of.by
-
-has_end_key : (before : List Event) (new : List (List ℕ)) (call caller : ℕ) (row : Row) (key : ℕ) → IsCalledBy before call caller
-    → has_key new Halting caller ≡ true → OfEnd before call row key → has_key new row key ≡ true
-has_end_key before new call caller row key of here (halts c at abnormal) = ap (has_key new Halting) (caller_is before call caller c of at) ∙ here
-
-pub end_noted : (event : Event) (before : List Event) (old new : List (List ℕ)) (call caller : ℕ) → IsLawful (event ∷ before) → IsAgendaOf old before
-    → ended_call event ≡ Some call → IsCalledBy before call caller → Grows old new → has_key new Halting caller ≡ true → IsAgendaOf new (event ∷ before)
-end_noted event before old new call caller lawful agenda ends of grows here =
-    grown event before old new lawful agenda grows
-    (λ row key added. has_end_key before new call caller row key of here (of_end event before call row key ends added))
-
--- the end of an activation
-pub record HasStartKey (new : List (List ℕ)) (at : ℕ) : Type 0 where
-  pub activating : 0 < at → has_key new Activating at ≡ true
-
-has_up_key : (before : List Event) (new : List (List ℕ)) (task : TaskNo) (maker at : ℕ) (row : Row) (key : ℕ) → IsLawful before → IsMadeBy before task.0 maker
-    → IsHeldAt before maker at → HasStartKey new at → OfElaboration before task row key → has_key new row key ≡ true
-has_up_key before new task maker at row key lawful of held has (activates p active) =
-    let by : active.creation.by ≡ maker = ap (λ (c : Creation). c.by) (same_Some active.creation of.creation (sym active.made ∙ of.made)) ∙ of.by in
-    let there = held_there before maker at p lawful held (subst (λ (n : ℕ). IsSuspendedAt before n p) by active.suspended) in
-    ap (has_key new Activating) there.1 ∙ has.activating there.0
-
-pub up_noted : (event : Event) (before : List Event) (old new : List (List ℕ)) (task : TaskNo) (maker at : ℕ) → IsLawful (event ∷ before)
-    → IsAgendaOf old before → event ≡ Elaborated task true → IsMadeBy before task.0 maker → IsHeldAt before maker at → Grows old new → HasStartKey new at
-    → IsAgendaOf new (event ∷ before)
-up_noted event before old new task maker at lawful agenda is of held grows has =
-    grown event before old new lawful agenda grows (λ row key added.
-    has_up_key before new task maker at row key lawful.0 of held has (subst (λ (e : Event). Adds before e row key) is added))

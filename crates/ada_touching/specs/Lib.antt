@@ -1,4 +1,3 @@
 pub mod Additions
 pub mod Keeping
 pub mod Kinds
-pub mod internal
