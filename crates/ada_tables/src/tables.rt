@@ -1,5 +1,5 @@
 //! The tables as the kernel sees them.
-ghost use Rattle.std.specs.Prelude.{◌≡◌, ℕ, ◌+◌, ◌-◌, ◌<◌, ◌≤◌, Some, None, true, false, [], ◌∷◌, ◌++◌, OnOk, OnErr, IfOk, IfErr, IsOk, ◌↔◌, ◌&&◌};
+ghost use Rattle.std.specs.Prelude.{◌≡◌, ◌+◌, ◌-◌, ◌<◌, ◌≤◌, Some, true, false, [], ◌∷◌, ◌++◌, OnOk, IfOk, IfErr, ◌&&◌};
 ghost use Rattle.std.specs.Prelude.{if◌then◌else◌, length, take, replicate};
 ghost use Rattle.std.specs.Option.{ForSome};
 ghost use Rattle.ada_events.specs.Entries.{entries_in};
@@ -19,7 +19,7 @@ use crate::queues::Queues;
 use crate::tasks::Tasks;
 use crate::{Layers, Phase, slots};
 use ada_events::{Entry, Families, Master, Member, Refusal, TaskNo};
-use std::alloc::{AllocError, Global};
+use std::alloc::Global;
 use std::marker::Model;
 
 /// The tables of the kernel: the tasks with their masters, nests and phases, and the queues of all
@@ -49,17 +49,6 @@ impl Model for Tables {
         AreTied t.tasks.tasks t.queues.queues t.queues.callers t.firsts.items };
 }
 
-// Want of memory as the kernel names it.
-fn granted(growth: Result<(), AllocError>) -> Result<(), Refusal>
-    ensures ok { IsOk result ↔ IsOk growth }
-    ensures err { IfErr result (λ cause. cause ≡ Refusal.OutOfMemory) }
-{
-    match growth {
-        Ok(()) => Ok(()),
-        Err(_) => Err(Refusal::OutOfMemory),
-    }
-}
-
 // How much a test adds to a count.
 fn one_if(test: bool) -> u16
     ensures { result ≡ (if test then 1 else 0) }
@@ -80,9 +69,9 @@ impl Tables {
         let mut tasks = Tasks::new(alloc);
         let mut queues = Queues::new(alloc);
         let mut firsts = Vec::new(alloc);
-        granted(tasks.reserve())?;
-        granted(firsts.reserve_exact(1))?;
-        granted(queues.add_caller(0))?;
+        tasks.reserve()?;
+        firsts.reserve_exact(1)?;
+        queues.add_caller(0)?;
         firsts.push_reserved(0);
         tasks.add_main_reserved();
         tasks.set_phase(0, Phase::Active);
@@ -111,9 +100,9 @@ impl Tables {
         let number = self.tasks.len() as u16;
         let first = self.queues.slots() as u16;
         let more = slots::entries_in(families.as_slice()) as u16;
-        granted(self.tasks.reserve())?;
-        granted(self.firsts.reserve_exact(1))?;
-        granted(self.queues.add_caller(more))?;
+        self.tasks.reserve()?;
+        self.firsts.reserve_exact(1)?;
+        self.queues.add_caller(more)?;
         self.firsts.push_reserved(first);
         self.tasks.add_reserved(master, families);
         Ok(TaskNo(number))
@@ -137,7 +126,8 @@ impl Tables {
         ensures spare { self.old.spare ≤ self.new.spare }
         ensures err { IfErr result (λ cause. cause ≡ Refusal.OutOfMemory) }
     {
-        granted(self.queues.reserve_call())
+        self.queues.reserve_call()?;
+        Ok(())
     }
 
     /// Puts a call last in the queue of an entry (9.5). There must be room, and no call of the caller may be
