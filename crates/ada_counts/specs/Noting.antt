@@ -1,14 +1,12 @@
 -- What has to be known where an event is noted in tables.
-use Rattle.std.specs.Prelude.{◌≡◌, ◌<◌, None, IsSome, List, ◌∷◌, length}
+use Rattle.std.specs.Prelude.{◌≡◌, ◌<◌, IsSome, List, length}
 use Rattle.ada_events.specs.declared.event.Event.{Event}
 use Rattle.ada_events.specs.declared.event.Event.TheVariants.{Created}
 use Rattle.ada_events.specs.declared.names.Family.{Family}
 use Rattle.ada_events.specs.declared.names.Master.{Master}
 use Rattle.ada_events.specs.declared.names.TaskNo.{TaskNo}
 use Rattle.ada_events.specs.Limits.{slot_count}
-use Rattle.ada_events.specs.Says.{creation_in, call_in}
-use Rattle.ada_records.specs.declared.record.Record.{Record}
-use Rattle.ada_records.specs.Records.{AreRecords}
+use Rattle.ada_events.specs.Says.{call_in}
 use Rattle.ada_tables.specs.Tables.{State}
 
 -- there is a queue for each entry
@@ -18,10 +16,6 @@ HaveAllQueues tables journal = length tables.queues ≡ slot_count journal
 -- there is room for one more call where the event makes one
 abbrev pub HaveRoomFor : State → Event → Type 0
 HaveRoomFor tables event = IsSome (call_in event) → 0 < tables.spare
-
--- the records are those after the event, unless that makes a task
-abbrev pub AreRecordsAfter : Event → List Event → List Record → Type 0
-AreRecordsAfter event before records = creation_in event ≡ None → AreRecords records (event ∷ before)
 
 -- the event makes a task under that master, with these families of entries
 pub record MakesTask (event : Event) (master : Master) (families : List Family) : Type 0 where

@@ -1,10 +1,10 @@
 //! Tables that follow a journal, whatever its next event.
-ghost use Rattle.std.specs.Prelude.{◌≡◌, ◌∷◌, None, IsSome, OnOk, OnErr, IfErr};
+ghost use Rattle.std.specs.Prelude.{◌≡◌, ◌∷◌, None, OnOk, OnErr, IfErr};
 ghost use Rattle.ada_events.specs.Lawful.{IsLawful};
 ghost use Rattle.ada_events.specs.Says.{creation_in};
 ghost use Rattle.ada_tables.specs.Standing.{StandFor};
 ghost use Rattle.ada_records.specs.Records.{AreRecords};
-ghost use Rattle.ada_counts.specs.Noting.{HaveAllQueues, HaveRoomFor, AreRecordsAfter, MakesTask};
+ghost use Rattle.ada_counts.specs.Noting.{HaveAllQueues, HaveRoomFor, MakesTask};
 
 use crate::nests::follow_nests;
 use crate::phasing::follow_phases;
@@ -51,37 +51,4 @@ pub fn follow_creation(
     let declared = Families::from_slice(families.as_slice());
     tables.add_task(master, &declared)?;
     Ok(())
-}
-
-/// Lets tables that stand for a journal follow any event, before that is appended. There is a queue for each entry, and
-/// room for one more call where the event makes one. The records are those after the event, unless it makes a task.
-/// Fails with `OutOfMemory` alone, where the event makes a task, and then changes nothing.
-pub fn note(
-    tables: &mut Tables,
-    records: &[Record],
-    journal: &Journal,
-    event: &Event,
-) -> Result<(), Refusal>
-    requires lawful { IsLawful (event.now ∷ journal.now.events) }
-    requires stand { StandFor tables.old journal.now.events }
-    requires slots { HaveAllQueues tables.old journal.now.events }
-    requires records { AreRecordsAfter event.now journal.now.events records.now }
-    requires room { HaveRoomFor tables.old event.now }
-    ensures stand { OnOk result (StandFor tables.new (event.now ∷ journal.now.events)) }
-    ensures slots { OnOk result (HaveAllQueues tables.new (event.now ∷ journal.now.events)) }
-    ensures err { IfErr result (λ cause. cause ≡ Refusal.OutOfMemory) }
-    ensures unchanged { OnErr result (tables.new ≡ tables.old) }
-    ensures makes { OnErr result (IsSome (creation_in event.now)) }
-{
-    match event {
-        Event::Created {
-            master,
-            families,
-            ..
-        } => follow_creation(tables, journal, event, *master, families),
-        _ => {
-            follow(tables, records, journal, event);
-            Ok(())
-        }
-    }
 }
