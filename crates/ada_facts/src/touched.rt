@@ -1,20 +1,17 @@
 //! Whom the quitting of a master's dependents and an abort touch: a flag for each task.
 
 ghost use Rattle.std.specs.Prelude.{◌≡◌, ℕ, ◌<◌, false, true, length, slice_index_or};
-ghost use Rattle.std.specs.Option.{option_map};
 ghost use Rattle.ada_events.specs.declared.limits.TheConstants.{MOST_TASKS};
-ghost use Rattle.ada_events.specs.declared.names.TaskNo.{TaskNo as Number};
 ghost use Rattle.ada_events.specs.Masters as masters;
 ghost use Rattle.ada_events.specs.Nests.{nest};
 ghost use Rattle.ada_events.specs.Phases.{is_terminated};
-ghost use Rattle.ada_events.specs.Says.{Opening, opening_at};
 ghost use Rattle.ada_events.specs.Tasks.{task_count};
 ghost use Rattle.ada_tables.specs.Dependents.{holds};
 ghost use Rattle.ada_records.specs.Records as records;
 ghost use Rattle.ada_facts.specs.internal.Hitting.{AreNamed, hits_bodies};
 
 use ada_events::limits::MOST_TASKS;
-use ada_events::{Bounded, Event, Master, TaskNo};
+use ada_events::{Bounded, Master, TaskNo};
 use ada_rows::State;
 
 /// A flag for each task.
@@ -66,18 +63,6 @@ fn flag_of(flags: &[bool], task: TaskNo) -> bool
     flags.get(usize::from(task.0)).copied().unwrap_or(false)
 }
 
-// The task that opened a block.
-#[tactic(auto, unfolding(ada_events::specs::Says::opening_in))]
-fn opener(state: &State, block: u32) -> Option<TaskNo>
-    ensures { option_map (λ (t : Number). t.0) result
-        ≡ option_map (λ (o : Opening). o.by) (opening_at state.now block) }
-{
-    match state.event(block) {
-        Some(Event::Opened { by, .. }) => Some(*by),
-        _ => None,
-    }
-}
-
 // The flag of the task that holds a master: of the body's task, or of the one that opened the block.
 fn flag_of_holder(state: &State, master: Master, flags: &[bool]) -> bool
     ensures { (task : ℕ) → holds task (nest state.now task) master ≡ true
@@ -85,7 +70,7 @@ fn flag_of_holder(state: &State, master: Master, flags: &[bool]) -> bool
 {
     match master {
         Master::Body(task) => flag_of(flags, task),
-        Master::Block(block) => match opener(state, block) {
+        Master::Block(block) => match state.opener(block) {
             Some(task) => flag_of(flags, task),
             None => false,
         },

@@ -5,7 +5,6 @@ ghost use Rattle.std.specs.Option.{option_map};
 ghost use Rattle.ada_events.specs.Lawful.{IsLawful};
 ghost use Rattle.ada_events.specs.Nests.{nest};
 ghost use Rattle.ada_events.specs.Phases.{is_terminated};
-ghost use Rattle.ada_events.specs.Says.{Opening, opening_at};
 ghost use Rattle.ada_events.specs.Tasks.{task_count};
 ghost use Rattle.ada_events.specs.declared.names.TaskNo.{TaskNo as Number};
 ghost use Rattle.ada_events.specs.declared.names.Member.TheVariants.{Block as BlockMember};
@@ -14,21 +13,9 @@ ghost use Rattle.ada_noting.specs.internal.Keys.{Puts, OfFirst, AsMember, AsBloc
 
 use crate::passes::{put_held, put_key};
 use ada_agenda::Agenda;
-use ada_events::{Event, Master, Member, TaskNo};
+use ada_events::{Master, Member, TaskNo};
 use ada_forcing::Row;
 use ada_rows::State;
-
-// The task that opened a block.
-#[tactic(auto, unfolding(ada_events::specs::Says::opening_in))]
-fn opener(state: &State, block: u32) -> Option<TaskNo>
-    ensures { option_map (λ (t : Number). t.0) result
-        ≡ option_map (λ (o : Opening). o.by) (opening_at state.now block) }
-{
-    match state.event(block) {
-        Some(Event::Opened { by, .. }) => Some(*by),
-        _ => None,
-    }
-}
 
 // The task that holds a master.
 fn holder_of(state: &State, master: Master) -> Option<TaskNo>
@@ -36,7 +23,7 @@ fn holder_of(state: &State, master: Master) -> Option<TaskNo>
 {
     match master {
         Master::Body(task) => Some(task),
-        Master::Block(block) => opener(state, block),
+        Master::Block(block) => state.opener(block),
     }
 }
 

@@ -1,13 +1,16 @@
-//! What a task is within, and its frame.
+//! What a task is within, its frame, and who opened a block.
 
 ghost use Rattle.std.specs.Prelude.{◌≡◌, ◌<◌, ◌∷◌, List};
+ghost use Rattle.std.specs.Option.{option_map};
 ghost use Rattle.ada_events.specs.declared.names.Member.{Member as MemberValue};
+ghost use Rattle.ada_events.specs.declared.names.TaskNo.{TaskNo as Number};
 ghost use Rattle.ada_events.specs.Nests as nests;
+ghost use Rattle.ada_events.specs.Says.{Opening, opening_at};
 ghost use Rattle.ada_events.specs.Tasks.{task_count};
 ghost use Rattle.ada_tables.specs.Layers.{member_of, members};
 
 use crate::State;
-use ada_events::{Master, Member, TaskNo};
+use ada_events::{Event, Master, Member, TaskNo};
 use ada_tables::{Layer, Layers};
 
 // The block that a member is, else this master.
@@ -58,5 +61,17 @@ impl State<'_> {
         ensures { result ≡ nests.frame self.now task.0 }
     {
         innermost_block(Master::Body(task), self.nest(task).as_slice())
+    }
+
+    /// The task that opened a block; none where no block was opened at that position.
+    #[tactic(auto, unfolding(ada_events::specs::Says::opening_in))]
+    pub fn opener(&self, block: u32) -> Option<TaskNo>
+        ensures { option_map (λ (t : Number). t.0) result
+            ≡ option_map (λ (o : Opening). o.by) (opening_at self.now block) }
+    {
+        match self.event(block) {
+            Some(Event::Opened { by, .. }) => Some(*by),
+            _ => None,
+        }
     }
 }
