@@ -1,5 +1,6 @@
 -- Flags of the tasks that a list names, one more of them at a time.
-use Rattle.std.proofs.Common.{◌≡◌, ℕ, ◌+◌, ◌<◌, ◌≤◌, ◌≢◌, Bool, true, false, ◌||◌, eqb, List, length, take, get_or, set, refl, sym, ap, ◌∙◌, arith, inl, inr}
+use Rattle.std.proofs.Common.{◌≡◌, ℕ, ◌+◌, ◌<◌, ◌≤◌, ◌≢◌, Bool, true, false, eqb, List, length, take, get_or, set, sym, ap, ◌∙◌, arith, inl, inr}
+use Rattle.std.proofs.Math.Bool.{or-true, or-false}
 use Rattle.std.proofs.lemmas.Bool.{cases_eq, eq-eqb, ne_eqb}
 use Rattle.std.proofs.lemmas.List.{get_or-set_same, get_or-set_other}
 use Rattle.std.proofs.lemmas.List.Folds.{list_any_more}
@@ -8,25 +9,17 @@ use Rattle.ada_events.specs.declared.names.TaskNo.{TaskNo}
 use Rattle.ada_events.specs.Phases.{lists_task}
 use Rattle.ada_facts.specs.internal.Hitting.{AreNamed}
 
-or_true : (b : Bool) → (b || true) ≡ true
-or_true true = refl
-or_true false = refl
-
-or_false : (b : Bool) → (b || false) ≡ b
-or_false true = refl
-or_false false = refl
-
 -- the list up to the next task names whom that is
 next_named : (tasks : List TaskNo) (i task : ℕ) (d : TaskNo) → i < length tasks → (get_or tasks i d).0 ≡ task
     → lists_task task (take (i + 1) tasks) ≡ true
 next_named tasks i task d below is =
-    list_any_more (λ (t : TaskNo). eqb t.0 task) tasks i d below ∙ rw (eq-eqb (get_or tasks i d).0 task is) (or_true (lists_task task (take i tasks)))
+    list_any_more (λ (t : TaskNo). eqb t.0 task) tasks i d below ∙ rw (eq-eqb (get_or tasks i d).0 task is) (or-true (lists_task task (take i tasks)))
 
 -- of every other it says what the list before it said
 others_named : (tasks : List TaskNo) (i task : ℕ) (d : TaskNo) → i < length tasks → (get_or tasks i d).0 ≢ task
     → lists_task task (take (i + 1) tasks) ≡ lists_task task (take i tasks)
 others_named tasks i task d below apart =
-    list_any_more (λ (t : TaskNo). eqb t.0 task) tasks i d below ∙ rw (ne_eqb (get_or tasks i d).0 task apart) (or_false (lists_task task (take i tasks)))
+    list_any_more (λ (t : TaskNo). eqb t.0 task) tasks i d below ∙ rw (ne_eqb (get_or tasks i d).0 task apart) (or-false (lists_task task (take i tasks)))
 
 -- one more task that a list names
 pub named_more : (tasks : List TaskNo) (flags : List Bool) (i place : ℕ) (d : TaskNo) → i < length tasks → length flags ≡ MOST_TASKS
