@@ -93,7 +93,7 @@ fn the_version_is_shown(rt: HostRuntime) -> Result<(), Fail> {
         Ok(_) => assert!(rt; false),
         Err(version) => {
             let text = format!(in rt.alloc(); "{version}")?;
-            assert!(rt; text == "adatask 0.1.0\n");
+            assert_eq!(rt; text.as_str(), "adatask 0.1.0\n");
             assert!(rt; !version.use_stderr());
         }
     }

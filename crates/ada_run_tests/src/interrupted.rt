@@ -38,7 +38,9 @@ fn failed_there<R: Abort>(
     );
     assert_eq!(rt; status_of(outcome), 4);
     assert!(rt; output.is_empty());
-    let left = SCRIPT.len().saturating_sub(SIZE * reads_before);
+    let left = SCRIPT
+        .len()
+        .saturating_sub(reads_before.saturating_mul(SIZE));
     assert_eq!(rt; reader.pieces.text.len(), left);
     Ok(())
 }
