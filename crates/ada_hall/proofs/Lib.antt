@@ -1,4 +1,5 @@
 pub mod Places
+pub mod ByPlace
 pub mod Tied
 pub mod Slots
 pub mod Counts

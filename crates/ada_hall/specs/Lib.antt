@@ -5,5 +5,6 @@ pub mod Speakers
 pub mod History
 pub mod Asking
 pub mod Halls
+pub mod Going
 pub mod Printing
 pub mod internal

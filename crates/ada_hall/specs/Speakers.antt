@@ -1,5 +1,5 @@
 -- Who speaks the lines of a script: speaker 0 is the main program, and speaker k the task of the k-th creation.
-use Rattle.std.specs.Prelude.{ℕ, Bool, ◌&&◌, ◌==◌, ◌-◌, not, if◌then◌else◌, Option, Some, None, List, codes, slice_get, unwrap_or}
+use Rattle.std.specs.Prelude.{ℕ, suc, length, Bool, ◌&&◌, ◌==◌, ◌-◌, not, if◌then◌else◌, Option, Some, None, List, codes, slice_get, unwrap_or}
 use Rattle.std.specs.Str.{bytes_eq}
 use Rattle.std.specs.Option.{option_map_or}
 use Rattle.std.specs.List.{count_by, filter_map}
@@ -43,6 +43,10 @@ created_in _ = None
 -- the names of all tasks that lines create, in their order
 abbrev pub created : List Line → List (List ℕ)
 created lines = filter_map (λ (line : Line). created_in line.statement) lines
+
+-- how many speakers there are
+abbrev pub speaker_count : List Line → ℕ
+speaker_count lines = suc (length (created lines))
 
 -- the name of a speaker, if there is one of that number
 abbrev pub speaker_name : List Line → ℕ → Option (List ℕ)

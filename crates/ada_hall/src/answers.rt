@@ -10,22 +10,25 @@ use std::marker::Model;
 /// Contracts see how many places there are, and the list of answers.
 #[derive(Drop)]
 pub struct Answers {
-    places: usize,
+    /// The answer at each place.
+    by_place: Vec<Option<Answer>>,
     kept: Vec<Kept>,
 }
 
 impl Model for Answers {
-    ghost use Rattle.std.specs.Prelude.{◌≤◌, ◌<◌, vec_capacity};
+    ghost use Rattle.std.specs.Prelude.{◌≤◌, ◌<◌, length, vec_capacity};
     ghost use Rattle.std.specs.List.{All};
     ghost use Rattle.ada_hall.specs.Answers.{AnswersKept, AreApart};
+    ghost use Rattle.ada_hall.specs.internal.Answers.{AreByPlace};
 
     ghost Value = { AnswersKept };
 
-    ghost view = { λ a. record { places = a.places; kept = a.kept.items } };
+    ghost view = { λ a. record { places = length a.by_place.items; kept = a.kept.items } };
 
-    ghost invariant = { λ a. AreApart a.kept.items
-        × All (λ kept. kept.place < a.places) a.kept.items
-        × (a.places ≤ vec_capacity a.kept) };
+    ghost invariant = { λ a. AreByPlace a.by_place.items a.kept.items
+        × AreApart a.kept.items
+        × All (λ kept. kept.place < length a.by_place.items) a.kept.items
+        × (length a.by_place.items ≤ vec_capacity a.kept) };
 }
 
 impl Answers {
@@ -34,7 +37,7 @@ impl Answers {
         ensures { IfOk result (λ answers. answers ≡ record { places = places; kept = [] }) }
     {
         Ok(Answers {
-            places,
+            by_place: vec![in alloc; None; places]?,
             kept: Vec::with_capacity(alloc, places)?,
         })
     }
@@ -51,10 +54,7 @@ impl Answers {
     pub fn get(&self, place: u32) -> Option<Answer>
         ensures { result ≡ answer_at self.now.kept place }
     {
-        self.kept
-            .iter()
-            .find(|kept| kept.place == place)
-            .map(|kept| kept.answer)
+        *self.by_place.get(place as usize)?
     }
 
     /// Whether each place has its answer.
@@ -63,7 +63,7 @@ impl Answers {
         ensures all { IsTrue result → AreAll self.now.places self.now.kept }
         ensures as_many { result ≡ (length self.now.kept == self.now.places) }
     {
-        self.kept.len() == self.places
+        self.kept.len() == self.by_place.len()
     }
 
     /// Keeps the answer to a place that has none. It takes no memory.
@@ -75,6 +75,7 @@ impl Answers {
           kept = self.old.kept ++ kept ∷ [];
         } }
     {
+        self.by_place[kept.place as usize] = Some(kept.answer);
         self.kept.push_reserved(kept);
     }
 }

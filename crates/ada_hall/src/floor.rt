@@ -1,5 +1,10 @@
 //! Who may go on.
-ghost use Rattle.std.specs.Prelude.{◌≡◌, ◌==◌, true};
+ghost use Rattle.std.specs.Prelude.{◌≡◌, ◌+◌, ◌-◌, ◌%◌, ◌^◌, ◌==◌, ◌||◌, nat_le, false, true};
+ghost use Rattle.ada_events.specs.Phases.{is_running};
+ghost use Rattle.ada_hall.specs.Going.{may_play, with_one_more};
+
+use ada_events::{Outcome, TaskNo};
+use ada_kernel::Kernel;
 
 /// Whose turn it is, who waits, and whether anybody is to go on: what threads look at under the lock before
 /// they play a line.
@@ -21,7 +26,16 @@ pub struct Floor {
 
 impl Floor {
     /// The first place's turn, with so many threads that aren't done.
-    pub fn new(working: u32) -> Floor {
+    pub fn new(working: u32) -> Floor
+        ensures { result ≡ record {
+          turn = 0;
+          stopped = false;
+          stuck = false;
+          changes = 0;
+          waiting = 0;
+          working = working;
+        } }
+    {
         Floor {
             turn: 0,
             stopped: false,
@@ -62,7 +76,11 @@ impl Floor {
 
     /// A line was played: it is the next one's turn, and threads that wait have to look again.
     pub fn pass(&mut self, place: u32)
-        ensures { self.new.waiting ≡ 0 }
+        ensures { self.new ≡ record self.old {
+          turn = (place + 1) % 2 ^ 32;
+          changes = (self.old.changes + 1) % 2 ^ 64;
+          waiting = 0;
+        } }
     {
         self.turn = place.wrapping_add(1);
         self.change();
@@ -70,14 +88,21 @@ impl Floor {
 
     /// A thread is done.
     pub fn leave(&mut self)
-        ensures { self.new.waiting ≡ 0 }
+        ensures { self.new ≡ record self.old {
+          changes = (self.old.changes + 1) % 2 ^ 64;
+          waiting = 0;
+          working = self.old.working - 1;
+        } }
     {
         self.working = self.working.saturating_sub(1);
         self.change();
     }
 
     fn change(&mut self)
-        ensures { self.new.waiting ≡ 0 }
+        ensures { self.new ≡ record self.old {
+          changes = (self.old.changes + 1) % 2 ^ 64;
+          waiting = 0;
+        } }
     {
         self.changes = self.changes.wrapping_add(1);
         self.waiting = 0;
@@ -87,7 +112,12 @@ impl Floor {
     /// is the change that it has seen now. Where no thread is left that could bring one about, nobody waits any
     /// more.
     pub fn wait(&mut self, seen: Option<u64>) -> u64
-        ensures { result ≡ self.old.changes }
+        ensures change { result ≡ self.old.changes }
+        ensures floor { let waiting = with_one_more self.old.waiting self.old.changes seen in
+            self.new ≡ record self.old {
+              waiting = waiting;
+              stuck = self.old.stuck || nat_le self.old.working waiting;
+            } }
     {
         if seen != Some(self.changes) {
             self.waiting = self.waiting.saturating_add(1);
@@ -97,4 +127,12 @@ impl Floor {
         }
         self.changes
     }
+}
+
+/// Whether the line of a task needn't wait: the task runs, or its statements are over.
+pub fn may_play(kernel: &Kernel, task: TaskNo) -> bool
+    ensures { result ≡ may_play kernel.now task.0 }
+{
+    let is_over = matches!(kernel.outcome(task), Some(Outcome::Done | Outcome::Dead));
+    is_over || kernel.running(task) == Some(true)
 }

@@ -10,6 +10,7 @@ ghost use Rattle.ada_hall.specs.Answers.{answer_at, AreAll, AreApart};
 ghost use Rattle.ada_hall.specs.Asking.{Asks};
 ghost use Rattle.ada_hall.specs.Counting.{asked_count};
 ghost use Rattle.ada_replay.specs.Play.{shown as shown_of};
+ghost use Rattle.ada_hall.specs.Going.{may_go};
 ghost use Rattle.ada_hall.specs.Halls.{state_of, IsHistory, Says, noted, opening};
 ghost use Rattle.ada_hall.specs.internal.Halls.{IsOfShow};
 ghost use Rattle.ada_hall.specs.Stations.{Publishes, IsTied};
@@ -17,14 +18,14 @@ ghost use Rattle.ada_hall.specs.Stations.{Publishes, IsTied};
 use crate::answer::{Answer, Kept};
 use crate::answers::Answers;
 use crate::asking::{Asked, asking_of};
-use crate::floor::Floor;
+use crate::floor::{Floor, may_play};
 use crate::saying::{answer_request, open_line};
 use crate::session::Session;
 use crate::speakers::{speaker, speakers};
 use crate::station::{Station, Told};
 use crate::tally::Tally;
 use ada_board::BoardWriter;
-use ada_events::{Journal, Outcome, Refusal, Request};
+use ada_events::{Journal, Refusal, Request};
 use ada_kernel::Kernel;
 use ada_script::{Names, Script, Value};
 use std::alloc::Global;
@@ -306,18 +307,17 @@ impl<'s, J: Session> Hall<'s, J> {
 
     /// Whether the task of the line at a place runs, or has completed: then the line needn't wait. A tick never
     /// waits, and a place without a line doesn't.
-    pub fn may_go(&self, place: u32) -> bool {
+    pub fn may_go(&self, place: u32) -> bool
+        ensures { result ≡ may_go J.script self.now place }
+    {
         let script = self.script;
         let Some(line) = script.lines().get(place as usize) else {
             return true;
         };
-        let Some(name) = speaker(&line.statement) else {
-            return true;
-        };
-        let task = self.names.task(name);
-        let kernel = self.station.kernel();
-        let ended = matches!(kernel.outcome(task), Some(Outcome::Done | Outcome::Dead));
-        ended || kernel.running(task) == Some(true)
+        match speaker(&line.statement) {
+            Some(name) => may_play(self.station.kernel(), self.names.task(name)),
+            None => true,
+        }
     }
 
     /// Ends the hall, and closes its writer. It may wait for readers that are looking to leave.

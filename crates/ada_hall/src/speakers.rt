@@ -1,6 +1,6 @@
 //! Who speaks the lines of a script.
-ghost use Rattle.std.specs.Prelude.{◌≡◌, length, option_map, slice_get};
-ghost use Rattle.ada_hall.specs.Speakers.{speaker_in, created_in, created, speaker_name, is_spoken_by};
+ghost use Rattle.std.specs.Prelude.{◌≡◌, ◌-◌, ◌^◌, min, length, option_map, slice_get};
+ghost use Rattle.ada_hall.specs.Speakers.{speaker_in, created_in, created, speaker_count, speaker_name, is_spoken_by};
 
 use ada_script::{Line, Name, Statement};
 
@@ -46,7 +46,9 @@ pub fn creations(lines: &[Line]) -> usize
 }
 
 /// How many tasks speak: the main program, and each task that a line creates.
-pub fn speakers(lines: &[Line]) -> u32 {
+pub fn speakers(lines: &[Line]) -> u32
+    ensures { result ≡ min (speaker_count lines.now) (2 ^ 32 - 1) }
+{
     u32::try_from(creations(lines))
         .unwrap_or(u32::MAX)
         .saturating_add(1)

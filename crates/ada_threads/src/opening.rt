@@ -1,6 +1,8 @@
 //! A hall with the seats of those who speak in it.
-ghost use Rattle.std.specs.Prelude.{◌≡◌, ◌<◌, ◌≤◌, IfErr};
+ghost use Rattle.std.specs.Prelude.{◌≡◌, ◌<◌, ◌≤◌, IfOk, IfErr, map};
+ghost use Rattle.std.specs.List.{range_with_len};
 ghost use Rattle.ada_threads.specs.Opening.{IsOpeningFault};
+ghost use Rattle.ada_hall.specs.Halls.{opening};
 
 use crate::seat::{Seat, fault_of, seats};
 use ada_board::{History, open_board};
@@ -23,7 +25,10 @@ pub fn open_hall<'s, J: Session, R: Wait + AllocGlobal>(
     requires script { script.now ≡ J.script }
     requires ledger { (blank.name ≡ J.name) × (blank.parts ≡ J.parts) }
     requires speakers { (0 < speakers) × (speakers ≤ 256) × (blank.parts ≡ speakers) }
-    ensures { IfErr result IsOpeningFault }
+    ensures hall { IfOk result (λ opened. opened.0 ≡ opening J.script) }
+    ensures seats { IfOk result (λ opened.
+        map (λ seat. seat.speaker) opened.1.items ≡ range_with_len 0 speakers) }
+    ensures err { IfErr result IsOpeningFault }
 {
     let opened = open_board::<J, R>(rt, rt.alloc(), history, speakers as usize);
     let (writer, places) = opened.map_err(fault_of)?;

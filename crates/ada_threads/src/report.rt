@@ -1,5 +1,8 @@
 //! What a thread has done.
-ghost use Rattle.std.specs.Prelude.{◌≡◌, ◌+◌, ◌<◌, ◌≤◌, ◌^◌};
+ghost use Rattle.std.specs.Prelude.{◌≡◌, ◌==◌, ◌+◌, ◌<◌, ◌≤◌, ◌^◌, ◌&&◌, OnOk, OnErr, cond};
+ghost use Rattle.ada_hall.specs.Counting.{asked_count};
+ghost use Rattle.ada_hall.specs.Halls.{Says};
+ghost use Rattle.ada_threads.specs.Reports.{is_newly_refused};
 
 use ada_events::Refusal;
 use ada_hall::{Answer, Hall, Session};
@@ -40,6 +43,13 @@ impl<J: Session> Report<J> {
         place: u32,
     ) -> Result<(), Refusal>
         requires room { self.old.accepted + self.old.refused + 1 < 2 ^ 32 }
+        ensures ok { OnOk result (Says J.script place hall.old hall.new) }
+        ensures unchanged { OnErr result ((self.new ≡ self.old) × (hall.new ≡ hall.old)) }
+        ensures accepted { self.new.accepted + asked_count hall.old.showing.journal
+            ≡ self.old.accepted + asked_count hall.new.showing.journal }
+        ensures refused { OnOk result (self.new.refused ≡ self.old.refused
+            + cond (is_newly_refused hall.old.answers hall.new.answers place
+            && self.new.accepted == self.old.accepted) 1 0) }
         ensures one { self.new.accepted + self.new.refused
             ≤ self.old.accepted + self.old.refused + 1 }
     {

@@ -1,5 +1,6 @@
 //! What a thread takes to its work.
-ghost use Rattle.std.specs.Prelude.{◌≡◌, IfErr};
+ghost use Rattle.std.specs.Prelude.{◌≡◌, IfOk, IfErr, map};
+ghost use Rattle.std.specs.List.{range_with_len};
 ghost use Rattle.ada_threads.specs.Opening.{IsOpeningFault};
 
 use ada_board::{BoardFault, BoardReader, Readers};
@@ -23,6 +24,7 @@ pub struct Seat<J: Session> {
 impl<J: Session> Seat<J> {
     fn new(speaker: u32, reader: BoardReader<J>, share: Share<J>) -> Seat<J>
         requires { (share.parts ≡ 1) × (share.amount ≡ 0) }
+        ensures { result.speaker ≡ speaker }
     {
         Seat {
             speaker,
@@ -42,7 +44,7 @@ pub(crate) fn fault_of(fault: BoardFault) -> RunFault
     }
 }
 
-/// A seat for each of so many speakers. Fails with `Memory`, or with `Threads` where the board has fewer
+/// A seat for each of so many speakers, in their order. Fails with `Memory`, or with `Threads` where the board has fewer
 /// places.
 pub fn seats<J: Session>(
     alloc: Global,
@@ -51,7 +53,9 @@ pub fn seats<J: Session>(
     speakers: u32,
 ) -> Result<Vec<Seat<J>>, RunFault>
     requires { (share.parts ≡ speakers) × (share.amount ≡ 0) }
-    ensures { IfErr result IsOpeningFault }
+    ensures ok { IfOk result (λ seats.
+        map (λ seat. seat.speaker) seats.items ≡ range_with_len 0 speakers) }
+    ensures err { IfErr result IsOpeningFault }
 {
     let mut places = places;
     let mut share = share;
