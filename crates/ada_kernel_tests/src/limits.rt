@@ -3,7 +3,6 @@
 use crate::crowd::make_tasks;
 use ada_events::{Event, Family, Outcome, Refusal, Request, TaskNo};
 use ada_kernel::Kernel;
-use ada_plain::PlainKernel;
 use ada_requests::{MAIN, SINGLE, accept, call, create, entry, tasks};
 use std::test::Fail;
 
@@ -33,26 +32,6 @@ fn the_main_program_alone(rt: HostRuntime) -> Result<(), Fail> {
     assert!(rt; kernel.journal().get(2) == Some(&gone));
     assert_eq!(rt; kernel.outcome(TaskNo(0)), Some(Outcome::Dead));
     assert!(rt; kernel.finished());
-    Ok(())
-}
-
-// The plain kernel answers a first rendezvous as the kernel does.
-#[test]
-fn the_plain_kernel(rt: HostRuntime) -> Result<(), Fail> {
-    let mut kernel = PlainKernel::new(rt.alloc())?;
-    assert_eq!(rt; kernel.step(create(0, MAIN, &[SINGLE])), Ok(1));
-    assert_eq!(rt;
-        kernel.step(Request::Activate {
-            by: TaskNo(0),
-            tasks: tasks(1, 1)
-        }),
-        Ok(2)
-    );
-    assert_eq!(rt;
-        kernel.step(Request::Complete { by: TaskNo(0) }),
-        Err(Refusal::NotRunning)
-    );
-    assert_eq!(rt; kernel.journal().len(), 2);
     Ok(())
 }
 

@@ -44,7 +44,8 @@ impl<J: Session> Report<J> {
     ) -> Result<(), Refusal>
         requires room { self.old.accepted + self.old.refused + 1 < 2 ^ 32 }
         ensures ok { OnOk result (Says J.script place hall.old hall.new) }
-        ensures unchanged { OnErr result ((self.new ≡ self.old) × (hall.new ≡ hall.old)) }
+        ensures unchanged { OnErr result ((self.new.accepted ≡ self.old.accepted)
+            × (self.new.refused ≡ self.old.refused) × (hall.new ≡ hall.old)) }
         ensures accepted { self.new.accepted + asked_count hall.old.showing.journal
             ≡ self.old.accepted + asked_count hall.new.showing.journal }
         ensures refused { OnOk result (self.new.refused ≡ self.old.refused
