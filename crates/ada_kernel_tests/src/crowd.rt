@@ -1,8 +1,7 @@
 //! Kernels with many tasks.
 
-use ada_events::{Request, TaskNo};
 use ada_kernel::Kernel;
-use ada_requests::{MAIN, SINGLE, create, tasks, up};
+use ada_requests::{MAIN, SINGLE, activate, create, up};
 
 /// Makes tasks 1 to `last`, each with one entry and under main, activates them in one request, and ends
 /// their activations; whether all was accepted.
@@ -11,11 +10,7 @@ pub fn make_tasks(kernel: &mut Kernel, last: u16) -> bool {
     for _ in 0..last {
         accepted = kernel.step(create(0, MAIN, &[SINGLE])).is_ok() && accepted;
     }
-    let activate = Request::Activate {
-        by: TaskNo(0),
-        tasks: tasks(1, last),
-    };
-    accepted = kernel.step(activate).is_ok() && accepted;
+    accepted = kernel.step(activate(0, 1, last)).is_ok() && accepted;
     for task in 1..=last {
         accepted = kernel.step(up(task)).is_ok() && accepted;
     }

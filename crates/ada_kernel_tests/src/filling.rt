@@ -1,10 +1,13 @@
 //! Kernels that are filled to the end of their journal, and the longest chain of rendezvous.
 
+use crate::asserts::{
+    assert_accepted, assert_board, assert_event, assert_events, assert_outcome, assert_refused,
+};
 use crate::crowd::make_tasks;
 use ada_events::limits::{MOST_APPENDED, MOST_EVENTS};
 use ada_events::{Event, Outcome, Refusal, Request, TaskNo};
 use ada_kernel::Kernel;
-use ada_requests::{accept, call, tasks};
+use ada_requests::{abort, accept, call, end};
 use std::process::Abort;
 use std::test::Fail;
 
@@ -17,7 +20,7 @@ fn ticked<R: Abort + AllocGlobal>(rt: &R, ticks: u32) -> Result<Kernel, Fail> {
     let mut kernel = Kernel::new(rt.alloc())?;
     for tick in 1..=ticks {
         let now = i64::from(tick);
-        assert_eq!(rt; kernel.step(Request::Tick { now }), Ok(tick));
+        assert_accepted(rt, &mut kernel, Request::Tick { now }, tick);
     }
     Ok(kernel)
 }
@@ -27,15 +30,13 @@ fn as_many_ticks_as_there_may_be(rt: HostRuntime) -> Result<(), Fail> {
     assert_eq!(rt; LAST_ACCEPTED, 64_768);
     let mut kernel = ticked(&rt, LAST_ACCEPTED)?;
     let late = Request::Tick { now: 64_769 };
-    assert_eq!(rt; kernel.step(late), Err(Refusal::JournalFull));
-    assert_eq!(rt;
-        kernel.step(Request::Open { by: TaskNo(0) }),
-        Err(Refusal::JournalFull)
-    );
+    assert_refused(&rt, &mut kernel, late, Refusal::JournalFull);
+    let open = Request::Open { by: TaskNo(0) };
+    assert_refused(&rt, &mut kernel, open, Refusal::JournalFull);
     let early = Request::Tick { now: 64_767 };
-    assert_eq!(rt; kernel.step(early), Err(Refusal::MomentBack));
-    assert_eq!(rt; kernel.journal().len(), LAST_ACCEPTED);
-    assert_eq!(rt; kernel.board().events, LAST_ACCEPTED);
+    assert_refused(&rt, &mut kernel, early, Refusal::MomentBack);
+    assert_events(&rt, &kernel, LAST_ACCEPTED);
+    assert_board(&rt, &kernel, 1, 0, LAST_ACCEPTED);
     Ok(())
 }
 
@@ -52,42 +53,34 @@ fn after_rendezvous<R: Abort + AllocGlobal>(rt: &R, rounds: u32) -> Result<Kerne
     assert!(rt; make_tasks(&mut kernel, 2));
     for round in 0..rounds {
         let behind = round.wrapping_mul(EACH).wrapping_add(BEFORE);
-        assert_eq!(rt; kernel.step(call(2, 1, 0)), Ok(behind.wrapping_add(1)));
-        assert_eq!(rt; kernel.step(accept(1, 0)), Ok(behind.wrapping_add(2)));
-        assert_eq!(rt; kernel.step(end(1)), Ok(behind.wrapping_add(4)));
+        assert_accepted(rt, &mut kernel, call(2, 1, 0), behind.wrapping_add(1));
+        assert_accepted(rt, &mut kernel, accept(1, 0), behind.wrapping_add(2));
+        assert_accepted(rt, &mut kernel, end(1, false), behind.wrapping_add(4));
     }
     Ok(kernel)
-}
-
-/// The plain end of a rendezvous (9.5).
-fn end(by: u16) -> Request {
-    Request::End {
-        by: TaskNo(by),
-        raised: false,
-    }
 }
 
 // The last call is accepted at position 64,767 and its wait at 64,768; they meet, and don't end.
 #[test]
 fn as_many_rendezvous_as_there_may_be(rt: HostRuntime) -> Result<(), Fail> {
     let mut kernel = after_rendezvous(&rt, (LAST_ACCEPTED - BEFORE) / EACH)?;
-    assert_eq!(rt; kernel.step(call(2, 1, 0)), Ok(64_767));
-    assert_eq!(rt; kernel.step(accept(1, 0)), Ok(LAST_ACCEPTED));
-    assert_eq!(rt; kernel.step(end(1)), Err(Refusal::JournalFull));
-    assert_eq!(rt; kernel.step(call(0, 1, 0)), Err(Refusal::JournalFull));
-    assert_eq!(rt; kernel.step(call(2, 1, 0)), Err(Refusal::NotRunning));
+    assert_accepted(&rt, &mut kernel, call(2, 1, 0), 64_767);
+    assert_accepted(&rt, &mut kernel, accept(1, 0), LAST_ACCEPTED);
+    assert_refused(&rt, &mut kernel, end(1, false), Refusal::JournalFull);
+    assert_refused(&rt, &mut kernel, call(0, 1, 0), Refusal::JournalFull);
+    assert_refused(&rt, &mut kernel, call(2, 1, 0), Refusal::NotRunning);
     let met = Event::Met {
         call: 64_767,
         wait: 64_768,
     };
-    assert!(rt; kernel.journal().get(64_769) == Some(&met));
-    assert_eq!(rt; kernel.journal().len(), 64_769);
+    assert_event(&rt, &kernel, 64_769, Some(&met));
+    assert_events(&rt, &kernel, 64_769);
     let accepted = Outcome::Accepted {
         call: 64_767,
         choice: 0,
     };
-    assert_eq!(rt; kernel.outcome(TaskNo(1)), Some(accepted));
-    assert_eq!(rt; kernel.outcome(TaskNo(2)), Some(Outcome::Held));
+    assert_outcome(&rt, &kernel, 1, accepted);
+    assert_outcome(&rt, &kernel, 2, Outcome::Held);
     Ok(())
 }
 
@@ -110,51 +103,34 @@ fn chain_is_aborted<R: Abort + AllocGlobal>(rt: &R, last: u16) -> Result<Kernel,
     let mut kernel = chained(rt, last)?;
     let length = u32::from(last);
     let calls = 2 * length + 3;
-    let abort = 5 * length + 3;
-    let all = Request::Abort {
-        by: TaskNo(last),
-        tasks: tasks(1, last),
-    };
-    assert_eq!(rt; kernel.step(all), Ok(abort));
-    assert_event(
-        rt,
-        &kernel,
-        abort + 1,
-        &Event::Halted { task: TaskNo(last) },
-    );
-    assert_event(rt, &kernel, abort + 2, &Event::Failed { call: calls });
+    let at = 5 * length + 3;
+    assert_accepted(rt, &mut kernel, abort(last, 1, last), at);
+    let halted = Event::Halted { task: TaskNo(last) };
+    assert_event(rt, &kernel, at + 1, Some(&halted));
+    assert_event(rt, &kernel, at + 2, Some(&Event::Failed { call: calls }));
     for task in 1..last {
-        let place = u32::from(task);
+        let place = 2 * u32::from(task);
         let failed = Event::Failed {
-            call: calls + 3 * place,
+            call: calls + 3 * u32::from(task),
         };
-        assert_event(rt, &kernel, abort + 1 + 2 * place, &failed);
-        assert_event(
-            rt,
-            &kernel,
-            abort + 2 + 2 * place,
-            &Event::Halted { task: TaskNo(task) },
-        );
+        assert_event(rt, &kernel, at + 1 + place, Some(&failed));
+        let halted = Event::Halted { task: TaskNo(task) };
+        assert_event(rt, &kernel, at + 2 + place, Some(&halted));
     }
     for task in 1..=last {
-        let at = abort + 2 * length + u32::from(task);
-        assert_event(rt, &kernel, at, &Event::Gone { task: TaskNo(task) });
+        let gone = Event::Gone { task: TaskNo(task) };
+        let place = at + 2 * length + u32::from(task);
+        assert_event(rt, &kernel, place, Some(&gone));
     }
-    assert_eq!(rt; kernel.journal().len(), abort + 3 * length);
+    assert_events(rt, &kernel, at + 3 * length);
     Ok(kernel)
-}
-
-fn assert_event<R: Abort>(rt: &R, kernel: &Kernel, at: u32, event: &Event) {
-    assert!(rt; kernel.journal().get(at) == Some(event), "at {at}");
 }
 
 #[test]
 fn the_longest_chain_of_rendezvous_is_aborted(rt: HostRuntime) -> Result<(), Fail> {
     let kernel = chain_is_aborted(&rt, 255)?;
+    assert_board(&rt, &kernel, 256, 255, 2043);
     let board = kernel.board();
-    assert_eq!(rt; board.tasks, 256);
-    assert_eq!(rt; board.slots, 255);
-    assert_eq!(rt; board.events, 2043);
     assert!(rt; board.callable[0]);
     assert!(rt; !board.terminated[0]);
     assert!(rt; board.callable.iter().skip(1).all(|callable| !*callable));
@@ -166,6 +142,6 @@ fn the_longest_chain_of_rendezvous_is_aborted(rt: HostRuntime) -> Result<(), Fai
             .all(|terminated| *terminated)
     );
     assert!(rt; board.counts.iter().all(|count| *count == 0));
-    assert_eq!(rt; kernel.outcome(TaskNo(0)), Some(Outcome::TaskingError));
+    assert_outcome(&rt, &kernel, 0, Outcome::TaskingError);
     Ok(())
 }

@@ -1,24 +1,28 @@
 //! The kernel's first answers, its limits, and the abort of many tasks at once.
 
+use crate::asserts::{
+    assert_accepted, assert_callable, assert_count, assert_event, assert_events, assert_outcome,
+    assert_refused, assert_running, assert_slot, assert_terminated,
+};
 use crate::crowd::make_tasks;
 use ada_events::{Event, Family, Outcome, Refusal, Request, TaskNo};
 use ada_kernel::Kernel;
-use ada_requests::{MAIN, SINGLE, accept, call, create, entry, tasks};
+use ada_requests::{MAIN, SINGLE, abort, accept, call, complete, create, entry};
 use std::test::Fail;
 
 #[test]
 fn a_new_kernel(rt: HostRuntime) -> Result<(), Fail> {
     let kernel = Kernel::new(rt.alloc())?;
     assert!(rt; kernel.journal().is_empty());
-    assert_eq!(rt; kernel.journal().len(), 0);
-    assert!(rt; kernel.journal().get(0).is_none());
-    assert!(rt; kernel.journal().get(1).is_none());
-    assert_eq!(rt; kernel.outcome(TaskNo(0)), Some(Outcome::Nothing));
-    assert_eq!(rt; kernel.callable(TaskNo(0)), Some(true));
-    assert_eq!(rt; kernel.terminated(TaskNo(0)), Some(false));
-    assert_eq!(rt; kernel.running(TaskNo(0)), Some(true));
-    assert_eq!(rt; kernel.running(TaskNo(1)), None);
-    assert_eq!(rt; kernel.slot(TaskNo(0), entry(0)), None);
+    assert_events(&rt, &kernel, 0);
+    assert_event(&rt, &kernel, 0, None);
+    assert_event(&rt, &kernel, 1, None);
+    assert_outcome(&rt, &kernel, 0, Outcome::Nothing);
+    assert_callable(&rt, &kernel, 0, Some(true));
+    assert_terminated(&rt, &kernel, 0, Some(false));
+    assert_running(&rt, &kernel, 0, Some(true));
+    assert_running(&rt, &kernel, 1, None);
+    assert_slot(&rt, &kernel, 0, entry(0), None);
     assert!(rt; !kernel.finished());
     Ok(())
 }
@@ -26,11 +30,10 @@ fn a_new_kernel(rt: HostRuntime) -> Result<(), Fail> {
 #[test]
 fn the_main_program_alone(rt: HostRuntime) -> Result<(), Fail> {
     let mut kernel = Kernel::new(rt.alloc())?;
-    assert_eq!(rt; kernel.step(Request::Complete { by: TaskNo(0) }), Ok(1));
-    assert_eq!(rt; kernel.journal().len(), 2);
-    let gone = Event::Gone { task: TaskNo(0) };
-    assert!(rt; kernel.journal().get(2) == Some(&gone));
-    assert_eq!(rt; kernel.outcome(TaskNo(0)), Some(Outcome::Dead));
+    assert_accepted(&rt, &mut kernel, complete(0), 1);
+    assert_events(&rt, &kernel, 2);
+    assert_event(&rt, &kernel, 2, Some(&Event::Gone { task: TaskNo(0) }));
+    assert_outcome(&rt, &kernel, 0, Outcome::Dead);
     assert!(rt; kernel.finished());
     Ok(())
 }
@@ -40,14 +43,16 @@ fn as_many_tasks_as_there_may_be(rt: HostRuntime) -> Result<(), Fail> {
     let mut kernel = Kernel::new(rt.alloc())?;
     assert_eq!(rt; kernel.tasks(), 1);
     for made in 1..=255u32 {
-        assert_eq!(rt; kernel.step(create(0, MAIN, &[])), Ok(made));
+        assert_accepted(&rt, &mut kernel, create(0, MAIN, &[]), made);
     }
-    assert_eq!(rt;
-        kernel.step(create(0, MAIN, &[])),
-        Err(Refusal::TooManyTasks)
+    assert_refused(
+        &rt,
+        &mut kernel,
+        create(0, MAIN, &[]),
+        Refusal::TooManyTasks,
     );
     assert_eq!(rt; kernel.tasks(), 256);
-    assert_eq!(rt; kernel.journal().len(), 255);
+    assert_events(&rt, &kernel, 255);
     Ok(())
 }
 
@@ -55,19 +60,28 @@ fn as_many_tasks_as_there_may_be(rt: HostRuntime) -> Result<(), Fail> {
 fn as_many_slots_as_there_may_be(rt: HostRuntime) -> Result<(), Fail> {
     let mut kernel = Kernel::new(rt.alloc())?;
     let all = Family { low: 0, high: 1023 };
-    assert_eq!(rt; kernel.step(create(0, MAIN, &[all])), Ok(1));
-    assert_eq!(rt;
-        kernel.step(create(0, MAIN, &[SINGLE])),
-        Err(Refusal::TooManySlots)
+    assert_accepted(&rt, &mut kernel, create(0, MAIN, &[all]), 1);
+    assert_refused(
+        &rt,
+        &mut kernel,
+        create(0, MAIN, &[SINGLE]),
+        Refusal::TooManySlots,
     );
-    let mut other = Kernel::new(rt.alloc())?;
+    Ok(())
+}
+
+#[test]
+fn the_widest_family_is_too_wide(rt: HostRuntime) -> Result<(), Fail> {
+    let mut kernel = Kernel::new(rt.alloc())?;
     let widest = Family {
         low: i32::MIN,
         high: i32::MAX,
     };
-    assert_eq!(rt;
-        other.step(create(0, MAIN, &[widest])),
-        Err(Refusal::TooManySlots)
+    assert_refused(
+        &rt,
+        &mut kernel,
+        create(0, MAIN, &[widest]),
+        Refusal::TooManySlots,
     );
     Ok(())
 }
@@ -76,11 +90,13 @@ fn as_many_slots_as_there_may_be(rt: HostRuntime) -> Result<(), Fail> {
 fn as_deep_as_a_nest_may_be(rt: HostRuntime) -> Result<(), Fail> {
     let mut kernel = Kernel::new(rt.alloc())?;
     for opened in 1..=32u32 {
-        assert_eq!(rt; kernel.step(Request::Open { by: TaskNo(0) }), Ok(opened));
+        assert_accepted(&rt, &mut kernel, Request::Open { by: TaskNo(0) }, opened);
     }
-    assert_eq!(rt;
-        kernel.step(Request::Open { by: TaskNo(0) }),
-        Err(Refusal::TooDeep)
+    assert_refused(
+        &rt,
+        &mut kernel,
+        Request::Open { by: TaskNo(0) },
+        Refusal::TooDeep,
     );
     Ok(())
 }
@@ -89,16 +105,10 @@ fn as_deep_as_a_nest_may_be(rt: HostRuntime) -> Result<(), Fail> {
 fn a_family_that_is_not_declared(rt: HostRuntime) -> Result<(), Fail> {
     let mut kernel = Kernel::new(rt.alloc())?;
     assert!(rt; make_tasks(&mut kernel, 1));
-    assert_eq!(rt; kernel.step(accept(1, 2)), Err(Refusal::NoSuchFamily));
-    assert_eq!(rt;
-        kernel.count(TaskNo(1), entry(2)),
-        Err(Refusal::NoSuchFamily)
-    );
-    assert_eq!(rt;
-        kernel.count(TaskNo(2), entry(0)),
-        Err(Refusal::UnknownTask)
-    );
-    assert_eq!(rt; kernel.count(TaskNo(1), entry(0)), Ok(0));
+    assert_refused(&rt, &mut kernel, accept(1, 2), Refusal::NoSuchFamily);
+    assert_count(&rt, &kernel, 1, entry(2), Err(Refusal::NoSuchFamily));
+    assert_count(&rt, &kernel, 2, entry(0), Err(Refusal::UnknownTask));
+    assert_count(&rt, &kernel, 1, entry(0), Ok(0));
     Ok(())
 }
 
@@ -107,19 +117,14 @@ fn a_family_that_is_not_declared(rt: HostRuntime) -> Result<(), Fail> {
 fn everybody_calls_one_that_aborts_all(rt: HostRuntime) -> Result<(), Fail> {
     let mut kernel = Kernel::new(rt.alloc())?;
     assert!(rt; make_tasks(&mut kernel, 63));
-    assert_eq!(rt; kernel.journal().len(), 128);
+    assert_events(&rt, &kernel, 128);
     for caller in 2..=63u16 {
         assert!(rt; kernel.step(call(caller, 1, 0)).is_ok());
     }
-    assert_eq!(rt; kernel.step(call(0, 1, 0)), Ok(191));
-    let abort = Request::Abort {
-        by: TaskNo(1),
-        tasks: tasks(1, 63),
-    };
-    assert_eq!(rt; kernel.step(abort), Ok(192));
-    let failed = Event::Failed { call: 191 };
-    assert!(rt; kernel.journal().get(256) == Some(&failed));
-    assert_eq!(rt; kernel.journal().len(), 319);
+    assert_accepted(&rt, &mut kernel, call(0, 1, 0), 191);
+    assert_accepted(&rt, &mut kernel, abort(1, 1, 63), 192);
+    assert_event(&rt, &kernel, 256, Some(&Event::Failed { call: 191 }));
+    assert_events(&rt, &kernel, 319);
     Ok(())
 }
 
@@ -132,20 +137,12 @@ fn a_chain_of_rendezvous_is_aborted(rt: HostRuntime) -> Result<(), Fail> {
         assert!(rt; kernel.step(call(caller, caller + 1, 0)).is_ok());
         assert!(rt; kernel.step(accept(caller + 1, 0)).is_ok());
     }
-    assert_eq!(rt; kernel.journal().len(), 317);
-    let abort = Request::Abort {
-        by: TaskNo(63),
-        tasks: tasks(1, 63),
-    };
-    assert_eq!(rt; kernel.step(abort), Ok(318));
-    let halted_last = Event::Halted { task: TaskNo(63) };
-    let failed_first = Event::Failed { call: 129 };
-    let failed_second = Event::Failed { call: 132 };
-    let halted_first = Event::Halted { task: TaskNo(1) };
-    assert!(rt; kernel.journal().get(319) == Some(&halted_last));
-    assert!(rt; kernel.journal().get(320) == Some(&failed_first));
-    assert!(rt; kernel.journal().get(321) == Some(&failed_second));
-    assert!(rt; kernel.journal().get(322) == Some(&halted_first));
-    assert_eq!(rt; kernel.journal().len(), 507);
+    assert_events(&rt, &kernel, 317);
+    assert_accepted(&rt, &mut kernel, abort(63, 1, 63), 318);
+    assert_event(&rt, &kernel, 319, Some(&Event::Halted { task: TaskNo(63) }));
+    assert_event(&rt, &kernel, 320, Some(&Event::Failed { call: 129 }));
+    assert_event(&rt, &kernel, 321, Some(&Event::Failed { call: 132 }));
+    assert_event(&rt, &kernel, 322, Some(&Event::Halted { task: TaskNo(1) }));
+    assert_events(&rt, &kernel, 507);
     Ok(())
 }

@@ -1,34 +1,25 @@
 //! The kernel's calls that may want memory, where there is memory.
 
+use crate::asserts::{assert_accepted, assert_events};
 use ada_events::{Request, TaskNo};
 use ada_kernel::Kernel;
-use ada_requests::{MAIN, SINGLE, accept, call, create, tasks, up};
+use ada_requests::{MAIN, SINGLE, abort, accept, activate, call, complete, create, end, up};
 use std::process::Abort;
 use std::test::Fail;
 
 const MAIN_TASK: TaskNo = TaskNo(0);
 
-const SERVER: TaskNo = TaskNo(1);
-
 /// A kernel with a server, whom the main program calls within a block: five requests, whose events are at 1, 2, 3
 /// (and the activation's end at 4), 5, 6 and 7 (and their meeting at 8), and the rendezvous' end at 9.
 fn with_rendezvous<R: Abort + AllocGlobal>(rt: &R) -> Result<Kernel, Fail> {
     let mut kernel = Kernel::new(rt.alloc())?;
-    assert_eq!(rt; kernel.step(create(0, MAIN, &[SINGLE])), Ok(1));
-    let activate = Request::Activate {
-        by: MAIN_TASK,
-        tasks: tasks(1, 1),
-    };
-    assert_eq!(rt; kernel.step(activate), Ok(2));
-    assert_eq!(rt; kernel.step(up(1)), Ok(3));
-    assert_eq!(rt; kernel.step(Request::Open { by: MAIN_TASK }), Ok(5));
-    assert_eq!(rt; kernel.step(call(0, 1, 0)), Ok(6));
-    assert_eq!(rt; kernel.step(accept(1, 0)), Ok(7));
-    let end = Request::End {
-        by: SERVER,
-        raised: false,
-    };
-    assert_eq!(rt; kernel.step(end), Ok(9));
+    assert_accepted(rt, &mut kernel, create(0, MAIN, &[SINGLE]), 1);
+    assert_accepted(rt, &mut kernel, activate(0, 1, 1), 2);
+    assert_accepted(rt, &mut kernel, up(1), 3);
+    assert_accepted(rt, &mut kernel, Request::Open { by: MAIN_TASK }, 5);
+    assert_accepted(rt, &mut kernel, call(0, 1, 0), 6);
+    assert_accepted(rt, &mut kernel, accept(1, 0), 7);
+    assert_accepted(rt, &mut kernel, end(1, false), 9);
     Ok(kernel)
 }
 
@@ -41,16 +32,12 @@ fn always_out_of_memory(rt: HostRuntime) -> Result<(), Fail> {
         by: MAIN_TASK,
         duration: 5,
     };
-    assert_eq!(rt; kernel.step(pause), Ok(10));
-    assert_eq!(rt; kernel.step(Request::Tick { now: 5 }), Ok(11));
-    assert_eq!(rt; kernel.step(Request::Close { by: MAIN_TASK }), Ok(13));
-    let abort = Request::Abort {
-        by: MAIN_TASK,
-        tasks: tasks(1, 1),
-    };
-    assert_eq!(rt; kernel.step(abort), Ok(15));
-    assert_eq!(rt; kernel.step(Request::Complete { by: MAIN_TASK }), Ok(18));
-    assert_eq!(rt; kernel.journal().len(), 19);
+    assert_accepted(&rt, &mut kernel, pause, 10);
+    assert_accepted(&rt, &mut kernel, Request::Tick { now: 5 }, 11);
+    assert_accepted(&rt, &mut kernel, Request::Close { by: MAIN_TASK }, 13);
+    assert_accepted(&rt, &mut kernel, abort(0, 1, 1), 15);
+    assert_accepted(&rt, &mut kernel, complete(0), 18);
+    assert_events(&rt, &kernel, 19);
     assert!(rt; kernel.finished());
     Ok(())
 }

@@ -1,9 +1,13 @@
 //! What a kernel answers about its tasks and entries.
 
+use crate::asserts::{
+    assert_accepted, assert_board, assert_callable, assert_count, assert_counted, assert_events,
+    assert_outcome, assert_slot, assert_terminated,
+};
 use crate::crowd::make_tasks;
 use ada_events::{Entry, Family, Outcome, Patience, Refusal, Request, TaskNo};
 use ada_kernel::Kernel;
-use ada_requests::{MAIN, SINGLE, accept, call, create, entry, tasks, up};
+use ada_requests::{MAIN, SINGLE, abort, accept, activate, call, create, end, entry, up};
 use std::process::Abort;
 use std::test::Fail;
 
@@ -11,34 +15,28 @@ use std::test::Fail;
 /// events.
 fn with_clients<R: Abort + AllocGlobal>(rt: &R) -> Result<Kernel, Fail> {
     let mut kernel = Kernel::new(rt.alloc())?;
-    assert_eq!(rt; kernel.step(create(0, MAIN, &[SINGLE, SINGLE])), Ok(1));
-    assert_eq!(rt; kernel.step(create(0, MAIN, &[])), Ok(2));
-    assert_eq!(rt; kernel.step(create(0, MAIN, &[])), Ok(3));
-    let activate = Request::Activate {
-        by: TaskNo(0),
-        tasks: tasks(1, 3),
-    };
-    assert_eq!(rt; kernel.step(activate), Ok(4));
-    assert_eq!(rt; kernel.step(up(1)), Ok(5));
-    assert_eq!(rt; kernel.step(up(2)), Ok(6));
-    assert_eq!(rt; kernel.outcome(TaskNo(0)), Some(Outcome::Held));
-    assert_eq!(rt; kernel.step(up(3)), Ok(7));
-    assert_eq!(rt; kernel.outcome(TaskNo(0)), Some(Outcome::ActivationOk));
-    assert_eq!(rt; kernel.journal().len(), 8);
+    assert_accepted(rt, &mut kernel, create(0, MAIN, &[SINGLE, SINGLE]), 1);
+    assert_accepted(rt, &mut kernel, create(0, MAIN, &[]), 2);
+    assert_accepted(rt, &mut kernel, create(0, MAIN, &[]), 3);
+    assert_accepted(rt, &mut kernel, activate(0, 1, 3), 4);
+    assert_accepted(rt, &mut kernel, up(1), 5);
+    assert_accepted(rt, &mut kernel, up(2), 6);
+    assert_outcome(rt, &kernel, 0, Outcome::Held);
+    assert_accepted(rt, &mut kernel, up(3), 7);
+    assert_outcome(rt, &kernel, 0, Outcome::ActivationOk);
+    assert_events(rt, &kernel, 8);
     Ok(kernel)
 }
 
 #[test]
 fn an_opening_board(rt: HostRuntime) -> Result<(), Fail> {
     let kernel = Kernel::new(rt.alloc())?;
+    assert_board(&rt, &kernel, 1, 0, 0);
+    assert_counted(&rt, &kernel, 0, 0);
     let board = kernel.board();
-    assert_eq!(rt; board.tasks, 1);
-    assert_eq!(rt; board.slots, 0);
-    assert_eq!(rt; board.events, 0);
     assert!(rt; board.callable[0]);
     assert!(rt; !board.terminated[0]);
     assert!(rt; !board.callable[1]);
-    assert_eq!(rt; board.counts[0], 0);
     Ok(())
 }
 
@@ -51,25 +49,32 @@ fn boards_follow_the_steps(rt: HostRuntime) -> Result<(), Fail> {
         entry: entry(0),
         patience: Patience::Timed(5),
     };
-    assert_eq!(rt; kernel.step(timed), Ok(9));
-    assert_eq!(rt; kernel.board().tasks, 4);
-    assert_eq!(rt; kernel.board().slots, 2);
-    assert_eq!(rt; kernel.board().events, 9);
-    assert_eq!(rt; kernel.board().counts[0], 1);
-    assert_eq!(rt; kernel.board().counts[1], 0);
-    assert_eq!(rt; kernel.step(Request::Tick { now: 5 }), Ok(10));
-    assert_eq!(rt; kernel.board().counts[0], 0);
-    assert_eq!(rt; kernel.outcome(TaskNo(2)), Some(Outcome::Cancelled));
-    let abort = Request::Abort {
-        by: TaskNo(0),
-        tasks: tasks(1, 1),
-    };
-    assert_eq!(rt; kernel.step(abort), Ok(12));
-    assert!(rt; !kernel.board().callable[1]);
-    assert!(rt; kernel.board().terminated[1]);
-    assert_eq!(rt; kernel.outcome(TaskNo(1)), Some(Outcome::Dead));
-    assert_eq!(rt; kernel.callable(TaskNo(4)), None);
+    assert_accepted(&rt, &mut kernel, timed, 9);
+    assert_board(&rt, &kernel, 4, 2, 9);
+    assert_counted(&rt, &kernel, 0, 1);
+    assert_counted(&rt, &kernel, 1, 0);
+    assert_accepted(&rt, &mut kernel, Request::Tick { now: 5 }, 10);
+    assert_counted(&rt, &kernel, 0, 0);
+    assert_outcome(&rt, &kernel, 2, Outcome::Cancelled);
     Ok(())
+}
+
+#[test]
+fn boards_follow_an_abort(rt: HostRuntime) -> Result<(), Fail> {
+    let mut kernel = with_clients(&rt)?;
+    assert_accepted(&rt, &mut kernel, abort(0, 1, 1), 9);
+    let board = kernel.board();
+    assert!(rt; !board.callable[1]);
+    assert!(rt; board.terminated[1]);
+    assert_outcome(&rt, &kernel, 1, Outcome::Dead);
+    assert_terminated(&rt, &kernel, 1, Some(true));
+    assert_callable(&rt, &kernel, 4, None);
+    Ok(())
+}
+
+/// An entry of a family.
+fn member(family: u8, index: i32) -> Entry {
+    Entry { family, index }
 }
 
 #[test]
@@ -77,40 +82,13 @@ fn slots_of_families(rt: HostRuntime) -> Result<(), Fail> {
     let mut kernel = with_clients(&rt)?;
     let three = Family { low: 1, high: 3 };
     let none = Family { low: 2, high: 1 };
-    assert_eq!(rt; kernel.step(create(0, MAIN, &[three, none, SINGLE])), Ok(9));
-    assert_eq!(rt; kernel.slot(TaskNo(1), entry(0)), Some(0));
-    assert_eq!(rt; kernel.slot(TaskNo(1), entry(1)), Some(1));
-    assert_eq!(rt;
-        kernel.slot(
-            TaskNo(4),
-            Entry {
-                family: 0,
-                index: 1
-            }
-        ),
-        Some(2)
-    );
-    assert_eq!(rt;
-        kernel.slot(
-            TaskNo(4),
-            Entry {
-                family: 0,
-                index: 3
-            }
-        ),
-        Some(4)
-    );
-    assert_eq!(rt;
-        kernel.slot(
-            TaskNo(4),
-            Entry {
-                family: 1,
-                index: 2
-            }
-        ),
-        None
-    );
-    assert_eq!(rt; kernel.slot(TaskNo(4), entry(2)), Some(5));
+    assert_accepted(&rt, &mut kernel, create(0, MAIN, &[three, none, SINGLE]), 9);
+    assert_slot(&rt, &kernel, 1, entry(0), Some(0));
+    assert_slot(&rt, &kernel, 1, entry(1), Some(1));
+    assert_slot(&rt, &kernel, 4, member(0, 1), Some(2));
+    assert_slot(&rt, &kernel, 4, member(0, 3), Some(4));
+    assert_slot(&rt, &kernel, 4, member(1, 2), None);
+    assert_slot(&rt, &kernel, 4, entry(2), Some(5));
     Ok(())
 }
 
@@ -118,51 +96,37 @@ fn slots_of_families(rt: HostRuntime) -> Result<(), Fail> {
 #[test]
 fn outcomes_of_an_exception(rt: HostRuntime) -> Result<(), Fail> {
     let mut kernel = with_clients(&rt)?;
-    assert_eq!(rt; kernel.step(accept(1, 0)), Ok(9));
-    assert_eq!(rt; kernel.step(call(2, 1, 0)), Ok(10));
-    assert_eq!(rt;
-        kernel.outcome(TaskNo(1)),
-        Some(Outcome::Accepted {
-            call: 10,
-            choice: 0
-        })
-    );
-    assert_eq!(rt; kernel.step(call(3, 1, 1)), Ok(12));
-    assert_eq!(rt; kernel.step(accept(1, 1)), Ok(13));
-    let raise = Request::End {
-        by: TaskNo(1),
-        raised: true,
+    assert_accepted(&rt, &mut kernel, accept(1, 0), 9);
+    assert_accepted(&rt, &mut kernel, call(2, 1, 0), 10);
+    let accepted = Outcome::Accepted {
+        call: 10,
+        choice: 0,
     };
-    assert_eq!(rt; kernel.step(raise), Ok(15));
-    assert_eq!(rt; kernel.outcome(TaskNo(1)), Some(Outcome::Raised));
-    assert_eq!(rt; kernel.outcome(TaskNo(3)), Some(Outcome::Raised));
-    assert_eq!(rt; kernel.outcome(TaskNo(2)), Some(Outcome::Held));
-    let end = Request::End {
-        by: TaskNo(1),
-        raised: false,
-    };
-    assert_eq!(rt; kernel.step(end), Ok(16));
-    assert_eq!(rt; kernel.outcome(TaskNo(2)), Some(Outcome::Served));
-    assert_eq!(rt; kernel.outcome(TaskNo(1)), Some(Outcome::Raised));
+    assert_outcome(&rt, &kernel, 1, accepted);
+    assert_accepted(&rt, &mut kernel, call(3, 1, 1), 12);
+    assert_accepted(&rt, &mut kernel, accept(1, 1), 13);
+    assert_accepted(&rt, &mut kernel, end(1, true), 15);
+    assert_outcome(&rt, &kernel, 1, Outcome::Raised);
+    assert_outcome(&rt, &kernel, 3, Outcome::Raised);
+    assert_outcome(&rt, &kernel, 2, Outcome::Held);
+    assert_accepted(&rt, &mut kernel, end(1, false), 16);
+    assert_outcome(&rt, &kernel, 2, Outcome::Served);
+    assert_outcome(&rt, &kernel, 1, Outcome::Raised);
     Ok(())
 }
 
 #[test]
 fn the_outcome_of_a_failed_activation(rt: HostRuntime) -> Result<(), Fail> {
     let mut kernel = Kernel::new(rt.alloc())?;
-    assert_eq!(rt; kernel.step(create(0, MAIN, &[])), Ok(1));
-    let activate = Request::Activate {
-        by: TaskNo(0),
-        tasks: tasks(1, 1),
-    };
-    assert_eq!(rt; kernel.step(activate), Ok(2));
+    assert_accepted(&rt, &mut kernel, create(0, MAIN, &[]), 1);
+    assert_accepted(&rt, &mut kernel, activate(0, 1, 1), 2);
     let fail = Request::Elaborated {
         by: TaskNo(1),
         ok: false,
     };
-    assert_eq!(rt; kernel.step(fail), Ok(3));
-    assert_eq!(rt; kernel.outcome(TaskNo(0)), Some(Outcome::ActivationFailed));
-    assert_eq!(rt; kernel.callable(TaskNo(1)), Some(false));
+    assert_accepted(&rt, &mut kernel, fail, 3);
+    assert_outcome(&rt, &kernel, 0, Outcome::ActivationFailed);
+    assert_callable(&rt, &kernel, 1, Some(false));
     Ok(())
 }
 
@@ -172,19 +136,12 @@ fn counts_leave_out_the_served_call(rt: HostRuntime) -> Result<(), Fail> {
     let mut kernel = Kernel::new(rt.alloc())?;
     assert!(rt; make_tasks(&mut kernel, 3));
     assert!(rt; kernel.step(accept(1, 0)).is_ok());
-    assert_eq!(rt; kernel.count(TaskNo(1), entry(0)), Err(Refusal::NotRunning));
+    assert_count(&rt, &kernel, 1, entry(0), Err(Refusal::NotRunning));
     assert!(rt; kernel.step(call(2, 1, 0)).is_ok());
-    assert_eq!(rt; kernel.count(TaskNo(1), entry(0)), Ok(0));
+    assert_count(&rt, &kernel, 1, entry(0), Ok(0));
     assert!(rt; kernel.step(call(3, 1, 0)).is_ok());
     assert!(rt; kernel.step(call(0, 1, 0)).is_ok());
-    assert_eq!(rt; kernel.count(TaskNo(1), entry(0)), Ok(2));
-    let outside = Entry {
-        family: 0,
-        index: 1,
-    };
-    assert_eq!(rt;
-        kernel.count(TaskNo(1), outside),
-        Err(Refusal::ConstraintError)
-    );
+    assert_count(&rt, &kernel, 1, entry(0), Ok(2));
+    assert_count(&rt, &kernel, 1, member(0, 1), Err(Refusal::ConstraintError));
     Ok(())
 }

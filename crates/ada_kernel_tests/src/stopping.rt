@@ -1,5 +1,6 @@
 //! A caller of the kernel with a promise of its own.
 
+use crate::asserts::{assert_accepted, assert_callable, assert_terminated};
 use ada_events::{Refusal, TaskNo};
 use ada_example::stop;
 use ada_kernel::Kernel;
@@ -13,10 +14,10 @@ fn stops_a_server(rt: HostRuntime) -> Result<(), Fail> {
     let mut kernel = Kernel::new(rt.alloc())?;
     let main = TaskNo(0);
     assert_eq!(rt; stop(&mut kernel, main, SERVER), Err(Refusal::UnknownTask));
-    assert_eq!(rt; kernel.step(create(0, MAIN, &[SINGLE])), Ok(1));
-    assert_eq!(rt; kernel.callable(SERVER), Some(true));
+    assert_accepted(&rt, &mut kernel, create(0, MAIN, &[SINGLE]), 1);
+    assert_callable(&rt, &kernel, 1, Some(true));
     assert_eq!(rt; stop(&mut kernel, main, SERVER), Ok(()));
-    assert_eq!(rt; kernel.callable(SERVER), Some(false));
-    assert_eq!(rt; kernel.terminated(SERVER), Some(true));
+    assert_callable(&rt, &kernel, 1, Some(false));
+    assert_terminated(&rt, &kernel, 1, Some(true));
     Ok(())
 }

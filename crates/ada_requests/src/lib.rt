@@ -74,3 +74,32 @@ pub fn up(by: u16) -> Request {
         ok: true,
     }
 }
+
+/// The start of the activation of the tasks `first` to `last` (9.3).
+pub fn activate(by: u16, first: u16, last: u16) -> Request {
+    Request::Activate {
+        by: TaskNo(by),
+        tasks: tasks(first, last),
+    }
+}
+
+/// An abort of the tasks `first` to `last` (9.10).
+pub fn abort(by: u16, first: u16, last: u16) -> Request {
+    Request::Abort {
+        by: TaskNo(by),
+        tasks: tasks(first, last),
+    }
+}
+
+/// The end of a rendezvous, plain or by an exception (9.5, 11.5).
+pub fn end(by: u16, raised: bool) -> Request {
+    Request::End {
+        by: TaskNo(by),
+        raised,
+    }
+}
+
+/// A completion (9.4).
+pub fn complete(by: u16) -> Request {
+    Request::Complete { by: TaskNo(by) }
+}
