@@ -39,7 +39,8 @@ is_at place kept = kept.place == place
 answer_of : Kept → Answer
 answer_of kept = kept.answer
 
-either_answer : (first second : Option Kept) → option_map answer_of (option_or first second) ≡ option_or (option_map answer_of first) (option_map answer_of second)
+either_answer : (first second : Option Kept)
+    → option_map answer_of (option_or first second) ≡ option_or (option_map answer_of first) (option_map answer_of second)
 either_answer None second = refl
 either_answer (Some kept) second = refl
 

@@ -44,8 +44,8 @@ pub(crate) fn fault_of(fault: BoardFault) -> RunFault
     }
 }
 
-/// A seat for each of so many speakers, in their order. Fails with `Memory`, or with `Threads` where the board has fewer
-/// places.
+/// A seat for each of so many speakers, in their order. Fails with `Memory`, or with `Threads` where the board has
+/// fewer places.
 #[tactic(auto, using(crate::proofs::Numbering::numbered_one_more))]
 pub fn seats<J: Session>(
     alloc: Global,
