@@ -2,7 +2,10 @@
 ghost use Rattle.std.specs.Prelude.{◌≡◌, ◌+◌, ◌<◌, ◌≤◌, ◌^◌, false, cond};
 ghost use Rattle.std.specs.List.{count_by};
 ghost use Rattle.ada_statements.specs.Binding.{is_show};
+ghost use Rattle.ada_board.specs.Answers.{latest};
+ghost use Rattle.ada_board.specs.Sights.{Reads};
 ghost use Rattle.ada_hall.specs.Speakers.{is_request_of, request_count};
+ghost use Rattle.ada_threads.specs.internal.Reading.{value_on};
 
 use crate::{Gate, Report, Shared};
 use ada_board::BoardReader;
@@ -14,7 +17,10 @@ use std::sync::Wait;
 use std::sync::ledger::Share;
 
 // What a reader answers; none where its board has no such task or entry.
-fn value_of<J: Session>(reader: &mut BoardReader<J>, what: Asking) -> Option<Value> {
+fn value_of<J: Session>(reader: &mut BoardReader<J>, what: Asking) -> Option<Value>
+    ensures reads { Reads reader.old reader.new }
+    ensures answer { result ≡ value_on (latest reader.new.seen) what }
+{
     match what {
         Asking::Callable(task) => Some(Value::Truth(reader.callable(task)?)),
         Asking::Terminated(task) => Some(Value::Truth(reader.terminated(task)?)),
