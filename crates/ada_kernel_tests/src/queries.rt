@@ -56,6 +56,8 @@ fn boards_follow_the_steps(rt: HostRuntime) -> Result<(), Fail> {
     assert_accepted(&rt, &mut kernel, Request::Tick { now: 5 }, 10);
     assert_counted(&rt, &kernel, 0, 0);
     assert_outcome(&rt, &kernel, 2, Outcome::Cancelled);
+    assert_accepted(&rt, &mut kernel, abort(0, 1, 1), 12);
+    assert_callable(&rt, &kernel, 1, Some(false));
     Ok(())
 }
 
