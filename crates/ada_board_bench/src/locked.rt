@@ -2,7 +2,7 @@
 
 use crate::album::Album;
 use crate::race::Race;
-use crate::sights::{Locked, look, watch, watch_both};
+use crate::sights::{Locked, Watchers, look};
 use ada_events::Board;
 use ada_kernel::Kernel;
 use ada_timing::Job;
@@ -54,15 +54,13 @@ impl<R: Wait + Clock + AllocGlobal> Job<R> for Storing<'_> {
 
 // How often three readers asked until they saw the last board, each in a thread of its own.
 fn watch_three<R: Threads + Wait + Sync>(rt: &R, lock: &Mutex<Board>, boards: &[Board]) -> u64 {
-    let mut first = Locked { board: lock };
-    let mut second = Locked { board: lock };
-    let mut third = Locked { board: lock };
-    let (asked, (more, ())) = join(
-        rt,
-        || watch_both(rt, &mut first, &mut second),
-        || join(rt, || watch(rt, &mut third), || store_all(rt, lock, boards)),
-    );
-    asked.saturating_add(more)
+    let mut watchers = Watchers {
+        first: Locked { board: lock },
+        second: Locked { board: lock },
+        third: Locked { board: lock },
+    };
+    let (asked, ()) = join(rt, || watchers.watch(rt), || store_all(rt, lock, boards));
+    asked
 }
 
 /// So many races of three readers beside a writer that stores all boards of an album without pause.

@@ -39,33 +39,54 @@ fn main(rt: HostRuntime) -> anyhow::Result<()> {
 
 fn try_all<R: Threads + Wait + Sync + Clock + AllocGlobal + Print>(rt: &R) -> anyhow::Result<()> {
     let album = Album::of(rt.alloc(), 5)?;
-    let published = published::races(rt, &album, 2)?;
-    let stored = locked::races(rt, &album, 2)?;
-    println!(rt;
-        "{} boards published, {} stored",
-        published.boards, stored.boards
-    )?;
+    try_races(rt, &album)
+}
+
+fn try_races<R: Threads + Wait + Sync + Clock + AllocGlobal + Print>(
+    rt: &R,
+    album: &Album,
+) -> anyhow::Result<()> {
+    let published = published::races(rt, album, 2)?.boards;
+    let stored = locked::races(rt, album, 2)?.boards;
+    println!(rt; "{published} boards published, {stored} stored")?;
     Ok(())
 }
 
 fn measure_all<R: Threads + Wait + Sync + Clock + AllocGlobal + Print>(
     rt: &R,
 ) -> anyhow::Result<()> {
+    measure_reads(rt)?;
+    let album = Album::of(rt.alloc(), BOARDS)?;
+    measure_publications(rt, &album)?;
+    measure_races(rt, &album)
+}
+
+fn measure_reads<R: Wait + Clock + AllocGlobal + Print>(rt: &R) -> anyhow::Result<()> {
     let times = TIMES;
     println!(rt; "{times} reads by one reader; the floor is a board under a lock")?;
     print_head(rt)?;
     let floor = measure(rt, &mut ReadingLocked { times })?;
-    print_row(rt, "read", measure(rt, &mut Reading { times })?, floor)?;
-    let album = &Album::of(rt.alloc(), BOARDS)?;
+    let read = measure(rt, &mut Reading { times })?;
+    print_row(rt, "read", read, floor)?;
+    Ok(())
+}
+
+fn measure_publications<R: Wait + Clock + AllocGlobal + Print>(
+    rt: &R,
+    album: &Album,
+) -> anyhow::Result<()> {
     println!(rt; "{BOARDS} boards published; the floor is to store them under a lock")?;
     print_head(rt)?;
     let floor = measure(rt, &mut Storing { album })?;
-    print_row(
-        rt,
-        "publish",
-        measure(rt, &mut Publishing { album })?,
-        floor,
-    )?;
+    let published = measure(rt, &mut Publishing { album })?;
+    print_row(rt, "publish", published, floor)?;
+    Ok(())
+}
+
+fn measure_races<R: Threads + Wait + Sync + Clock + AllocGlobal + Print>(
+    rt: &R,
+    album: &Album,
+) -> anyhow::Result<()> {
     println!(rt; "three readers beside a writer: answers and boards in a millisecond")?;
     published::races(rt, album, ROUNDS)?.print(rt, "published")?;
     locked::races(rt, album, ROUNDS)?.print(rt, "locked")?;

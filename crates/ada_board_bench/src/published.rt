@@ -4,8 +4,8 @@ ghost use Rattle.ada_events.specs.Boards.{AreTrue};
 
 use crate::album::Album;
 use crate::race::Race;
-use crate::sights::{look, watch, watch_both};
-use ada_board::{BoardReader, BoardWriter, History, Naming, Readers, open_board};
+use crate::sights::{Watchers, look};
+use ada_board::{BoardFault, BoardReader, BoardWriter, History, Naming, Readers, open_board};
 use ada_events::Board;
 use ada_timing::Job;
 use std::marker::Brand;
@@ -84,6 +84,15 @@ impl<R: Wait + Clock + AllocGlobal> Job<R> for Publishing<'_> {
     }
 }
 
+// Three readers.
+fn watchers<J: Naming>(places: &mut Readers<J>) -> Result<Watchers<BoardReader<J>>, BoardFault> {
+    Ok(Watchers {
+        first: places.take()?,
+        second: places.take()?,
+        third: places.take()?,
+    })
+}
+
 // How often three readers asked until they saw the last board, each in a thread of its own.
 fn watch_three<J: Naming + Send + Sync, R: Threads + Wait + Sync>(
     rt: &R,
@@ -94,22 +103,14 @@ fn watch_three<J: Naming + Send + Sync, R: Threads + Wait + Sync>(
     requires boards { AreTrue boards.now }
     requires new { writer.old ≡ record { published = []; offered = [] } }
 {
-    let mut first = places.take()?;
-    let mut second = places.take()?;
-    let mut third = places.take()?;
-    let (published, (asked, more)) = join(
+    let mut watchers = watchers(places)?;
+    let (published, asked) = join(
         rt,
         || publish_all(rt, writer, boards),
-        || {
-            join(
-                rt,
-                || watch_both(rt, &mut first, &mut second),
-                || watch(rt, &mut third),
-            )
-        },
+        || watchers.watch(rt),
     );
     anyhow::ensure!(published, "out of memory");
-    Ok(asked.saturating_add(more))
+    Ok(asked)
 }
 
 fn race<J: Naming + Send + Sync, R: Threads + Wait + Sync + Clock + AllocGlobal>(

@@ -52,9 +52,9 @@ pub fn look<S: Sight, R: Wait>(rt: &R, sight: &mut S, times: u32) -> u32 {
     callable
 }
 
-/// Asks whether the main program is callable until it isn't, and whether it is terminated until it is.
-/// Says how often it asked.
-pub fn watch<S: Sight, R: Wait>(rt: &R, sight: &mut S) -> u64 {
+// Asks whether the main program is callable until it isn't, and whether it is terminated until it is. Says how
+// often it asked.
+fn watch<S: Sight, R: Wait>(rt: &R, sight: &mut S) -> u64 {
     for asked in 0..LOOKS {
         if !sight.callable(rt, 0) && sight.terminated(rt, 0) {
             return asked;
@@ -63,12 +63,33 @@ pub fn watch<S: Sight, R: Wait>(rt: &R, sight: &mut S) -> u64 {
     LOOKS
 }
 
-/// Two that watch, each in a thread of its own. Says how often they asked.
-pub fn watch_both<S: Sight + Send, R: Threads + Wait + Sync>(
+// Two that watch, each in a thread of its own. Says how often they asked.
+fn watch_both<S: Sight + Send, R: Threads + Wait + Sync>(
     rt: &R,
     first: &mut S,
     second: &mut S,
 ) -> u64 {
     let (one, other) = join(rt, || watch(rt, first), || watch(rt, second));
     one.saturating_add(other)
+}
+
+/// Three that watch.
+#[derive(Drop)]
+pub struct Watchers<S> {
+    pub first: S,
+    pub second: S,
+    pub third: S,
+}
+
+impl<S: Sight + Send> Watchers<S> {
+    /// Each watches in a thread of its own. Says how often they asked.
+    pub fn watch<R: Threads + Wait + Sync>(&mut self, rt: &R) -> u64 {
+        let Watchers {
+            first,
+            second,
+            third,
+        } = self;
+        let (asked, more) = join(rt, || watch_both(rt, first, second), || watch(rt, third));
+        asked.saturating_add(more)
+    }
 }

@@ -3,9 +3,9 @@ ghost use Rattle.std.specs.Prelude.{◌≡◌, ◌<◌, ◌≤◌};
 
 use crate::Station;
 use ada_board::{History, Naming, Readers, open_board};
-use ada_events::{Refusal, Request, TaskNo};
+use ada_events::Refusal;
 use ada_kernel::Kernel;
-use ada_requests::{MAIN, SINGLE, create, tasks, up};
+use ada_requests::{MAIN, SINGLE, activate, create, up};
 use std::sync::Wait;
 use std::test::Fail;
 
@@ -25,14 +25,10 @@ pub fn opened<J: Naming, R: Wait + AllocGlobal>(
 
 /// Makes a server, task 1 with two entries, and two clients, and activates them: 8 events.
 pub fn make_clients<J: Naming, R: Wait>(rt: &R, station: &mut Station<J>) -> Result<(), Refusal> {
-    let activate = Request::Activate {
-        by: TaskNo(0),
-        tasks: tasks(1, 3),
-    };
     station.step(rt, create(0, MAIN, &[SINGLE, SINGLE]))?;
     station.step(rt, create(0, MAIN, &[]))?;
     station.step(rt, create(0, MAIN, &[]))?;
-    station.step(rt, activate)?;
+    station.step(rt, activate(0, 1, 3))?;
     station.step(rt, up(1))?;
     station.step(rt, up(2))?;
     station.step(rt, up(3))?;

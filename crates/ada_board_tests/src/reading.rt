@@ -4,31 +4,13 @@ ghost use Rattle.std.specs.Prelude.{◌≡◌};
 use crate::Station;
 use crate::opened::{make_clients, opened};
 use ada_board::{BoardFault, BoardReader, History, Mark, Naming, Readers};
-use ada_events::{Patience, Request, TaskNo};
-use ada_requests::{MAIN, SINGLE, create, entry, tasks};
+use ada_events::{Refusal, Request, TaskNo};
+use ada_requests::{MAIN, SINGLE, abort, create, timed_call};
 use std::marker::Brand;
 use std::sync::Wait;
 use std::test::Fail;
 
 const SERVER: TaskNo = TaskNo(1);
-
-/// A call of the server's first entry by the first client, for 5 milliseconds.
-fn timed() -> Request {
-    Request::Call {
-        by: TaskNo(2),
-        callee: SERVER,
-        entry: entry(0),
-        patience: Patience::Timed(5),
-    }
-}
-
-/// The main program aborts the server.
-fn abort() -> Request {
-    Request::Abort {
-        by: TaskNo(0),
-        tasks: tasks(1, 1),
-    }
-}
 
 /// Whether a reader sees the server terminated, and no fifth task and no third slot.
 fn sees_no_server<J: Naming>(reader: &mut BoardReader<J>) -> bool {
@@ -39,34 +21,76 @@ fn sees_no_server<J: Naming>(reader: &mut BoardReader<J>) -> bool {
         && reader.count(2).is_none()
 }
 
+/// Two readers, of which one is told of each step.
+#[derive(Drop)]
+struct Watchers<J: Naming> {
+    told: BoardReader<J>,
+    untold: BoardReader<J>,
+}
+
+impl<J: Naming> Watchers<J> {
+    /// A step that one of them is told of: the position of its event.
+    fn step<R: Wait>(
+        &mut self,
+        rt: &R,
+        station: &mut Station<J>,
+        request: Request,
+    ) -> Result<u32, Refusal> {
+        let (at, mark) = station.step(rt, request)?;
+        self.told.learn(mark);
+        Ok(at)
+    }
+
+    /// Whether both see so many calls in the queue of the first entry.
+    fn see_queued(&mut self, calls: u16) -> bool {
+        self.told.count(0) == Some(calls) && self.untold.count(0) == Some(calls)
+    }
+
+    /// Whether both see that the server is callable.
+    fn see_server(&mut self) -> bool {
+        self.told.callable(SERVER) == Some(true) && self.untold.callable(SERVER) == Some(true)
+    }
+
+    /// Whether both see that the server has terminated.
+    fn see_no_server(&mut self) -> bool {
+        sees_no_server(&mut self.told) && sees_no_server(&mut self.untold)
+    }
+}
+
 /// A call, its time-out and an abort, each seen by a reader that is told of it and by one that isn't.
 fn worked_row<J: Naming, R: Wait>(
     rt: &R,
     station: &mut Station<J>,
+    both: &mut Watchers<J>,
+) -> Result<bool, Fail> {
+    make_clients(rt, station)?;
+    let called = both.step(rt, station, timed_call(2, 1, 0, 5))?;
+    let waits = both.see_queued(1);
+    let ticked = both.step(rt, station, Request::Tick { now: 5 })?;
+    let left = both.see_queued(0);
+    let aborted = both.step(rt, station, abort(0, 1, 1))?;
+    Ok(waits && left && both.see_no_server() && (called, ticked, aborted) == (9, 10, 12))
+}
+
+/// The row by two readers, for which there are two places and no third.
+fn row_watched<J: Naming, R: Wait>(
+    rt: &R,
+    station: &mut Station<J>,
     places: &mut Readers<J>,
 ) -> Result<bool, Fail> {
-    let mut told = places.take()?;
-    let mut untold = places.take()?;
-    let third = places.take();
-    make_clients(rt, station)?;
-    let (called, mark) = station.step(rt, timed())?;
-    told.learn(mark);
-    let waits = told.count(0) == Some(1) && untold.count(0) == Some(1);
-    let (ticked, mark) = station.step(rt, Request::Tick { now: 5 })?;
-    told.learn(mark);
-    let left = told.count(0) == Some(0) && untold.count(0) == Some(0);
-    let (aborted, mark) = station.step(rt, abort())?;
-    told.learn(mark);
-    let gone = sees_no_server(&mut told) && sees_no_server(&mut untold);
-    let full = third.err() == Some(BoardFault::NoPlace);
-    Ok(full && waits && left && gone && (called, ticked, aborted) == (9, 10, 12))
+    let mut both = Watchers {
+        told: places.take()?,
+        untold: places.take()?,
+    };
+    let full = places.take().err() == Some(BoardFault::NoPlace);
+    Ok(worked_row(rt, station, &mut both)? && full)
 }
 
 fn row_played<J: Naming, R: Wait + AllocGlobal>(rt: &R, history: History) -> Result<bool, Fail>
     requires { history ≡ J.book }
 {
     let (mut station, mut places) = opened::<J, R>(rt, history, 2)?;
-    let came = worked_row(rt, &mut station, &mut places);
+    let came = row_watched(rt, &mut station, &mut places);
     station.close(rt);
     came
 }
@@ -133,21 +157,33 @@ fn always_out_of_memory(rt: HostRuntime) -> Result<(), Fail> {
     Ok(())
 }
 
+/// Makes the clients, which two readers see, and then aborts the server, which one of them is told of.
+fn leave_behind<J: Naming, R: Wait>(
+    rt: &R,
+    station: &mut Station<J>,
+    both: &mut Watchers<J>,
+) -> Result<bool, Fail> {
+    make_clients(rt, station)?;
+    let seen = both.see_server();
+    let aborted = both.step(rt, station, abort(0, 1, 1))?;
+    Ok(seen && aborted == 9)
+}
+
 /// What two readers are left with: one read last before the server's abort, and one was told of that.
 fn left_behind<J: Naming, R: Wait>(
     rt: &R,
     station: &mut Station<J>,
     places: &mut Readers<J>,
-) -> Result<(BoardReader<J>, BoardReader<J>), Fail> {
-    let mut early = places.take()?;
-    let mut told = places.take()?;
-    make_clients(rt, station)?;
-    if early.callable(SERVER) != Some(true) || told.callable(SERVER) != Some(true) {
-        return Err("the server is callable".into());
+) -> Result<Watchers<J>, Fail> {
+    let mut both = Watchers {
+        told: places.take()?,
+        untold: places.take()?,
+    };
+    if leave_behind(rt, station, &mut both)? {
+        Ok(both)
+    } else {
+        Err("the server is callable, and its abort is event 9".into())
     }
-    let (_, mark) = station.step(rt, abort())?;
-    told.learn(mark);
-    Ok((early, told))
 }
 
 fn outlived<J: Naming, R: Wait + AllocGlobal>(rt: &R, history: History) -> Result<bool, Fail>
@@ -156,11 +192,11 @@ fn outlived<J: Naming, R: Wait + AllocGlobal>(rt: &R, history: History) -> Resul
     let (mut station, mut places) = opened::<J, R>(rt, history, 2)?;
     let readers = left_behind(rt, &mut station, &mut places);
     station.close(rt);
-    let (mut early, mut told) = readers?;
+    let mut both = readers?;
     Ok(
-        early.callable(SERVER) == Some(true)
-            && early.callable(SERVER) == Some(true)
-            && sees_no_server(&mut told),
+        both.untold.callable(SERVER) == Some(true)
+            && both.untold.callable(SERVER) == Some(true)
+            && sees_no_server(&mut both.told),
     )
 }
 
@@ -178,7 +214,7 @@ fn marks_of<J: Naming, R: Wait>(
 ) -> Result<(BoardReader<J>, Mark<J>, Mark<J>), Fail> {
     let reader = places.take()?;
     make_clients(rt, station)?;
-    let (_, older) = station.step(rt, timed())?;
+    let (_, older) = station.step(rt, timed_call(2, 1, 0, 5))?;
     let (_, newer) = station.step(rt, Request::Tick { now: 5 })?;
     Ok((reader, older, newer))
 }

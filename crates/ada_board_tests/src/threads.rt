@@ -3,9 +3,9 @@ ghost use Rattle.std.specs.Prelude.{◌≡◌};
 
 use crate::Station;
 use crate::opened::opened;
-use ada_board::{BoardReader, History, Naming, Readers};
+use ada_board::{BoardFault, BoardReader, History, Naming, Readers};
 use ada_events::{Request, TaskNo};
-use ada_requests::{MAIN, create};
+use ada_requests::{MAIN, complete, create};
 use std::marker::Brand;
 use std::mem::ManuallyDrop;
 use std::sync::{Mutex, Wait};
@@ -51,34 +51,45 @@ fn publish_all<J: Naming, R: Wait>(rt: &R, station: &mut Station<J>) -> bool {
             return false;
         }
     }
-    station
-        .step(rt, Request::Complete { by: TaskNo(0) })
-        .is_ok()
+    station.step(rt, complete(0)).is_ok()
 }
 
+/// Watches by two readers, each in a thread of its own.
+fn watch_both<J: Naming + Send + Sync, R: Threads>(
+    rt: &R,
+    first: BoardReader<J>,
+    second: BoardReader<J>,
+) -> bool {
+    let (one, other) = join(rt, || watch(first), || watch(second));
+    one && other
+}
+
+fn take_two<J: Naming>(
+    places: &mut Readers<J>,
+) -> Result<(BoardReader<J>, BoardReader<J>), BoardFault> {
+    Ok((places.take()?, places.take()?))
+}
+
+/// Watches by four readers while a thread of its own publishes.
 fn watched_by_four<J: Naming + Send + Sync, R: Threads + Wait + Sync>(
     rt: &R,
     station: &mut Station<J>,
     places: &mut Readers<J>,
 ) -> Result<bool, Fail> {
-    let first = places.take()?;
-    let second = places.take()?;
-    let third = places.take()?;
-    let fourth = places.take()?;
-    let two = || {
-        let (one, other) = join(rt, || watch(first), || watch(second));
-        one && other
-    };
-    let rest = || {
-        let (one, (other, published)) = join(
-            rt,
-            || watch(third),
-            || join(rt, || watch(fourth), || publish_all(rt, station)),
-        );
-        one && other && published
-    };
-    let (these, those) = join(rt, two, rest);
-    Ok(these && those)
+    let (first, second) = take_two(places)?;
+    let (third, fourth) = take_two(places)?;
+    let (these, (those, published)) = join(
+        rt,
+        || watch_both(rt, first, second),
+        || {
+            join(
+                rt,
+                || watch_both(rt, third, fourth),
+                || publish_all(rt, station),
+            )
+        },
+    );
+    Ok(these && those && published)
 }
 
 fn watched<J: Naming + Send + Sync, R: Threads + Wait + Sync + AllocGlobal>(

@@ -1,5 +1,5 @@
 -- Who may go on: what a thread looks at before it plays a line.
-use Rattle.std.specs.Prelude.{ℕ, ◌+◌, min, ◌==◌, if◌then◌else◌, Option, Some, None, Bool, true, false, ◌&&◌, ◌||◌, List, slice_get}
+use Rattle.std.specs.Prelude.{ℕ, ◌+◌, ◌-◌, ◌^◌, min, ◌==◌, if◌then◌else◌, Option, Some, None, Bool, true, false, ◌&&◌, ◌||◌, List, slice_get}
 use Rattle.std.specs.Option.{option_map_or}
 use Rattle.ada_events.specs.declared.event.Event.{Event}
 use Rattle.ada_events.specs.declared.outcome.Outcome.{Outcome}
@@ -31,5 +31,5 @@ may_go script hall place =
 
 -- how many threads have looked since the last change, where another one looks that had seen this change
 abbrev pub with_one_more : ℕ → ℕ → Option ℕ → ℕ
-with_one_more waiting changes None = min (waiting + 1) 4294967295
-with_one_more waiting changes (Some seen) = if seen == changes then waiting else min (waiting + 1) 4294967295
+with_one_more waiting changes None = min (waiting + 1) (2 ^ 32 - 1)
+with_one_more waiting changes (Some seen) = if seen == changes then waiting else min (waiting + 1) (2 ^ 32 - 1)

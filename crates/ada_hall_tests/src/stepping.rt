@@ -3,9 +3,9 @@ ghost use Rattle.std.specs.Prelude.{◌≡◌, ◌<◌};
 
 use crate::opened::{Setting, opened};
 use ada_board::{BoardFault, BoardReader, History, Readers};
-use ada_events::{Patience, Refusal, Request, TaskNo};
+use ada_events::{Refusal, Request, TaskNo};
 use ada_hall::{Hall, Session, Told};
-use ada_requests::{MAIN, SINGLE, create, entry, tasks, up};
+use ada_requests::{MAIN, SINGLE, abort, activate, create, timed_call, up};
 use ada_script::{Script, read};
 use std::marker::Brand;
 use std::sync::Wait;
@@ -13,24 +13,6 @@ use std::sync::ledger::{Blank, Share};
 use std::test::Fail;
 
 const SERVER: TaskNo = TaskNo(1);
-
-/// A call of the server's first entry by the first client, for 5 milliseconds.
-fn timed() -> Request {
-    Request::Call {
-        by: TaskNo(2),
-        callee: SERVER,
-        entry: entry(0),
-        patience: Patience::Timed(5),
-    }
-}
-
-/// The main program aborts the server.
-fn abort() -> Request {
-    Request::Abort {
-        by: TaskNo(0),
-        tasks: tasks(1, 1),
-    }
-}
 
 /// Makes a server, task 1 with two entries, and two clients, and activates them: 8 events.
 fn make_clients<J: Session, R: Wait>(
@@ -41,37 +23,14 @@ fn make_clients<J: Session, R: Wait>(
     requires { 0 < share.old.parts }
     ensures { share.new.parts ≡ share.old.parts }
 {
-    let activate = Request::Activate {
-        by: TaskNo(0),
-        tasks: tasks(1, 3),
-    };
     hall.step(rt, share, create(0, MAIN, &[SINGLE, SINGLE]))?;
     hall.step(rt, share, create(0, MAIN, &[]))?;
     hall.step(rt, share, create(0, MAIN, &[]))?;
-    hall.step(rt, share, activate)?;
+    hall.step(rt, share, activate(0, 1, 3))?;
     hall.step(rt, share, up(1))?;
     hall.step(rt, share, up(2))?;
     hall.step(rt, share, up(3))?;
     Ok(())
-}
-
-/// A step, whose mark the reader learns: the position of its event.
-fn told_step<J: Session, R: Wait>(
-    rt: &R,
-    hall: &mut Hall<'_, J>,
-    share: &mut Share<J>,
-    reader: &mut BoardReader<J>,
-    request: Request,
-) -> Result<u32, Fail>
-    requires { 0 < share.old.parts }
-    ensures { share.new.parts ≡ share.old.parts }
-{
-    let Told { at, mark } = hall.step(rt, share, request)?;
-    let Some(mark) = mark else {
-        return Err("a mark".into());
-    };
-    reader.learn(mark);
-    Ok(at)
 }
 
 /// Whether a reader sees the server terminated, and no fifth task and no third slot.
@@ -83,8 +42,64 @@ fn sees_no_server<J: Session>(reader: &mut BoardReader<J>) -> bool {
         && reader.count(2).is_none()
 }
 
+/// Two readers, of which one is told of each step.
+#[derive(Drop)]
+struct Watchers<J: Session> {
+    told: BoardReader<J>,
+    untold: BoardReader<J>,
+}
+
+impl<J: Session> Watchers<J> {
+    /// A step that one of them is told of: the position of its event.
+    fn step<R: Wait>(
+        &mut self,
+        rt: &R,
+        hall: &mut Hall<'_, J>,
+        share: &mut Share<J>,
+        request: Request,
+    ) -> Result<u32, Fail>
+        requires { 0 < share.old.parts }
+        ensures { share.new.parts ≡ share.old.parts }
+    {
+        let Told { at, mark } = hall.step(rt, share, request)?;
+        let Some(mark) = mark else {
+            return Err("a mark".into());
+        };
+        self.told.learn(mark);
+        Ok(at)
+    }
+
+    /// Whether both see so many calls in the queue of the first entry.
+    fn see_queued(&mut self, calls: u16) -> bool {
+        self.told.count(0) == Some(calls) && self.untold.count(0) == Some(calls)
+    }
+
+    /// Whether both see that the server has terminated.
+    fn see_no_server(&mut self) -> bool {
+        sees_no_server(&mut self.told) && sees_no_server(&mut self.untold)
+    }
+}
+
 /// A call, its time-out and an abort, each seen by a reader that is told of it and by one that isn't.
 fn worked_row<J: Session, R: Wait>(
+    rt: &R,
+    hall: &mut Hall<'_, J>,
+    share: &mut Share<J>,
+    both: &mut Watchers<J>,
+) -> Result<bool, Fail>
+    requires { 0 < share.old.parts }
+{
+    make_clients(rt, hall, share)?;
+    let called = both.step(rt, hall, share, timed_call(2, 1, 0, 5))?;
+    let waits = both.see_queued(1);
+    let ticked = both.step(rt, hall, share, Request::Tick { now: 5 })?;
+    let left = both.see_queued(0);
+    let aborted = both.step(rt, hall, share, abort(0, 1, 1))?;
+    Ok(waits && left && both.see_no_server() && (called, ticked, aborted) == (9, 10, 12))
+}
+
+/// The row by two readers, for which there are two places and no third, and what the hall keeps of it.
+fn row_watched<J: Session, R: Wait>(
     rt: &R,
     hall: &mut Hall<'_, J>,
     share: &mut Share<J>,
@@ -92,18 +107,13 @@ fn worked_row<J: Session, R: Wait>(
 ) -> Result<bool, Fail>
     requires { 0 < share.old.parts }
 {
-    let mut told = places.take()?;
-    let mut untold = places.take()?;
+    let mut both = Watchers {
+        told: places.take()?,
+        untold: places.take()?,
+    };
     let full = places.take().err() == Some(BoardFault::NoPlace);
-    make_clients(rt, hall, share)?;
-    let called = told_step(rt, hall, share, &mut told, timed())?;
-    let waits = told.count(0) == Some(1) && untold.count(0) == Some(1);
-    let ticked = told_step(rt, hall, share, &mut told, Request::Tick { now: 5 })?;
-    let left = told.count(0) == Some(0) && untold.count(0) == Some(0);
-    let aborted = told_step(rt, hall, share, &mut told, abort())?;
-    let gone = sees_no_server(&mut told) && sees_no_server(&mut untold);
-    let kept = !hall.behind() && hall.total() == 10 && hall.answers().is_empty();
-    Ok(full && waits && left && gone && kept && (called, ticked, aborted) == (9, 10, 12))
+    let seen = worked_row(rt, hall, share, &mut both)?;
+    Ok(full && seen && !hall.behind() && hall.total() == 10 && hall.answers().is_empty())
 }
 
 fn row_played<J: Session, R: Wait + AllocGlobal>(
@@ -122,7 +132,7 @@ fn row_played<J: Session, R: Wait + AllocGlobal>(
         mut places,
         mut share,
     } = opened::<J, R>(rt, history, blank, script, 2)?;
-    let came = worked_row(rt, &mut hall, &mut share, &mut places);
+    let came = row_watched(rt, &mut hall, &mut share, &mut places);
     hall.close(rt);
     came
 }

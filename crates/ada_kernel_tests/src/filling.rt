@@ -87,7 +87,7 @@ fn as_many_rendezvous_as_there_may_be(rt: HostRuntime) -> Result<(), Fail> {
 /// A chain of so many rendezvous: main calls task 1, which accepts and calls task 2, and so on to the
 /// last. Before it each task has two events, its making and the end of its activation, and two are of
 /// them all.
-fn chained<R: Abort + AllocGlobal>(rt: &R, last: u16) -> Result<Kernel, Fail> {
+pub fn chained<R: Abort + AllocGlobal>(rt: &R, last: u16) -> Result<Kernel, Fail> {
     let mut kernel = Kernel::new(rt.alloc())?;
     assert!(rt; make_tasks(&mut kernel, last));
     for callee in 1..=last {
@@ -97,31 +97,45 @@ fn chained<R: Abort + AllocGlobal>(rt: &R, last: u16) -> Result<Kernel, Fail> {
     Ok(kernel)
 }
 
-// Each rendezvous has three events, its call first. The last task aborts all and completes at once; then
-// the first call fails, and with each further call its caller completes. At last all terminate.
+// Each rendezvous has three events, its call first. Behind the abort of a chain the last task completes at once; then
+// the first call fails, and with each further call its caller completes.
+fn assert_callers_fail(rt: &impl Abort, kernel: &Kernel, last: u16) {
+    let length = u32::from(last);
+    for task in 1..last {
+        let number = u32::from(task);
+        let failed = Event::Failed {
+            call: 2 * length + 3 + 3 * number,
+        };
+        let halted = Event::Halted { task: TaskNo(task) };
+        let place = 5 * length + 4 + 2 * number;
+        assert_event(rt, kernel, place, Some(&failed));
+        assert_event(rt, kernel, place + 1, Some(&halted));
+    }
+}
+
+// At last all tasks of the chain terminate.
+fn assert_all_terminate(rt: &impl Abort, kernel: &Kernel, last: u16) {
+    let behind = 7 * u32::from(last) + 3;
+    for task in 1..=last {
+        let gone = Event::Gone { task: TaskNo(task) };
+        assert_event(rt, kernel, behind + u32::from(task), Some(&gone));
+    }
+}
+
+// The last task aborts all.
 fn chain_is_aborted<R: Abort + AllocGlobal>(rt: &R, last: u16) -> Result<Kernel, Fail> {
     let mut kernel = chained(rt, last)?;
     let length = u32::from(last);
-    let calls = 2 * length + 3;
     let at = 5 * length + 3;
     assert_accepted(rt, &mut kernel, abort(last, 1, last), at);
     let halted = Event::Halted { task: TaskNo(last) };
     assert_event(rt, &kernel, at + 1, Some(&halted));
-    assert_event(rt, &kernel, at + 2, Some(&Event::Failed { call: calls }));
-    for task in 1..last {
-        let place = 2 * u32::from(task);
-        let failed = Event::Failed {
-            call: calls + 3 * u32::from(task),
-        };
-        assert_event(rt, &kernel, at + 1 + place, Some(&failed));
-        let halted = Event::Halted { task: TaskNo(task) };
-        assert_event(rt, &kernel, at + 2 + place, Some(&halted));
-    }
-    for task in 1..=last {
-        let gone = Event::Gone { task: TaskNo(task) };
-        let place = at + 2 * length + u32::from(task);
-        assert_event(rt, &kernel, place, Some(&gone));
-    }
+    let first = Event::Failed {
+        call: 2 * length + 3,
+    };
+    assert_event(rt, &kernel, at + 2, Some(&first));
+    assert_callers_fail(rt, &kernel, last);
+    assert_all_terminate(rt, &kernel, last);
     assert_events(rt, &kernel, at + 3 * length);
     Ok(kernel)
 }

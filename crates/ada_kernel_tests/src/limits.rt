@@ -5,6 +5,7 @@ use crate::asserts::{
     assert_refused, assert_running, assert_slot, assert_terminated,
 };
 use crate::crowd::make_tasks;
+use crate::filling::chained;
 use ada_events::{Event, Family, Outcome, Refusal, Request, TaskNo};
 use ada_kernel::Kernel;
 use ada_requests::{MAIN, SINGLE, abort, accept, call, complete, create, entry};
@@ -131,12 +132,7 @@ fn everybody_calls_one_that_aborts_all(rt: HostRuntime) -> Result<(), Fail> {
 // A chain of 63 rendezvous, whose last task aborts all.
 #[test]
 fn a_chain_of_rendezvous_is_aborted(rt: HostRuntime) -> Result<(), Fail> {
-    let mut kernel = Kernel::new(rt.alloc())?;
-    assert!(rt; make_tasks(&mut kernel, 63));
-    for caller in 0..63u16 {
-        assert!(rt; kernel.step(call(caller, caller + 1, 0)).is_ok());
-        assert!(rt; kernel.step(accept(caller + 1, 0)).is_ok());
-    }
+    let mut kernel = chained(&rt, 63)?;
     assert_events(&rt, &kernel, 317);
     assert_accepted(&rt, &mut kernel, abort(63, 1, 63), 318);
     assert_event(&rt, &kernel, 319, Some(&Event::Halted { task: TaskNo(63) }));

@@ -5,9 +5,11 @@ use crate::asserts::{
     assert_outcome, assert_slot, assert_terminated,
 };
 use crate::crowd::make_tasks;
-use ada_events::{Entry, Family, Outcome, Patience, Refusal, Request, TaskNo};
+use ada_events::{Entry, Family, Outcome, Refusal, Request, TaskNo};
 use ada_kernel::Kernel;
-use ada_requests::{MAIN, SINGLE, abort, accept, activate, call, create, end, entry, up};
+use ada_requests::{
+    MAIN, SINGLE, abort, accept, activate, call, create, end, entry, timed_call, up,
+};
 use std::process::Abort;
 use std::test::Fail;
 
@@ -43,13 +45,7 @@ fn an_opening_board(rt: HostRuntime) -> Result<(), Fail> {
 #[test]
 fn boards_follow_the_steps(rt: HostRuntime) -> Result<(), Fail> {
     let mut kernel = with_clients(&rt)?;
-    let timed = Request::Call {
-        by: TaskNo(2),
-        callee: TaskNo(1),
-        entry: entry(0),
-        patience: Patience::Timed(5),
-    };
-    assert_accepted(&rt, &mut kernel, timed, 9);
+    assert_accepted(&rt, &mut kernel, timed_call(2, 1, 0, 5), 9);
     assert_board(&rt, &kernel, 4, 2, 9);
     assert_counted(&rt, &kernel, 0, 1);
     assert_counted(&rt, &kernel, 1, 0);

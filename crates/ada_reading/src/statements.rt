@@ -1,6 +1,6 @@
 //! Reading the statements.
 
-ghost use Rattle.std.specs.Prelude.{◌≡◌, ◌⊎◌, Ok, Err, option_copied, OnOk, IfErr};
+ghost use Rattle.std.specs.Prelude.{◌≡◌, ◌⊎◌, Ok, Err, option_copied, OnOk, IfErr, IsOk};
 ghost use Rattle.ada_reading.specs.internal.Reading.{Gives, Writes, verb_at, open_at, create_at, activate_at, abort_at, call_at};
 ghost use Rattle.ada_reading.specs.internal.Reading.{try_at, accept_at, delay_at, tick_at};
 ghost use Rattle.ada_reading.specs.internal.Reading.{select_at, show_at, act_at, before_colon, speaker_of, speech_at, statement_at, statement_of};
@@ -17,6 +17,14 @@ use ada_spelling::{Verb, verb_of};
 use ada_statements::{Name, Names, Statement};
 use std::alloc::Global;
 
+// Puts what was read into its place.
+fn put(place: &mut Statement, statement: Statement) -> Result<(), Fault>
+    ensures { IsOk result × (place.new ≡ statement) }
+{
+    *place = statement;
+    Ok(())
+}
+
 /// Takes a verb.
 #[tactic(auto, unfolding(crate::specs::internal::Reading::verb_at))]
 fn read_verb(words: &mut Words) -> Result<Verb, Fault>
@@ -31,8 +39,7 @@ fn read_tick(words: &mut Words, statement: &mut Statement) -> Result<(), Fault>
     ensures { Writes result statement.new words.new (tick_at words.old) }
 {
     let now = read_moment(words)?;
-    *statement = Statement::Tick { now };
-    Ok(())
+    put(statement, Statement::Tick { now })
 }
 
 #[tactic(auto, unfolding(crate::specs::internal::Reading::open_at))]
@@ -45,8 +52,7 @@ fn read_open(
     ensures { Writes result statement.new words.new (open_at names.now by words.old) }
 {
     let block = read_new_name(names, words)?;
-    *statement = Statement::Open { by, block };
-    Ok(())
+    put(statement, Statement::Open { by, block })
 }
 
 #[tactic(auto, unfolding(crate::specs::internal::Reading::create_at))]
@@ -63,13 +69,15 @@ fn read_create(
     read_keyword(b"under", words)?;
     let under = read_master(names, words)?;
     let families = read_families(alloc, words)?;
-    *statement = Statement::Create {
-        by,
-        task,
-        under,
-        families,
-    };
-    Ok(())
+    put(
+        statement,
+        Statement::Create {
+            by,
+            task,
+            under,
+            families,
+        },
+    )
 }
 
 #[tactic(auto, unfolding(crate::specs::internal::Reading::activate_at))]
@@ -83,8 +91,7 @@ fn read_activate(
     ensures { Writes result statement.new words.new (activate_at names.now by words.old) }
 {
     let tasks = read_tasks(alloc, names, words)?;
-    *statement = Statement::Activate { by, tasks };
-    Ok(())
+    put(statement, Statement::Activate { by, tasks })
 }
 
 #[tactic(auto, unfolding(crate::specs::internal::Reading::abort_at))]
@@ -98,8 +105,7 @@ fn read_abort(
     ensures { Writes result statement.new words.new (abort_at names.now by words.old) }
 {
     let tasks = read_tasks(alloc, names, words)?;
-    *statement = Statement::Abort { by, tasks };
-    Ok(())
+    put(statement, Statement::Abort { by, tasks })
 }
 
 #[tactic(auto, unfolding(crate::specs::internal::Reading::call_at))]
@@ -114,18 +120,19 @@ fn read_call(
     let callee = read_task(names, words)?;
     let entry = read_entry(names, &callee, words)?;
     if words.is_over() {
-        *statement = Statement::Call { by, callee, entry };
-        return Ok(());
+        return put(statement, Statement::Call { by, callee, entry });
     }
     read_keyword(b"within", words)?;
     let duration = read_moment(words)?;
-    *statement = Statement::CallWithin {
-        by,
-        callee,
-        entry,
-        duration,
-    };
-    Ok(())
+    put(
+        statement,
+        Statement::CallWithin {
+            by,
+            callee,
+            entry,
+            duration,
+        },
+    )
 }
 
 #[tactic(auto, unfolding(crate::specs::internal::Reading::try_at))]
@@ -139,8 +146,7 @@ fn read_try(
 {
     let callee = read_task(names, words)?;
     let entry = read_entry(names, &callee, words)?;
-    *statement = Statement::Try { by, callee, entry };
-    Ok(())
+    put(statement, Statement::Try { by, callee, entry })
 }
 
 #[tactic(auto, unfolding(crate::specs::internal::Reading::accept_at))]
@@ -153,8 +159,7 @@ fn read_accept(
     ensures { Writes result statement.new words.new (accept_at names.now by words.old) }
 {
     let entry = read_entry(names, &by, words)?;
-    *statement = Statement::Accept { by, entry };
-    Ok(())
+    put(statement, Statement::Accept { by, entry })
 }
 
 #[tactic(auto, unfolding(crate::specs::internal::Reading::delay_at))]
@@ -162,8 +167,7 @@ fn read_delay(by: Name, words: &mut Words, statement: &mut Statement) -> Result<
     ensures { Writes result statement.new words.new (delay_at by words.old) }
 {
     let duration = read_moment(words)?;
-    *statement = Statement::Delay { by, duration };
-    Ok(())
+    put(statement, Statement::Delay { by, duration })
 }
 
 #[tactic(auto, unfolding(crate::specs::internal::Reading::select_at))]
@@ -178,13 +182,15 @@ fn read_select(
 {
     let pick = read_pick(words)?;
     let (choices, tail) = read_alternatives(alloc, names, &by, words)?;
-    *statement = Statement::Select {
-        by,
-        pick,
-        choices,
-        tail,
-    };
-    Ok(())
+    put(
+        statement,
+        Statement::Select {
+            by,
+            pick,
+            choices,
+            tail,
+        },
+    )
 }
 
 #[tactic(auto, unfolding(crate::specs::internal::Reading::show_at))]
@@ -199,17 +205,16 @@ fn read_show(
     let word = read_word(words)?;
     if word == b"callable".as_slice() {
         let task = read_task(names, words)?;
-        *statement = Statement::ShowCallable { by, task };
+        put(statement, Statement::ShowCallable { by, task })
     } else if word == b"terminated".as_slice() {
         let task = read_task(names, words)?;
-        *statement = Statement::ShowTerminated { by, task };
+        put(statement, Statement::ShowTerminated { by, task })
     } else if word == b"count".as_slice() {
         let entry = read_entry(names, &by, words)?;
-        *statement = Statement::ShowCount { by, entry };
+        put(statement, Statement::ShowCount { by, entry })
     } else {
-        return Err(Fault::BadStatement);
+        Err(Fault::BadStatement)
     }
-    Ok(())
 }
 
 /// Takes what the speaker does behind its verb.
@@ -228,35 +233,17 @@ fn read_act(
         Verb::Open => read_open(names, by, words, statement),
         Verb::Create => read_create(alloc, names, by, words, statement),
         Verb::Activate => read_activate(alloc, names, by, words, statement),
-        Verb::Up => {
-            *statement = Statement::Up { by };
-            Ok(())
-        }
-        Verb::Fail => {
-            *statement = Statement::Fail { by };
-            Ok(())
-        }
+        Verb::Up => put(statement, Statement::Up { by }),
+        Verb::Fail => put(statement, Statement::Fail { by }),
         Verb::Call => read_call(names, by, words, statement),
         Verb::Try => read_try(names, by, words, statement),
         Verb::Accept => read_accept(names, by, words, statement),
         Verb::Select => read_select(alloc, names, by, words, statement),
-        Verb::End => {
-            *statement = Statement::End { by };
-            Ok(())
-        }
-        Verb::Raise => {
-            *statement = Statement::Raise { by };
-            Ok(())
-        }
-        Verb::Close => {
-            *statement = Statement::Close { by };
-            Ok(())
-        }
+        Verb::End => put(statement, Statement::End { by }),
+        Verb::Raise => put(statement, Statement::Raise { by }),
+        Verb::Close => put(statement, Statement::Close { by }),
         Verb::Delay => read_delay(by, words, statement),
-        Verb::Complete => {
-            *statement = Statement::Complete { by };
-            Ok(())
-        }
+        Verb::Complete => put(statement, Statement::Complete { by }),
         Verb::Abort => read_abort(alloc, names, by, words, statement),
         Verb::Show => read_show(names, by, words, statement),
     }

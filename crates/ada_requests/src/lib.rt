@@ -52,6 +52,16 @@ pub fn call(by: u16, callee: u16, family: u8) -> Request {
     }
 }
 
+/// A timed call of an entry with index 0, which waits so many milliseconds (9.7.3).
+pub fn timed_call(by: u16, callee: u16, family: u8, limit: i64) -> Request {
+    Request::Call {
+        by: TaskNo(by),
+        callee: TaskNo(callee),
+        entry: entry(family),
+        patience: Patience::Timed(limit),
+    }
+}
+
 /// A plain accept of an entry with index 0 (9.5).
 pub fn accept(by: u16, family: u8) -> Request {
     let mut choices = Bounded::new();

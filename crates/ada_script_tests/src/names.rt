@@ -1,8 +1,9 @@
 //! What statements ask once their names are bound, and what is printed.
 
-use ada_events::{Entry, Event, Patience, Refusal, Request, TaskNo};
+use ada_events::{Event, Refusal, Request, TaskNo};
+use ada_requests::{call, end};
 use ada_script::{
-    Cause, Names, Script, Value, read, request, write_event, write_refusal, write_shown,
+    Cause, Line, Names, Script, Value, read, request, write_event, write_refusal, write_shown,
 };
 use std::process::Abort;
 use std::test::Fail;
@@ -24,80 +25,87 @@ S: end
 ";
 
 /// The names of a script, whose tasks were made in the order of its first lines.
-fn bound_names(rt: &impl Abort, script: &Script) -> Result<Names, Cause> {
+fn bound_names(script: &Script) -> Result<Names, Cause> {
     let mut names = script.names()?;
-    let lines = script.lines();
-    assert!(rt; lines.len() > 1);
-    names.bind(&lines[0].statement, 1, TASK);
-    names.bind(&lines[1].statement, 2, CALLER);
+    bind(&mut names, script.lines(), 0, 1, TASK);
+    bind(&mut names, script.lines(), 1, 2, CALLER);
     Ok(names)
 }
 
 // Where there is memory, a script has its names, and an event its line.
 #[test]
 fn always_out_of_memory(rt: HostRuntime) -> Result<(), Fail> {
-    let alloc = rt.alloc();
-    let names = read(alloc, RENDEZVOUS)?.names()?;
-    let mut out = Vec::new(alloc);
-    write_event(1, &Event::Ticked { now: -5 }, &names, &mut out)?;
-    assert_eq!(rt; out.as_slice(), b"1 ticked -5\n".as_slice());
+    let names = read(rt.alloc(), RENDEZVOUS)?.names()?;
+    let mut text = Vec::new(rt.alloc());
+    write_event(1, &Event::Ticked { now: -5 }, &names, &mut text)?;
+    assert_eq!(rt; text.as_slice(), b"1 ticked -5\n".as_slice());
     Ok(())
+}
+
+/// What a line of the script asks under these names.
+fn asked(script: &Script, names: &Names, place: usize) -> Option<Request> {
+    request(&script.lines().get(place)?.statement, names)
+}
+
+fn assert_asks(rt: &impl Abort, script: &Script, names: &Names, place: usize, wanted: Request) {
+    assert_eq!(rt; asked(script, names, place), Some(wanted));
 }
 
 #[test]
 fn asks_what_is_written(rt: HostRuntime) -> Result<(), Fail> {
-    let alloc = rt.alloc();
-    let script = read(alloc, RENDEZVOUS)?;
-    let names = bound_names(&rt, &script)?;
-    let lines = script.lines();
-    assert!(rt; lines.len() == 8);
-    assert_eq!(rt; lines[7].line, 8);
-    let call = Request::Call {
-        by: CALLER,
-        callee: TASK,
-        entry: Entry {
-            family: 0,
-            index: 0,
-        },
-        patience: Patience::Simple,
-    };
-    assert_eq!(rt; request(&lines[5].statement, &names), Some(call));
-    assert_eq!(rt;
-        request(&lines[7].statement, &names),
-        Some(Request::End {
-            by: TASK,
-            raised: false
-        })
-    );
-    let unbound = script.names()?;
-    assert_eq!(rt;
-        request(&lines[7].statement, &unbound),
-        Some(Request::End {
-            by: TaskNo(65_535),
-            raised: false
-        })
-    );
+    let script = read(rt.alloc(), RENDEZVOUS)?;
+    let names = bound_names(&script)?;
+    assert_asks(&rt, &script, &names, 5, call(2, 1, 0));
+    assert_asks(&rt, &script, &names, 7, end(1, false));
     Ok(())
 }
 
+#[test]
+fn unbound_names_stand_for_no_task(rt: HostRuntime) -> Result<(), Fail> {
+    let script = read(rt.alloc(), RENDEZVOUS)?;
+    let names = script.names()?;
+    assert_asks(&rt, &script, &names, 7, end(65_535, false));
+    Ok(())
+}
+
+#[test]
+fn lines_are_numbered(rt: HostRuntime) -> Result<(), Fail> {
+    let script = read(rt.alloc(), RENDEZVOUS)?;
+    assert_eq!(rt; script.lines().len(), 8);
+    assert_eq!(rt; script.lines().last().map(|line| line.line), Some(8));
+    Ok(())
+}
+
+/// Binds what a line creates, at a position.
+fn bind(names: &mut Names, lines: &[Line], place: usize, at: u32, made: TaskNo) {
+    if let Some(line) = lines.get(place) {
+        names.bind(&line.statement, at, made);
+    }
+}
+
+fn write_halt(at: u32, task: TaskNo, names: &Names, text: &mut Vec<u8>) -> Result<(), Cause> {
+    write_event(at, &Event::Halted { task }, names, text)
+}
+
 /// Bound beyond the room for tasks, two names to one position, and one name a second time.
+fn write_halts(lines: &[Line], names: &mut Names, text: &mut Vec<u8>) -> Result<(), Cause> {
+    write_halt(1, MAIN, names, text)?;
+    bind(names, lines, 0, 1, TASK);
+    write_halt(2, TASK, names, text)?;
+    bind(names, lines, 1, 1, TaskNo(300));
+    write_halt(3, TaskNo(300), names, text)?;
+    bind(names, lines, 0, 1, CALLER);
+    write_halt(4, CALLER, names, text)?;
+    write_halt(5, TASK, names, text)
+}
+
 #[test]
 fn names_what_has_no_room(rt: HostRuntime) -> Result<(), Fail> {
-    let alloc = rt.alloc();
-    let (lines, mut names) = read(alloc, RENDEZVOUS)?.into_parts()?;
-    assert!(rt; lines.len() == 8);
-    let mut out = Vec::new(alloc);
-    write_event(1, &Event::Halted { task: MAIN }, &names, &mut out)?;
-    names.bind(&lines[0].statement, 1, TASK);
-    write_event(2, &Event::Halted { task: TASK }, &names, &mut out)?;
-    names.bind(&lines[1].statement, 1, TaskNo(300));
-    let beyond = Event::Halted { task: TaskNo(300) };
-    write_event(3, &beyond, &names, &mut out)?;
-    names.bind(&lines[0].statement, 1, CALLER);
-    write_event(4, &Event::Halted { task: CALLER }, &names, &mut out)?;
-    write_event(5, &Event::Halted { task: TASK }, &names, &mut out)?;
+    let (lines, mut names) = read(rt.alloc(), RENDEZVOUS)?.into_parts()?;
+    let mut text = Vec::new(rt.alloc());
+    write_halts(lines.as_slice(), &mut names, &mut text)?;
     assert_eq!(rt;
-        out.as_slice(),
+        text.as_slice(),
         b"1 halted main\n2 halted S\n3 halted C\n4 halted S\n5 halted task#1\n".as_slice()
     );
     Ok(())

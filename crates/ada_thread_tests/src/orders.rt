@@ -3,14 +3,47 @@
 use crate::legal::{is_legal, replayed};
 use crate::rows::RENDEZVOUS;
 use crate::together::play;
-use ada_events::Event;
 use ada_hall::{Answer, Kept};
+use ada_kernel::Kernel;
 use ada_script::{Script, read};
 use ada_threads::InTurn;
-use std::process::Abort;
 use std::sync::Wait;
 use std::test::Fail;
 use std::thread::Threads;
+
+/// A script with the answers that threads gave in turn, and with the events of the kernel alone.
+#[derive(Drop)]
+struct Played {
+    script: Script,
+    answers: Vec<Kept>,
+    kernel: Kernel,
+}
+
+impl Played {
+    /// One rendezvous.
+    fn rendezvous<R: Threads + Wait + Sync + AllocGlobal>(rt: &R) -> Result<Played, Fail> {
+        let script = read(rt.alloc(), RENDEZVOUS)?;
+        let kernel = replayed(rt.alloc(), &script)?;
+        Ok(Played {
+            script,
+            answers: play(rt, RENDEZVOUS, &InTurn)?.answers,
+            kernel,
+        })
+    }
+
+    fn exchange(&mut self, one: usize, other: usize) -> Result<(), Fail> {
+        if one >= self.answers.len() || other >= self.answers.len() {
+            return Err("answers at both".into());
+        }
+        self.answers.swap(one, other);
+        Ok(())
+    }
+
+    fn is_legal(&self, rt: &impl AllocGlobal) -> Result<bool, Fail> {
+        let events = self.kernel.journal().as_slice();
+        is_legal(rt.alloc(), RENDEZVOUS, &self.script, &self.answers, events)
+    }
+}
 
 /// Whether the answers to one rendezvous are legal, but with the answers at two indices exchanged.
 fn is_legal_exchanged<R: Threads + Wait + Sync + AllocGlobal>(
@@ -18,15 +51,9 @@ fn is_legal_exchanged<R: Threads + Wait + Sync + AllocGlobal>(
     one: usize,
     other: usize,
 ) -> Result<bool, Fail> {
-    let script = read(rt.alloc(), RENDEZVOUS)?;
-    let mut answers = play(rt, RENDEZVOUS, &InTurn)?.answers;
-    if one >= answers.len() || other >= answers.len() {
-        return Err("answers at both".into());
-    }
-    answers.swap(one, other);
-    let kernel = replayed(rt.alloc(), &script)?;
-    let events = kernel.journal().as_slice();
-    is_legal(rt.alloc(), RENDEZVOUS, &script, &answers, events)
+    let mut played = Played::rendezvous(rt)?;
+    played.exchange(one, other)?;
+    played.is_legal(rt)
 }
 
 // The same order is legal. A server can't accept before it is up, and two tasks that come up in another order
@@ -39,29 +66,17 @@ fn other_orders_are_not_legal(rt: HostRuntime) -> Result<(), Fail> {
     Ok(())
 }
 
-// All lines have to be answered, each by its own events.
+// All lines have to be answered, each by its own events: the answers to one rendezvous are legal, without the last
+// one not, and with another last one not.
 #[test]
 fn other_answers_are_not_legal(rt: HostRuntime) -> Result<(), Fail> {
-    let script = read(rt.alloc(), RENDEZVOUS)?;
-    let mut answers = play(&rt, RENDEZVOUS, &InTurn)?.answers;
-    let kernel = replayed(rt.alloc(), &script)?;
-    assert_no_others(&rt, &script, &mut answers, kernel.journal().as_slice())
-}
-
-/// Looks that the answers to one rendezvous are legal, without the last one not, and with another last one not.
-fn assert_no_others<R: Abort + AllocGlobal>(
-    rt: &R,
-    script: &Script,
-    answers: &mut Vec<Kept>,
-    events: &[Event],
-) -> Result<(), Fail> {
-    let text = RENDEZVOUS;
-    assert!(rt; is_legal(rt.alloc(), text, script, answers, events)?);
-    let _ = answers.pop();
-    assert!(rt; !is_legal(rt.alloc(), text, script, answers, events)?);
-    if let Some(last) = answers.last_mut() {
+    let mut played = Played::rendezvous(&rt)?;
+    assert!(rt; played.is_legal(&rt)?);
+    let _ = played.answers.pop();
+    assert!(rt; !played.is_legal(&rt)?);
+    if let Some(last) = played.answers.last_mut() {
         last.answer = Answer::Group { first: 8, last: 8 };
     }
-    assert!(rt; !is_legal(rt.alloc(), text, script, answers, events)?);
+    assert!(rt; !played.is_legal(&rt)?);
     Ok(())
 }

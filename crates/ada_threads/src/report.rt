@@ -1,5 +1,5 @@
 //! What a thread has done.
-ghost use Rattle.std.specs.Prelude.{◌≡◌, ◌==◌, ◌+◌, ◌<◌, ◌≤◌, ◌^◌, ◌&&◌, OnOk, OnErr, cond};
+ghost use Rattle.std.specs.Prelude.{◌≡◌, ◌==◌, ◌+◌, ◌<◌, ◌≤◌, ◌^◌, ◌&&◌, OnOk, OnErr, IfErr, cond};
 ghost use Rattle.ada_hall.specs.Counting.{asked_count};
 ghost use Rattle.ada_hall.specs.Halls.{Says};
 ghost use Rattle.ada_threads.specs.Reports.{is_newly_refused};
@@ -34,8 +34,8 @@ impl<J: Session> Report<J> {
         }
     }
 
-    /// Plays the request at a place of a hall, and counts its answer. Where memory is refused, nothing is
-    /// changed.
+    /// Plays the request at a place of a hall, and counts its answer. Fails with `OutOfMemory` alone, and changes
+    /// nothing then.
     pub fn say<R: Wait>(
         &mut self,
         rt: &R,
@@ -44,6 +44,7 @@ impl<J: Session> Report<J> {
     ) -> Result<(), Refusal>
         requires room { self.old.accepted + self.old.refused + 1 < 2 ^ 32 }
         ensures ok { OnOk result (Says J.script place hall.old hall.new) }
+        ensures err { IfErr result (λ cause. cause ≡ Refusal.OutOfMemory) }
         ensures unchanged { OnErr result ((self.new.accepted ≡ self.old.accepted)
             × (self.new.refused ≡ self.old.refused) × (hall.new ≡ hall.old)) }
         ensures accepted { self.new.accepted + asked_count hall.old.showing.journal
