@@ -1,9 +1,8 @@
 -- Blocks: who opened one exists, and where one is complete or left (9.4).
-use Rattle.std.proofs.Common.{◌≡◌, ℕ, zero, suc, ◌<◌, Bool, true, false, not, ◌&&◌, ◌||◌, eqb, Option, Some, None, List, [], ◌∷◌, refl, sym, ap, ◌∙◌, subst}
+use Rattle.std.proofs.Common.{◌≡◌, ℕ, zero, suc, ◌<◌, Bool, true, false, not, ◌||◌, Option, Some, List, [], ◌∷◌, refl, sym, ap, ◌∙◌}
 use Rattle.std.proofs.Common.{arith, inl, inr}
 use Rattle.std.specs.List.{list_any}
-use Rattle.std.specs.Option.{option_and_then, option_map_or}
-use Rattle.std.specs.Bool.{then_some}
+use Rattle.std.specs.Option.{option_and_then}
 use Rattle.std.proofs.lemmas.Bool.{eq-eqb, true≢false, true_from_ne_false}
 use Rattle.std.proofs.lemmas.Option.{none-some, same_Some}
 use Rattle.ada_events.specs.declared.event.Event.{Event}
@@ -13,13 +12,13 @@ use Rattle.ada_events.specs.declared.names.Master.{Master}
 use Rattle.ada_events.specs.declared.names.Master.TheVariants.{Block}
 use Rattle.ada_events.specs.declared.request.Request.{Request}
 use Rattle.ada_events.specs.declared.request.Request.TheVariants as request
-use Rattle.ada_events.specs.Search.{is_some_and, event_at, any_event, all_below}
+use Rattle.ada_events.specs.Search.{is_some_and, event_at, all_below}
 use Rattle.ada_events.specs.Says.{Opening, Closing, opening_in, opening_at, closing_in}
 use Rattle.ada_events.specs.Asks.{asker, asked_event}
 use Rattle.ada_events.specs.Tasks.{task_count}
 use Rattle.ada_events.specs.Masters.{depends_on}
 use Rattle.ada_events.specs.Phases.{has_ended, is_terminated}
-use Rattle.ada_events.specs.Nests.{nest, is_left, is_left_close}
+use Rattle.ada_events.specs.Nests.{nest, is_left}
 use Rattle.ada_events.specs.Termination.{is_complete_block, all_terminated}
 use Rattle.ada_events.specs.Forced.{is_to_quit}
 use Rattle.ada_events.specs.Lawful.{IsLawful, MayFollow}
@@ -39,7 +38,6 @@ use Rattle.ada_tables.specs.Dependents.{has_block}
 use Rattle.ada_counts.proofs.Owners.{block_in_nest, nest_has_block}
 use Rattle.ada_counts.proofs.LiveHolders.{a_left_block_has_no_live_dependent}
 use Rattle.ada_rows.specs.internal.Ending.{closes, closes_at}
-use Rattle.ada_rows.specs.internal.States.{IsHeldBySome}
 use Rattle.ada_rows.proofs.Closing.{closed_at}
 use Rattle.ada_rows.proofs.Pending.{held_there}
 use Rattle.ada_rows.proofs.Quitting.{deserted_stays}

@@ -1,11 +1,9 @@
 -- The open choices of a wait name entries of its task, and what tables hold of their queues.
-use Rattle.std.proofs.Common.{◌≡◌, ℕ, ◌<◌, Bool, true, false, not, ◌&&◌, Option, Some, None, is_none, List, [], ◌∷◌, map, length, refl, sym, ap, ◌∙◌, subst}
-use Rattle.std.proofs.Common.{arith, inl, inr}
-use Rattle.std.specs.Prelude.{slice_get, IsSome}
-use Rattle.std.specs.List.{Contains}
+use Rattle.std.proofs.Common.{◌≡◌, ℕ, ◌<◌, ◌&&◌, Some, None, List, [], ◌∷◌, map, refl, sym, ap, ◌∙◌, subst}
+use Rattle.std.proofs.Common.{inl, inr}
+use Rattle.std.specs.Prelude.{slice_get}
 use Rattle.std.proofs.lemmas.Option.{none-some, same_Some}
 use Rattle.ada_events.specs.declared.event.Event.{Event}
-use Rattle.ada_events.specs.declared.event.Event.TheVariants.{Waiting}
 use Rattle.ada_events.specs.declared.names.Choice.{Choice}
 use Rattle.ada_events.specs.declared.names.Entry.{Entry}
 use Rattle.ada_events.specs.declared.request.Request.{Request}
@@ -13,7 +11,7 @@ use Rattle.ada_events.specs.declared.request.Request.TheVariants as request
 use Rattle.ada_events.specs.Search.{event_at}
 use Rattle.ada_events.specs.Says.{Wait, wait_in}
 use Rattle.ada_events.specs.Asks.{asked_event}
-use Rattle.ada_events.specs.Tasks.{task_count, families_of}
+use Rattle.ada_events.specs.Tasks.{families_of}
 use Rattle.ada_events.specs.Slots.{number_within}
 use Rattle.ada_events.specs.Calls.{queue}
 use Rattle.ada_events.specs.Refusals.{refusal, lacks_family, is_outside, names_no_family, breaks_constraint}
@@ -25,11 +23,11 @@ use Rattle.ada_laws.proofs.Saying.{held_in-wait}
 use Rattle.ada_tables.specs.Queues.{QueuedCall, queue_at}
 use Rattle.ada_tables.specs.internal.Queues.{front_call}
 use Rattle.ada_tables.specs.Tables.{State, slot_at, HasEntry}
-use Rattle.ada_tables.specs.Standing.{AreQueued, StandFor}
+use Rattle.ada_tables.specs.Standing.{StandFor}
 use Rattle.ada_tables.specs.Dependents.{Facts}
 use Rattle.ada_touching.proofs.Acting.{any_none}
 use Rattle.ada_counts.proofs.Entries.{has_number, families_stay, declarer_exists}
-use Rattle.ada_rows.specs.internal.Choosing.{IsDeclared, IsOfTask, AreOfTask}
+use Rattle.ada_rows.specs.internal.Choosing.{IsDeclared, AreOfTask}
 
 declared_later : (event : Event) (before : List Event) (task : ℕ) (entry : Entry) → IsDeclared before task entry → IsDeclared (event ∷ before) task entry
 declared_later event before task entry (n, is) =

@@ -1,5 +1,5 @@
 -- A block that its task has closed and hasn't left: the task, where it hasn't ended, is suspended at the close (9.4).
-use Rattle.std.proofs.Common.{◌≡◌, ℕ, suc, ◌-◌, Bool, true, false, not, ◌&&◌, ◌||◌, eqb, Option, Some, None, List, [], ◌∷◌, length, refl, sym, ap, ◌∙◌, subst}
+use Rattle.std.proofs.Common.{◌≡◌, ℕ, suc, ◌-◌, Bool, true, false, ◌&&◌, ◌||◌, eqb, Option, Some, None, List, [], ◌∷◌, length, refl, sym, ap, ◌∙◌, subst}
 use Rattle.std.proofs.Common.{inl, inr}
 use Rattle.std.specs.List.{list_any}
 use Rattle.std.proofs.lemmas.Bool.{and_from, and_parts, or_cases, eq-eqb, eqb-true, false_from_ne_true, false≢true, true≢false, not-false}
@@ -10,8 +10,8 @@ use Rattle.ada_events.specs.declared.request.Request.{Request}
 use Rattle.ada_events.specs.declared.request.Request.TheVariants as request
 use Rattle.ada_events.specs.declared.names.Member.{Member}
 use Rattle.ada_events.specs.declared.names.Member.TheVariants.{Block, Rendezvous}
-use Rattle.ada_events.specs.Search.{is_number, is_some_and, event_at, any_event}
-use Rattle.ada_events.specs.Says.{Closing, Call, call_in, wait_in, delay_in, start_in, closing_in, held_in, released_in, left_in}
+use Rattle.ada_events.specs.Search.{is_number, is_some_and, event_at}
+use Rattle.ada_events.specs.Says.{Closing, Call, call_in, wait_in, delay_in, start_in, closing_in, released_in, left_in}
 use Rattle.ada_events.specs.Asks.{asked_event, member_position}
 use Rattle.ada_events.specs.Phases.{is_released, has_ended}
 use Rattle.ada_events.specs.Calls.{is_pending, is_open_at, is_queued_at, is_open_call}

@@ -1,16 +1,16 @@
 -- The rows of abnormal tasks and of entry calls, decided by records.
 use Rattle.std.proofs.Common.{◌≡◌, ◌≢◌, ℕ, zero, suc, ◌<◌, Bool, true, false, not, ◌&&◌, ◌||◌, eqb, ltb, Option, Some, None, List, refl, sym, ap, ◌∙◌, subst}
-use Rattle.std.proofs.Common.{arith, inl, inr}
+use Rattle.std.proofs.Common.{arith}
 use Rattle.std.specs.Option.{option_and_then}
 use Rattle.std.specs.Bool.{then_some}
 use Rattle.std.proofs.lemmas.Bool.{and_from, and_parts, eqb-true, ne_eqb, false≢true, ltb-false}
 use Rattle.ada_events.specs.declared.event.Event.{Event}
-use Rattle.ada_events.specs.declared.event.Event.TheVariants.{Called, Halted}
+use Rattle.ada_events.specs.declared.event.Event.TheVariants.{Halted}
 use Rattle.ada_events.specs.declared.names.TaskNo.{TaskNo}
 use Rattle.ada_events.specs.Search.{is_some_and, event_at}
 use Rattle.ada_events.specs.Says.{Call, call_in, held_in}
 use Rattle.ada_events.specs.Tasks.{task_count}
-use Rattle.ada_events.specs.Phases.{has_ended, is_abnormal, is_released}
+use Rattle.ada_events.specs.Phases.{has_ended, is_abnormal}
 use Rattle.ada_events.specs.Calls.{is_pending, is_open_at, is_joined_at, is_caller_in_rendezvous, is_met}
 use Rattle.ada_events.specs.Forced.{task_no, is_done_activating, is_to_halt}
 use Rattle.ada_events.specs.Lawful.{IsLawful}
@@ -21,12 +21,11 @@ use Rattle.ada_laws.proofs.Saying.{held_in-call}
 use Rattle.ada_laws.proofs.Queueing.{open_call_suspends, is_open_at-call}
 use Rattle.ada_laws.proofs.CallLaws.{one_meeting_for_a_joined_call}
 use Rattle.ada_laws.proofs.Parents.{same_truth}
-use Rattle.ada_laws.proofs.Searching.{any_event-found, any_event-from, option_map_or-true, three_parts}
+use Rattle.ada_laws.proofs.Searching.{any_event-found, option_map_or-true}
 use Rattle.ada_forcing.specs.declared.row.Row.TheVariants.{Halting}
 use Rattle.ada_forcing.specs.Rows.{step_at}
 use Rattle.ada_records.specs.declared.record.Record.{Record}
-use Rattle.ada_records.specs.Records.{IsRecordOf, IsHeldAt}
-use Rattle.ada_records.specs.Telling.{has_ended_by}
+use Rattle.ada_records.specs.Records.{IsRecordOf}
 use Rattle.ada_records.proofs.Callers.{joined_caller}
 use Rattle.ada_records.proofs.Existing.{positive}
 use Rattle.ada_records.proofs.Unmade.{unmade}

@@ -18,7 +18,7 @@ use Rattle.ada_events.specs.Lawful.{IsLawful}
 use Rattle.ada_laws.proofs.Suspending.{suspended_exists}
 use Rattle.ada_tables.specs.Dependents.{Facts, Stands, count_below, holds, live_dependents}
 use Rattle.ada_tables.specs.Tables.{State}
-use Rattle.ada_tables.specs.Standing.{live_count, StandFor}
+use Rattle.ada_tables.specs.Standing.{StandFor}
 use Rattle.ada_touching.proofs.Places.{closer_within}
 use Rattle.ada_touching.proofs.Waiting.{suspended_at}
 use Rattle.ada_counts.proofs.Owners.{has_contained}

@@ -1,20 +1,20 @@
 -- Tasks that were never started and never will be (9.3, 9.4).
-use Rattle.std.proofs.Common.{◌≡◌, ℕ, zero, suc, ◌<◌, ◌≤◌, Bool, true, false, not, ◌&&◌, ◌||◌, eqb, ltb, Option, Some, None, List, [], ◌∷◌, refl, sym, ap, ◌∙◌}
-use Rattle.std.proofs.Common.{subst, arith, inl, inr}
+use Rattle.std.proofs.Common.{◌≡◌, ℕ, ◌<◌, ◌≤◌, Bool, true, false, ◌&&◌, ◌||◌, eqb, ltb, Option, Some, None, List, refl, sym, ap, ◌∙◌}
+use Rattle.std.proofs.Common.{arith}
 use Rattle.std.specs.List.{list_any}
-use Rattle.std.specs.Option.{option_and_then, option_map_or}
+use Rattle.std.specs.Option.{option_and_then}
 use Rattle.std.specs.Bool.{then_some}
-use Rattle.std.proofs.lemmas.Bool.{eq-eqb, eqb-true, lt-ltb, false_from_ne_true, true_from_ne_false, false≢true, true≢false}
-use Rattle.std.proofs.lemmas.Option.{none-some, same_Some}
+use Rattle.std.proofs.lemmas.Bool.{eqb-true, lt-ltb, false_from_ne_true, true_from_ne_false, true≢false}
+use Rattle.std.proofs.lemmas.Option.{none-some}
 use Rattle.ada_events.specs.declared.event.Event.{Event}
-use Rattle.ada_events.specs.declared.event.Event.TheVariants.{Opened, Halted, Gone}
+use Rattle.ada_events.specs.declared.event.Event.TheVariants.{Opened, Gone}
 use Rattle.ada_events.specs.declared.names.TaskNo.{TaskNo}
 use Rattle.ada_events.specs.declared.names.Master.{Master}
 use Rattle.ada_events.specs.declared.names.Master.TheVariants.{Body, Block}
-use Rattle.ada_events.specs.Search.{is_some_and, event_at}
-use Rattle.ada_events.specs.Says.{Creation, Opening, Closing, creation_in, opening_in, opening_at, closing_in}
+use Rattle.ada_events.specs.Search.{event_at}
+use Rattle.ada_events.specs.Says.{Creation, Closing, opening_in, opening_at, closing_in}
 use Rattle.ada_events.specs.Tasks.{task_count, creation_of}
-use Rattle.ada_events.specs.Phases.{has_ended, has_start, is_completed, is_terminated}
+use Rattle.ada_events.specs.Phases.{is_completed, is_terminated}
 use Rattle.ada_events.specs.Nests.{nest, is_left}
 use Rattle.ada_events.specs.Termination.{all_terminated, is_complete_block, is_complete, is_abandoned}
 use Rattle.ada_events.specs.Forced.{task_no, is_to_go}

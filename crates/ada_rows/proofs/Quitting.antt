@@ -1,14 +1,12 @@
 -- What terminates together, told by counts of dependents and by records.
-use Rattle.std.proofs.Common.{◌≡◌, ℕ, ◌<◌, Bool, true, false, not, ◌&&◌, ◌||◌, eqb, ltb, Option, Some, None, List, refl, sym, ap, ◌∙◌, subst, arith}
-use Rattle.std.specs.Option.{option_and_then}
+use Rattle.std.proofs.Common.{◌≡◌, ℕ, ◌<◌, Bool, true, false, not, ◌&&◌, ◌||◌, eqb, ltb, None, List, refl, ap, ◌∙◌}
 use Rattle.std.specs.Bool.{then_some}
 use Rattle.std.proofs.lemmas.Bool.{eq-eqb, lt-ltb}
 use Rattle.ada_events.specs.declared.event.Event.{Event}
-use Rattle.ada_events.specs.declared.event.Event.TheVariants.{Halted, Quit}
+use Rattle.ada_events.specs.declared.event.Event.TheVariants.{Quit}
 use Rattle.ada_events.specs.declared.names.TaskNo.{TaskNo}
 use Rattle.ada_events.specs.declared.names.Master.{Master}
 use Rattle.ada_events.specs.declared.names.Master.TheVariants.{Body}
-use Rattle.ada_events.specs.Search.{all_below}
 use Rattle.ada_events.specs.Tasks.{task_count}
 use Rattle.ada_events.specs.Masters.{depends_on}
 use Rattle.ada_events.specs.Phases.{is_completed, is_terminated}
@@ -16,9 +14,8 @@ use Rattle.ada_events.specs.Termination.{all_terminated, is_complete, is_ready_t
 use Rattle.ada_events.specs.Forced.{task_no, is_to_quit}
 use Rattle.ada_forcing.specs.declared.row.Row.TheVariants.{QuittingBody}
 use Rattle.ada_forcing.specs.Rows.{step_at}
-use Rattle.ada_tables.specs.Dependents.{count_below}
 use Rattle.ada_tables.specs.Tables.{State, unready_dependents}
-use Rattle.ada_tables.specs.Standing.{unready_count, StandFor}
+use Rattle.ada_tables.specs.Standing.{StandFor}
 use Rattle.ada_rows.specs.internal.States.{IsHeldBySome}
 use Rattle.ada_rows.proofs.Leaving.{held_stands, none_counted}
 

@@ -67,6 +67,17 @@ fn blocks_are_counted<R: Abort>(rt: &R, tables: &CheckedTables) -> Result<(), Fa
     Ok(())
 }
 
+/// Cuts the member at a place, if it is a rendezvous, after which the nest lacks these.
+fn assert_cut<R: Abort>(
+    rt: &R,
+    tables: &mut CheckedTables,
+    place: u32,
+    gone: &[u32],
+) -> Result<(), Fail> {
+    tables.cut(DEEP, place)?;
+    nest_lacks(rt, tables, gone)
+}
+
 // Rendezvous are cut from outside, from the middle and from inside, and the rest stays in order. A block is
 // no rendezvous.
 #[test]
@@ -74,30 +85,36 @@ fn rendezvous_are_cut_from_a_full_nest(rt: HostRuntime) -> Result<(), Fail> {
     let mut tables = with_full_nest(&rt)?;
     nest_lacks(&rt, &tables, &[])?;
     blocks_are_counted(&rt, &tables)?;
-    tables.cut(DEEP, 0)?;
-    nest_lacks(&rt, &tables, &[0])?;
-    tables.cut(DEEP, 16)?;
-    nest_lacks(&rt, &tables, &[0, 16])?;
-    tables.cut(DEEP, 31)?;
-    nest_lacks(&rt, &tables, &[0, 16, 31])?;
-    tables.cut(DEEP, 29)?;
-    nest_lacks(&rt, &tables, &[0, 16, 31])?;
+    assert_cut(&rt, &mut tables, 0, &[0])?;
+    assert_cut(&rt, &mut tables, 16, &[0, 16])?;
+    assert_cut(&rt, &mut tables, 31, &[0, 16, 31])?;
+    assert_cut(&rt, &mut tables, 29, &[0, 16, 31])?;
     blocks_are_counted(&rt, &tables)
 }
 
-// The task leaves all that it is in, from inside, once the dependents of its blocks are terminated.
-#[test]
-fn a_full_nest_is_left(rt: HostRuntime) -> Result<(), Fail> {
-    let mut tables = with_full_nest(&rt)?;
-    tables.set_phase(TaskNo(3), Phase::Terminated)?;
-    assert_eq!(rt; tables.live(Master::Block(29)), Ok(0));
-    assert_eq!(rt; tables.live(Master::Block(2)), Ok(1));
-    tables.set_phase(TaskNo(2), Phase::Terminated)?;
+fn assert_live<R: Abort>(rt: &R, tables: &CheckedTables, master: Master, tasks: u16) {
+    assert_eq!(rt; tables.live(master), Ok(tasks));
+}
+
+/// Leaves all that the task is in, from inside.
+fn leave_all<R: Abort>(rt: &R, tables: &mut CheckedTables) -> Result<(), Fail> {
     for left in 0..32usize {
         assert_eq!(rt; tables.nest(DEEP)?.len(), 32 - left);
         tables.pop(DEEP)?;
     }
     assert!(rt; tables.nest(DEEP)?.is_empty());
-    assert_eq!(rt; tables.live(Master::Body(DEEP)), Ok(0));
+    Ok(())
+}
+
+// The task leaves its nest once the dependents of its blocks are terminated.
+#[test]
+fn a_full_nest_is_left(rt: HostRuntime) -> Result<(), Fail> {
+    let mut tables = with_full_nest(&rt)?;
+    tables.set_phase(TaskNo(3), Phase::Terminated)?;
+    assert_live(&rt, &tables, Master::Block(29), 0);
+    assert_live(&rt, &tables, Master::Block(2), 1);
+    tables.set_phase(TaskNo(2), Phase::Terminated)?;
+    leave_all(&rt, &mut tables)?;
+    assert_live(&rt, &tables, Master::Body(DEEP), 0);
     Ok(())
 }

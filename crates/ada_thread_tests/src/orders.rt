@@ -7,6 +7,7 @@ use ada_hall::{Answer, Kept};
 use ada_kernel::Kernel;
 use ada_script::{Script, read};
 use ada_threads::InTurn;
+use std::process::Abort;
 use std::sync::Wait;
 use std::test::Fail;
 use std::thread::Threads;
@@ -66,17 +67,21 @@ fn other_orders_are_not_legal(rt: HostRuntime) -> Result<(), Fail> {
     Ok(())
 }
 
-// All lines have to be answered, each by its own events: the answers to one rendezvous are legal, without the last
-// one not, and with another last one not.
-#[test]
-fn other_answers_are_not_legal(rt: HostRuntime) -> Result<(), Fail> {
-    let mut played = Played::rendezvous(&rt)?;
-    assert!(rt; played.is_legal(&rt)?);
+/// The answers are legal, without the last one not, and with another last one not.
+fn assert_no_others<R: Abort + AllocGlobal>(rt: &R, played: &mut Played) -> Result<(), Fail> {
+    assert!(rt; played.is_legal(rt)?);
     let _ = played.answers.pop();
-    assert!(rt; !played.is_legal(&rt)?);
+    assert!(rt; !played.is_legal(rt)?);
     if let Some(last) = played.answers.last_mut() {
         last.answer = Answer::Group { first: 8, last: 8 };
     }
-    assert!(rt; !played.is_legal(&rt)?);
+    assert!(rt; !played.is_legal(rt)?);
     Ok(())
+}
+
+// All lines have to be answered, each by its own events.
+#[test]
+fn other_answers_are_not_legal(rt: HostRuntime) -> Result<(), Fail> {
+    let mut played = Played::rendezvous(&rt)?;
+    assert_no_others(&rt, &mut played)
 }

@@ -1,4 +1,4 @@
-use Rattle.std.proofs.Common.{ap, ◌∙◌}
+use Rattle.std.proofs.Common.{ap}
 use Rattle.ada_counts.proofs.Followed.{makes_none}
 use Rattle.ada_events.specs.Says.{creation_in}
 use Rattle.ada_index.proofs.Steps.{needs_no_room}

@@ -1,4 +1,4 @@
-use Rattle.std.proofs.Common.{◌∙◌, sym}
+use Rattle.std.proofs.Common.{◌∙◌}
 use Rattle.ada_events.specs.Waits.{front_of}
 use Rattle.ada_rows.proofs.Choosing.{declared_has, front_told}
 use Rattle.ada_rows.proofs.state.State.front_of.Goals as goal

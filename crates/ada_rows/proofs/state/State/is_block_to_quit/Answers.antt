@@ -1,10 +1,8 @@
-use Rattle.std.proofs.Common.{◌∙◌, ◌<◌, ap, sym, refl, Some}
+use Rattle.std.proofs.Common.{◌∙◌, ap, sym, refl, Some}
 use Rattle.std.specs.Bool.{then_some}
-use Rattle.ada_events.specs.declared.event.Event.{Event}
-use Rattle.ada_events.specs.declared.event.Event.TheVariants.{Opened, Quit}
+use Rattle.ada_events.specs.declared.event.Event.TheVariants.{Quit}
 use Rattle.ada_events.specs.declared.names.Master.TheVariants.{Block}
-use Rattle.ada_events.specs.Says.{Opening, opening_in}
-use Rattle.ada_events.specs.Tasks.{task_count}
+use Rattle.ada_events.specs.Says.{opening_in}
 use Rattle.ada_rows.proofs.Blocks.{opener_exists, left_stays}
 use Rattle.ada_rows.proofs.state.State.is_block_to_quit.Goals as goal
 

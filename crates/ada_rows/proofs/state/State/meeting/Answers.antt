@@ -1,4 +1,4 @@
-use Rattle.std.proofs.Common.{ap, subst, sym, ◌∙◌}
+use Rattle.std.proofs.Common.{ap, subst, sym}
 use Rattle.ada_events.specs.Says.{Wait, wait_in}
 use Rattle.ada_rows.specs.internal.Choosing.{AreOfTask}
 use Rattle.ada_rows.proofs.Choosing.{choices_are_of_task}

@@ -1,4 +1,4 @@
-use Rattle.std.proofs.Common.{◌∙◌, subst, slice_get, ap}
+use Rattle.std.proofs.Common.{◌∙◌, slice_get, ap}
 use Rattle.ada_statements.specs.Binding.{bound_to}
 use Rattle.ada_statements.proofs.Placed.{looked_up_here, looked_up_nowhere}
 use Rattle.ada_statements.proofs.names.Names.bound_to.Goals as goal

@@ -1,7 +1,6 @@
 use Rattle.std.proofs.Common.{sym, ap, ◌∙◌, take}
 use Rattle.std.specs.Str.{bytes_eq}
 use Rattle.indexmap.specs.IndexMap.{insert_entry}
-use Rattle.ada_statements.specs.Scope.{with_name}
 use Rattle.ada_statements.proofs.Placed.{inserted_next}
 use Rattle.ada_statements.proofs.names.Names.copy.Goals as goal
 
