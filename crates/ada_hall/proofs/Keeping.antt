@@ -19,14 +19,14 @@ use Rattle.ada_hall.specs.Answers.{answer_at}
 use Rattle.ada_hall.specs.Counting.{asked_count}
 use Rattle.ada_hall.specs.History.{IsAnswerTo}
 use Rattle.ada_hall.specs.Stations.{Showing}
-use Rattle.ada_hall.specs.Halls.{IsHistory, held, open_line, gained}
+use Rattle.ada_hall.specs.Halls.{IsHistory, open_line, gained}
 use Rattle.ada_hall.specs.internal.Halls.{IsHall, IsOfShow}
 use Rattle.ada_hall.proofs.Counts.{accepted_counts, count_within, nothing_counted}
 use Rattle.ada_hall.proofs.Telling.{history_begins, history_goes_on, history_push, accepted_goes_on, gives_value, gives_answer}
 
 pub hall_opens : (script : List Line) (places total : ℕ) (showing : Showing) (names : Scope) (answers : List Kept) → places ≡ length script → total ≡ 0
     → showing ≡ record { journal = []; published = []; behind = false } → names ≡ scope_of script → answers ≡ []
-    → IsHall script places total (held showing names answers)
+    → IsHall script places total showing names answers
 hall_opens script places total showing names answers places_are none opening names_are empty =
     let state_is : state showing.journal names ≡ state [] (scope_of script) = ap (λ (w : Showing). state w.journal names) opening ∙ ap (state []) names_are in
     record {
@@ -37,8 +37,8 @@ hall_opens script places total showing names answers places_are none opening nam
     }
 
 pub hall_steps : (script : List Line) (places total next : ℕ) (old new : Showing) (names : Scope) (answers : List Kept) (request : Request) (at : ℕ)
-    → IsHall script places total (held old names answers) → IsAccepted old.journal request at new.journal → next ≡ total + 1
-    → IsHall script places next (held new names answers)
+    → IsHall script places total old names answers → IsAccepted old.journal request at new.journal → next ≡ total + 1
+    → IsHall script places next new names answers
 hall_steps script places total next old new names answers request at hall accepted more = record {
   places_are = hall.places_are;
   history = history_goes_on script answers (state old.journal names) (state new.journal names) hall.history
@@ -70,17 +70,17 @@ pub open_stands : (script : List Line) (answers : List Kept) (place : ℕ) (line
 open_stands script answers place line is = then_stands (is_some (answer_at answers place)) (slice_get script place) line is
 
 pub open_within : (script : List Line) (places total : ℕ) (showing : Showing) (names : Scope) (answers : List Kept) (place : ℕ) (line : Line)
-    → IsHall script places total (held showing names answers) → open_line script answers place ≡ Some line → place < places
+    → IsHall script places total showing names answers → open_line script answers place ≡ Some line → place < places
 open_within script places total showing names answers place line hall is =
     let within : place < length script = slice_get_within script place line (open_stands script answers place line is) in
     let same : places ≡ length script = hall.places_are in
     omega arith
 
 pub hall_notes : (script : List Line) (places total : ℕ) (showing : Showing) (names : Scope) (answers : List Kept) (place events tasks : ℕ)
-    (answer : Answer) (line : Line) → IsHall script places total (held showing names answers)
+    (answer : Answer) (line : Line) → IsHall script places total showing names answers
     → open_line script answers place ≡ Some line → is_show line.statement ≡ true → IsOfShow answer
     → IsLawful showing.journal → IsSettled showing.journal → events ≡ length showing.journal → tasks ≡ task_count showing.journal
-    → IsHall script places total (held showing names (answers ++ record { place = place; events = events; tasks = tasks; answer = answer } ∷ []))
+    → IsHall script places total showing names (answers ++ record { place = place; events = events; tasks = tasks; answer = answer } ∷ [])
 hall_notes script places total showing names answers place events tasks answer line hall is shows of_show lawful settled long many =
     let given =
     gives_value script line place events tasks answer (state showing.journal names) (open_stands script answers place line is) shows of_show
@@ -94,11 +94,11 @@ hall_notes script places total showing names answers place events tasks answer l
 
 pub hall_says : (script : List Line) (places total next : ℕ) (old new : Showing) (names bound : Scope) (answers : List Kept)
     (place events tasks : ℕ) (answer : Answer) (line : Line)
-    → IsHall script places total (held old names answers) → open_line script answers place ≡ Some line → IsLawful old.journal → IsSettled old.journal
+    → IsHall script places total old names answers → open_line script answers place ≡ Some line → IsLawful old.journal → IsSettled old.journal
     → ((text : List ℕ) × IsAnswerTo line (state old.journal names) answer text (state new.journal bound))
     → asked_count new.journal ≡ asked_count old.journal + gained answer → next ≡ total + gained answer → events ≡ length old.journal
     → tasks ≡ task_count old.journal
-    → IsHall script places next (held new bound (answers ++ record { place = place; events = events; tasks = tasks; answer = answer } ∷ []))
+    → IsHall script places next new bound (answers ++ record { place = place; events = events; tasks = tasks; answer = answer } ∷ [])
 hall_says script places total next old new names bound answers place events tasks answer line hall is lawful settled said gains more long many =
     let kept : Kept = record { place = place; events = events; tasks = tasks; answer = answer } in
     record {

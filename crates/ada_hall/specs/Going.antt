@@ -1,5 +1,5 @@
 -- Who may go on: what a thread looks at before it plays a line.
-use Rattle.std.specs.Prelude.{ℕ, ◌+◌, ◌-◌, ◌^◌, min, ◌==◌, if◌then◌else◌, Option, Some, None, Bool, true, false, ◌&&◌, ◌||◌, List, slice_get}
+use Rattle.std.specs.Prelude.{ℕ, Option, Some, None, Bool, true, false, ◌&&◌, ◌||◌, List, slice_get}
 use Rattle.std.specs.Option.{option_map_or}
 use Rattle.ada_events.specs.declared.event.Event.{Event}
 use Rattle.ada_events.specs.declared.outcome.Outcome.{Outcome}
@@ -13,14 +13,14 @@ use Rattle.ada_hall.specs.Halls.{Held}
 use Rattle.ada_hall.specs.Speakers.{speaker_in}
 
 -- a task's statements are over
-abbrev pub is_over : Outcome → Bool
-is_over Done = true
-is_over Dead = true
-is_over _ = false
+abbrev pub has_ended : Outcome → Bool
+has_ended Done = true
+has_ended Dead = true
+has_ended _ = false
 
 -- the line of a task needn't wait: the task runs, or its statements are over
 abbrev pub may_play : List Event → ℕ → Bool
-may_play journal task = has_task journal task && (is_over (outcome_of journal task) || is_running journal task)
+may_play journal task = has_task journal task && (has_ended (outcome_of journal task) || is_running journal task)
 
 -- nor need a tick wait, which no task speaks, or a place without a line
 abbrev pub may_go : List Line → Held → ℕ → Bool
@@ -28,8 +28,3 @@ may_go script hall place =
     option_map_or (λ (line : Line).
     option_map_or (λ (name : List ℕ). may_play hall.showing.journal (task_of hall.names name).0) (speaker_in line.statement) true)
     (slice_get script place) true
-
--- how many threads have looked since the last change, where another one looks that had seen this change
-abbrev pub with_one_more : ℕ → ℕ → Option ℕ → ℕ
-with_one_more waiting changes None = min (waiting + 1) (2 ^ 32 - 1)
-with_one_more waiting changes (Some seen) = if seen == changes then waiting else min (waiting + 1) (2 ^ 32 - 1)

@@ -1,5 +1,5 @@
 -- What a hall holds.
-use Rattle.std.specs.Prelude.{◌≡◌, ℕ, false, Option, Some, None, if◌then◌else◌, List, [], ◌∷◌, ◌++◌, length, slice_get, is_some, MatchOption}
+use Rattle.std.specs.Prelude.{◌≡◌, ℕ, ◌-◌, ◌^◌, min, false, Option, Some, None, if◌then◌else◌, List, [], ◌∷◌, ◌++◌, length, slice_get, is_some, MatchOption}
 use Rattle.std.specs.Option.{option_and_then}
 use Rattle.ada_events.specs.declared.event.Event.{Event}
 use Rattle.ada_events.specs.Tasks.{task_count}
@@ -12,22 +12,28 @@ use Rattle.ada_replay.specs.Replay.{beginning}
 use Rattle.ada_hall.specs.declared.answer.Answer.{Answer}
 use Rattle.ada_hall.specs.declared.answer.Answer.TheVariants.{Group, Refused, Shown}
 use Rattle.ada_hall.specs.declared.answer.Kept.{Kept}
+use Rattle.ada_hall.specs.declared.floor.Floor.{Floor}
 use Rattle.ada_hall.specs.Answers.{answer_at}
 use Rattle.ada_hall.specs.Stations.{Showing, GoesOnShowing}
+use Rattle.ada_hall.specs.Speakers.{speaker_count}
+use Rattle.ada_hall.specs.Floors.{first_floor}
 use Rattle.ada_hall.specs.History.{GoesOn, IsAnswerTo, AreGiven}
 
--- the kernel with what is published of it, what names are bound to, and the answers that were given
+-- the kernel with what is published of it, what names are bound to, the answers that were given, and who may go on
 pub record Held : Type 0 where
   pub showing : Showing
   pub names : Scope
   pub answers : List Kept
+  pub floor : Floor
 
-abbrev pub held : Showing → Scope → List Kept → Held
-held showing names answers = record { showing = showing; names = names; answers = answers }
+abbrev pub held : Showing → Scope → List Kept → Floor → Held
+held showing names answers floor = record { showing = showing; names = names; answers = answers; floor = floor }
 
 -- a new hall
 abbrev pub opening : List Line → Held
-opening script = held (record { journal = []; published = []; behind = false }) (scope_of script) []
+opening script =
+    held (record { journal = []; published = []; behind = false }) (scope_of script) []
+    (first_floor (min (speaker_count script) (2 ^ 32 - 1)))
 
 -- the journal, and what names are bound to
 abbrev pub state_of : Held → State
@@ -68,14 +74,15 @@ pub record IsSaid (line : Line) (place : ℕ) (old new : Held) : Type 0 where
   pub answers : IsAnswerTo line (state_of old) answer text (state_of new)
   pub kept : new.answers ≡ old.answers ++ kept_at place old.showing.journal answer ∷ []
   pub published : GoesOnShowing old.showing new.showing
+  pub floor : new.floor ≡ old.floor
 
 -- the request at a place is answered; nothing changes where there is none, or it has an answer
-abbrev pub Says : List Line → ℕ → Held → Held → Type 0
-Says script place old new = MatchOption (open_request script old.answers place) (new ≡ old) (λ line. IsSaid line place old new)
+abbrev pub AnswersRequest : List Line → ℕ → Held → Held → Type 0
+AnswersRequest script place old new = MatchOption (open_request script old.answers place) (new ≡ old) (λ line. IsSaid line place old new)
 
 -- the answer is kept where a line shows an attribute and has no answer, and else nothing changes
 abbrev pub noted : List Line → ℕ → Answer → Held → Held
 noted script place answer hall =
     if is_some (open_show script hall.answers place)
-    then held hall.showing hall.names (hall.answers ++ kept_at place hall.showing.journal answer ∷ [])
+    then held hall.showing hall.names (hall.answers ++ kept_at place hall.showing.journal answer ∷ []) hall.floor
     else hall

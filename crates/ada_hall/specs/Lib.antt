@@ -2,6 +2,7 @@ pub mod Answers
 pub mod Stations
 pub mod Counting
 pub mod Speakers
+pub mod Floors
 pub mod History
 pub mod Asking
 pub mod Halls

@@ -1,7 +1,8 @@
 //! Who may go on.
 ghost use Rattle.std.specs.Prelude.{◌≡◌, ◌+◌, ◌-◌, ◌%◌, ◌^◌, ◌==◌, ◌||◌, nat_le, false, true};
 ghost use Rattle.ada_events.specs.Phases.{is_running};
-ghost use Rattle.ada_hall.specs.Going.{may_play, with_one_more};
+ghost use Rattle.ada_hall.specs.Going.{may_play};
+ghost use Rattle.ada_hall.specs.Floors.{first_floor, with_one_more};
 
 use ada_events::{Outcome, TaskNo};
 use ada_kernel::Kernel;
@@ -27,14 +28,7 @@ pub struct Floor {
 impl Floor {
     /// The first place's turn, with so many threads that aren't done.
     pub fn new(working: u32) -> Floor
-        ensures { result ≡ record {
-          turn = 0;
-          stopped = false;
-          stuck = false;
-          changes = 0;
-          waiting = 0;
-          working = working;
-        } }
+        ensures { result ≡ first_floor working }
     {
         Floor {
             turn: 0,

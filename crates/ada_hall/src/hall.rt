@@ -11,7 +11,7 @@ ghost use Rattle.ada_hall.specs.Asking.{Asks};
 ghost use Rattle.ada_hall.specs.Counting.{asked_count};
 ghost use Rattle.ada_replay.specs.Play.{shown as shown_of};
 ghost use Rattle.ada_hall.specs.Going.{may_go};
-ghost use Rattle.ada_hall.specs.Halls.{state_of, IsHistory, Says, noted, opening};
+ghost use Rattle.ada_hall.specs.Halls.{state_of, IsHistory, AnswersRequest, noted, opening};
 ghost use Rattle.ada_hall.specs.internal.Halls.{IsOfShow};
 ghost use Rattle.ada_hall.specs.Stations.{Publishes, IsTied};
 
@@ -35,7 +35,7 @@ use std::sync::ledger::{Book, Share};
 
 /// A kernel, the writer of its board, and the answers to the lines of a script: the value that threads share
 /// under one lock. Contracts see the kernel's journal with what is published of it, what names are bound to,
-/// and the answers in the order in which they were given. It is not `Drop`: end it by
+/// the answers in the order in which they were given, and who may go on. It is not `Drop`: end it by
 /// [`close`](Hall::close).
 pub struct Hall<'s, J: Session> {
     script: &'s Script,
@@ -53,10 +53,10 @@ impl<'s, J: Session> Model for Hall<'s, J> {
 
     ghost Value = { Held };
 
-    ghost view = { λ h. held h.station h.names h.answers.kept };
+    ghost view = { λ h. held h.station h.names h.answers.kept h.floor };
 
     ghost invariant = { λ h. (h.script.now ≡ J.script)
-        × IsHall J.script h.answers.places h.tally (held h.station h.names h.answers.kept) };
+        × IsHall J.script h.answers.places h.tally h.station h.names h.answers.kept };
 }
 
 // The names of a script, a new kernel, and room for an answer to each line.
@@ -117,7 +117,7 @@ impl<'s, J: Session> Hall<'s, J> {
         ensures published { IfOk result (λ told.
             Publishes self.old.showing self.new.showing told.mark) }
         ensures answers { (self.new.answers ≡ self.old.answers)
-            × (self.new.names ≡ self.old.names) }
+            × (self.new.names ≡ self.old.names) × (self.new.floor ≡ self.old.floor) }
         ensures err { IfErr result (λ cause.
             IsRefused self.old.showing.journal request cause self.new.showing.journal) }
         ensures unchanged { OnErr result (self.new ≡ self.old) }
@@ -134,7 +134,7 @@ impl<'s, J: Session> Hall<'s, J> {
     /// or it has an answer, nothing is changed. Fails with `OutOfMemory` alone, and changes nothing then.
     pub fn say<R: Wait>(&mut self, rt: &R, share: &mut Share<J>, place: u32) -> Result<(), Refusal>
         requires { 0 < share.old.parts }
-        ensures ok { OnOk result (Says J.script place self.old self.new) }
+        ensures ok { OnOk result (AnswersRequest J.script place self.old self.new) }
         ensures err { IfErr result (λ cause. cause ≡ Refusal.OutOfMemory) }
         ensures unchanged { OnErr result (self.new ≡ self.old) }
         ensures share { share.new.amount + asked_count self.old.showing.journal
@@ -294,13 +294,15 @@ impl<'s, J: Session> Hall<'s, J> {
     }
 
     /// Who may go on.
-    pub fn floor(&self) -> Floor {
+    pub fn floor(&self) -> Floor
+        ensures { result ≡ self.now.floor }
+    {
         self.floor
     }
 
     /// Says who may go on.
     pub fn set_floor(&mut self, floor: Floor)
-        ensures { self.new ≡ self.old }
+        ensures { self.new ≡ record self.old { floor = floor } }
     {
         self.floor = floor;
     }

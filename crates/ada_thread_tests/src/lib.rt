@@ -1,5 +1,5 @@
-//! Tests of the work of threads: each speaker of a script in a thread of its own, and a check of what the lines
-//! were answered that knows the kernel and the printer alone.
+//! Tests of the work of threads: each speaker of a script in a thread of its own, and what the lines were answered held
+//! against a check that knows the kernel and the printer alone.
 #![tactic(auto)]
 
 #[cfg(test)]
@@ -8,8 +8,6 @@ mod crew;
 mod free;
 #[cfg(test)]
 mod hazards;
-#[cfg(test)]
-mod legal;
 #[cfg(test)]
 mod one_by_one;
 #[cfg(test)]

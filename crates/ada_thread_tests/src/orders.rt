@@ -1,10 +1,10 @@
 //! What the check of legal orders refuses.
 
-use crate::legal::{is_legal, replayed};
 use crate::rows::RENDEZVOUS;
 use crate::together::play;
 use ada_hall::{Answer, Kept};
 use ada_kernel::Kernel;
+use ada_referee::{is_legal, replayed};
 use ada_script::{Script, read};
 use ada_threads::InTurn;
 use std::process::Abort;

@@ -2,11 +2,11 @@
 ghost use Rattle.std.specs.Prelude.{◌≡◌, ◌+◌, ◌<◌, ◌≤◌, OnOk, vec_len};
 
 use crate::crew::work_all;
-use crate::legal::is_legal;
 use ada_board::{History, Readers};
 use ada_hall::speakers::speakers;
 use ada_hall::{Hall, Kept, Session};
 use ada_hall_tests::opened::{Setting, opened};
+use ada_referee::is_legal;
 use ada_script::{Script, read};
 use ada_threads::{Gate, Report, Shared};
 use std::alloc::Global;

@@ -1,5 +1,5 @@
 //! The work of one thread.
-ghost use Rattle.std.specs.Prelude.{◌≡◌, ◌+◌, ◌<◌, ◌≤◌, ◌^◌, false, cond};
+ghost use Rattle.std.specs.Prelude.{◌≡◌, ◌+◌, ◌<◌, ◌≤◌, ◌^◌, true, false, cond};
 ghost use Rattle.std.specs.List.{count_by};
 ghost use Rattle.ada_statements.specs.Binding.{is_show};
 ghost use Rattle.ada_board.specs.Answers.{latest};
@@ -30,7 +30,7 @@ fn value_of<J: Session>(reader: &mut BoardReader<J>, what: Asking) -> Option<Val
 
 // Stops a hall, where a thread holds its lock.
 fn stop<J: Session>(hall: &mut Hall<'_, J>)
-    ensures { hall.new ≡ hall.old }
+    ensures { hall.new ≡ record hall.old { floor = record hall.old.floor { stopped = true } } }
 {
     let mut floor = hall.floor();
     floor.stop();

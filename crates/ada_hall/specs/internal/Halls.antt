@@ -1,10 +1,14 @@
 -- What a hall holds.
 use Rattle.std.specs.Prelude.{◌≡◌, ℕ, List, length}
 use Rattle.ada_script.specs.declared.script.Line.{Line}
+use Rattle.ada_statements.specs.Scope.{Scope}
+use Rattle.ada_replay.specs.Ends.{state}
 use Rattle.ada_hall.specs.declared.answer.Answer.{Answer}
 use Rattle.ada_hall.specs.declared.answer.Answer.TheVariants.{Group, Refused, Shown}
 use Rattle.ada_hall.specs.Counting.{asked_count}
-use Rattle.ada_hall.specs.Halls.{Held, held, state_of, IsHistory}
+use Rattle.ada_hall.specs.declared.answer.Kept.{Kept}
+use Rattle.ada_hall.specs.Stations.{Showing}
+use Rattle.ada_hall.specs.Halls.{IsHistory}
 
 -- an answer that isn't a group
 abbrev pub IsOfShow : Answer → Type 0
@@ -13,7 +17,7 @@ IsOfShow (Refused cause) = Unit {0}
 IsOfShow (Shown value) = Unit {0}
 
 -- what every hall keeps
-pub record IsHall (script : List Line) (places total : ℕ) (held : Held) : Type 0 where
+pub record IsHall (script : List Line) (places total : ℕ) (showing : Showing) (names : Scope) (answers : List Kept) : Type 0 where
   pub places_are : places ≡ length script
-  pub history : IsHistory script held.answers (state_of held)
-  pub counted : total ≡ asked_count held.showing.journal
+  pub history : IsHistory script answers (state showing.journal names)
+  pub counted : total ≡ asked_count showing.journal

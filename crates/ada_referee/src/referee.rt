@@ -1,51 +1,13 @@
-//! Whether what the lines of a script were answered is one legal order of them, by the kernel and the printer.
+//! A kernel that plays a script in the order in which its lines were answered.
 
-use ada_events::{Board, Event, Refusal, TaskNo};
+use crate::moment::Moment;
+use crate::speakers::last_of;
+use ada_events::{Event, Refusal, TaskNo};
 use ada_hall::{Answer, Kept};
 use ada_kernel::Kernel;
-use ada_replay::shows::shown;
-use ada_script::{Line, Names, Script, Statement, Value, asked, write_event, write_refusal};
+use ada_script::{Line, Names, Script, asked, write_event, write_refusal};
 use std::alloc::Global;
 use std::test::Fail;
-
-/// The speaker of a line of a text, from 1: what stands before its colon, or else the main program.
-fn speaker_of(text: &[u8], line: u32) -> &[u8] {
-    let words = text
-        .split(|byte| *byte == b'\n')
-        .nth((line as usize).saturating_sub(1));
-    match words {
-        Some(words) if words.contains(&b':') => words.split(|byte| *byte == b':').next(),
-        _ => None,
-    }
-    .unwrap_or(b"main")
-}
-
-/// Whether a board shows a value for a statement.
-fn is_on(
-    board: &Board,
-    kernel: &Kernel,
-    names: &Names,
-    statement: &Statement,
-    value: Value,
-) -> bool {
-    match (statement, value) {
-        (Statement::ShowCallable { task, .. }, Value::Truth(truth)) => {
-            let task = names.task(task);
-            task.0 < board.tasks && board.callable.get(usize::from(task.0)) == Some(&truth)
-        }
-        (Statement::ShowTerminated { task, .. }, Value::Truth(truth)) => {
-            let task = names.task(task);
-            task.0 < board.tasks && board.terminated.get(usize::from(task.0)) == Some(&truth)
-        }
-        (Statement::ShowCount { by, entry }, Value::Number(count)) => {
-            let slot = kernel.slot(names.task(by), names.entry(by, entry));
-            slot.is_some_and(|slot| {
-                slot < board.slots && board.counts.get(usize::from(slot)) == Some(&count)
-            })
-        }
-        _ => false,
-    }
-}
 
 /// Appends the lines of the events from one position to another.
 fn print_events(
@@ -62,36 +24,6 @@ fn print_events(
         write_event(at, event, names, out)?;
     }
     Ok(())
-}
-
-/// What a kernel shows at one moment.
-#[derive(Drop)]
-struct Moment {
-    board: Board,
-    /// The numbers of the lines whose attribute it wouldn't show, each with the cause.
-    refused: Vec<(u32, Refusal)>,
-}
-
-impl Moment {
-    /// What a new kernel shows.
-    fn first(alloc: Global, names: &Names, lines: &[Line]) -> Result<Moment, Fail> {
-        let kernel = Kernel::new(alloc)?;
-        Moment::of(alloc, &kernel, names, lines)
-    }
-
-    fn of(alloc: Global, kernel: &Kernel, names: &Names, lines: &[Line]) -> Result<Moment, Fail> {
-        let mut refused = Vec::new(alloc);
-        for line in lines {
-            let answer = shown(kernel, names, &line.statement);
-            if let (true, Err(cause)) = (line.statement.is_show(), answer) {
-                refused.push((line.line, cause))?;
-            }
-        }
-        Ok(Moment {
-            board: kernel.board(),
-            refused,
-        })
-    }
 }
 
 /// A kernel that plays the lines of a script in the order of their answers.
@@ -192,15 +124,12 @@ impl Referee {
 
     /// Whether a value was shown, or the attribute refused, at a moment since so many lines were answered.
     fn has_shown(&self, line: &Line, answer: Answer, since: usize) -> bool {
-        let statement = &line.statement;
-        let mut moments = self.moments.iter().skip(since);
-        match answer {
-            Answer::Shown(value) => {
-                moments.any(|at| is_on(&at.board, &self.kernel, &self.names, statement, value))
-            }
-            Answer::Refused(cause) => moments.any(|at| at.refused.contains(&(line.line, cause))),
-            Answer::Group { .. } => false,
-        }
+        self.moments.iter().skip(since).any(|moment| moment.shows(
+            &self.kernel,
+            &self.names,
+            line,
+            answer,
+        ))
     }
 
     /// Whether a line may be answered so, where its speaker's last line was answered as the one before `since`.
@@ -225,30 +154,6 @@ impl Referee {
         self.moments.push(moment)?;
         Ok(())
     }
-}
-
-/// How many answers were given when the speaker of a line was answered last. None where the last answer of
-/// this speaker is that of a later line.
-fn last_of(
-    text: &[u8],
-    lines: &[Line],
-    before: &[Kept],
-    kept: &Kept,
-    number: u32,
-) -> Option<usize> {
-    let speaker = speaker_of(text, number);
-    let mut since = 0;
-    for at in 0..before.len() {
-        let other = before.get(at)?;
-        let line = lines.get(other.place as usize)?;
-        if speaker_of(text, line.line) == speaker {
-            if other.place >= kept.place {
-                return None;
-            }
-            since = at + 1;
-        }
-    }
-    Some(since)
 }
 
 /// Whether the answers are those of all lines of the script, each speaker's in their order, and each is the one
