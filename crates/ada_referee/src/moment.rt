@@ -50,6 +50,7 @@ impl Moment {
         Moment::of(alloc, &kernel, names, lines)
     }
 
+    /// What a kernel shows now, of the attributes that these lines ask for.
     pub fn of(
         alloc: Global,
         kernel: &Kernel,
