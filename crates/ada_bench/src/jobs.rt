@@ -1,8 +1,8 @@
 //! What is measured: a replay, its parts, and the floors of both.
 
-use crate::floors::{Tokens, push_events, read_text, write_text};
 use crate::sink::Sink;
 use ada_events::{Event, Request};
+use ada_floors::{Tokens, push_events, read_text, write_text};
 use ada_kernel::Kernel;
 use ada_replay::replay;
 use ada_script::read;

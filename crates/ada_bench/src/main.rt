@@ -3,7 +3,6 @@
 //! by plain loops; the same numbers read from a table; and journals made and dropped.
 #![tactic(auto)]
 
-mod floors;
 mod jobs;
 mod kernels;
 mod queries;

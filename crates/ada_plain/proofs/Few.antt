@@ -15,7 +15,7 @@ use Rattle.ada_laws.proofs.LimitLaws.{tasks_are_few}
 use Rattle.ada_laws.proofs.SlotLaws.{slots_are_few, slots_are_numbered, slots_are_of_tasks}
 use Rattle.ada_laws.proofs.Counting.{queues_are_short}
 use Rattle.ada_plain.specs.Places.{capped}
-use Rattle.ada_plain.proofs.Loops.{gathered_more}
+use Rattle.ada_plain_tasks.proofs.Loops.{gathered_more}
 
 pub queue_is_short : (journal : List Event) (task : ℕ) (entry : Entry) → IsLawful journal → count_of journal task entry ≤ 256
 queue_is_short = queues_are_short

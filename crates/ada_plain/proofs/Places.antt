@@ -15,7 +15,7 @@ use Rattle.ada_events.specs.Limits.{slot_count}
 use Rattle.ada_events.specs.Slots.{Place, number_within, slot_made, slot_of, entry_within, entry_made, entry_at}
 use Rattle.ada_plain.specs.Places.{capped}
 use Rattle.ada_plain.specs.internal.Places.{entry_here, place_made}
-use Rattle.ada_plain.proofs.Loops.{journal_more, task_count_more}
+use Rattle.ada_plain_tasks.proofs.Loops.{journal_more, task_count_more}
 
 pub capped_sum : (first : ℕ) (o : Option ℕ) → option_map (λ n. capped (capped first + n)) (option_map capped o)
     ≡ option_map capped (option_map (λ n. first + n) o)

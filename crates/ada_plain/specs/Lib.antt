@@ -1,3 +1,2 @@
-pub mod Makings
 pub mod Places
 pub mod internal

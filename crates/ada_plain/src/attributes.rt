@@ -9,12 +9,12 @@ ghost use Rattle.ada_events.specs.Lawful.{IsLawful};
 ghost use Rattle.ada_events.specs.Outcomes as outcomes;
 ghost use Rattle.ada_events.specs.Attributes as attributes;
 
-use crate::calls::is_queued_for;
 use crate::outcomes::outcome;
-use crate::phases::{has_ended, is_abnormal, is_running, is_terminated};
-use crate::refusals::{is_outside, lacks_family};
-use crate::tasks::has_task;
 use ada_events::{Entry, Event, Outcome, Refusal, TaskNo};
+use ada_plain_refusals::refusals::{is_outside, lacks_family};
+use ada_plain_tasks::calls::is_queued_for;
+use ada_plain_tasks::phases::{has_ended, is_abnormal, is_running, is_terminated};
+use ada_plain_tasks::tasks::has_task;
 
 /// The attribute CALLABLE (9.9): neither completed, nor terminated, nor abnormal.
 #[tactic(auto, unfolding(ada_events::specs::Attributes::is_callable))]

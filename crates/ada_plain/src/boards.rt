@@ -10,12 +10,12 @@ ghost use Rattle.ada_events.specs.Lawful.{IsLawful};
 ghost use Rattle.ada_events.specs.declared.limits.TheConstants.{MOST_SLOTS, MOST_TASKS};
 
 use crate::attributes::is_callable;
-use crate::limits::slot_count;
-use crate::phases::is_terminated;
 use crate::slots::count_at;
-use crate::tasks::task_count;
 use ada_events::limits::{MOST_SLOTS, MOST_TASKS};
 use ada_events::{Board, Event, TaskNo};
+use ada_plain_refusals::limits::slot_count;
+use ada_plain_tasks::phases::is_terminated;
+use ada_plain_tasks::tasks::task_count;
 
 /// How many tasks a lawful journal has, at most 256.
 #[tactic(auto, using(crate::proofs::Few::few_tasks))]
@@ -109,7 +109,7 @@ fn counts(events: &[Event]) -> [u16; MOST_SLOTS]
 }
 
 /// The board of a lawful journal.
-#[tactic(auto, unfolding(ada_events::specs::Boards::board_of), using(crate::proofs::Loops::length_reversed))]
+#[tactic(auto, unfolding(ada_events::specs::Boards::board_of), using(ada_plain_tasks::proofs::Loops::length_reversed))]
 pub fn board(events: &[Event]) -> Board
     requires short { length events.now < 2 ^ 32 }
     requires lawful { IsLawful (reverse events.now) }

@@ -3,10 +3,10 @@ ghost use Rattle.std.specs.Prelude.{◌≡◌, [], IfOk, IfErr};
 ghost use Rattle.ada_events.specs.Lawful.{IsLawful, IsSettled};
 ghost use Rattle.ada_events.specs.Steps.{IsAccepted, IsRefused};
 
-use crate::asks::asked_event;
-use crate::forced::forced;
-use crate::refusals::refusal;
 use ada_events::{Event, Journal, Refusal, Request};
+use ada_plain_forced::forced::forced;
+use ada_plain_refusals::asks::asked_event;
+use ada_plain_refusals::refusals::refusal;
 use ada_steps::{Answerer, step};
 use std::alloc::Global;
 use std::marker::Model;

@@ -6,12 +6,12 @@ ghost use Rattle.ada_events.specs.Says as said;
 ghost use Rattle.ada_events.specs.Waits as waits;
 ghost use Rattle.ada_events.specs.Outcomes as outcomes;
 
-use crate::phases::{is_completed, is_terminated};
-use crate::says;
-use crate::says::{is_position, is_task};
-use crate::waits::taken_choice;
 use ada_events::journal::event_in;
 use ada_events::{Event, Outcome, TaskNo, Way};
+use ada_plain_forced::waits::taken_choice;
+use ada_plain_tasks::phases::{is_completed, is_terminated};
+use ada_plain_tasks::says;
+use ada_plain_tasks::says::{is_position, is_task};
 
 /// The task that ends a rendezvous by an exception (11.5).
 #[tactic(auto, unfolding(ada_events::specs::Outcomes::raised_in))]

@@ -13,9 +13,9 @@ ghost use Rattle.ada_plain.specs.internal.Places.{entry_here, place_made};
 ghost use Rattle.ada_events.specs.declared.limits.TheConstants.{MOST_FAMILIES};
 
 use crate::attributes::short_count;
-use crate::limits::{slot_count, slots_in};
-use crate::tasks::made_in;
 use ada_events::{Entry, Event, Family, TaskNo};
+use ada_plain_refusals::limits::{slot_count, slots_in};
+use ada_plain_tasks::tasks::made_in;
 
 /// An entry of a task, by the task's number.
 #[derive(Clone, Copy)]
@@ -89,7 +89,7 @@ fn slot_made(before: &[Event], event: &Event, task: TaskNo, entry: Entry, count:
 }
 
 /// The slot of an entry, at most 2^64 - 1; none where the task doesn't have it.
-#[tactic(auto, unfolding(ada_events::specs::Slots::slot_of, ada_events::specs::Tasks::task_count), using(crate::proofs::Loops::task_count_more, crate::proofs::Places::slot_of_more))]
+#[tactic(auto, unfolding(ada_events::specs::Slots::slot_of, ada_events::specs::Tasks::task_count), using(ada_plain_tasks::proofs::Loops::task_count_more, crate::proofs::Places::slot_of_more))]
 pub fn slot_of(events: &[Event], task: TaskNo, entry: Entry) -> Option<u64>
     requires { length events.now < 2 ^ 32 }
     ensures { result ≡ option_map capped (places.slot_of (reverse events.now) task.0 entry) }
@@ -198,7 +198,7 @@ fn later_entry(
 }
 
 /// The entry at a slot; none behind the last.
-#[tactic(auto, unfolding(ada_events::specs::Slots::entry_at, ada_events::specs::Tasks::task_count, ada_events::specs::Limits::slot_count), using(crate::proofs::Loops::task_count_more, crate::proofs::SlotSums::slot_count_more, crate::proofs::Places::entry_at_more))]
+#[tactic(auto, unfolding(ada_events::specs::Slots::entry_at, ada_events::specs::Tasks::task_count, ada_events::specs::Limits::slot_count), using(ada_plain_tasks::proofs::Loops::task_count_more, ada_plain_refusals::proofs::SlotSums::slot_count_more, crate::proofs::Places::entry_at_more))]
 pub fn entry_at(events: &[Event], slot: u16) -> Option<TaskEntry>
     requires { length events.now < 2 ^ 32 }
     ensures { option_map place_seen result ≡ places.entry_at (reverse events.now) slot }

@@ -9,7 +9,7 @@ use ada_plain::attributes::{
 };
 use ada_plain::boards::{board, tasks_in};
 use ada_plain::slots::slot;
-use ada_plain::tasks::families;
+use ada_plain_tasks::tasks::families;
 use ada_requests::SINGLE;
 use std::alloc::Global;
 use std::process::Abort;
