@@ -21,7 +21,7 @@ use Rattle.ada_laws.proofs.Gathering.{Contains-first}
 use Rattle.ada_laws.proofs.SlotLaws.{number_within-below}
 use Rattle.ada_laws.proofs.Queueing.{is_open_at-from, is_open_at-call, queue-from, queue-found}
 use Rattle.ada_tables.specs.Dependents.{Facts, task_at}
-use Rattle.ada_tables.specs.Queues.{QueuedCall, queue_at}
+use Rattle.ada_queues.specs.Queues.{QueuedCall, queue_at}
 use Rattle.ada_tables.specs.Tables.{State, declared, slots_before, slot_at, has_no_calls, HasEntry}
 use Rattle.ada_counts.specs.Facing.{HoldFacts, HoldQueues}
 use Rattle.ada_counts.proofs.Entries.{numbered, call_names_entry}

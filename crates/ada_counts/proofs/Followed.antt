@@ -12,7 +12,7 @@ use Rattle.ada_events.specs.Nests.{nest}
 use Rattle.ada_events.specs.Lawful.{IsLawful}
 use Rattle.ada_laws.proofs.Growing.{task_count-same}
 use Rattle.ada_tables.specs.Dependents.{Facts}
-use Rattle.ada_tables.specs.Queues.{QueuedCall, queue_at}
+use Rattle.ada_queues.specs.Queues.{QueuedCall, queue_at}
 use Rattle.ada_tables.specs.Tables.{State, slot_at, HasEntry}
 use Rattle.ada_tables.specs.Standing.{phase_of, AreQueued, StandFor}
 use Rattle.ada_counts.specs.Facing.{HoldFacts, HoldQueues}

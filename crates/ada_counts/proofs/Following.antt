@@ -12,7 +12,7 @@ use Rattle.ada_events.specs.Slots.{number_within}
 use Rattle.ada_events.specs.Lawful.{IsLawful}
 use Rattle.ada_laws.proofs.Growing.{task_count-same}
 use Rattle.ada_tables.specs.Dependents.{Facts, task_at}
-use Rattle.ada_tables.specs.Queues.{queue_at}
+use Rattle.ada_queues.specs.Queues.{queue_at}
 use Rattle.ada_tables.specs.Tables.{State, declared, slot_at, HasEntry}
 use Rattle.ada_tables.specs.Standing.{phase_of, facts_in, AreQueued, StandFor}
 use Rattle.ada_counts.specs.Following.{AreFollowing, TablesFollow}

@@ -48,7 +48,7 @@ use Rattle.ada_records.proofs.Unmade.{unmade}
 use Rattle.ada_tables.specs.declared.phase.Phase.TheVariants.{Unstarted}
 use Rattle.ada_tables.specs.Dependents.{Facts, nobody, task_at, holds, is_terminated as ends}
 use Rattle.ada_tables.specs.internal.Dependents.{made_facts, IsOpen}
-use Rattle.ada_tables.specs.Queues.{QueuedCall, queue_at}
+use Rattle.ada_queues.specs.Queues.{QueuedCall, queue_at}
 use Rattle.ada_tables.specs.Tables.{State, declared, slots_before, slot_at, HasEntry}
 use Rattle.ada_tables.specs.Standing.{phase_of, facts_in, caller_of, AreQueued, StandFor}
 use Rattle.ada_counts.specs.Facing.{HoldFacts, HoldQueues}

@@ -26,7 +26,7 @@ use Rattle.ada_records.proofs.NestKinds.{others_keep_nests}
 use Rattle.ada_tables.specs.declared.phase.Phase.{Phase}
 use Rattle.ada_tables.specs.Dependents.{Facts, nobody, task_at, is_terminated as ends}
 use Rattle.ada_tables.specs.internal.Dependents.{with_phase}
-use Rattle.ada_tables.specs.Queues.{QueuedCall, queue_at}
+use Rattle.ada_queues.specs.Queues.{QueuedCall, queue_at}
 use Rattle.ada_tables.specs.Tables.{State, slot_at}
 use Rattle.ada_tables.specs.Standing.{phase_of, facts_in, caller_of, AreQueued, StandFor}
 use Rattle.ada_counts.specs.Following.{facts_after, ChangesOnePhase, HoldsChangeOnePhase, GoingChangesOnePhase}

@@ -21,11 +21,11 @@ use Rattle.ada_laws.proofs.Gathering.{Contains-first, Contains-later}
 use Rattle.ada_laws.proofs.Queueing.{same_entry-same}
 use Rattle.ada_laws.proofs.Suspending.{is_suspended-from}
 use Rattle.ada_tables.specs.Dependents.{Facts}
-use Rattle.ada_tables.specs.Queues.{QueuedCall, queue_at}
-use Rattle.ada_tables.specs.internal.Queues.{is_by, waits_in, waits, with_last, without}
+use Rattle.ada_queues.specs.Queues.{QueuedCall, queue_at}
+use Rattle.ada_queues.specs.internal.Queues.{is_by, waits_in, waits, with_last, without}
 use Rattle.ada_tables.specs.Tables.{State, slot_at, HasEntry}
 use Rattle.ada_tables.specs.Standing.{caller_of, AreQueued}
-use Rattle.ada_tables.proofs.Linking.{any_place}
+use Rattle.ada_queues.proofs.Linking.{any_place}
 use Rattle.ada_counts.specs.Facing.{HoldFacts, HoldQueues}
 use Rattle.ada_counts.specs.Requeuing.{without_caller, ComesLast, LeavesQueue}
 use Rattle.ada_counts.proofs.OnePhase.{caller_later}

@@ -12,7 +12,7 @@ use Rattle.ada_events.specs.Phases.{is_suspended}
 use Rattle.ada_laws.specs.Suspension.{IsSuspendedAt}
 use Rattle.ada_records.specs.Records.{IsPlainHold, IsPlainRelease}
 use Rattle.ada_tables.specs.Dependents.{Facts, task_at}
-use Rattle.ada_tables.specs.Queues.{queue_at}
+use Rattle.ada_queues.specs.Queues.{queue_at}
 use Rattle.ada_tables.specs.Tables.{State, slot_at, HasEntry}
 use Rattle.ada_tables.specs.Standing.{phase_of, AreQueued, StandFor}
 

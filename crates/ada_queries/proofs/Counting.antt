@@ -17,7 +17,7 @@ use Rattle.ada_events.specs.Search.{is_some_and}
 use Rattle.ada_events.specs.Slots.{number_within}
 use Rattle.ada_events.specs.Tasks.{has_task, task_count, families_of}
 use Rattle.ada_tables.specs.Dependents.{Facts, task_at}
-use Rattle.ada_tables.specs.Queues.{QueuedCall, queue_at}
+use Rattle.ada_queues.specs.Queues.{QueuedCall, queue_at}
 use Rattle.ada_tables.specs.Tables.{State, slot_at, HasEntry}
 use Rattle.ada_tables.specs.Standing.{StandFor}
 

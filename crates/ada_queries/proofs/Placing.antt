@@ -16,7 +16,7 @@ use Rattle.ada_events.specs.Slots.{number_within, slot_made, slot_of, count_at}
 use Rattle.ada_events.specs.Tasks.{task_count, families_of}
 use Rattle.ada_laws.proofs.SlotPlaces.{no_slot, entries_stand_at_their_slots, declared_entries_have_slots}
 use Rattle.ada_tables.specs.Dependents.{Facts, task_at}
-use Rattle.ada_tables.specs.Queues.{queue_at}
+use Rattle.ada_queues.specs.Queues.{queue_at}
 use Rattle.ada_tables.specs.Tables.{State, slot_at, slots_before, declared, HasEntry}
 use Rattle.ada_tables.specs.Standing.{StandFor}
 use Rattle.ada_counts.proofs.Entries.{families_stay}

@@ -20,8 +20,8 @@ use Rattle.ada_laws.proofs.Searching.{event_at-cases}
 use Rattle.ada_laws.proofs.Accepting.{is_accepted}
 use Rattle.ada_laws.proofs.Stepping.{forced-step}
 use Rattle.ada_laws.proofs.Saying.{held_in-wait}
-use Rattle.ada_tables.specs.Queues.{QueuedCall, queue_at}
-use Rattle.ada_tables.specs.internal.Queues.{front_call}
+use Rattle.ada_queues.specs.Queues.{QueuedCall, queue_at}
+use Rattle.ada_queues.specs.internal.Queues.{front_call}
 use Rattle.ada_tables.specs.Tables.{State, slot_at, HasEntry}
 use Rattle.ada_tables.specs.Standing.{StandFor}
 use Rattle.ada_tables.specs.Dependents.{Facts}

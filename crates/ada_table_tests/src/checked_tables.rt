@@ -3,7 +3,7 @@ ghost use Rattle.std.specs.Prelude.{◌≡◌, ℕ, ◌<◌, true, false, Some, 
 ghost use Rattle.ada_events.specs.Nests.{innermost};
 ghost use Rattle.ada_tables.specs.Dependents.{task_at, holds, live_dependents, is_terminated, Stands};
 ghost use Rattle.ada_tables.specs.internal.Dependents.{IsOpen, IsFresh, IsIdle};
-ghost use Rattle.ada_tables.specs.internal.Queues as queues;
+ghost use Rattle.ada_queues.specs.internal.Queues as queues;
 ghost use Rattle.ada_tables.specs.Tables.{HasEntry};
 
 use ada_events::{Entry, Families, Family, Master, Member, Refusal, TaskNo};

@@ -8,7 +8,7 @@ use Rattle.ada_tables.specs.declared.task.Task.{Task}
 use Rattle.ada_tables.specs.Dependents.{Facts, reaches, depends_on, count_below, live_dependents}
 use Rattle.ada_tables.specs.Counts.{facts}
 use Rattle.ada_tables.specs.internal.Counts.{no_task, AreCounted}
-use Rattle.ada_tables.specs.Queues.{QueuedCall}
+use Rattle.ada_queues.specs.Queues.{QueuedCall}
 use Rattle.ada_tables.specs.Tables.{is_unready}
 
 -- one at least isn't counted where the first doesn't pass

@@ -1,11 +1,8 @@
 -- Walking outwards from a master, and counting who passes a test.
-use Rattle.std.proofs.Common.{◌≡◌, ℕ, zero, suc, ◌+◌, ◌<◌, Bool, true, false, ◌||◌, ◌&&◌, List, Some, None, length, get_or, refl, ap, sym, ◌∙◌, arith, add-one}
-use Rattle.std.proofs.Common.{inl, inr}
+use Rattle.std.proofs.Common.{◌≡◌, ℕ, ◌+◌, ◌<◌, Bool, true, false, ◌||◌, List, Some, None, length, get_or, refl, ap, sym, ◌∙◌, arith, add-one}
 use Rattle.std.specs.Prelude.{if◌then◌else◌}
 use Rattle.ada_events.specs.declared.names.Master.{Master}
-use Rattle.std.proofs.lemmas.Bool.{cases_eq, and_left, and_right}
 use Rattle.std.proofs.lemmas.List.{get_or_default}
-use Rattle.ada_events.specs.Search.{all_below}
 use Rattle.ada_tables.specs.declared.task.Task.{Task}
 use Rattle.ada_tables.specs.Layers.{members}
 use Rattle.ada_tables.specs.Dependents.{Facts, task_at, encloses, reaches, depends_on, count_below}
@@ -51,23 +48,6 @@ module _ (tasks : List Task) (number : ℕ) (to : Master) (within : number < len
 pub count_more : (test : ℕ → Bool) (many : ℕ) → count_below test (many + 1) ≡ count_below test many + (if test many then 1 else 0)
 unfolding count_below
 count_more test many = rw add-one refl
-
-pub all_more : (test : ℕ → Bool) (many : ℕ) → all_below test (many + 1) ≡ (all_below test many && test many)
-unfolding all_below
-all_more test many = rw add-one refl
-
-pub all_fails : (test : ℕ → Bool) (many one : ℕ) → one < many → test one ≡ false → all_below test many ≡ false
-unfolding all_below
-all_fails test zero one low fails = absurd (omega arith)
-all_fails test (suc many) one low fails =
-    elim (cases_eq one many) [
-      | inl same ↦ and_right _ _ (rw same at fails)
-      | inr differs ↦ and_left _ _ (all_fails test many one (omega arith) fails)
-    ]
-
-pub all_of_none : (test : ℕ → Bool) → true ≡ all_below test 0
-unfolding all_below
-all_of_none test = refl
 
 -- one more number is counted if it passes
 pub counted_more : (test : ℕ → Bool) (many count more : ℕ) (here : Bool) → count ≡ count_below test many → here ≡ test many → more ≡ (if here then 1 else 0)

@@ -3,7 +3,4 @@ pub mod Changes
 pub mod Counts
 pub mod Dependents
 pub mod Layers
-pub mod Links
-pub mod Nodes
-pub mod Queues
 pub mod Tables

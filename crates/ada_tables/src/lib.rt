@@ -5,9 +5,7 @@
 
 mod change;
 mod layers;
-mod nodes;
 mod phase;
-mod queues;
 mod slots;
 mod tables;
 mod task;

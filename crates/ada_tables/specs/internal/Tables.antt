@@ -3,7 +3,7 @@
 use Rattle.std.specs.Prelude.{◌≡◌, ℕ, ◌<◌, ◌≤◌, List, length, slice_index}
 use Rattle.ada_events.specs.declared.limits.TheConstants.{MOST_SLOTS}
 use Rattle.ada_tables.specs.Dependents.{Facts}
-use Rattle.ada_tables.specs.Queues.{QueuedCall}
+use Rattle.ada_queues.specs.Queues.{QueuedCall}
 use Rattle.ada_tables.specs.Tables.{declared, slots_before}
 
 -- each task may call, the queues are those of all entries, and each task's slots come behind those of the

@@ -1,5 +1,5 @@
 use Rattle.std.proofs.Common.{List, ap, sym}
-use Rattle.ada_tables.specs.Queues.{QueuedCall}
+use Rattle.ada_queues.specs.Queues.{QueuedCall}
 use Rattle.ada_counts.proofs.Requeued.{without_none}
 use Rattle.ada_counts.proofs.queues.leave_queue.Goals as goal
 

@@ -1,0 +1,4 @@
+-- What only private contracts and invariants cite: no caller meets it.
+pub mod Links
+pub mod Nodes
+pub mod Queues
