@@ -56,7 +56,7 @@ pub(crate) fn put_callee(agenda: &mut Agenda, state: &State, at: u32)
 }
 
 /// Notes that a call is cancelled (9.7.2, 9.7.3): what the masters may force on which its callee depends may be forced.
-pub fn note_cancellation(agenda: &mut Agenda, state: &State, _event: &Event, call: u32)
+pub(crate) fn note_cancellation(agenda: &mut Agenda, state: &State, _event: &Event, call: u32)
     requires lawful { IsLawful (_event.now ∷ state.now) }
     requires stands { IsAgendaOf agenda.old state.now }
     requires cancels { _event.now ≡ CancelledEvent call }
@@ -100,7 +100,7 @@ fn put_caller(agenda: &mut Agenda, state: &State, at: u32)
 }
 
 /// Notes that a rendezvous ends (9.5): that its caller is halted may be forced (9.10).
-pub fn note_end(
+pub(crate) fn note_end(
     agenda: &mut Agenda,
     state: &State,
     _event: &Event,
@@ -117,7 +117,7 @@ pub fn note_end(
 }
 
 /// Notes that a call fails (9.5): that its caller is halted may be forced (9.10).
-pub fn note_failure(agenda: &mut Agenda, state: &State, _event: &Event, call: u32)
+pub(crate) fn note_failure(agenda: &mut Agenda, state: &State, _event: &Event, call: u32)
     requires lawful { IsLawful (_event.now ∷ state.now) }
     requires stands { IsAgendaOf agenda.old state.now }
     requires fails { _event.now ≡ FailedEvent call }
@@ -150,7 +150,7 @@ fn put_dependent_if(agenda: &mut Agenda, state: &State, task: TaskNo, so: bool)
 
 /// Notes that a task waits selectively (9.7.1): that it takes a call or passes, and with an open terminate alternative
 /// what the masters may force on which the task depends, may be forced.
-pub fn note_wait(
+pub(crate) fn note_wait(
     agenda: &mut Agenda,
     state: &State,
     event: &Event,
@@ -172,7 +172,7 @@ pub fn note_wait(
 
 /// Notes that an entry of a task is called (9.5): that the call fails or is cancelled, and that the wait takes it at
 /// which the callee is suspended, may be forced.
-pub fn note_call(agenda: &mut Agenda, state: &State, event: &Event, callee: TaskNo)
+pub(crate) fn note_call(agenda: &mut Agenda, state: &State, event: &Event, callee: TaskNo)
     requires lawful { IsLawful (event.now ∷ state.now) }
     requires stands { IsAgendaOf agenda.old state.now }
     requires calls { IsCallOf event.now callee.0 }

@@ -74,7 +74,7 @@ fn put_completion(agenda: &mut Agenda, first: &mut FirstUnstarted, state: &State
 
 /// Notes that a task completes (9.4): that it goes, that dependents of its body quit, that calls to it fail, that the
 /// activation ends that names it, and that tasks go that were never started, may be forced.
-pub fn note_completion(
+pub(crate) fn note_completion(
     agenda: &mut Agenda,
     first: &mut FirstUnstarted,
     state: &State,
@@ -93,7 +93,7 @@ pub fn note_completion(
 
 /// Notes that a task's activation ends by an exception (9.3), which completes it: what a completion may force may be
 /// forced.
-pub fn note_failed_activation(
+pub(crate) fn note_failed_activation(
     agenda: &mut Agenda,
     first: &mut FirstUnstarted,
     state: &State,
@@ -112,7 +112,7 @@ pub fn note_failed_activation(
 
 /// Notes that an abnormal task is halted (9.10): what a completion may force, that dependents of blocks quit that the
 /// task is within, and what the masters may force on which the callee of its call depends, may be forced.
-pub fn note_halt(
+pub(crate) fn note_halt(
     agenda: &mut Agenda,
     first: &mut FirstUnstarted,
     state: &State,
@@ -133,7 +133,7 @@ pub fn note_halt(
 
 /// Notes that a task terminates by itself (9.4): that calls to it fail, that the activation ends that names it, and
 /// what the masters may force on which it depends, may be forced.
-pub fn note_termination(agenda: &mut Agenda, state: &State, _event: &Event, task: TaskNo)
+pub(crate) fn note_termination(agenda: &mut Agenda, state: &State, _event: &Event, task: TaskNo)
     requires lawful { IsLawful (_event.now ∷ state.now) }
     requires stands { IsAgendaOf agenda.old state.now }
     requires goes { _event.now ≡ GoneEvent task }
@@ -146,7 +146,7 @@ pub fn note_termination(agenda: &mut Agenda, state: &State, _event: &Event, task
 
 /// Notes that all that depend on a master terminate together (9.4): that a call fails, that an activation ends, and
 /// what masters may force may be forced.
-pub fn note_quit(agenda: &mut Agenda, state: &State, _event: &Event, _master: Master)
+pub(crate) fn note_quit(agenda: &mut Agenda, state: &State, _event: &Event, _master: Master)
     requires lawful { IsLawful (_event.now ∷ state.now) }
     requires stands { IsAgendaOf agenda.old state.now }
     requires quits { _event.now ≡ QuitEvent _master }
@@ -159,7 +159,7 @@ pub fn note_quit(agenda: &mut Agenda, state: &State, _event: &Event, _master: Ma
 
 /// Notes that a task ends its activation without an exception (9.3): that the activation ends that names it may be
 /// forced.
-pub fn note_elaboration(agenda: &mut Agenda, state: &State, _event: &Event, task: TaskNo)
+pub(crate) fn note_elaboration(agenda: &mut Agenda, state: &State, _event: &Event, task: TaskNo)
     requires lawful { IsLawful (_event.now ∷ state.now) }
     requires stands { IsAgendaOf agenda.old state.now }
     requires comes_up { _event.now ≡ ElaboratedEvent task true }

@@ -20,7 +20,7 @@ use ada_touching::keeping::own_key;
 /// Notes an event that can newly force nothing: an opening, the beginning of a rendezvous, the passing of a wait, the
 /// end of a delay or of an activation, or the leaving of a block (9.3 to 9.7).
 #[tactic(auto, using(crate::proofs::Additions::nothing_noted))]
-pub fn note_nothing(_agenda: &mut Agenda, _state: &State, _event: &Event)
+pub(crate) fn note_nothing(_agenda: &mut Agenda, _state: &State, _event: &Event)
     requires lawful { IsLawful (_event.now ∷ _state.now) }
     requires stands { IsAgendaOf _agenda.old _state.now }
     requires nothing { adds_nothing _event.now ≡ true }
@@ -29,7 +29,7 @@ pub fn note_nothing(_agenda: &mut Agenda, _state: &State, _event: &Event)
 
 /// Notes that a task closes a block (9.4): that it leaves the block, that the block's dependents quit, and that tasks
 /// go that were never started, may be forced.
-pub fn note_close(
+pub(crate) fn note_close(
     agenda: &mut Agenda,
     first: &mut FirstUnstarted,
     state: &State,
@@ -50,7 +50,7 @@ pub fn note_close(
 }
 
 /// Notes that tasks are aborted (9.10): that a task is halted, and that a call fails, may be forced.
-pub fn note_abort(
+pub(crate) fn note_abort(
     agenda: &mut Agenda,
     state: &State,
     _event: &Event,

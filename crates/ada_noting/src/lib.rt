@@ -2,13 +2,13 @@
 //! newly force is put in, and at times a little more, but never too little.
 #![tactic(auto)]
 
-pub mod calls;
-pub mod endings;
-pub mod kinds;
+mod calls;
+mod endings;
+mod kinds;
 mod masters;
-pub mod moments;
+mod moments;
 mod next_due;
-pub mod noting;
+mod noting;
 mod passes;
 mod unstarted;
 

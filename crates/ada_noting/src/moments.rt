@@ -108,7 +108,7 @@ fn put_all_due(agenda: &mut Agenda, state: &State, tick: &Event)
 
 /// Notes that the moment moves, in milliseconds (9.6): that timed calls are cancelled, that waits pass and that delays
 /// end may be forced. A tick that doesn't reach the next due moment adds nothing.
-pub fn note_tick(agenda: &mut Agenda, next: NextDue, state: &State, event: &Event, now: i64)
+pub(crate) fn note_tick(agenda: &mut Agenda, next: NextDue, state: &State, event: &Event, now: i64)
     requires lawful { IsLawful (event.now ∷ state.now) }
     requires stands { IsAgendaOf agenda.old state.now }
     requires bound { IsDueBound state.now next }
