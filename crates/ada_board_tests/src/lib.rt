@@ -2,8 +2,10 @@
 #![tactic(auto)]
 
 pub mod station;
+pub mod watchers;
 
 pub use station::Station;
+pub use watchers::Watchers;
 
 #[cfg(test)]
 mod opened;

@@ -1,8 +1,9 @@
 //! Readers beside a station, in one thread.
 ghost use Rattle.std.specs.Prelude.{◌≡◌};
 
-use crate::Station;
 use crate::opened::{make_clients, opened};
+use crate::watchers::{SERVER, sees_no_server};
+use crate::{Station, Watchers};
 use ada_board::{BoardFault, BoardReader, History, Mark, Naming, Readers};
 use ada_events::{Refusal, Request, TaskNo};
 use ada_requests::{MAIN, SINGLE, abort, create, timed_call};
@@ -10,51 +11,16 @@ use std::marker::Brand;
 use std::sync::Wait;
 use std::test::Fail;
 
-const SERVER: TaskNo = TaskNo(1);
-
-/// Whether a reader sees the server terminated, and no fifth task and no third slot.
-fn sees_no_server<J: Naming>(reader: &mut BoardReader<J>) -> bool {
-    reader.callable(SERVER) == Some(false)
-        && reader.terminated(SERVER) == Some(true)
-        && reader.callable(TaskNo(4)).is_none()
-        && reader.terminated(TaskNo(4)).is_none()
-        && reader.count(2).is_none()
-}
-
-/// Two readers, of which one is told of each step.
-#[derive(Drop)]
-struct Watchers<J: Naming> {
-    told: BoardReader<J>,
-    untold: BoardReader<J>,
-}
-
-impl<J: Naming> Watchers<J> {
-    /// A step that one of them is told of: the position of its event.
-    fn step<R: Wait>(
-        &mut self,
-        rt: &R,
-        station: &mut Station<J>,
-        request: Request,
-    ) -> Result<u32, Refusal> {
-        let (at, mark) = station.step(rt, request)?;
-        self.told.learn(mark);
-        Ok(at)
-    }
-
-    /// Whether both see so many calls in the queue of the first entry.
-    fn see_queued(&mut self, calls: u16) -> bool {
-        self.told.count(0) == Some(calls) && self.untold.count(0) == Some(calls)
-    }
-
-    /// Whether both see that the server is callable.
-    fn see_server(&mut self) -> bool {
-        self.told.callable(SERVER) == Some(true) && self.untold.callable(SERVER) == Some(true)
-    }
-
-    /// Whether both see that the server has terminated.
-    fn see_no_server(&mut self) -> bool {
-        sees_no_server(&mut self.told) && sees_no_server(&mut self.untold)
-    }
+/// A step that one of the readers is told of: the position of its event.
+fn step<J: Naming, R: Wait>(
+    rt: &R,
+    station: &mut Station<J>,
+    both: &mut Watchers<J>,
+    request: Request,
+) -> Result<u32, Refusal> {
+    let (at, mark) = station.step(rt, request)?;
+    both.learn(mark);
+    Ok(at)
 }
 
 /// A call, its time-out and an abort, each seen by a reader that is told of it and by one that isn't.
@@ -64,11 +30,11 @@ fn worked_row<J: Naming, R: Wait>(
     both: &mut Watchers<J>,
 ) -> Result<bool, Fail> {
     make_clients(rt, station)?;
-    let called = both.step(rt, station, timed_call(2, 1, 0, 5))?;
+    let called = step(rt, station, both, timed_call(2, 1, 0, 5))?;
     let waits = both.see_queued(1);
-    let ticked = both.step(rt, station, Request::Tick { now: 5 })?;
+    let ticked = step(rt, station, both, Request::Tick { now: 5 })?;
     let left = both.see_queued(0);
-    let aborted = both.step(rt, station, abort(0, 1, 1))?;
+    let aborted = step(rt, station, both, abort(0, 1, 1))?;
     Ok(waits && left && both.see_no_server() && (called, ticked, aborted) == (9, 10, 12))
 }
 
@@ -78,10 +44,7 @@ fn row_watched<J: Naming, R: Wait>(
     station: &mut Station<J>,
     places: &mut Readers<J>,
 ) -> Result<bool, Fail> {
-    let mut both = Watchers {
-        told: places.take()?,
-        untold: places.take()?,
-    };
+    let mut both = Watchers::take(places)?;
     let full = places.take().err() == Some(BoardFault::NoPlace);
     Ok(worked_row(rt, station, &mut both)? && full)
 }
@@ -165,7 +128,7 @@ fn leave_behind<J: Naming, R: Wait>(
 ) -> Result<bool, Fail> {
     make_clients(rt, station)?;
     let seen = both.see_server();
-    let aborted = both.step(rt, station, abort(0, 1, 1))?;
+    let aborted = step(rt, station, both, abort(0, 1, 1))?;
     Ok(seen && aborted == 9)
 }
 
@@ -175,10 +138,7 @@ fn left_behind<J: Naming, R: Wait>(
     station: &mut Station<J>,
     places: &mut Readers<J>,
 ) -> Result<Watchers<J>, Fail> {
-    let mut both = Watchers {
-        told: places.take()?,
-        untold: places.take()?,
-    };
+    let mut both = Watchers::take(places)?;
     if leave_behind(rt, station, &mut both)? {
         Ok(both)
     } else {

@@ -2,8 +2,9 @@
 ghost use Rattle.std.specs.Prelude.{◌≡◌, ◌<◌};
 
 use crate::opened::{Setting, opened};
-use ada_board::{BoardFault, BoardReader, History, Readers};
-use ada_events::{Refusal, Request, TaskNo};
+use ada_board::{BoardFault, History, Readers};
+use ada_board_tests::Watchers;
+use ada_events::{Refusal, Request};
 use ada_hall::{Hall, Session, Told};
 use ada_requests::{MAIN, SINGLE, abort, activate, create, timed_call, up};
 use ada_script::{Script, read};
@@ -11,8 +12,6 @@ use std::marker::Brand;
 use std::sync::Wait;
 use std::sync::ledger::{Blank, Share};
 use std::test::Fail;
-
-const SERVER: TaskNo = TaskNo(1);
 
 /// Makes a server, task 1 with two entries, and two clients, and activates them: 8 events.
 fn make_clients<J: Session, R: Wait>(
@@ -33,51 +32,23 @@ fn make_clients<J: Session, R: Wait>(
     Ok(())
 }
 
-/// Whether a reader sees the server terminated, and no fifth task and no third slot.
-fn sees_no_server<J: Session>(reader: &mut BoardReader<J>) -> bool {
-    reader.callable(SERVER) == Some(false)
-        && reader.terminated(SERVER) == Some(true)
-        && reader.callable(TaskNo(4)).is_none()
-        && reader.terminated(TaskNo(4)).is_none()
-        && reader.count(2).is_none()
-}
-
-/// Two readers, of which one is told of each step.
-#[derive(Drop)]
-struct Watchers<J: Session> {
-    told: BoardReader<J>,
-    untold: BoardReader<J>,
-}
-
-impl<J: Session> Watchers<J> {
-    /// A step that one of them is told of: the position of its event.
-    fn step<R: Wait>(
-        &mut self,
-        rt: &R,
-        hall: &mut Hall<'_, J>,
-        share: &mut Share<J>,
-        request: Request,
-    ) -> Result<u32, Fail>
-        requires { 0 < share.old.parts }
-        ensures { share.new.parts ≡ share.old.parts }
-    {
-        let Told { at, mark } = hall.step(rt, share, request)?;
-        let Some(mark) = mark else {
-            return Err("a mark".into());
-        };
-        self.told.learn(mark);
-        Ok(at)
-    }
-
-    /// Whether both see so many calls in the queue of the first entry.
-    fn see_queued(&mut self, calls: u16) -> bool {
-        self.told.count(0) == Some(calls) && self.untold.count(0) == Some(calls)
-    }
-
-    /// Whether both see that the server has terminated.
-    fn see_no_server(&mut self) -> bool {
-        sees_no_server(&mut self.told) && sees_no_server(&mut self.untold)
-    }
+/// A step that one of the readers is told of: the position of its event.
+fn step<J: Session, R: Wait>(
+    rt: &R,
+    hall: &mut Hall<'_, J>,
+    share: &mut Share<J>,
+    both: &mut Watchers<J>,
+    request: Request,
+) -> Result<u32, Fail>
+    requires { 0 < share.old.parts }
+    ensures { share.new.parts ≡ share.old.parts }
+{
+    let Told { at, mark } = hall.step(rt, share, request)?;
+    let Some(mark) = mark else {
+        return Err("a mark".into());
+    };
+    both.learn(mark);
+    Ok(at)
 }
 
 /// A call, its time-out and an abort, each seen by a reader that is told of it and by one that isn't.
@@ -90,11 +61,11 @@ fn worked_row<J: Session, R: Wait>(
     requires { 0 < share.old.parts }
 {
     make_clients(rt, hall, share)?;
-    let called = both.step(rt, hall, share, timed_call(2, 1, 0, 5))?;
+    let called = step(rt, hall, share, both, timed_call(2, 1, 0, 5))?;
     let waits = both.see_queued(1);
-    let ticked = both.step(rt, hall, share, Request::Tick { now: 5 })?;
+    let ticked = step(rt, hall, share, both, Request::Tick { now: 5 })?;
     let left = both.see_queued(0);
-    let aborted = both.step(rt, hall, share, abort(0, 1, 1))?;
+    let aborted = step(rt, hall, share, both, abort(0, 1, 1))?;
     Ok(waits && left && both.see_no_server() && (called, ticked, aborted) == (9, 10, 12))
 }
 
@@ -107,10 +78,7 @@ fn row_watched<J: Session, R: Wait>(
 ) -> Result<bool, Fail>
     requires { 0 < share.old.parts }
 {
-    let mut both = Watchers {
-        told: places.take()?,
-        untold: places.take()?,
-    };
+    let mut both = Watchers::take(places)?;
     let full = places.take().err() == Some(BoardFault::NoPlace);
     let seen = worked_row(rt, hall, share, &mut both)?;
     Ok(full && seen && !hall.behind() && hall.total() == 10 && hall.answers().is_empty())
