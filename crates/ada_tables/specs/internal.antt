@@ -1,4 +1,4 @@
--- What only private contracts and invariants cite: no caller meets it.
+-- What only private modules and invariants cite.
 pub mod Changes
 pub mod Counts
 pub mod Dependents
