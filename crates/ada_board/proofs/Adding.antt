@@ -10,7 +10,7 @@ use Rattle.ada_events.specs.declared.board.Board.{Board}
 use Rattle.ada_events.specs.Boards.{AreTrue, board_of}
 use Rattle.ada_laws.proofs.ShowingLaws.{true_boards_are_few}
 use Rattle.ada_board.specs.Answers.{latest}
-use Rattle.ada_board.specs.Histories.{IsKept, Adds}
+use Rattle.ada_board.specs.Histories.{IsHistoryIn, AddsBoard}
 use Rattle.ada_board.specs.internal.Histories.{IsEdition}
 use Rattle.ada_board.proofs.Beginnings.{prefix_whole}
 use Rattle.ada_board.proofs.Truth.{latest_added}
@@ -23,7 +23,7 @@ moved xs ys n = Unit {0}
 
 pub adds_goes : (log v : List Board) (e : Board) (old : ℕ) → length v ≡ old → AreTrue (v ++ e ∷ []) → AreTrue log → IsPrefix v log
     → (b : Bool) → (length log == old) ≡ b
-    → Goes IsKept shown moved 0 (v, (no_nib, None)) (λ n. either (n == old) (old + 1) n) (Adds (step 0 old (old + 1) e) (v, (no_nib, None)))
+    → Goes IsHistoryIn shown moved 0 (v, (no_nib, None)) (λ n. either (n == old) (old + 1) n) (AddsBoard (step 0 old (old + 1) e) (v, (no_nib, None)))
     ((length log, true) ∷ (0, true) ∷ []) log
 adds_goes log v e old len may kept pre true is =
     let here : length log ≡ old = grind (arith, nat_tests) in
@@ -53,10 +53,10 @@ adds_goes log v e old len may kept pre false is =
 
 -- whatever the history is, the exchange adds the board to all that was seen, or finds that the history is longer
 pub adds_moves : (v : List Board) (e : Board) (old : ℕ) → length v ≡ old → AreTrue (v ++ e ∷ [])
-    → Moves IsKept shown moved 0 (v, (no_nib, None)) (λ n. either (n == old) (old + 1) n) (Adds (step 0 old (old + 1) e) (v, (no_nib, None)))
+    → Moves IsHistoryIn shown moved 0 (v, (no_nib, None)) (λ n. either (n == old) (old + 1) n) (AddsBoard (step 0 old (old + 1) e) (v, (no_nib, None)))
 adds_moves v e old len may cs log kept pre away =
     let P : List Cell → Type 0 = λ c. (0 < length c) × ((cell c 0).1 ≡ true)
-    × Goes IsKept shown moved 0 (v, (no_nib, None)) (λ n. either (n == old) (old + 1) n) (Adds (step 0 old (old + 1) e) (v, (no_nib, None))) c log in
+    × Goes IsHistoryIn shown moved 0 (v, (no_nib, None)) (λ n. either (n == old) (old + 1) n) (AddsBoard (step 0 old (old + 1) e) (v, (no_nib, None))) c log in
     subst P (sym kept.words) (omega arith, refl, adds_goes log v e old len may kept.true_list pre (length log == old) refl)
 
 -- what an exchange tells that found what it expected

@@ -7,7 +7,7 @@ use Rattle.atomic_table.proofs.Lists.{at_set, at_snoc}
 use Rattle.logbook.specs.Pages.{Book}
 use Rattle.ada_events.specs.declared.board.Board.{Board}
 use Rattle.ada_events.specs.Boards.{AreTrue}
-use Rattle.ada_board.specs.Histories.{Known}
+use Rattle.ada_board.specs.Histories.{KnownHistory}
 use Rattle.ada_board.specs.Publishing.{IsPublic, Follows}
 use Rattle.ada_board.proofs.Beginnings.{prefix_refl, prefix_trans}
 
@@ -15,7 +15,7 @@ nothing_at : (place : ℕ) (boards : List Board) → get_elem? [] place ≡ some
 nothing_at place boards at = cc at
 
 -- a place that has seen nothing
-pub joined : (book : Book) (published : Known) (seen : List (List Board)) → IsPublic book published seen → IsPublic book published (seen ++ [] ∷ [])
+pub joined : (book : Book) (published : KnownHistory) (seen : List (List Board)) → IsPublic book published seen → IsPublic book published (seen ++ [] ∷ [])
 joined book published seen rule = record {
   book_is = rule.book_is;
   true_list = rule.true_list;
@@ -25,7 +25,7 @@ joined book published seen rule = record {
 }
 
 -- a step that lengthens the published list, or leaves it
-pub follows : (book : Book) (place : ℕ) (seen : List Board) (before after : Known) → after.book ≡ book → AreTrue after.boards
+pub follows : (book : Book) (place : ℕ) (seen : List Board) (before after : KnownHistory) → after.book ≡ book → AreTrue after.boards
     → IsPrefix before.boards after.boards
     → (all : List (List Board)) → IsPublic book before all → get_elem? all place ≡ some seen
     → (now : List Board) × IsPublic book after (set all place now) × Follows book seen before after now
@@ -49,7 +49,7 @@ follows book place seen before after named kept grows all rule at = (
 )
 
 -- the rule where one place, the writer's, has seen nothing
-pub public_at_first : (book : Book) (published : Known) → published.book ≡ book → AreTrue published.boards → IsPublic book published ([] ∷ [])
+pub public_at_first : (book : Book) (published : KnownHistory) → published.book ≡ book → AreTrue published.boards → IsPublic book published ([] ∷ [])
 public_at_first book published named kept = record {
   book_is = named;
   true_list = kept;

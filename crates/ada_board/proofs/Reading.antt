@@ -6,7 +6,7 @@ use mathlib.Core.List.{IsPrefix}
 use Rattle.logbook.specs.Pages.{Book}
 use Rattle.ada_events.specs.declared.board.Board.{Board}
 use Rattle.ada_events.specs.Boards.{AreTrue}
-use Rattle.ada_board.specs.Histories.{Known}
+use Rattle.ada_board.specs.Histories.{KnownHistory}
 use Rattle.ada_board.specs.internal.Readers.{IsReader}
 use Rattle.ada_board.specs.Sights.{Reads}
 use Rattle.ada_board.proofs.Beginnings.{prefix_trans}
@@ -16,7 +16,7 @@ all_later : (xs ys : List Board) (told : List (List Board)) → IsPrefix xs ys �
 all_later xs ys told later =
     All-weaker (λ boards. IsPrefix boards xs) (λ boards. IsPrefix boards ys) (λ boards first. prefix_trans boards xs ys first later) told
 
-pub learnt : (book : Book) (known after : Known) (mark seen : List Board) (told : List (List Board)) → IsReader book known seen told
+pub learnt : (book : Book) (known after : KnownHistory) (mark seen : List Board) (told : List (List Board)) → IsReader book known seen told
     → after.book ≡ book → IsPrefix known.boards after.boards → IsPrefix mark after.boards → IsReader book after seen (mark ∷ told)
 learnt book known after mark seen told reader named later marked = record {
   book_is = named;
@@ -25,7 +25,7 @@ learnt book known after mark seen told reader named later marked = record {
   fresh = λ none. absurd (cc none);
 }
 
-pub reads : (book : Book) (known after : Known) (seen : List Board) (told : List (List Board)) → IsReader book known seen told
+pub reads : (book : Book) (known after : KnownHistory) (seen : List Board) (told : List (List Board)) → IsReader book known seen told
     → IsPrefix known.boards after.boards → AreTrue after.boards → Reads (record { seen = seen; told = told }) (record { seen = after.boards; told = [] })
 reads book known after seen told reader later kept = record {
   true_list = kept;

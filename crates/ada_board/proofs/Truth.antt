@@ -4,13 +4,13 @@ use Rattle.ada_events.specs.declared.board.Board.{Board}
 use Rattle.ada_events.specs.Boards.{AreTrue, board_of}
 use Rattle.ada_laws.proofs.ShowingLaws.{no_boards_are_true}
 use Rattle.ada_board.specs.Answers.{latest_behind, latest}
-use Rattle.ada_board.specs.Histories.{IsKept}
+use Rattle.ada_board.specs.Histories.{IsHistoryIn}
 use Rattle.ada_board.specs.internal.Histories.{IsEdition}
 
 pub nothing_is_true : AreTrue []
 nothing_is_true = ([], no_boards_are_true [] tt)
 
-pub kept_at_first : IsKept ((0, true) ∷ (0, true) ∷ []) []
+pub kept_at_first : IsHistoryIn ((0, true) ∷ (0, true) ∷ []) []
 kept_at_first = record { words = refl; true_list = nothing_is_true }
 
 -- the last board of a list is the one that was added

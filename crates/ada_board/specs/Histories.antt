@@ -7,15 +7,15 @@ use Rattle.ada_events.specs.Boards.{AreTrue}
 
 -- the first word is the length of the history, which is true. A book has two words, of which this one
 -- leaves the second at 0
-pub record IsKept (cells : List Cell) (history : List Board) : Type 0 where
+pub record IsHistoryIn (cells : List Cell) (history : List Board) : Type 0 where
   pub words : cells ≡ (length history, true) ∷ (0, true) ∷ []
   pub true_list : AreTrue history
 
 -- the board was added to all that had been seen; or the history was found to be longer
-abbrev pub Adds : Step Board → View Board ℕ → ℕ → View Board ℕ → Type 0
-Adds step before found after = MatchBool (found == step.old) ((after.0 ≡ before.0 ++ step.ask ∷ []) × AreTrue after.0) (Unit {0})
+abbrev pub AddsBoard : Step Board → View Board ℕ → ℕ → View Board ℕ → Type 0
+AddsBoard step before found after = MatchBool (found == step.old) ((after.0 ≡ before.0 ++ step.ask ∷ []) × AreTrue after.0) (Unit {0})
 
 -- what is known of a history: which one it is, and a beginning of it
-pub record Known : Type 0 where
+pub record KnownHistory : Type 0 where
   pub book : Book
   pub boards : List Board

@@ -21,10 +21,10 @@ pub struct Edition {
 }
 
 impl Model for Edition {
-    ghost use Rattle.ada_board.specs.Histories.{Known};
+    ghost use Rattle.ada_board.specs.Histories.{KnownHistory};
     ghost use Rattle.ada_board.specs.internal.Histories.{IsEdition};
 
-    ghost Value = { Known };
+    ghost Value = { KnownHistory };
 
     ghost view = { λ e. record { book = e.reached.book; boards = e.reached.log } };
 

@@ -12,9 +12,9 @@ pub struct Law;
 impl Rule<Board, u64> for Law {
     ghost use Rattle.std.specs.Prelude.{[]};
     ghost use base.Fml.{ftrue};
-    ghost use Rattle.ada_board.specs.Histories.{IsKept};
+    ghost use Rattle.ada_board.specs.Histories.{IsHistoryIn};
 
-    ghost holds = { λ cells history. IsKept cells history };
+    ghost holds = { λ cells history. IsHistoryIn cells history };
 
     ghost first = { [] };
 
@@ -40,9 +40,9 @@ impl Gain<Board, u64> for Nothing {
 pub struct Add;
 
 impl Play<Board, u64> for Add {
-    ghost use Rattle.ada_board.specs.Histories.{Adds};
+    ghost use Rattle.ada_board.specs.Histories.{AddsBoard};
 
-    ghost then = { Adds };
+    ghost then = { AddsBoard };
 }
 
 impl Plain<Board, Board, u64> for Add {

@@ -13,7 +13,7 @@ use Rattle.ada_events.specs.Termination.{is_open_terminate, is_at_open_terminate
 use Rattle.ada_tables.specs.declared.phase.Phase.{Phase}
 use Rattle.ada_tables.specs.declared.phase.Phase.TheVariants.{Unstarted, Active, Held, Quittable, Completed, Terminated}
 use Rattle.ada_tables.specs.Dependents.{Facts, task_at, live_dependents, depends_on as depends_in, is_terminated as ends}
-use Rattle.ada_tables.specs.Tables.{State, is_quittable, has_no_calls, unready_dependents}
+use Rattle.ada_tables.specs.Tables.{TableState, is_quittable, has_no_calls, unready_dependents}
 use Rattle.ada_tables.specs.Standing.{phase_of_live, phase_of, live_count, unready_count}
 use Rattle.ada_tables.proofs.Keeping.{count_same}
 use Rattle.ada_laws.proofs.Suspending.{is_suspended-from}
@@ -126,7 +126,7 @@ ready_bits q n false h m is same = rw is refl
 
 -- dependents that aren't ready to quit are counted alike where dependence is the same and the queues of live
 -- tasks are empty alike
-pub unready_alike : (tables : State) (journal : List Event) (master : Master) → HoldFacts tables.tasks journal
+pub unready_alike : (tables : TableState) (journal : List Event) (master : Master) → HoldFacts tables.tasks journal
     → ((u : ℕ) → u < task_count journal → has_no_calls tables.tasks tables.queues u ≡ has_empty_queues journal u) → SameDependents tables.tasks journal master
     → unready_dependents tables.tasks tables.queues master ≡ unready_count journal master
 unfolding is_ready_to_quit

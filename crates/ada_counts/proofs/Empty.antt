@@ -22,7 +22,7 @@ use Rattle.ada_laws.proofs.SlotLaws.{number_within-below}
 use Rattle.ada_laws.proofs.Queueing.{is_open_at-from, is_open_at-call, queue-from, queue-found}
 use Rattle.ada_tables.specs.Dependents.{Facts, task_at}
 use Rattle.ada_queues.specs.Queues.{QueuedCall, queue_at}
-use Rattle.ada_tables.specs.Tables.{State, declared, slots_before, slot_at, has_no_calls, HasEntry}
+use Rattle.ada_tables.specs.Tables.{TableState, declared, slots_before, slot_at, has_no_calls, HasEntry}
 use Rattle.ada_counts.specs.Facing.{HoldFacts, HoldQueues}
 use Rattle.ada_counts.proofs.Entries.{numbered, call_names_entry}
 
@@ -47,7 +47,7 @@ has_entry tasks journal task e n hold below number = record {
 }
 
 -- the queue at the slot of an entry, of that number in its task
-queue_is : (tables : State) (journal : List Event) (task : ℕ) (e : Entry) (n : ℕ) → HoldFacts tables.tasks journal → HoldQueues tables journal
+queue_is : (tables : TableState) (journal : List Event) (task : ℕ) (e : Entry) (n : ℕ) → HoldFacts tables.tasks journal → HoldQueues tables journal
     → task < task_count journal → number_within (families_of journal task) e ≡ Some n
     → map (λ (c : QueuedCall). c.call) (queue_at tables.queues (slots_before (declared tables.tasks) task + n)) ≡ queue journal task e
 queue_is tables journal task e n hold queues below number =
@@ -67,7 +67,8 @@ some_call : (xs : List QueuedCall) (ps : List ℕ) → map (λ (c : QueuedCall).
 some_call [] ps same some = absurd (cc)
 some_call (x ∷ xs) ps same some = (x.call, subst (λ (qs : List ℕ). Contains qs x.call) same (Contains-first x.call (map (λ (c : QueuedCall). c.call) xs)))
 
-module _ (tables : State) (journal : List Event) (lawful : IsLawful journal) (hold : HoldFacts tables.tasks journal) (queues : HoldQueues tables journal) where
+module _ (tables : TableState) (journal : List Event) (lawful : IsLawful journal) (hold : HoldFacts tables.tasks journal)
+    (queues : HoldQueues tables journal) where
   abbrev calls_of : ℕ → Event → Bool
   calls_of task event = is_some_and (call_in event) (λ (c : Call). eqb c.callee task)
 

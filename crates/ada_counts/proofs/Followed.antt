@@ -13,17 +13,17 @@ use Rattle.ada_events.specs.Lawful.{IsLawful}
 use Rattle.ada_laws.proofs.Growing.{task_count-same}
 use Rattle.ada_tables.specs.Dependents.{Facts}
 use Rattle.ada_queues.specs.Queues.{QueuedCall, queue_at}
-use Rattle.ada_tables.specs.Tables.{State, slot_at, HasEntry}
+use Rattle.ada_tables.specs.Tables.{TableState, slot_at, HasEntry}
 use Rattle.ada_tables.specs.Standing.{phase_of, AreQueued, StandFor}
 use Rattle.ada_counts.specs.Facing.{HoldFacts, HoldQueues}
 use Rattle.ada_counts.proofs.Following.{tables_follow, same_facts}
 use Rattle.ada_counts.proofs.SlotsApart.{same_slots}
 
-module _ (event : Event) (before : List Event) (old queued nested new : State) (makes : creation_in event ≡ None) (stand : StandFor old before)
+module _ (event : Event) (before : List Event) (old queued nested new : TableState) (makes : creation_in event ≡ None) (stand : StandFor old before)
     (once : queued ≡ record old { queues = queued.queues; spare = queued.spare }) (twice : nested ≡ record queued { tasks = nested.tasks })
     (thrice : new ≡ record nested { tasks = new.tasks }) where
   same_queues : new.queues ≡ queued.queues
-  same_queues = ap (λ (s : State). s.queues) thrice ∙ ap (λ (s : State). s.queues) twice
+  same_queues = ap (λ (s : TableState). s.queues) thrice ∙ ap (λ (s : TableState). s.queues) twice
 
   pub followed : IsLawful (event ∷ before) → HoldQueues queued (event ∷ before) → HoldFacts new.tasks (event ∷ before) → StandFor new (event ∷ before)
   followed lawful queues facts =
@@ -37,8 +37,8 @@ module _ (event : Event) (before : List Event) (old queued nested new : State) (
         queues = λ task entry has.
             subst (λ (qs : List (List QueuedCall)). AreQueued (event ∷ before) task entry (queue_at qs (slot_at old.tasks task entry))) (sym same_queues)
             (subst (λ (ts : List Facts). AreQueued (event ∷ before) task entry (queue_at queued.queues (slot_at ts task entry)))
-            (ap (λ (s : State). s.tasks) once)
-            (queues task entry (subst (λ (s : State). HasEntry s.tasks task entry) (sym once) has)));
+            (ap (λ (s : TableState). s.tasks) once)
+            (queues task entry (subst (λ (s : TableState). HasEntry s.tasks task entry) (sym once) has)));
       })
 
   pub slots_followed : length queued.queues ≡ length old.queues → length old.queues ≡ slot_count before → length new.queues ≡ slot_count (event ∷ before)

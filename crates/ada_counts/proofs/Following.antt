@@ -13,7 +13,7 @@ use Rattle.ada_events.specs.Lawful.{IsLawful}
 use Rattle.ada_laws.proofs.Growing.{task_count-same}
 use Rattle.ada_tables.specs.Dependents.{Facts, task_at}
 use Rattle.ada_queues.specs.Queues.{queue_at}
-use Rattle.ada_tables.specs.Tables.{State, declared, slot_at, HasEntry}
+use Rattle.ada_tables.specs.Tables.{TableState, declared, slot_at, HasEntry}
 use Rattle.ada_tables.specs.Standing.{phase_of, facts_in, AreQueued, StandFor}
 use Rattle.ada_counts.specs.Following.{AreFollowing, TablesFollow}
 use Rattle.ada_counts.proofs.Standing.{held_tables_stand}
@@ -45,7 +45,7 @@ same_declared (x ∷ old) (y ∷ new) many same =
     rw (same 0 (omega arith))
     (ap (λ (fs : List (List Family)). x.families ∷ fs) (same_declared old new (omega (arith, many)) (λ task below. same (suc task) (omega (arith, below)))))
 
-module _ (event : Event) (before : List Event) (old new : State) (lawful : IsLawful (event ∷ before)) (makes : creation_in event ≡ None)
+module _ (event : Event) (before : List Event) (old new : TableState) (lawful : IsLawful (event ∷ before)) (makes : creation_in event ≡ None)
     (stand : StandFor old before) (following : AreFollowing event before old new) where
   same_families : (task : ℕ) → task < length old.tasks → (task_at new.tasks task).families ≡ (task_at old.tasks task).families
   same_families task below = ap (λ (f : Facts). f.families) (following.tasks task below)

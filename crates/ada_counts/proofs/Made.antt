@@ -49,7 +49,7 @@ use Rattle.ada_tables.specs.declared.phase.Phase.TheVariants.{Unstarted}
 use Rattle.ada_tables.specs.Dependents.{Facts, nobody, task_at, holds, is_terminated as ends}
 use Rattle.ada_tables.specs.internal.Dependents.{made_facts, IsOpen}
 use Rattle.ada_queues.specs.Queues.{QueuedCall, queue_at}
-use Rattle.ada_tables.specs.Tables.{State, declared, slots_before, slot_at, HasEntry}
+use Rattle.ada_tables.specs.Tables.{TableState, declared, slots_before, slot_at, HasEntry}
 use Rattle.ada_tables.specs.Standing.{phase_of, facts_in, caller_of, AreQueued, StandFor}
 use Rattle.ada_counts.specs.Facing.{HoldFacts, HoldQueues}
 use Rattle.ada_counts.specs.Noting.{MakesTask}
@@ -197,7 +197,7 @@ get_nothing zero m = refl
 get_nothing (suc n) zero = refl
 get_nothing (suc n) (suc m) = get_nothing n m
 
-module _ (event : Event) (before : List Event) (old new : State) (master : Master) (families : List Family) (lawful : IsLawful (event ∷ before))
+module _ (event : Event) (before : List Event) (old new : TableState) (master : Master) (families : List Family) (lawful : IsLawful (event ∷ before))
     (makes : MakesTask event master families) (stand : StandFor old before) (slots : length old.queues ≡ slot_count before) where
   only : OnlyMakes event
   only = makes_only event makes.by makes.under master families makes.is
@@ -273,10 +273,10 @@ module _ (event : Event) (before : List Event) (old new : State) (master : Maste
         ++ replicate (entries_in families) [];
   }) where
     tasks_are : new.tasks ≡ old.tasks ++ made_facts (Some master) families ∷ []
-    tasks_are = ap (λ (s : State). s.tasks) is
+    tasks_are = ap (λ (s : TableState). s.tasks) is
 
     queues_are : new.queues ≡ old.queues ++ replicate (entries_in families) []
-    queues_are = ap (λ (s : State). s.queues) is
+    queues_are = ap (λ (s : TableState). s.queues) is
 
     many : length new.tasks ≡ suc (task_count before)
     many = ap (λ (ts : List Facts). length ts) tasks_are ∙ omega (arith, length-append old.tasks (made_facts (Some master) families ∷ []), stand.many)

@@ -27,7 +27,7 @@ use Rattle.ada_tables.specs.declared.phase.Phase.{Phase}
 use Rattle.ada_tables.specs.Dependents.{Facts, nobody, task_at, is_terminated as ends}
 use Rattle.ada_tables.specs.internal.Dependents.{with_phase}
 use Rattle.ada_queues.specs.Queues.{QueuedCall, queue_at}
-use Rattle.ada_tables.specs.Tables.{State, slot_at}
+use Rattle.ada_tables.specs.Tables.{TableState, slot_at}
 use Rattle.ada_tables.specs.Standing.{phase_of, facts_in, caller_of, AreQueued, StandFor}
 use Rattle.ada_counts.specs.Following.{facts_after, ChangesOnePhase, HoldsChangeOnePhase, GoingChangesOnePhase}
 use Rattle.ada_counts.specs.Telling.{phase_by}
@@ -64,16 +64,16 @@ new_facts : (event : Event) (before : List Event) (task : ℕ) (held : Facts) (p
     → record held { phase = phase } ≡ facts_after event before task held
 new_facts event before task held phase is nests now = rw (nests, now, is) refl
 
-pub phase_followed : (event : Event) (before : List Event) (old new : State) (task : ℕ) (phase : Phase) (kept : Record) → IsLawful (event ∷ before)
+pub phase_followed : (event : Event) (before : List Event) (old new : TableState) (task : ℕ) (phase : Phase) (kept : Record) → IsLawful (event ∷ before)
     → StandFor old before → task < task_count before → ChangesOnePhase event before task → IsRecordOf (event ∷ before) task kept → phase ≡ phase_by kept
     → new ≡ record old { tasks = with_phase task phase old.tasks } → StandFor new (event ∷ before)
 phase_followed event before old new task phase kept lawful stand known changes right by is =
     tables_follow event before old new lawful changes.makes stand (record {
-      same = ap (λ (s : State). length s.tasks) is ∙ length-set old.tasks task (record (task_at old.tasks task) { phase = phase });
-      tasks = λ other below. ap (λ (s : State). task_at s.tasks other) is ∙ of_task other below;
+      same = ap (λ (s : TableState). length s.tasks) is ∙ length-set old.tasks task (record (task_at old.tasks task) { phase = phase });
+      tasks = λ other below. ap (λ (s : TableState). task_at s.tasks other) is ∙ of_task other below;
       queues = λ other entry has.
           subst (λ (queues : List (List QueuedCall)). AreQueued (event ∷ before) other entry (queue_at queues (slot_at old.tasks other entry)))
-          (sym (ap (λ (s : State). s.queues) is))
+          (sym (ap (λ (s : TableState). s.queues) is))
           (queued_later event before other entry (queue_at old.queues (slot_at old.tasks other entry)) (changes.queues other entry)
           (stand.queues other entry has));
     })
@@ -97,7 +97,7 @@ phase_followed event before old new task phase kept lawful stand known changes r
         ]
 
 -- the tables know that a task isn't terminated
-pub live_in_tables : (old : State) (before : List Event) (task : ℕ) → StandFor old before → task < task_count before → is_terminated before task ≡ false
+pub live_in_tables : (old : TableState) (before : List Event) (task : ℕ) → StandFor old before → task < task_count before → is_terminated before task ≡ false
     → ends (task_at old.tasks task).phase ≡ false
 live_in_tables old before task stand known live = ap (λ (f : Facts). ends f.phase) (stand.tasks task known) ∙ ends_phase before task ∙ live
 

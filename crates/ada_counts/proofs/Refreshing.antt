@@ -18,7 +18,7 @@ use Rattle.ada_records.specs.Records.{IsRecordOf}
 use Rattle.ada_tables.specs.declared.phase.Phase.{Phase}
 use Rattle.ada_tables.specs.Dependents.{Facts, nobody, task_at, is_terminated as ends}
 use Rattle.ada_tables.specs.internal.Dependents.{with_phase}
-use Rattle.ada_tables.specs.Tables.{State}
+use Rattle.ada_tables.specs.Tables.{TableState}
 use Rattle.ada_tables.specs.Standing.{phase_of, facts_in}
 use Rattle.ada_counts.specs.Facing.{HoldFacts}
 use Rattle.ada_counts.specs.Phasing.{TouchesOnly, facts_between, AreBetween, AreRenested}
@@ -40,7 +40,8 @@ done_anyway event before task true same = refl
 done_anyway event before task false same =
     ap (λ (p : Phase). record (facts_in before task) { nest = nest (event ∷ before) task; phase = p }) (sym (same refl))
 
-module _ (event : Event) (before : List Event) (done : ℕ → Bool) (old : State) (task : ℕ) (kept : Record) (between : AreBetween event before done old.tasks)
+module _ (event : Event) (before : List Event) (done : ℕ → Bool) (old : TableState) (task : ℕ) (kept : Record)
+    (between : AreBetween event before done old.tasks)
     (known : task < task_count before) (right : IsRecordOf (event ∷ before) task kept) where
   within : task < length old.tasks
   within = omega (arith, known, between.many)
@@ -98,7 +99,7 @@ module _ (event : Event) (before : List Event) (done : ℕ → Bool) (old : Stat
   refreshed_more = by_end (ends (task_at old.tasks task).phase) refl
 
 -- nothing but the tasks is changed
-pub refreshed_kept : (task : ℕ) (kept : Record) (old : State) → refreshed task kept old ≡ record old { tasks = (refreshed task kept old).tasks }
+pub refreshed_kept : (task : ℕ) (kept : Record) (old : TableState) → refreshed task kept old ≡ record old { tasks = (refreshed task kept old).tasks }
 refreshed_kept task kept old = by_end (ends (task_at old.tasks task).phase)
   where
     by_end : (b : Bool) → cond b old (record old { tasks = with_phase task (phase_by kept) old.tasks })
@@ -125,21 +126,21 @@ all_done event before done tasks makes same between = record {
       between.facts task known ∙ done_anyway event before task (done task) (same task known) ∙ same_facts event before task makes;
 }
 
-kept_more : (task : ℕ) (kept : Record) (first old new : State) → old ≡ record first {
+kept_more : (task : ℕ) (kept : Record) (first old new : TableState) → old ≡ record first {
   tasks =
       old.tasks;
 } → new ≡ refreshed task kept old → new ≡ record first { tasks = new.tasks }
 kept_more task kept first old new was is =
     is ∙ refreshed_kept task kept old
-    ∙ ap (λ (s : State). record s { tasks = (refreshed task kept old).tasks }) was
-    ∙ ap (λ (s : State). record first { tasks = s.tasks }) (sym is)
+    ∙ ap (λ (s : TableState). record s { tasks = (refreshed task kept old).tasks }) was
+    ∙ ap (λ (s : TableState). record first { tasks = s.tasks }) (sym is)
 
 -- of a sweep over all tasks, the first so many are done
-abbrev pub AreSwept : Event → List Event → State → State → ℕ → Type 0
+abbrev pub AreSwept : Event → List Event → TableState → TableState → ℕ → Type 0
 AreSwept event before first now many =
     AreBetween event before (λ t. ltb t many) now.tasks × (now ≡ record first { tasks = now.tasks })
 
-pub none_swept : (event : Event) (before : List Event) (first : State) → AreRenested event before first.tasks → AreSwept event before first first 0
+pub none_swept : (event : Event) (before : List Event) (first : TableState) → AreRenested event before first.tasks → AreSwept event before first first 0
 none_swept event before first nests =
     (between_same event before (λ _. false) (λ t. ltb t 0) first.tasks (λ t below. sym (le-ltb t 0 (omega arith))) nests, refl)
 
@@ -155,37 +156,37 @@ below_more t many =
           ])
     ]
 
-pub one_swept : (event : Event) (before : List Event) (first old new : State) (many : ℕ) (kept : Record) → AreSwept event before first old many
+pub one_swept : (event : Event) (before : List Event) (first old new : TableState) (many : ℕ) (kept : Record) → AreSwept event before first old many
     → many < task_count before → IsRecordOf (event ∷ before) many kept → new ≡ refreshed many kept old → AreSwept event before first new (many + 1)
 one_swept event before first old new many kept swept known right is = (
-  subst (λ (s : State). AreBetween event before (λ t. ltb t (many + 1)) s.tasks) (sym is)
+  subst (λ (s : TableState). AreBetween event before (λ t. ltb t (many + 1)) s.tasks) (sym is)
       (between_same event before (λ t. eqb t many || ltb t many) (λ t. ltb t (many + 1)) (refreshed many kept old).tasks (λ t below. below_more t many)
       (refreshed_more event before (λ t. ltb t many) old many kept swept.0 known right)),
   kept_more many kept first old new swept.1 is,
 )
 
-pub all_swept : (event : Event) (before : List Event) (first now : State) (many : ℕ) → creation_in event ≡ None → task_count before ≤ many
+pub all_swept : (event : Event) (before : List Event) (first now : TableState) (many : ℕ) → creation_in event ≡ None → task_count before ≤ many
     → AreSwept event before first now many → HoldFacts now.tasks (event ∷ before)
 all_swept event before first now many makes whole swept =
     all_done event before (λ t. ltb t many) now.tasks makes
     (λ t below undone. absurd (true≢false (sym (lt-ltb t many (omega (arith, whole, below))) ∙ undone))) swept.0
 
 -- where one phase changes at most
-pub one_refreshed : (event : Event) (before : List Event) (old new : State) (task : TaskNo) (kept : Record) → creation_in event ≡ None
+pub one_refreshed : (event : Event) (before : List Event) (old new : TableState) (task : TaskNo) (kept : Record) → creation_in event ≡ None
     → TouchesOnly event before (Some task) → AreRenested event before old.tasks → IsRecordOf (event ∷ before) task.0 kept → new ≡ refreshed task.0 kept old
     → HoldFacts new.tasks (event ∷ before)
 one_refreshed event before old new task kept makes touches nests right is =
-    subst (λ (s : State). HoldFacts s.tasks (event ∷ before)) (sym is)
+    subst (λ (s : TableState). HoldFacts s.tasks (event ∷ before)) (sym is)
     (all_done event before (λ t. eqb t task.0 || false) (refreshed task.0 kept old).tasks makes
     (λ t below undone. touches.1 t (λ same. true≢false (sym (ap (λ (b : Bool). b || false) (eq-eqb t task.0 same)) ∙ undone)))
     (refreshed_more event before (λ _. false) old task.0 kept nests touches.0 right))
 
 -- of the tasks that a start names, the first so many are done
-abbrev pub AreNamed : Event → List Event → List TaskNo → State → State → ℕ → Type 0
+abbrev pub AreNamed : Event → List Event → List TaskNo → TableState → TableState → ℕ → Type 0
 AreNamed event before tasks first now many =
     AreBetween event before (λ t. lists_task t (take many tasks)) now.tasks × (now ≡ record first { tasks = now.tasks })
 
-pub none_named : (event : Event) (before : List Event) (tasks : List TaskNo) (first : State) → AreRenested event before first.tasks
+pub none_named : (event : Event) (before : List Event) (tasks : List TaskNo) (first : TableState) → AreRenested event before first.tasks
     → AreNamed event before tasks first first 0
 none_named event before [] first nests = (nests, refl)
 none_named event before (t ∷ rest) first nests = (nests, refl)
@@ -203,12 +204,12 @@ or_swap true false = refl
 or_swap false true = refl
 or_swap false false = refl
 
-pub one_named : (event : Event) (before : List Event) (tasks : List TaskNo) (first old new : State) (many : ℕ) (d : TaskNo) (kept : Record)
+pub one_named : (event : Event) (before : List Event) (tasks : List TaskNo) (first old new : TableState) (many : ℕ) (d : TaskNo) (kept : Record)
     → AreNamed event before tasks first old many → many < length tasks → (get_or tasks many d).0 < task_count before
     → IsRecordOf (event ∷ before) (get_or tasks many d).0 kept → new ≡ refreshed (get_or tasks many d).0 kept old
     → AreNamed event before tasks first new (many + 1)
 one_named event before tasks first old new many d kept named below known right is = (
-  subst (λ (s : State). AreBetween event before (λ t. lists_task t (take (many + 1) tasks)) s.tasks) (sym is)
+  subst (λ (s : TableState). AreBetween event before (λ t. lists_task t (take (many + 1) tasks)) s.tasks) (sym is)
       (between_same event before (λ t. eqb t (get_or tasks many d).0 || lists_task t (take many tasks)) (λ t. lists_task t (take (many + 1) tasks))
       (refreshed (get_or tasks many d).0 kept old).tasks
       (λ t exists.
@@ -220,11 +221,11 @@ one_named event before tasks first old new many d kept named below known right i
 )
 
 -- once all that a start names are done, and then who starts them
-pub all_named : (event : Event) (before : List Event) (by : TaskNo) (tasks : List TaskNo) (first old new : State) (many : ℕ) (kept : Record)
+pub all_named : (event : Event) (before : List Event) (by : TaskNo) (tasks : List TaskNo) (first old new : TableState) (many : ℕ) (kept : Record)
     → IsLawful (event ∷ before) → event ≡ Started by tasks → creation_in event ≡ None → length tasks ≤ many → AreNamed event before tasks first old many
     → by.0 < task_count before → IsRecordOf (event ∷ before) by.0 kept → new ≡ refreshed by.0 kept old → HoldFacts new.tasks (event ∷ before)
 all_named event before by tasks first old new many kept lawful starts makes whole named known right is =
-    subst (λ (s : State). HoldFacts s.tasks (event ∷ before)) (sym is)
+    subst (λ (s : TableState). HoldFacts s.tasks (event ∷ before)) (sym is)
     (all_done event before (λ t. eqb t by.0 || lists_task t (take many tasks)) (refreshed by.0 kept old).tasks makes
     (λ t below undone.
     let both = or_parts (eqb t by.0) (lists_task t (take many tasks)) undone in

@@ -23,7 +23,7 @@ use Rattle.ada_laws.proofs.Suspending.{is_suspended-from}
 use Rattle.ada_tables.specs.Dependents.{Facts}
 use Rattle.ada_queues.specs.Queues.{QueuedCall, queue_at}
 use Rattle.ada_queues.specs.internal.Queues.{is_by, waits_in, waits, with_last, without}
-use Rattle.ada_tables.specs.Tables.{State, slot_at, HasEntry}
+use Rattle.ada_tables.specs.Tables.{TableState, slot_at, HasEntry}
 use Rattle.ada_tables.specs.Standing.{caller_of, AreQueued}
 use Rattle.ada_queues.proofs.Linking.{any_place}
 use Rattle.ada_counts.specs.Facing.{HoldFacts, HoldQueues}
@@ -64,7 +64,7 @@ waiting_call journal u (c ∷ rest) waits made =
     ]
 
 -- a task that waits in a queue of the tables is suspended
-waiting_held : (tables : State) (journal : List Event) (u task : ℕ) (entry : Entry)
+waiting_held : (tables : TableState) (journal : List Event) (u task : ℕ) (entry : Entry)
     → AreQueued journal task entry (queue_at tables.queues (slot_at tables.tasks task entry))
     → waits_in u (queue_at tables.queues (slot_at tables.tasks task entry)) ≡ true → is_suspended journal u ≡ true
 waiting_held tables journal u task entry are waiting =
@@ -74,7 +74,7 @@ waiting_held tables journal u task entry are waiting =
     subst (λ (n : ℕ). is_suspended journal n ≡ true) one (is_suspended-from journal v p held)
 
 -- who isn't suspended waits in no queue of the tables
-pub idle_caller : (tables : State) (journal : List Event) (u : ℕ) → HoldFacts tables.tasks journal → HoldQueues tables journal
+pub idle_caller : (tables : TableState) (journal : List Event) (u : ℕ) → HoldFacts tables.tasks journal → HoldQueues tables journal
     → length tables.queues ≡ slot_count journal → is_suspended journal u ≡ false → waits u tables.queues ≡ false
 idle_caller tables journal u hold queues slots free =
     false_from_ne_true (waits u tables.queues) (λ waiting.
@@ -115,10 +115,10 @@ callers_later event before calls made =
     (λ c was. caller_later event before c.call c.caller was) calls made
 
 -- a task's call leaves
-pub queues_left_by : (event : Event) (before : List Event) (old new : State) (u : ℕ) → HoldQueues old before → LeavesQueue event before u
+pub queues_left_by : (event : Event) (before : List Event) (old new : TableState) (u : ℕ) → HoldQueues old before → LeavesQueue event before u
     → new ≡ record old { queues = without u old.queues; spare = new.spare } → HoldQueues new (event ∷ before)
 queues_left_by event before old new u queues leaves is task entry has =
-    let was = queues task entry (subst (λ (s : State). HasEntry s.tasks task entry) is has) in
+    let was = queues task entry (subst (λ (s : TableState). HasEntry s.tasks task entry) is has) in
     let calls = queue_at old.queues (slot_at old.tasks task entry) in
     let here : queue_at (without u old.queues) (slot_at old.tasks task entry) ≡ filter (λ c. not (is_by u c)) calls =
     get_or-map (filter (λ c. not (is_by u c))) old.queues (slot_at old.tasks task entry) [] in
@@ -132,11 +132,11 @@ queues_left_by event before old new u queues leaves is task entry has =
           callers_later event before (filter (λ c. not (is_by u c)) calls)
           (All-filter (λ c. not (is_by u c)) (λ (c : QueuedCall). caller_of before c.call ≡ Some c.caller) calls was.callers);
     } in
-    subst (λ (s : State). AreQueued (event ∷ before) task entry (queue_at s.queues (slot_at s.tasks task entry))) (sym is)
+    subst (λ (s : TableState). AreQueued (event ∷ before) task entry (queue_at s.queues (slot_at s.tasks task entry))) (sym is)
     (subst (AreQueued (event ∷ before) task entry) (sym here) are)
 
 -- nothing is changed
-pub queues_same : (event : Event) (before : List Event) (tables : State) → HoldQueues tables before
+pub queues_same : (event : Event) (before : List Event) (tables : TableState) → HoldQueues tables before
     → ((task : ℕ) (entry : Entry) → queue (event ∷ before) task entry ≡ queue before task entry) → HoldQueues tables (event ∷ before)
 queues_same event before tables queues same task entry has =
     let was = queues task entry has in
@@ -149,12 +149,12 @@ map_last [] c = refl
 map_last (x ∷ rest) c = ap (λ (ps : List ℕ). x.call ∷ ps) (map_last rest c)
 
 -- a call comes last at its entry
-pub queues_joined : (event : Event) (before : List Event) (old new : State) (by callee : ℕ) (entry : Entry) (call spare : ℕ) → HoldFacts old.tasks before
+pub queues_joined : (event : Event) (before : List Event) (old new : TableState) (by callee : ℕ) (entry : Entry) (call spare : ℕ) → HoldFacts old.tasks before
     → HoldQueues old before → length old.queues ≡ slot_count before → ComesLast event before by callee entry → call ≡ suc (length before)
     → new ≡ record old { queues = with_last (slot_at old.tasks callee entry) (record { call = call; caller = by }) old.queues; spare = spare }
     → HoldQueues new (event ∷ before)
 queues_joined event before old new by callee entry call spare hold queues slots last place is task other has =
-    subst (λ (s : State). AreQueued (event ∷ before) task other (queue_at s.queues (slot_at s.tasks task other))) (sym is)
+    subst (λ (s : TableState). AreQueued (event ∷ before) task other (queue_at s.queues (slot_at s.tasks task other))) (sym is)
     (elim (cases_eq (slot_at old.tasks task other) slot) [
       | inl same ↦ subst (AreQueued (event ∷ before) task other)
           (sym (ap (queue_at (with_last slot added old.queues)) same ∙ get_or-set_same old.queues slot (queue_at old.queues slot ++ added ∷ []) [] within))
@@ -173,7 +173,7 @@ queues_joined event before old new by callee entry call spare hold queues slots 
     own = called_entry old.tasks before callee entry hold last.called last.declares
 
     here : HasEntry old.tasks task other
-    here = subst (λ (s : State). HasEntry s.tasks task other) is has
+    here = subst (λ (s : TableState). HasEntry s.tasks task other) is has
 
     within : slot < length old.queues
     within = omega (arith, slot_within old.tasks callee entry own, slots, slots_held old.tasks before hold)

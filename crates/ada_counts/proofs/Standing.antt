@@ -4,7 +4,7 @@ use Rattle.ada_events.specs.declared.event.Event.{Event}
 use Rattle.ada_events.specs.declared.names.Master.{Master}
 use Rattle.ada_events.specs.Lawful.{IsLawful}
 use Rattle.ada_tables.specs.Dependents.{Stands}
-use Rattle.ada_tables.specs.Tables.{State}
+use Rattle.ada_tables.specs.Tables.{TableState}
 use Rattle.ada_tables.specs.Standing.{StandFor}
 use Rattle.ada_counts.specs.Facing.{HoldFacts, HoldQueues}
 use Rattle.ada_counts.specs.internal.Facing.{SameDependents}
@@ -14,7 +14,7 @@ use Rattle.ada_counts.specs.Holders.{HeldTablesStand}
 use Rattle.ada_counts.proofs.Walking.{same_dependents}
 
 -- the counts follow from the facts, the queues and dependence
-pub stand_by_dependence : (tables : State) (journal : List Event) → IsLawful journal → HoldFacts tables.tasks journal → HoldQueues tables journal
+pub stand_by_dependence : (tables : TableState) (journal : List Event) → IsLawful journal → HoldFacts tables.tasks journal → HoldQueues tables journal
     → ((master : Master) → Stands tables.tasks master → SameDependents tables.tasks journal master) → StandFor tables journal
 stand_by_dependence tables journal lawful hold queues same = record {
   many = hold.many;

@@ -13,7 +13,7 @@ use Rattle.ada_laws.specs.Suspension.{IsSuspendedAt}
 use Rattle.ada_records.specs.Records.{IsPlainHold, IsPlainRelease}
 use Rattle.ada_tables.specs.Dependents.{Facts, task_at}
 use Rattle.ada_queues.specs.Queues.{queue_at}
-use Rattle.ada_tables.specs.Tables.{State, slot_at, HasEntry}
+use Rattle.ada_tables.specs.Tables.{TableState, slot_at, HasEntry}
 use Rattle.ada_tables.specs.Standing.{phase_of, AreQueued, StandFor}
 
 -- what the tables held of a task, with the nest and the phase that it has after one more event
@@ -22,7 +22,7 @@ facts_after event before task held = record held { nest = nest (event ∷ before
 
 -- of each task the tables hold the nest and the phase that it has after one more event, and else what they held, and
 -- at each entry the calls that are queued there then
-pub record AreFollowing (event : Event) (before : List Event) (old new : State) : Type 0 where
+pub record AreFollowing (event : Event) (before : List Event) (old new : TableState) : Type 0 where
   pub same : length new.tasks ≡ length old.tasks
   pub tasks : (task : ℕ) → task < length old.tasks → task_at new.tasks task ≡ facts_after event before task (task_at old.tasks task)
   pub queues : (task : ℕ) (entry : Entry) → HasEntry old.tasks task entry
@@ -32,7 +32,7 @@ pub record AreFollowing (event : Event) (before : List Event) (old new : State) 
 -- queues are changed: counts, masters and entries need no care
 abbrev pub TablesFollow : Type 0
 TablesFollow =
-    (event : Event) (before : List Event) (old new : State) → IsLawful (event ∷ before) → creation_in event ≡ None
+    (event : Event) (before : List Event) (old new : TableState) → IsLawful (event ∷ before) → creation_in event ≡ None
     → StandFor old before → AreFollowing event before old new → StandFor new (event ∷ before)
 
 -- the event makes no task, and of nests, phases and queues it changes one task's phase alone

@@ -14,7 +14,7 @@ use Rattle.ada_events.specs.Nests.{is_left, nest}
 use Rattle.ada_events.specs.Phases.{is_terminated}
 use Rattle.ada_events.specs.Lawful.{IsLawful}
 use Rattle.ada_tables.specs.Dependents.{holds, cut}
-use Rattle.ada_tables.specs.Tables.{State}
+use Rattle.ada_tables.specs.Tables.{TableState}
 use Rattle.ada_tables.specs.Standing.{StandFor}
 use Rattle.ada_records.specs.Changes.{is_apart_from}
 use Rattle.ada_counts.specs.Facing.{HoldFacts, HoldQueues}
@@ -66,7 +66,7 @@ ALeftBlockHasNoLiveDependent =
 -- follow
 abbrev pub HeldTablesStand : Type 0
 HeldTablesStand =
-    (tables : State) (journal : List Event) → IsLawful journal
+    (tables : TableState) (journal : List Event) → IsLawful journal
     → HoldFacts tables.tasks journal → HoldQueues tables journal → StandFor tables journal
 
 -- to take the rendezvous with a call out of a nest is to keep all else

@@ -7,14 +7,14 @@ use Rattle.ada_events.specs.declared.names.Master.{Master}
 use Rattle.ada_events.specs.declared.names.TaskNo.{TaskNo}
 use Rattle.ada_events.specs.Limits.{slot_count}
 use Rattle.ada_events.specs.Says.{call_in}
-use Rattle.ada_tables.specs.Tables.{State}
+use Rattle.ada_tables.specs.Tables.{TableState}
 
 -- there is a queue for each entry
-abbrev pub HaveAllQueues : State → List Event → Type 0
+abbrev pub HaveAllQueues : TableState → List Event → Type 0
 HaveAllQueues tables journal = length tables.queues ≡ slot_count journal
 
 -- there is room for one more call where the event makes one
-abbrev pub HaveRoomFor : State → Event → Type 0
+abbrev pub HaveRoomFor : TableState → Event → Type 0
 HaveRoomFor tables event = IsSome (call_in event) → 0 < tables.spare
 
 -- the event makes a task under that master, with these families of entries

@@ -15,7 +15,7 @@ use Rattle.std.proofs.lemmas.Map.Views.{Contains-from_any}
 use Rattle.ada_hall.specs.declared.answer.Answer.{Answer}
 use Rattle.ada_hall.specs.declared.answer.Answer.TheVariants.{Group}
 use Rattle.ada_hall.specs.declared.answer.Kept.{Kept}
-use Rattle.ada_hall.specs.Answers.{answer_at, AreAll, AreApart}
+use Rattle.ada_hall.specs.Answers.{answer_at, AreAll, AnswerNoPlaceTwice}
 
 place_of : Kept → ℕ
 place_of kept = kept.place
@@ -41,7 +41,8 @@ apart_from answers place none k d below = λ same.
     fails_each (λ (a : Kept). a.place == place) answers (no_answer (find (λ (a : Kept). a.place == place) answers) none) k d below in
     absurd (let e = same in grind (arith, fails))
 
-pub stay_apart : (answers : List Kept) (kept : Kept) → AreApart answers → answer_at answers kept.place ≡ None → AreApart (answers ++ kept ∷ [])
+pub stay_apart : (answers : List Kept) (kept : Kept) → AnswerNoPlaceTwice answers → answer_at answers kept.place ≡ None
+    → AnswerNoPlaceTwice (answers ++ kept ∷ [])
 stay_apart answers kept apart none =
     all_pairs_push (λ (a : Kept) (b : Kept). a.place ≢ b.place) answers kept apart (apart_from answers kept.place none)
 
@@ -50,7 +51,7 @@ pub stay_within : (answers : List Kept) (kept : Kept) (places : ℕ) → All (λ
 stay_within answers kept places within below = All-push (λ (k : Kept). k.place < places) answers kept within below
 
 -- there are no more answers than places
-few : (answers : List Kept) (places : ℕ) → AreApart answers → All (λ (k : Kept). k.place < places) answers → length answers ≤ places
+few : (answers : List Kept) (places : ℕ) → AnswerNoPlaceTwice answers → All (λ (k : Kept). k.place < places) answers → length answers ≤ places
 unfolding place_of
 few answers places apart within =
     let numbers = map place_of answers in
@@ -70,7 +71,8 @@ few answers places apart within =
     omega (arith, length-map answers place_of)
 
 -- so there is room for the answer to a place that has none
-pub room_for_one : (answers : List Kept) (kept : Kept) (places : ℕ) → AreApart answers → All (λ (k : Kept). k.place < places) answers → kept.place < places
+pub room_for_one : (answers : List Kept) (kept : Kept) (places : ℕ) → AnswerNoPlaceTwice answers → All (λ (k : Kept). k.place < places) answers
+    → kept.place < places
     → answer_at answers kept.place ≡ None → length answers < places
 room_for_one answers kept places apart within below none =
     let more : length (answers ++ kept ∷ []) ≤ places =
@@ -82,7 +84,7 @@ found None never = absurd (never refl)
 found (Some answer) never = refl
 
 -- where there are as many answers as places, each place has one
-pub no_place_left : (answers : List Kept) (places : ℕ) → AreApart answers → All (λ (k : Kept). k.place < places) answers → length answers ≡ places
+pub no_place_left : (answers : List Kept) (places : ℕ) → AnswerNoPlaceTwice answers → All (λ (k : Kept). k.place < places) answers → length answers ≡ places
     → AreAll places answers
 no_place_left answers places apart within full place below =
     found (answer_at answers place) (λ none.

@@ -19,7 +19,7 @@ use Rattle.ada_statements.specs.Scope.{Scope}
 use Rattle.ada_statements.specs.Binding.{bind, request_of}
 use Rattle.ada_printing.specs.declared.value.Value.{Value}
 use Rattle.ada_printing.specs.Texts.{refusal_text, shown_text}
-use Rattle.ada_replay.specs.Play.{State, group_text}
+use Rattle.ada_replay.specs.Play.{PlayState, group_text}
 use Rattle.ada_replay.specs.Replay.{beginning}
 use Rattle.ada_replay.specs.declared.fault.RunFault.{RunFault}
 use Rattle.ada_replay.specs.declared.fault.RunFault.TheVariants.{Write}
@@ -38,25 +38,25 @@ use Rattle.ada_hall.specs.internal.Printing.{EndsWithin, PrintsOne}
 further : (a b c : List Event) → Continues a b → Continues b c → Continues a c
 further a b c (first, is) (second, then_is) = (second ++ first, then_is ∙ ap (λ j. second ++ j) is ∙ sym (append_assoc second first a))
 
-grows_by : (line : Line) (old new : State) (answer : Answer) (said : List ℕ) (asked : Option Request)
+grows_by : (line : Line) (old new : PlayState) (answer : Answer) (said : List ℕ) (asked : Option Request)
     → MatchOption asked (AnswersShow line old answer said new) (AnswersRequest line old answer said new) → Continues old.journal new.journal
 grows_by line old new (Group first last) said None answers = absurd answers
-grows_by line old new (Refused cause) said None answers = ([], ap (λ (s : State). s.journal) answers.0)
-grows_by line old new (Shown value) said None answers = ([], ap (λ (s : State). s.journal) answers.0)
+grows_by line old new (Refused cause) said None answers = ([], ap (λ (s : PlayState). s.journal) answers.0)
+grows_by line old new (Shown value) said None answers = ([], ap (λ (s : PlayState). s.journal) answers.0)
 grows_by line old new (Group first last) said (Some request) answers =
     let asked : Event = asked_event old.journal request in
     let (steps, is) = forces_keeps (asked ∷ old.journal) new.journal answers.says.after.forces in
     (steps ++ asked ∷ [], is ∙ sym (append_assoc steps (asked ∷ []) old.journal))
-grows_by line old new (Refused cause) said (Some request) answers = ([], ap (λ (s : State). s.journal) answers.unchanged)
+grows_by line old new (Refused cause) said (Some request) answers = ([], ap (λ (s : PlayState). s.journal) answers.unchanged)
 grows_by line old new (Shown value) said (Some request) answers = absurd answers
 
-one_grows : (script : List Line) (kept : Kept) (old new : State) (said : List ℕ) → IsGiven script kept old said new → Continues old.journal new.journal
+one_grows : (script : List Line) (kept : Kept) (old new : PlayState) (said : List ℕ) → IsGiven script kept old said new → Continues old.journal new.journal
 one_grows script kept old new said given = grows_by given.line old new kept.answer said (request_of old.names given.line.statement) given.answers
 
 -- the journal of the last state went on from that of each before it
-pub given_grows : (script : List Line) (answers : List Kept) (old last : State) (said : List ℕ) → AreGiven script answers old said last
+pub given_grows : (script : List Line) (answers : List Kept) (old last : PlayState) (said : List ℕ) → AreGiven script answers old said last
     → Continues old.journal last.journal
-given_grows script [] old last said (empty, same) = ([], ap (λ (s : State). s.journal) same)
+given_grows script [] old last said (empty, same) = ([], ap (λ (s : PlayState). s.journal) same)
 given_grows script (kept ∷ others) old last said (before, after, first, rest, on, given, others_given, whole) =
     further old.journal before.journal last.journal on.journal
     (further before.journal after.journal last.journal (one_grows script kept before after first given)
@@ -72,7 +72,7 @@ first_of events journal n (steps, is) long =
     ∙ take_all n (reverse journal) (omega (arith, length-reverse journal)) in
     ap reverse (ap (take n) whole ∙ front) ∙ reverse-reverse journal
 
-group_of : (line : Line) (old new : State) (first last : ℕ) (said : List ℕ) (asked : Option Request)
+group_of : (line : Line) (old new : PlayState) (first last : ℕ) (said : List ℕ) (asked : Option Request)
     → MatchOption asked (AnswersShow line old (Group first last) said new) (AnswersRequest line old (Group first last) said new)
     → (request : Request) × IsGroupOf line request first last old said new
 group_of line old new first last said None answers = absurd answers
@@ -95,7 +95,7 @@ prints_group line events kept names bound text more first last made answer bound
     ∙ ap (λ j. group_text new.names (length old.journal) j) journal_is ∙ sym group.says.printed in
     (printed ∙ ap (λ t. text ++ t) said_is, names_are)
 
-refusal_of : (line : Line) (old new : State) (cause : Refusal) (said : List ℕ) (asked : Option Request)
+refusal_of : (line : Line) (old new : PlayState) (cause : Refusal) (said : List ℕ) (asked : Option Request)
     → MatchOption asked (AnswersShow line old (Refused cause) said new) (AnswersRequest line old (Refused cause) said new)
     → (new ≡ old) × (said ≡ refusal_text line.line cause)
 refusal_of line old new cause said None answers = answers
@@ -107,10 +107,10 @@ prints_refusal line events kept names text more cause answer printed script old 
     let answers : IsAnswerTo given.line old (Refused cause) said new = subst (λ a. IsAnswerTo given.line old a said new) answer given.answers in
     let (unchanged, said_is) = refusal_of given.line old new cause said (request_of old.names given.line.statement) answers in (
       printed ∙ ap (λ (l : Line). text ++ refusal_text l.line cause) (sym same) ∙ ap (λ t. text ++ t) (sym said_is),
-      sym named ∙ sym (ap (λ (s : State). s.names) unchanged),
+      sym named ∙ sym (ap (λ (s : PlayState). s.names) unchanged),
     )
 
-value_of : (line : Line) (old new : State) (value : Value) (said : List ℕ) (asked : Option Request)
+value_of : (line : Line) (old new : PlayState) (value : Value) (said : List ℕ) (asked : Option Request)
     → MatchOption asked (AnswersShow line old (Shown value) said new) (AnswersRequest line old (Shown value) said new)
     → (new ≡ old) × (said ≡ shown_text line.line value)
 value_of line old new value said None answers = answers
@@ -122,7 +122,7 @@ prints_value line events kept names text more value answer printed script old ne
     let answers : IsAnswerTo given.line old (Shown value) said new = subst (λ a. IsAnswerTo given.line old a said new) answer given.answers in
     let (unchanged, said_is) = value_of given.line old new value said (request_of old.names given.line.statement) answers in (
       printed ∙ ap (λ (l : Line). text ++ shown_text l.line value) (sym same) ∙ ap (λ t. text ++ t) (sym said_is),
-      sym named ∙ sym (ap (λ (s : State). s.names) unchanged),
+      sym named ∙ sym (ap (λ (s : PlayState). s.names) unchanged),
     )
 
 -- ---- one answer after another
@@ -132,15 +132,15 @@ pub record IsLeft (script : List Line) (answers left : List Kept) (events : List
     (pending : List ℕ) : Type 0 where
   pub written : List ℕ
   pub rest : List ℕ
-  pub now : State
-  pub last : State
+  pub now : PlayState
+  pub last : PlayState
   pub printed : ArePrinted script answers (reverse events) ((written ++ pending) ++ rest) last
   pub given : AreGiven script left now rest last
   pub named : now.names ≡ names
   pub appended : Appends old new written
 
 pub none_printed : (script : List Line) (answers : List Kept) (events : List Event) (names : Scope) (bytes : Option (List ℕ)) → names ≡ scope_of script
-    → (text : List ℕ) × (last : State) × ArePrinted script answers (reverse events) text last
+    → (text : List ℕ) × (last : PlayState) × ArePrinted script answers (reverse events) text last
     → IsLeft script answers (drop 0 answers) events names bytes bytes []
 none_printed script answers events names bytes begins (text, last, printed) = record {
   written = [];
@@ -155,13 +155,13 @@ none_printed script answers events names bytes begins (text, last, printed) = re
 
 -- the next of the answers that are left
 pub record Next (script : List Line) (kept : Kept) (events : List Event) : Type 0 where
-  pub old : State
-  pub new : State
+  pub old : PlayState
+  pub new : PlayState
   pub said : List ℕ
   pub given : IsGiven script kept old said new
   pub goes_on : Continues new.journal (reverse events)
 
-next_of : (script : List Line) (kept : Kept) (others : List Kept) (events : List Event) (now last : State) (text : List ℕ)
+next_of : (script : List Line) (kept : Kept) (others : List Kept) (events : List Event) (now last : PlayState) (text : List ℕ)
     → AreGiven script (kept ∷ others) now text last → Continues last.journal (reverse events) → Next script kept events
 next_of script kept others events now last text (before, after, said, rest, on, given, others_given, whole) goes_on = record {
   old = before;
@@ -183,7 +183,7 @@ pub next_place : (script : List Line) (kept : Kept) (events : List Event) → Ne
 next_place script kept events next = slice_get_within script kept.place next.given.line next.given.stands
 
 -- and its events are among those of the journal
-ends_within : (line : Line) (old new : State) (answer : Answer) (said : List ℕ) (asked : Option Request) (many : ℕ)
+ends_within : (line : Line) (old new : PlayState) (answer : Answer) (said : List ℕ) (asked : Option Request) (many : ℕ)
     → MatchOption asked (AnswersShow line old answer said new) (AnswersRequest line old answer said new) → length old.journal ≤ length new.journal
     → length new.journal ≤ many → EndsWithin answer (length old.journal) many
 ends_within line old new (Group first last) said None many answers grows within = absurd answers
@@ -210,7 +210,7 @@ same_line : (script : List Line) (place : ℕ) (one other : Line) → slice_get 
 same_line script place one other first second = cc
 
 push_left : (script : List Line) (answers : List Kept) (kept : Kept) (others : List Kept) (line : Line) (events : List Event) (names bound : Scope)
-    (old new : Option (List ℕ)) (written pending more : List ℕ) (now last : State) (text : List ℕ)
+    (old new : Option (List ℕ)) (written pending more : List ℕ) (now last : PlayState) (text : List ℕ)
     → ArePrinted script answers (reverse events) ((written ++ pending) ++ text) last → AreGiven script (kept ∷ others) now text last → now.names ≡ names
     → Appends old new written → slice_get script kept.place ≡ Some line → PrintsOne line events kept names bound pending more
     → IsLeft script answers others events bound old new more
@@ -283,7 +283,7 @@ left_cut script answers others events names old between new pending left (n, app
 -- all that was pending behind the last answer was written
 pub all_written : (script : List Line) (answers others : List Kept) (events : List Event) (names : Scope) (old between new : Option (List ℕ)) (pending : List ℕ)
     → others ≡ [] → IsLeft script answers others events names old between pending → Appends between new pending
-    → (last : State) × IsWritten (ArePrinted script answers (reverse events)) old new last
+    → (last : PlayState) × IsWritten (ArePrinted script answers (reverse events)) old new last
 all_written script answers others events names old between new pending none left appended =
     let ended : AreGiven script [] left.now left.rest left.last = subst (λ ks. AreGiven script ks left.now left.rest left.last) none left.given in (
       left.last,
@@ -299,7 +299,7 @@ all_written script answers others events names old between new pending none left
 pub texts_end : (script : List Line) (answers others : List Kept) (events : List Event) (names : Scope) (old between new : Option (List ℕ))
     (pending bytes : List ℕ)
     (result : Result (Unit {0}) RunFault) → others ≡ [] → IsLeft script answers others events names old between pending → bytes ≡ pending
-    → OnOk result (Appends between new bytes) → OnOk result ((last : State) × IsWritten (ArePrinted script answers (reverse events)) old new last)
+    → OnOk result (Appends between new bytes) → OnOk result ((last : PlayState) × IsWritten (ArePrinted script answers (reverse events)) old new last)
 texts_end script answers others events names old between new pending bytes (Ok done) none left same all =
     all_written script answers others events names old between new pending none left (subst (Appends between new) same all)
 texts_end script answers others events names old between new pending bytes (Err fault) none left same all = tt
@@ -314,7 +314,7 @@ texts_are_cut script answers others events names old between new pending bytes (
     (inr is, left_cut script answers others events names old between new pending left (n, subst (λ bs. Appends between new (take n bs)) same appended))
 
 -- nothing was written yet
-pub nothing_cut : (script : List Line) (answers : List Kept) (journal : List Event) (bytes : Option (List ℕ)) (text : List ℕ) (last : State)
+pub nothing_cut : (script : List Line) (answers : List Kept) (journal : List Event) (bytes : Option (List ℕ)) (text : List ℕ) (last : PlayState)
     → ArePrinted script answers journal text last → IsCutShort (ArePrinted script answers journal) bytes bytes
 nothing_cut script answers journal bytes text last printed =
     record { written = []; rest = text; new = last; prints = printed; appended = appends_nothing bytes }

@@ -21,7 +21,7 @@ use Rattle.ada_statements.specs.declared.statement.Statement.{Statement}
 use Rattle.ada_statements.specs.declared.statement.Statement.TheVariants.{Tick, Open, Create, Activate, Up, Fail, Call, CallWithin, Try, Accept, Select, End}
 use Rattle.ada_statements.specs.declared.statement.Statement.TheVariants.{Raise, Close, Delay, Complete, Abort, ShowCallable, ShowTerminated, ShowCount}
 use Rattle.ada_printing.specs.Texts.{refusal_text, shown_text}
-use Rattle.ada_replay.specs.Play.{State, group_text}
+use Rattle.ada_replay.specs.Play.{PlayState, group_text}
 use Rattle.ada_replay.specs.Replay.{beginning}
 use Rattle.ada_hall.specs.declared.answer.Answer.{Answer}
 use Rattle.ada_hall.specs.declared.answer.Answer.TheVariants.{Group, Refused, Shown}
@@ -32,10 +32,10 @@ use Rattle.ada_hall.specs.internal.Halls.{IsOfShow}
 
 -- ---- going on
 
-pub stays : (state : State) → GoesOn state state
+pub stays : (state : PlayState) → GoesOn state state
 stays state = record { names = refl; journal = ([], refl) }
 
-pub goes_further : (a b c : State) → GoesOn a b → GoesOn b c → GoesOn a c
+pub goes_further : (a b c : PlayState) → GoesOn a b → GoesOn b c → GoesOn a c
 goes_further a b c first second = record {
   names = second.names ∙ first.names;
   journal = (
@@ -52,7 +52,7 @@ accepted_goes_on old new names request at accepted =
 
 -- ---- one more answer
 
-given_push : (script : List Line) (answers : List Kept) (kept : Kept) (old last before after : State) (text said : List ℕ)
+given_push : (script : List Line) (answers : List Kept) (kept : Kept) (old last before after : PlayState) (text said : List ℕ)
     → AreGiven script answers old text last
     → GoesOn last before → IsGiven script kept before said after → AreGiven script (answers ++ kept ∷ []) old (text ++ said) after
 given_push script [] kept old last before after text said (empty, same) on given =
@@ -71,12 +71,12 @@ given_push script (first ∷ others) kept old last before after text said (b, a,
 pub history_begins : (script : List Line) → IsHistory script [] (beginning script)
 history_begins script = record { text = []; last = beginning script; given = (refl, refl); goes_on = stays (beginning script) }
 
-pub history_goes_on : (script : List Line) (answers : List Kept) (now next : State) → IsHistory script answers now → GoesOn now next
+pub history_goes_on : (script : List Line) (answers : List Kept) (now next : PlayState) → IsHistory script answers now → GoesOn now next
     → IsHistory script answers next
 history_goes_on script answers now next history on =
     record { text = history.text; last = history.last; given = history.given; goes_on = goes_further history.last now next history.goes_on on }
 
-pub history_push : (script : List Line) (answers : List Kept) (kept : Kept) (now next : State) (said : List ℕ) → IsHistory script answers now
+pub history_push : (script : List Line) (answers : List Kept) (kept : Kept) (now next : PlayState) (said : List ℕ) → IsHistory script answers now
     → IsGiven script kept now said next → IsHistory script (answers ++ kept ∷ []) next
 history_push script answers kept now next said history given = record {
   text = history.text ++ said;
@@ -87,12 +87,14 @@ history_push script answers kept now next said history given = record {
 
 -- ---- what a line is answered
 
-asks_it : (line : Line) (request : Request) (old : State) (answer : Answer) (text : List ℕ) (new : State) → request_of old.names line.statement ≡ Some request
+asks_it : (line : Line) (request : Request) (old : PlayState) (answer : Answer) (text : List ℕ) (new : PlayState)
+    → request_of old.names line.statement ≡ Some request
     → AnswersRequest line old answer text new request → IsAnswerTo line old answer text new
 asks_it line request old answer text new asks answers =
     subst (λ (o : Option Request). MatchOption o (AnswersShow line old answer text new) (AnswersRequest line old answer text new)) (sym asks) answers
 
-pub answers_group : (line : Line) (request : Request) (old new : State) (first last : ℕ) (made : TaskNo) → request_of old.names line.statement ≡ Some request
+pub answers_group : (line : Line) (request : Request) (old new : PlayState) (first last : ℕ) (made : TaskNo)
+    → request_of old.names line.statement ≡ Some request
     → IsAccepted old.journal request first new.journal → made.0 ≡ task_count old.journal → new.names ≡ bind old.names line.statement first made
     → last ≡ length new.journal → (text : List ℕ) × IsAnswerTo line old (Group first last) text new
 answers_group line request old new first last made asks accepted number bound last_is = (
@@ -110,7 +112,7 @@ answers_group line request old new first last made asks accepted number bound la
   }),
 )
 
-pub answers_refusal : (line : Line) (request : Request) (old new : State) (cause : Refusal) → request_of old.names line.statement ≡ Some request
+pub answers_refusal : (line : Line) (request : Request) (old new : PlayState) (cause : Refusal) → request_of old.names line.statement ≡ Some request
     → IsRefused old.journal request cause new.journal → ¬ (cause ≡ OutOfMemory) → new.names ≡ old.names
     → (text : List ℕ) × IsAnswerTo line old (Refused cause) text new
 answers_refusal line request old new cause asks refused other names = (
@@ -145,12 +147,12 @@ asks_nothing names (ShowCallable by task) shows = refl
 asks_nothing names (ShowTerminated by task) shows = refl
 asks_nothing names (ShowCount by entry) shows = refl
 
-shows_it : (line : Line) (old : State) (answer : Answer) → IsOfShow answer → (text : List ℕ) × AnswersShow line old answer text old
+shows_it : (line : Line) (old : PlayState) (answer : Answer) → IsOfShow answer → (text : List ℕ) × AnswersShow line old answer text old
 shows_it line old (Group first last) of_show = absurd of_show
 shows_it line old (Refused cause) of_show = (refusal_text line.line cause, (refl, refl))
 shows_it line old (Shown value) of_show = (shown_text line.line value, (refl, refl))
 
-pub gives_answer : (script : List Line) (line : Line) (kept : Kept) (old new : State) (said : List ℕ) → slice_get script kept.place ≡ Some line
+pub gives_answer : (script : List Line) (line : Line) (kept : Kept) (old new : PlayState) (said : List ℕ) → slice_get script kept.place ≡ Some line
     → IsLawful old.journal
     → IsSettled old.journal → kept.events ≡ length old.journal → kept.tasks ≡ task_count old.journal → IsAnswerTo line old kept.answer said new
     → IsGiven script kept old said new
@@ -158,7 +160,7 @@ gives_answer script line kept old new said stands lawful settled long many answe
     record { line = line; stands = stands; lawful = lawful; settled = settled; events = long; tasks = many; answers = answers }
 
 -- the answer to a line that shows an attribute is given where it is kept
-pub gives_value : (script : List Line) (line : Line) (place events tasks : ℕ) (answer : Answer) (now : State) → slice_get script place ≡ Some line
+pub gives_value : (script : List Line) (line : Line) (place events tasks : ℕ) (answer : Answer) (now : PlayState) → slice_get script place ≡ Some line
     → is_show line.statement ≡ true
     → IsOfShow answer → IsLawful now.journal → IsSettled now.journal → events ≡ length now.journal → tasks ≡ task_count now.journal
     → (said : List ℕ) × IsGiven script (record { place = place; events = events; tasks = tasks; answer = answer }) now said now

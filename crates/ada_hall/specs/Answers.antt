@@ -19,8 +19,8 @@ abbrev pub AreAll : ℕ → List Kept → Type 0
 AreAll places answers = (place : ℕ) → place < places → IsSome (answer_at answers place)
 
 -- no place is answered twice
-abbrev pub AreApart : List Kept → Type 0
-AreApart answers = AllPairs (λ (a : Kept) (b : Kept). a.place ≢ b.place) answers
+abbrev pub AnswerNoPlaceTwice : List Kept → Type 0
+AnswerNoPlaceTwice answers = AllPairs (λ (a : Kept) (b : Kept). a.place ≢ b.place) answers
 
 -- how many events a journal has behind an answer that it had so many before
 abbrev pub end_of : Answer → ℕ → ℕ

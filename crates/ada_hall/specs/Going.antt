@@ -13,14 +13,14 @@ use Rattle.ada_hall.specs.Halls.{Held}
 use Rattle.ada_hall.specs.Speakers.{speaker_in}
 
 -- a task's statements are over
-abbrev pub has_ended : Outcome → Bool
-has_ended Done = true
-has_ended Dead = true
-has_ended _ = false
+abbrev pub statements_are_over : Outcome → Bool
+statements_are_over Done = true
+statements_are_over Dead = true
+statements_are_over _ = false
 
 -- the line of a task needn't wait: the task runs, or its statements are over
 abbrev pub may_play : List Event → ℕ → Bool
-may_play journal task = has_task journal task && (has_ended (outcome_of journal task) || is_running journal task)
+may_play journal task = has_task journal task && (statements_are_over (outcome_of journal task) || is_running journal task)
 
 -- nor need a tick wait, which no task speaks, or a place without a line
 abbrev pub may_go : List Line → Held → ℕ → Bool

@@ -7,7 +7,7 @@ use Rattle.ada_script.specs.declared.script.Line.{Line}
 use Rattle.ada_script.specs.Script.{scope_of}
 use Rattle.ada_statements.specs.Scope.{Scope}
 use Rattle.ada_statements.specs.Binding.{is_show}
-use Rattle.ada_replay.specs.Play.{State}
+use Rattle.ada_replay.specs.Play.{PlayState}
 use Rattle.ada_replay.specs.Replay.{beginning}
 use Rattle.ada_hall.specs.declared.answer.Answer.{Answer}
 use Rattle.ada_hall.specs.declared.answer.Answer.TheVariants.{Group, Refused, Shown}
@@ -26,23 +26,23 @@ pub record Held : Type 0 where
   pub answers : List Kept
   pub floor : Floor
 
-abbrev pub held : Showing → Scope → List Kept → Floor → Held
-held showing names answers floor = record { showing = showing; names = names; answers = answers; floor = floor }
+abbrev pub hall_of : Showing → Scope → List Kept → Floor → Held
+hall_of showing names answers floor = record { showing = showing; names = names; answers = answers; floor = floor }
 
 -- a new hall
 abbrev pub opening : List Line → Held
 opening script =
-    held (record { journal = []; published = []; behind = false }) (scope_of script) []
+    hall_of (record { journal = []; published = []; behind = false }) (scope_of script) []
     (first_floor (min (speaker_count script) (2 ^ 32 - 1)))
 
 -- the journal, and what names are bound to
-abbrev pub state_of : Held → State
+abbrev pub state_of : Held → PlayState
 state_of hall = record { journal = hall.showing.journal; names = hall.names }
 
 -- the answers were given one after another, from the script's beginning on, and the journal may have gone on since
-pub record IsHistory (script : List Line) (answers : List Kept) (now : State) : Type 0 where
+pub record IsHistory (script : List Line) (answers : List Kept) (now : PlayState) : Type 0 where
   pub text : List ℕ
-  pub last : State
+  pub last : PlayState
   pub given : AreGiven script answers (beginning script) text last
   pub goes_on : GoesOn last now
 
@@ -77,12 +77,12 @@ pub record IsSaid (line : Line) (place : ℕ) (old new : Held) : Type 0 where
   pub floor : new.floor ≡ old.floor
 
 -- the request at a place is answered; nothing changes where there is none, or it has an answer
-abbrev pub AnswersRequest : List Line → ℕ → Held → Held → Type 0
-AnswersRequest script place old new = MatchOption (open_request script old.answers place) (new ≡ old) (λ line. IsSaid line place old new)
+abbrev pub AnswersPlace : List Line → ℕ → Held → Held → Type 0
+AnswersPlace script place old new = MatchOption (open_request script old.answers place) (new ≡ old) (λ line. IsSaid line place old new)
 
 -- the answer is kept where a line shows an attribute and has no answer, and else nothing changes
 abbrev pub noted : List Line → ℕ → Answer → Held → Held
 noted script place answer hall =
     if is_some (open_show script hall.answers place)
-    then held hall.showing hall.names (hall.answers ++ kept_at place hall.showing.journal answer ∷ []) hall.floor
+    then hall_of hall.showing hall.names (hall.answers ++ kept_at place hall.showing.journal answer ∷ []) hall.floor
     else hall

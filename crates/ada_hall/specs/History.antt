@@ -10,48 +10,48 @@ use Rattle.ada_events.specs.Tasks.{task_count}
 use Rattle.ada_script.specs.declared.script.Line.{Line}
 use Rattle.ada_statements.specs.Binding.{request_of}
 use Rattle.ada_printing.specs.Texts.{refusal_text, shown_text}
-use Rattle.ada_replay.specs.Play.{State, SaysGroup}
+use Rattle.ada_replay.specs.Play.{PlayState, SaysGroup}
 use Rattle.ada_hall.specs.declared.answer.Answer.{Answer}
 use Rattle.ada_hall.specs.declared.answer.Answer.TheVariants.{Group, Refused, Shown}
 use Rattle.ada_hall.specs.declared.answer.Kept.{Kept}
 
 -- an accepted request: its answer names exactly the events that it led to
-pub record IsGroupOf (line : Line) (request : Request) (first last : ℕ) (old : State) (text : List ℕ) (new : State) : Type 0 where
+pub record IsGroupOf (line : Line) (request : Request) (first last : ℕ) (old : PlayState) (text : List ℕ) (new : PlayState) : Type 0 where
   pub says : SaysGroup line request old text new
   pub first_is : first ≡ length old.journal + 1
   pub last_is : last ≡ length new.journal
 
 -- a refused one: its answer is the cause, and nothing is changed
-pub record IsRefusalOf (line : Line) (request : Request) (cause : Refusal) (old : State) (text : List ℕ) (new : State) : Type 0 where
+pub record IsRefusalOf (line : Line) (request : Request) (cause : Refusal) (old : PlayState) (text : List ℕ) (new : PlayState) : Type 0 where
   pub refused : refusal old.journal request ≡ Some cause
   pub unchanged : new ≡ old
   pub printed : text ≡ refusal_text line.line cause
 
 -- an answer to a request
-abbrev pub AnswersRequest : Line → State → Answer → List ℕ → State → Request → Type 0
+abbrev pub AnswersRequest : Line → PlayState → Answer → List ℕ → PlayState → Request → Type 0
 AnswersRequest line old (Group first last) text new request = IsGroupOf line request first last old text new
 AnswersRequest line old (Refused cause) text new request = IsRefusalOf line request cause old text new
 AnswersRequest line old (Shown value) text new request = ⊥
 
 -- an answer to a line that shows an attribute, which changes nothing
-abbrev pub AnswersShow : Line → State → Answer → List ℕ → State → Type 0
+abbrev pub AnswersShow : Line → PlayState → Answer → List ℕ → PlayState → Type 0
 AnswersShow line old (Group first last) text new = ⊥
 AnswersShow line old (Refused cause) text new = (new ≡ old) × (text ≡ refusal_text line.line cause)
 AnswersShow line old (Shown value) text new = (new ≡ old) × (text ≡ shown_text line.line value)
 
 -- the answer is that of a line over a journal and bindings, with what it prints and leads to
-abbrev pub IsAnswerTo : Line → State → Answer → List ℕ → State → Type 0
+abbrev pub IsAnswerTo : Line → PlayState → Answer → List ℕ → PlayState → Type 0
 IsAnswerTo line old answer text new =
     MatchOption (request_of old.names line.statement) (AnswersShow line old answer text new) (AnswersRequest line old answer text new)
 
 -- the journal went on, and the bindings stayed
-pub record GoesOn (old new : State) : Type 0 where
+pub record GoesOn (old new : PlayState) : Type 0 where
   pub names : new.names ≡ old.names
   pub journal : (steps : List Event) × (new.journal ≡ steps ++ old.journal)
 
 -- the answer that is kept is that of its own place's line over a lawful and settled journal, of which the
 -- number of events and that of tasks are kept beside it
-pub record IsGiven (script : List Line) (kept : Kept) (old : State) (text : List ℕ) (new : State) : Type 0 where
+pub record IsGiven (script : List Line) (kept : Kept) (old : PlayState) (text : List ℕ) (new : PlayState) : Type 0 where
   pub line : Line
   pub stands : slice_get script kept.place ≡ Some line
   pub lawful : IsLawful old.journal
@@ -61,8 +61,8 @@ pub record IsGiven (script : List Line) (kept : Kept) (old : State) (text : List
   pub answers : IsAnswerTo line old kept.answer text new
 
 -- answers that were given one after another, and what they print
-abbrev pub AreGiven : List Line → List Kept → State → List ℕ → State → Type 0
+abbrev pub AreGiven : List Line → List Kept → PlayState → List ℕ → PlayState → Type 0
 AreGiven script [] old text new = (text ≡ []) × (new ≡ old)
 AreGiven script (kept ∷ others) old text new =
-    (before : State) × (after : State) × (said : List ℕ) × (rest : List ℕ)
+    (before : PlayState) × (after : PlayState) × (said : List ℕ) × (rest : List ℕ)
     × GoesOn old before × IsGiven script kept before said after × AreGiven script others after rest new × (text ≡ said ++ rest)

@@ -1,6 +1,6 @@
 //! The answers that are kept.
 ghost use Rattle.std.specs.Prelude.{◌≡◌, ◌==◌, ◌<◌, None, [], ◌∷◌, ◌++◌, IsTrue, IfOk, length};
-ghost use Rattle.ada_hall.specs.Answers.{answer_at, AreAll, AreApart};
+ghost use Rattle.ada_hall.specs.Answers.{answer_at, AreAll, AnswerNoPlaceTwice};
 
 use crate::answer::{Answer, Kept};
 use std::alloc::{AllocError, Global};
@@ -18,7 +18,7 @@ pub struct Answers {
 impl Model for Answers {
     ghost use Rattle.std.specs.Prelude.{◌≤◌, ◌<◌, length, vec_capacity};
     ghost use Rattle.std.specs.List.{All};
-    ghost use Rattle.ada_hall.specs.Answers.{AnswersKept, AreApart};
+    ghost use Rattle.ada_hall.specs.Answers.{AnswersKept, AnswerNoPlaceTwice};
     ghost use Rattle.ada_hall.specs.internal.Answers.{AreByPlace};
 
     ghost Value = { AnswersKept };
@@ -26,7 +26,7 @@ impl Model for Answers {
     ghost view = { λ a. record { places = length a.by_place.items; kept = a.kept.items } };
 
     ghost invariant = { λ a. AreByPlace a.by_place.items a.kept.items
-        × AreApart a.kept.items
+        × AnswerNoPlaceTwice a.kept.items
         × All (λ kept. kept.place < length a.by_place.items) a.kept.items
         × (length a.by_place.items ≤ vec_capacity a.kept) };
 }
@@ -45,7 +45,7 @@ impl Answers {
     /// The answers in the order in which they were given.
     pub fn as_slice(&self) -> &[Kept]
         ensures answers { result.now ≡ self.now.kept }
-        ensures apart { AreApart self.now.kept }
+        ensures apart { AnswerNoPlaceTwice self.now.kept }
     {
         &self.kept
     }

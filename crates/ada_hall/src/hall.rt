@@ -6,12 +6,12 @@ ghost use Rattle.ada_events.specs.Steps.{IsAccepted, IsRefused};
 ghost use Rattle.ada_events.specs.Boards.{AreTrueOf};
 ghost use Rattle.ada_script.specs.Script.{scope_of};
 ghost use Rattle.ada_board.specs.Sights.{Posted};
-ghost use Rattle.ada_hall.specs.Answers.{answer_at, AreAll, AreApart};
+ghost use Rattle.ada_hall.specs.Answers.{answer_at, AreAll, AnswerNoPlaceTwice};
 ghost use Rattle.ada_hall.specs.Asking.{Asks};
 ghost use Rattle.ada_hall.specs.Counting.{asked_count};
 ghost use Rattle.ada_replay.specs.Play.{shown as shown_of};
 ghost use Rattle.ada_hall.specs.Going.{may_go};
-ghost use Rattle.ada_hall.specs.Halls.{state_of, IsHistory, AnswersRequest, noted, opening};
+ghost use Rattle.ada_hall.specs.Halls.{state_of, IsHistory, AnswersPlace, noted, opening};
 ghost use Rattle.ada_hall.specs.internal.Halls.{IsOfShow};
 ghost use Rattle.ada_hall.specs.Stations.{Publishes, IsTied};
 
@@ -48,12 +48,12 @@ pub struct Hall<'s, J: Session> {
 
 impl<'s, J: Session> Model for Hall<'s, J> {
     ghost use Rattle.std.specs.Prelude.{◌≡◌, ◌==◌};
-    ghost use Rattle.ada_hall.specs.Halls.{Held, held};
+    ghost use Rattle.ada_hall.specs.Halls.{Held, hall_of};
     ghost use Rattle.ada_hall.specs.internal.Halls.{IsHall};
 
     ghost Value = { Held };
 
-    ghost view = { λ h. held h.station h.names h.answers.kept h.floor };
+    ghost view = { λ h. hall_of h.station h.names h.answers.kept h.floor };
 
     ghost invariant = { λ h. (h.script.now ≡ J.script)
         × IsHall J.script h.answers.places h.tally h.station h.names h.answers.kept };
@@ -134,7 +134,7 @@ impl<'s, J: Session> Hall<'s, J> {
     /// or it has an answer, nothing is changed. Fails with `OutOfMemory` alone, and changes nothing then.
     pub fn say<R: Wait>(&mut self, rt: &R, share: &mut Share<J>, place: u32) -> Result<(), Refusal>
         requires { 0 < share.old.parts }
-        ensures ok { OnOk result (AnswersRequest J.script place self.old self.new) }
+        ensures ok { OnOk result (AnswersPlace J.script place self.old self.new) }
         ensures err { IfErr result (λ cause. cause ≡ Refusal.OutOfMemory) }
         ensures unchanged { OnErr result (self.new ≡ self.old) }
         ensures share { share.new.amount + asked_count self.old.showing.journal
@@ -253,7 +253,7 @@ impl<'s, J: Session> Hall<'s, J> {
     pub fn answers(&self) -> &[Kept]
         ensures answers { result.now ≡ self.now.answers }
         ensures history { IsHistory J.script self.now.answers (state_of self.now) }
-        ensures apart { AreApart self.now.answers }
+        ensures apart { AnswerNoPlaceTwice self.now.answers }
     {
         let _script = self.script;
         self.answers.as_slice()

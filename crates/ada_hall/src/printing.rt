@@ -1,7 +1,7 @@
 //! The texts of the answers that a hall gave.
 ghost use Rattle.std.specs.Prelude.{◌≡◌, ◌<◌, ◌^◌, ℕ, Some, List, IsFalse, IsTrue, IfErr, OnOk, length, reverse, slice_get};
 ghost use Rattle.ada_script.specs.Script.{scope_of};
-ghost use Rattle.ada_replay.specs.Play.{State};
+ghost use Rattle.ada_replay.specs.Play.{PlayState};
 ghost use Rattle.ada_replay.specs.Ends.{IsShortage, IsWritten, IsCutShort};
 ghost use Rattle.ada_hall.specs.Answers.{AreJoined};
 ghost use Rattle.ada_hall.specs.Printing.{ArePrinted};
@@ -63,10 +63,10 @@ fn write_texts<W: Write>(
     writer: &mut W,
 ) -> Result<(), RunFault>
     requires names { names.old ≡ scope_of lines.now }
-    requires given { (text : List ℕ) × (last : State)
+    requires given { (text : List ℕ) × (last : PlayState)
         × ArePrinted lines.now answers.now (reverse events.now) text last }
     requires fits { length events.now < 2 ^ 32 }
-    ensures ok { OnOk result ((last : State)
+    ensures ok { OnOk result ((last : PlayState)
         × IsWritten (ArePrinted lines.now answers.now (reverse events.now))
         (W.contents writer.old) (W.contents writer.new) last) }
     ensures err { IfErr result (λ fault. IsShortage fault
@@ -95,7 +95,7 @@ pub fn write_answers<J: Session, W: Write>(
     writer: &mut W,
 ) -> Result<(), RunFault>
     requires { script.now ≡ J.script }
-    ensures ok { OnOk result ((last : State)
+    ensures ok { OnOk result ((last : PlayState)
         × IsWritten (ArePrinted J.script hall.now.answers hall.now.showing.journal)
         (W.contents writer.old) (W.contents writer.new) last) }
     ensures err { IfErr result (λ fault. IsShortage fault

@@ -12,14 +12,14 @@ use Rattle.ada_events.specs.Says.{Call, creation_in, call_in}
 use Rattle.ada_counts.specs.Noting.{HaveRoomFor}
 use Rattle.ada_laws.proofs.Saying.{held_in-call}
 use Rattle.ada_laws.proofs.Stepping.{forced-step}
-use Rattle.ada_tables.specs.Tables.{State}
+use Rattle.ada_tables.specs.Tables.{TableState}
 
 -- a forced step makes no task
 pub step_makes_none : (journal : List Event) (step : Event) → forced journal ≡ Some step → creation_in step ≡ None
 step_makes_none journal step is = (forced-step journal step is).makes_none
 
 -- so it needs no room for a call
-pub step_has_room : (tables : State) (journal : List Event) (step : Event) → forced journal ≡ Some step → HaveRoomFor tables step
+pub step_has_room : (tables : TableState) (journal : List Event) (step : Event) → forced journal ≡ Some step → HaveRoomFor tables step
 step_has_room tables journal step is = room (call_in step) (λ c says. none-some c.by (sym (forced-step journal step is).holds_none ∙ held_in-call step c says))
   where
     room : (call : Option Call) → ((c : Call) → call ≡ Some c → ⊥) → IsSome call → 0 < tables.spare
@@ -27,7 +27,7 @@ step_has_room tables journal step is = room (call_in step) (λ c says. none-some
     room (Some c) never some = absurd (never c refl)
 
 -- nor does an event that is no call
-pub needs_no_room : (tables : State) (event : Event)
+pub needs_no_room : (tables : TableState) (event : Event)
     → ((by callee : TaskNo) (entry : Entry) (patience : Patience) (due : Option ℤ) → event ≡ Called by callee entry patience due → ⊥) → HaveRoomFor tables event
 unfolding call_in
 needs_no_room tables (Called by callee entry patience due) other some = absurd (other by callee entry patience due refl)

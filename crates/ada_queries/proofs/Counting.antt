@@ -18,7 +18,7 @@ use Rattle.ada_events.specs.Slots.{number_within}
 use Rattle.ada_events.specs.Tasks.{has_task, task_count, families_of}
 use Rattle.ada_tables.specs.Dependents.{Facts, task_at}
 use Rattle.ada_queues.specs.Queues.{QueuedCall, queue_at}
-use Rattle.ada_tables.specs.Tables.{State, slot_at, HasEntry}
+use Rattle.ada_tables.specs.Tables.{TableState, slot_at, HasEntry}
 use Rattle.ada_tables.specs.Standing.{StandFor}
 
 -- the first cause for which a task may not ask, by what is so of it and of the entry
@@ -85,12 +85,13 @@ asks_count journal by entry family count known runs has within is =
     (ap (λ (o : Option Family). is_some_and o (λ (f : Family). not (is_in_range f entry.index))) has ∙ ap not within)
 
 -- the families that tables hold of a task
-pub families_told : (tables : State) (journal : List Event) (task : ℕ) → StandFor tables journal → task < task_count journal
+pub families_told : (tables : TableState) (journal : List Event) (task : ℕ) → StandFor tables journal → task < task_count journal
     → (task_at tables.tasks task).families ≡ families_of journal task
 families_told tables journal task stand known = ap (λ (f : Facts). f.families) (stand.tasks task known)
 
 -- an entry within the range of its family stands in the tables
-pub entry_stands : (tables : State) (journal : List Event) (task : ℕ) (entry : Entry) (family : Family) → StandFor tables journal → task < task_count journal
+pub entry_stands : (tables : TableState) (journal : List Event) (task : ℕ) (entry : Entry) (family : Family) → StandFor tables journal
+    → task < task_count journal
     → slice_get (families_of journal task) entry.family ≡ Some family → is_in_range family entry.index ≡ true → HasEntry tables.tasks task entry
 unfolding number_within
 entry_stands tables journal task entry family stand known has within = record {
@@ -99,7 +100,7 @@ entry_stands tables journal task entry family stand known has within = record {
 }
 
 -- the length of what tables hold is the count
-pub length_told : (tables : State) (journal : List Event) (task : ℕ) (entry : Entry) → StandFor tables journal → HasEntry tables.tasks task entry
+pub length_told : (tables : TableState) (journal : List Event) (task : ℕ) (entry : Entry) → StandFor tables journal → HasEntry tables.tasks task entry
     → length (queue_at tables.queues (slot_at tables.tasks task entry)) ≡ count_of journal task entry
 unfolding count_of
 length_told tables journal task entry stand has =

@@ -17,7 +17,7 @@ use Rattle.ada_events.specs.Tasks.{task_count, families_of}
 use Rattle.ada_laws.proofs.SlotPlaces.{no_slot, entries_stand_at_their_slots, declared_entries_have_slots}
 use Rattle.ada_tables.specs.Dependents.{Facts, task_at}
 use Rattle.ada_queues.specs.Queues.{queue_at}
-use Rattle.ada_tables.specs.Tables.{State, slot_at, slots_before, declared, HasEntry}
+use Rattle.ada_tables.specs.Tables.{TableState, slot_at, slots_before, declared, HasEntry}
 use Rattle.ada_tables.specs.Standing.{StandFor}
 use Rattle.ada_counts.proofs.Entries.{families_stay}
 use Rattle.ada_counts.proofs.SlotsApart.{HaveFamilies, slots_counted, slots_held, slot_found, number_found, main_families, same_tasks, new_families}
@@ -90,12 +90,12 @@ slot_is tasks (event ∷ before) task entry have known =
               ∙ was (omega (arith, known, other, one_more_task event before c makes))
         ]
 
-held_families : (tables : State) (journal : List Event) → StandFor tables journal → HaveFamilies tables.tasks journal
+held_families : (tables : TableState) (journal : List Event) → StandFor tables journal → HaveFamilies tables.tasks journal
 held_families tables journal stand task known =
     (omega (arith, known, stand.many), ap (λ (f : Facts). f.families) (stand.tasks task known))
 
 -- the slot of an entry, where tables stand for the journal
-pub slot_told : (tables : State) (journal : List Event) (task : ℕ) (entry : Entry) → StandFor tables journal → HasEntry tables.tasks task entry
+pub slot_told : (tables : TableState) (journal : List Event) (task : ℕ) (entry : Entry) → StandFor tables journal → HasEntry tables.tasks task entry
     → Some (slot_at tables.tasks task entry) ≡ slot_of journal task entry
 slot_told tables journal task entry stand has =
     let found = number_found (task_at tables.tasks task).families entry has.declares in
@@ -120,12 +120,12 @@ outside_slot journal task entry family has outside =
     none_of (slot_of journal task entry) (declared_entries_have_slots journal task entry ∙ rw (has, outside) refl)
 
 -- tables that stand for a journal have as many slots as it has entries
-pub slots_told : (tables : State) (journal : List Event) → StandFor tables journal
+pub slots_told : (tables : TableState) (journal : List Event) → StandFor tables journal
     → slots_before (declared tables.tasks) (length tables.tasks) ≡ slot_count journal
 slots_told tables journal stand = slots_held tables.tasks journal (record { many = stand.many; facts = stand.tasks })
 
 -- the length of the queue at a slot is the count that a board shows there
-pub count_told : (tables : State) (journal : List Event) (slot : ℕ) → StandFor tables journal
+pub count_told : (tables : TableState) (journal : List Event) (slot : ℕ) → StandFor tables journal
     → slot < slots_before (declared tables.tasks) (length tables.tasks) → length (queue_at tables.queues slot) ≡ shows_count journal slot
 unfolding shows_count count_at
 count_told tables journal slot stand below =
@@ -136,7 +136,8 @@ count_told tables journal slot stand below =
     ∙ rw (lt-ltb slot (slot_count journal) within, entries_stand_at_their_slots journal found.task found.entry slot at) refl
 
 -- behind the last slot a board shows nothing
-pub none_told : (tables : State) (journal : List Event) (slot : ℕ) → StandFor tables journal → slots_before (declared tables.tasks) (length tables.tasks) ≤ slot
+pub none_told : (tables : TableState) (journal : List Event) (slot : ℕ) → StandFor tables journal
+    → slots_before (declared tables.tasks) (length tables.tasks) ≤ slot
     → 0 ≡ shows_count journal slot
 unfolding shows_count
 none_told tables journal slot stand past = rw (le-ltb slot (slot_count journal) (omega (arith, past, slots_told tables journal stand))) refl

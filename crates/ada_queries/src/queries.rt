@@ -6,7 +6,7 @@ ghost use Rattle.ada_events.specs.Attributes.{is_callable, is_finished};
 ghost use Rattle.ada_events.specs.Outcomes.{outcome_of};
 ghost use Rattle.ada_events.specs.Phases.{is_running, is_terminated};
 ghost use Rattle.ada_events.specs.Tasks.{has_task, task_count};
-ghost use Rattle.ada_queries.specs.internal.Knowing.{IsKnown};
+ghost use Rattle.ada_queries.specs.internal.Knowing.{IsRecordIfAny};
 
 use ada_events::{Outcome, TaskNo};
 use ada_records::Record;
@@ -21,7 +21,7 @@ pub fn tasks(state: &State<'_>) -> u16
 
 // What is kept of a task that is there.
 pub(crate) fn known(state: &State<'_>, task: TaskNo) -> Option<Record>
-    ensures { IsKnown state.now task.0 result }
+    ensures { IsRecordIfAny state.now task.0 result }
 {
     if task.0 < state.tables().tasks() {
         Some(state.record(task))

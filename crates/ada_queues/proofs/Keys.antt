@@ -8,7 +8,7 @@ use Rattle.std.proofs.lemmas.List.Sums.{sum_by-set}
 use Rattle.slab.specs.Slab.{Slab, get, slab_len, Updates, with_value}
 use Rattle.slab.proofs.SlabLemmas.{Updates-with_value, ContainsKey-within}
 use Rattle.ada_queues.specs.declared.nodes.Node.{Node}
-use Rattle.ada_queues.specs.Nodes.{Kept, node_of, node_under}
+use Rattle.ada_queues.specs.Nodes.{KeptNodes, node_of, node_under}
 use Rattle.ada_queues.specs.internal.Nodes.{AreOwn}
 
 -- the node of a caller is the one under its key
@@ -78,13 +78,13 @@ module _ (old new : Slab Node) (key : ℕ) (slot : Option Node) (keys : List (Op
           ]
 
 -- what a contract sees of a slab and keys
-abbrev pub kept : Slab Node → List (Option ℕ) → Kept
+abbrev pub kept : Slab Node → List (Option ℕ) → KeptNodes
 kept slab keys = record { nodes = map (node_under slab) keys; spare = slab.capacity - slab_len slab }
 
-abbrev kept_of : List (Option Node) → ℕ → Kept
+abbrev kept_of : List (Option Node) → ℕ → KeptNodes
 kept_of nodes spare = record { nodes = nodes; spare = spare }
 
-pub same_kept : (a b : Kept) → a.nodes ≡ b.nodes → a.spare ≡ b.spare → a ≡ b
+pub same_kept : (a b : KeptNodes) → a.nodes ≡ b.nodes → a.spare ≡ b.spare → a ≡ b
 same_kept a b nodes spare = ap (λ ns. kept_of ns a.spare) nodes ∙ ap (kept_of b.nodes) spare
 
 -- a caller with a node is known

@@ -13,14 +13,14 @@ use Rattle.ada_queues.specs.internal.Links.{AreLinked, no_queue, joined}
 use Rattle.ada_queues.proofs.Linking.{joined_holders}
 use Rattle.std.proofs.Common.{replicate, take}
 use Rattle.std.proofs.lemmas.List.{get_or_read, take_all}
-use Rattle.ada_queues.specs.Nodes.{Kept}
+use Rattle.ada_queues.specs.Nodes.{KeptNodes}
 use Rattle.ada_queues.specs.Queues.{Waiting}
 use Rattle.ada_queues.proofs.Arriving.{arrived_calls, arrived_linked, last_stands}
 use Rattle.ada_queues.proofs.Leaving.{Leaves, left_queue}
 use Rattle.ada_queues.proofs.Growing.{grown_calls, grown_linked}
 
 -- what a contract sees of nodes and queues
-abbrev pub waiting : Kept → List Queue → Waiting
+abbrev pub waiting : KeptNodes → List Queue → Waiting
 waiting kept queues = record { queues = map (calls_in kept.nodes) queues; callers = length kept.nodes; spare = kept.spare }
 
 abbrev waiting_of : List (List QueuedCall) → ℕ → ℕ → Waiting
@@ -31,7 +31,7 @@ same_waiting a b queues callers spare =
     ap (λ q. waiting_of q a.callers a.spare) queues ∙ ap (λ c. waiting_of b.queues c a.spare) callers ∙ ap (waiting_of b.queues b.callers) spare
 
 -- a call is put last
-pub enqueued : (kept once twice : Kept) (queues : List Queue) (read ends : Queue) (by slot call : ℕ) → AreLinked kept.nodes queues → by < length kept.nodes
+pub enqueued : (kept once twice : KeptNodes) (queues : List Queue) (read ends : Queue) (by slot call : ℕ) → AreLinked kept.nodes queues → by < length kept.nodes
     → slot < length queues → waits by (map (calls_in kept.nodes) queues) ≡ false
     → read ≡ get_or queues slot read
     → ends ≡ record { first = option_or read.first (Some by); last = Some by; len = read.len + 1 }
@@ -55,7 +55,7 @@ enqueued kept once twice queues read ends by slot call linked known within idle 
     )
 
 -- the last caller before has its node
-pub last_known : (kept once : Kept) (queues : List Queue) (read : Queue) (by slot call : ℕ) → AreLinked kept.nodes queues → by < length kept.nodes
+pub last_known : (kept once : KeptNodes) (queues : List Queue) (read : Queue) (by slot call : ℕ) → AreLinked kept.nodes queues → by < length kept.nodes
     → slot < length queues → waits by (map (calls_in kept.nodes) queues) ≡ false
     → read ≡ get_or queues slot read
     → once ≡ record kept {
@@ -69,7 +69,7 @@ last_known kept once queues read by slot call linked known within idle read_is o
     rw (once_is, there) (last_stands kept.nodes queues by slot call linked known within idle)
 
 -- a call is taken out
-pub unlinked : (kept once twice : Kept) (queues : List Queue) (read ends : Queue) (by : ℕ) (node : Node) → Leaves kept.nodes queues by node
+pub unlinked : (kept once twice : KeptNodes) (queues : List Queue) (read ends : Queue) (by : ℕ) (node : Node) → Leaves kept.nodes queues by node
     → read ≡ get_or queues node.slot read
     → ends ≡ left_queue read node
     → once ≡ record kept { nodes = set kept.nodes by None; spare = kept.spare + 1 }
@@ -89,7 +89,7 @@ pub longer_read : (nodes : List (Option Node)) (queues : List Queue) (read : Que
 longer_read nodes queues read by node leaves read_is = rw (get_or_read queues node.slot read leaves.within read_is no_queue) leaves.longer
 
 -- a task that may call is added
-pub grown : (kept once : Kept) (queues grown : List Queue) (many : ℕ) → AreLinked kept.nodes queues → length kept.nodes < 256
+pub grown : (kept once : KeptNodes) (queues grown : List Queue) (many : ℕ) → AreLinked kept.nodes queues → length kept.nodes < 256
     → once ≡ record kept { nodes = kept.nodes ++ None ∷ [] }
     → grown ≡ queues ++ replicate many no_queue
     → AreLinked once.nodes grown × (waiting once grown

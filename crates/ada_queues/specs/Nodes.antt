@@ -6,7 +6,7 @@ use Rattle.slab.specs.Slab.{Slab, get}
 use Rattle.ada_queues.specs.declared.nodes.Node.{Node}
 
 -- what a contract sees of the nodes: that of each caller, by number, and how many more find room
-pub record Kept : Type 0 where
+pub record KeptNodes : Type 0 where
   pub nodes : List (Option Node)
   pub spare : ℕ
 

@@ -32,10 +32,10 @@ pub(crate) struct Nodes {
 impl Model for Nodes {
     ghost use Rattle.std.specs.Prelude.{map, ◌-◌};
     ghost use Rattle.slab.specs.Slab.{slab_len};
-    ghost use Rattle.ada_queues.specs.Nodes.{Kept, node_under};
+    ghost use Rattle.ada_queues.specs.Nodes.{KeptNodes, node_under};
     ghost use Rattle.ada_queues.specs.internal.Nodes.{AreOwn};
 
-    ghost Value = { Kept };
+    ghost Value = { KeptNodes };
 
     ghost view = { λ n. record {
       nodes = map (node_under n.slab) n.keys.items;

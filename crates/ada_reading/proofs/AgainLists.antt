@@ -8,7 +8,7 @@ use Rattle.ada_statements.specs.declared.statement.Declaration.{Declaration}
 use Rattle.ada_spelling.specs.Spelling.{family_words, bounds_words}
 use Rattle.ada_statements.specs.Scope.{Scope, IsTaskName, AreTaskNames, IsFamily, AreFamilies, AreApart}
 use Rattle.ada_reading.specs.Reading.{is_over}
-use Rattle.ada_reading.specs.internal.Reading.{Read, repeat_at, task_at, tasks_at, family_at, families_at, number_is_next}
+use Rattle.ada_reading.specs.internal.Reading.{Read, repeat_at, task_name_at, tasks_at, family_at, families_at, number_is_next}
 use Rattle.ada_reading.proofs.AgainParts.{task_again, name_again, bounds_again, name_begins}
 use Rattle.ada_reading.proofs.TakenLists.{Chain, flat_map-single, list_any-names, map-push}
 
@@ -52,7 +52,7 @@ chain_of_each Q before (x ∷ more) each = (each.0, chain_of_each Q (before ++ x
 pub tasks_again : (names : Scope) (tasks : List (List ℕ)) → AreTaskNames names tasks → tasks_at names tasks ≡ Ok (tasks, [])
 tasks_again names tasks known =
     ap (tasks_at names) (sym (flat_map-single tasks))
-    ∙ repeat_again (λ before rest. task_at names rest) (λ task. task ∷ []) (λ before task. IsTaskName names task)
+    ∙ repeat_again (λ before rest. task_name_at names rest) (λ task. task ∷ []) (λ before task. IsTaskName names task)
     (λ before task rest p. (refl, name_begins task p.0)) (λ before task rest p next. task_again names task rest p) 256 [] tasks
     (chain_of_each (IsTaskName names) [] tasks known.1) known.0
 

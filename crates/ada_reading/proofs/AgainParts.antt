@@ -17,8 +17,8 @@ use Rattle.ada_reading.specs.internal.Number.{integer_of}
 use Rattle.ada_spelling.specs.Spelling.{index_words, entry_words, bounds_words}
 use Rattle.ada_statements.specs.Scope.{Scope, IsTaskName, IsMasterName, IsNewName, IsEntryName, IsIndex, IsMoment}
 use Rattle.ada_reading.specs.internal.Reading.{keyword_at, moment_at, index_at, pick_at, begins_number, optional_index_at}
-use Rattle.ada_reading.specs.internal.Reading.{number_is_next, bounds_at, name_at, task_at}
-use Rattle.ada_reading.specs.internal.Reading.{master_at, new_name_at, entry_at}
+use Rattle.ada_reading.specs.internal.Reading.{number_is_next, bounds_at, name_at, task_name_at}
+use Rattle.ada_reading.specs.internal.Reading.{master_at, new_name_at, entry_name_at}
 use Rattle.ada_reading.proofs.Numbers.{natural_of-spelled, IsInteger}
 
 -- ---- words and names
@@ -35,8 +35,8 @@ unfolding name_at
 name_again name rest form = rw form refl
 
 module _ (names : Scope) where
-  pub task_again : (name : List ℕ) (rest : List (List ℕ)) → IsTaskName names name → task_at names (name ∷ rest) ≡ Ok (name, rest)
-  unfolding task_at
+  pub task_again : (name : List ℕ) (rest : List (List ℕ)) → IsTaskName names name → task_name_at names (name ∷ rest) ≡ Ok (name, rest)
+  unfolding task_name_at
   task_again name rest known = rw (name_again name rest known.0, known.1) refl
 
   pub master_again : (name : List ℕ) (rest : List (List ℕ)) → IsMasterName names name → master_at names (name ∷ rest) ≡ Ok (name, rest)
@@ -118,8 +118,8 @@ bounds_again (Some b) rest fits next =
 -- ---- entries
 
 pub entry_again : (names : Scope) (task : List ℕ) (entry : EntryName) (rest : List (List ℕ)) → IsEntryName names task entry → number_is_next rest ≡ false
-    → entry_at names task (entry_words entry ++ rest) ≡ Ok (entry, rest)
-unfolding entry_at
+    → entry_name_at names task (entry_words entry ++ rest) ≡ Ok (entry, rest)
+unfolding entry_name_at
 entry_again names task entry rest fits next =
     rw (name_again entry.family (index_words entry.index ++ rest) fits.0, fits.1, optional_index_again entry.index rest fits.2 next) refl
 

@@ -17,7 +17,7 @@ use Rattle.ada_statements.specs.declared.statement.EntryName.{EntryName}
 use Rattle.ada_statements.specs.declared.statement.Alternative.{Alternative}
 use Rattle.ada_spelling.specs.Spelling.{speaker, entry_words, family_words, select_words, words_of}
 use Rattle.ada_statements.specs.Scope.{Scope, IsTaskName, IsEntryName, MayStand}
-use Rattle.ada_reading.specs.internal.Reading.{entry_at, verb_at, tick_at, open_at, create_at, activate_at, abort_at, call_at}
+use Rattle.ada_reading.specs.internal.Reading.{entry_name_at, verb_at, tick_at, open_at, create_at, activate_at, abort_at, call_statement_at}
 use Rattle.ada_reading.specs.internal.Reading.{try_at, accept_at, delay_at, select_at}
 use Rattle.ada_reading.specs.internal.Reading.{show_at, act_at, before_colon, speaker_of, speech_at, statement_at, statement_of}
 use Rattle.ada_spelling.specs.Verbs.{verb_word, verb_of}
@@ -104,17 +104,17 @@ module _ (names : Scope) where
   abort_again by tasks stands = rw (tasks_again names tasks stands.1) refl
 
   -- an entry to the end of the line
-  entry_last : (task : List ℕ) (entry : EntryName) → IsEntryName names task entry → entry_at names task (entry_words entry) ≡ Ok (entry, [])
-  entry_last task entry known = ap (entry_at names task) (sym (append-nil (entry_words entry))) ∙ entry_again names task entry [] known refl
+  entry_last : (task : List ℕ) (entry : EntryName) → IsEntryName names task entry → entry_name_at names task (entry_words entry) ≡ Ok (entry, [])
+  entry_last task entry known = ap (entry_name_at names task) (sym (append-nil (entry_words entry))) ∙ entry_again names task entry [] known refl
 
   call_again : (by callee : List ℕ) (entry : EntryName) → MayStand names (Call by callee entry)
       → ActAgain by verbs.Call (Call by callee entry) (callee ∷ entry_words entry)
-  unfolding act_at call_at
+  unfolding act_at call_statement_at
   call_again by callee entry stands = rw (task_again names callee (entry_words entry) stands.1, entry_last callee entry stands.2) refl
 
   call_within_again : (by callee : List ℕ) (entry : EntryName) (duration : ℤ) → MayStand names (CallWithin by callee entry duration)
       → ActAgain by verbs.Call (CallWithin by callee entry duration) (callee ∷ (entry_words entry ++ codes "within" ∷ signed_decimal duration ∷ []))
-  unfolding act_at call_at
+  unfolding act_at call_statement_at
   call_within_again by callee entry duration stands =
       rw (
         task_again names callee (entry_words entry ++ codes "within" ∷ signed_decimal duration ∷ []) stands.1,

@@ -15,7 +15,7 @@ use Rattle.ada_spelling.specs.Spelling.{index_words, entry_words, bounds_words}
 use Rattle.ada_statements.specs.Scope.{Scope, is_task, is_declared, has_entry, IsTaskName, IsMasterName, IsNewName, IsEntryName, IsIndex, IsMoment}
 use Rattle.ada_reading.specs.internal.Reading.{◌>>=◌, word_at, keyword_at, number_from, moment_at, index_at}
 use Rattle.ada_reading.specs.internal.Reading.{below_2_32, pick_at, optional_index_at, number_is_next}
-use Rattle.ada_reading.specs.internal.Reading.{bounds_at, name_at, task_at, master_at, new_name_at, entry_at}
+use Rattle.ada_reading.specs.internal.Reading.{bounds_at, name_at, task_name_at, master_at, new_name_at, entry_name_at}
 use Rattle.ada_reading.proofs.Numbers.{integer_of-reads, natural_of-reads, FitsSigned-32, FitsSigned-64}
 
 -- the value of a step that did not fail
@@ -74,8 +74,8 @@ module _ (names : Scope) where
   abbrev pub TaskRead : List (List ℕ) → List ℕ × List (List ℕ) → Type 0
   TaskRead words x = (words ≡ x.0 ∷ x.1) × IsTaskName names x.0
 
-  pub task_reads : (words : List (List ℕ)) (x : List ℕ × List (List ℕ)) → task_at names words ≡ Ok x → TaskRead words x
-  unfolding task_at
+  pub task_reads : (words : List (List ℕ)) (x : List ℕ × List (List ℕ)) → task_name_at names words ≡ Ok x → TaskRead words x
+  unfolding task_name_at
   task_reads words x e =
       let a = bind_ok (name_at words) _ x e in
       let b = if_ok (is_task names a.0.0) _ _ x a.2 in
@@ -183,9 +183,9 @@ bounds_reads words x e =
 abbrev pub EntryRead : Scope → List ℕ → List (List ℕ) → EntryName × List (List ℕ) → Type 0
 EntryRead names task words x = (words ≡ entry_words x.0 ++ x.1) × IsEntryName names task x.0
 
-pub entry_reads : (names : Scope) (task : List ℕ) (words : List (List ℕ)) (x : EntryName × List (List ℕ)) → entry_at names task words ≡ Ok x
+pub entry_reads : (names : Scope) (task : List ℕ) (words : List (List ℕ)) (x : EntryName × List (List ℕ)) → entry_name_at names task words ≡ Ok x
     → EntryRead names task words x
-unfolding entry_at
+unfolding entry_name_at
 entry_reads names task words x e =
     let a = bind_ok (name_at words) _ x e in
     let b = if_ok (has_entry names task a.0.0) _ _ x a.2 in

@@ -8,7 +8,7 @@ use Rattle.std.proofs.lemmas.List.Concat.{flat_map-cons}
 use Rattle.ada_statements.specs.declared.statement.Declaration.{Declaration}
 use Rattle.ada_spelling.specs.Spelling.{family_words}
 use Rattle.ada_statements.specs.Scope.{Scope, IsTaskName, AreTaskNames, IsFamily, AreFamilies, AreApart}
-use Rattle.ada_reading.specs.internal.Reading.{Read, repeat_at, task_at, tasks_at, family_at, families_at, name_at, bounds_at}
+use Rattle.ada_reading.specs.internal.Reading.{Read, repeat_at, task_name_at, tasks_at, family_at, families_at, name_at, bounds_at}
 use Rattle.ada_reading.proofs.Taken.{bind_ok, unless_ok, ok_is, task_reads, name_reads, bounds_reads}
 
 -- each of them stands behind those before it
@@ -62,7 +62,7 @@ TasksRead names words x = (words ≡ x.0) × (x.1 ≡ []) × AreTaskNames names 
 
 pub tasks_read : (names : Scope) (words : List (List ℕ)) (x : List (List ℕ) × List (List ℕ)) → tasks_at names words ≡ Ok x → TasksRead names words x
 tasks_read names words x e =
-    let r = repeat_reads (λ before rest. task_at names rest) (λ task. task ∷ []) (λ before task. IsTaskName names task)
+    let r = repeat_reads (λ before rest. task_name_at names rest) (λ task. task ∷ []) (λ before task. IsTaskName names task)
     (λ before rest y found. task_reads names rest y found) 256 [] words x e in
     let all : x.0 ≡ r.more = r.all in
     (r.words_are ∙ flat_map-single r.more ∙ sym all, r.over, rw all (r.fits, each_of_chain (IsTaskName names) [] r.more r.chain))

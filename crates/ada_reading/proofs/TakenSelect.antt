@@ -17,7 +17,7 @@ use Rattle.ada_statements.specs.declared.statement.Alternative.{Alternative}
 use Rattle.ada_spelling.specs.Spelling.{entry_words, guard_words, choice_words, pause_words, tail_alternatives, else_words, joined_by_or, select_words}
 use Rattle.ada_statements.specs.Scope.{Scope, IsEntryName, IsMoment, IsTail, AreChoices}
 use Rattle.ada_reading.specs.Reading.{is_over}
-use Rattle.ada_reading.specs.internal.Reading.{word_at, keyword_at, moment_at, entry_at, passed_over, kind_of, branch_at, tail_of, link_at, pause_at}
+use Rattle.ada_reading.specs.internal.Reading.{word_at, keyword_at, moment_at, entry_name_at, passed_over, kind_of, branch_at, tail_of, link_at, pause_at}
 use Rattle.ada_reading.specs.internal.Reading.{pause_from, next_pause_at, pauses_at, choice_at, tail_from, is_accept}
 use Rattle.ada_reading.specs.internal.Reading.{with_tail, ended_by, choices_at, alternatives_at}
 use Rattle.ada_reading.proofs.Taken.{bind_ok, if_ok, chosen, ok_is, done, word_reads, keyword_reads, moment_reads, entry_reads}
@@ -209,7 +209,7 @@ module _ (names : Scope) (by : List ℕ) where
       → ChoiceRead guard words x
   unfolding choice_at
   choice_reads guard words x e =
-      let a = bind_ok (entry_at names by words) _ x e in
+      let a = bind_ok (entry_name_at names by words) _ x e in
       let b = bind_ok (link_at a.0.1) _ x a.2 in
       let entry = entry_reads names by words a.0 a.1 in
       subst (ChoiceRead guard words) (ok_is ((record { guard = guard; entry = a.0.0 }, b.0.0), b.0.1) x b.2) (

@@ -16,10 +16,11 @@ use Rattle.ada_statements.specs.declared.statement.Statement.TheVariants.{Raise,
 use Rattle.ada_statements.specs.Text.{is_name}
 use Rattle.ada_spelling.specs.Spelling.{speaker, entry_words, family_words, words_of}
 use Rattle.ada_statements.specs.Scope.{Scope, is_task, IsTaskName, MayStand}
-use Rattle.ada_reading.specs.internal.Reading.{word_at, end_at, keyword_at, moment_at, pick_at, task_at, new_name_at}
-use Rattle.ada_reading.specs.internal.Reading.{master_at, entry_at, tasks_at, families_at}
+use Rattle.ada_reading.specs.internal.Reading.{word_at, end_at, keyword_at, moment_at, pick_at, task_name_at, new_name_at}
+use Rattle.ada_reading.specs.internal.Reading.{master_at, entry_name_at, tasks_at, families_at}
 use Rattle.ada_reading.specs.Reading.{is_over}
-use Rattle.ada_reading.specs.internal.Reading.{alternatives_at, verb_from, verb_at, tick_at, open_at, create_at, activate_at, abort_at, call_at, try_at}
+use Rattle.ada_reading.specs.internal.Reading.{alternatives_at, verb_from, verb_at, tick_at, open_at, create_at, activate_at, abort_at, call_statement_at}
+use Rattle.ada_reading.specs.internal.Reading.{try_at}
 use Rattle.ada_reading.specs.internal.Reading.{accept_at, delay_at, select_at, show_at, act_at, before_colon, speaker_from, speaker_of, speech_at, statement_at}
 use Rattle.ada_reading.specs.internal.Reading.{statement_of}
 use Rattle.ada_spelling.specs.Verbs.{verb_word, all_verbs, verb_of}
@@ -111,11 +112,11 @@ module _ (names : Scope) (by : List ℕ) (known : IsTaskName names by) where
       subst (ActRead names by verbs.Abort words) (ok_is (made, a.0.1) x a.2)
       (behind verbs.Abort words _ tasks.0 ∙ sym (append-nil (words_of made)) ∙ ap (λ (r : List (List ℕ)). words_of made ++ r) (sym tasks.1), (known, tasks.2))
 
-  call_reads : (words : List (List ℕ)) (x : Statement × List (List ℕ)) → call_at names by words ≡ Ok x → ActRead names by verbs.Call words x
-  unfolding call_at
+  call_reads : (words : List (List ℕ)) (x : Statement × List (List ℕ)) → call_statement_at names by words ≡ Ok x → ActRead names by verbs.Call words x
+  unfolding call_statement_at
   call_reads words x e =
-      let a = bind_ok (task_at names words) _ x e in
-      let b = bind_ok (entry_at names a.0.0 a.0.1) _ x a.2 in
+      let a = bind_ok (task_name_at names words) _ x e in
+      let b = bind_ok (entry_name_at names a.0.0 a.0.1) _ x a.2 in
       let callee = task_reads names words a.0 a.1 in
       let entry = entry_reads names a.0.0 a.0.1 b.0 b.1 in
       let spelled : words ≡ a.0.0 ∷ (entry_words b.0.0 ++ b.0.1) = callee.0 ∙ ap (λ (r : List (List ℕ)). a.0.0 ∷ r) entry.0 in
@@ -138,8 +139,8 @@ module _ (names : Scope) (by : List ℕ) (known : IsTaskName names by) where
   try_reads : (words : List (List ℕ)) (x : Statement × List (List ℕ)) → try_at names by words ≡ Ok x → ActRead names by verbs.Try words x
   unfolding try_at
   try_reads words x e =
-      let a = bind_ok (task_at names words) _ x e in
-      let b = bind_ok (entry_at names a.0.0 a.0.1) _ x a.2 in
+      let a = bind_ok (task_name_at names words) _ x e in
+      let b = bind_ok (entry_name_at names a.0.0 a.0.1) _ x a.2 in
       let callee = task_reads names words a.0 a.1 in
       let entry = entry_reads names a.0.0 a.0.1 b.0 b.1 in
       subst (ActRead names by verbs.Try words) (ok_is (Try by a.0.0 b.0.0, b.0.1) x b.2)
@@ -148,7 +149,7 @@ module _ (names : Scope) (by : List ℕ) (known : IsTaskName names by) where
   accept_reads : (words : List (List ℕ)) (x : Statement × List (List ℕ)) → accept_at names by words ≡ Ok x → ActRead names by verbs.Accept words x
   unfolding accept_at
   accept_reads words x e =
-      let a = bind_ok (entry_at names by words) _ x e in
+      let a = bind_ok (entry_name_at names by words) _ x e in
       let entry = entry_reads names by words a.0 a.1 in
       subst (ActRead names by verbs.Accept words) (ok_is (Accept by a.0.0, a.0.1) x a.2) (behind verbs.Accept words _ entry.0, (known, entry.1))
 
@@ -176,7 +177,7 @@ module _ (names : Scope) (by : List ℕ) (known : IsTaskName names by) where
       let word = word_reads words a.0 a.1 in
       elim (chosen (bytes_eq a.0.0 (codes "callable")) _ _ (done x) a.2) [
         | inl b ↦
-            let d = bind_ok (task_at names a.0.1) _ x b.1 in
+            let d = bind_ok (task_name_at names a.0.1) _ x b.1 in
             let task = task_reads names a.0.1 d.0 d.1 in
             let attribute = (bytes_eq-Decides a.0.0 (codes "callable")).0 b.0 in
             subst (ActRead names by verbs.Show words) (ok_is (ShowCallable by d.0.0, d.0.1) x d.2) (
@@ -185,7 +186,7 @@ module _ (names : Scope) (by : List ℕ) (known : IsTaskName names by) where
             )
         | inr b ↦ elim (chosen (bytes_eq a.0.0 (codes "terminated")) _ _ (done x) b.1) [
           | inl f ↦
-              let d = bind_ok (task_at names a.0.1) _ x f.1 in
+              let d = bind_ok (task_name_at names a.0.1) _ x f.1 in
               let task = task_reads names a.0.1 d.0 d.1 in
               let attribute = (bytes_eq-Decides a.0.0 (codes "terminated")).0 f.0 in
               subst (ActRead names by verbs.Show words) (ok_is (ShowTerminated by d.0.0, d.0.1) x d.2) (
@@ -194,7 +195,7 @@ module _ (names : Scope) (by : List ℕ) (known : IsTaskName names by) where
               )
           | inr f ↦
               let g = if_ok (bytes_eq a.0.0 (codes "count")) _ _ x f.1 in
-              let d = bind_ok (entry_at names by a.0.1) _ x g.1 in
+              let d = bind_ok (entry_name_at names by a.0.1) _ x g.1 in
               let entry = entry_reads names by a.0.1 d.0 d.1 in
               let attribute = (bytes_eq-Decides a.0.0 (codes "count")).0 g.0 in
               subst (ActRead names by verbs.Show words) (ok_is (ShowCount by d.0.0, d.0.1) x d.2) (

@@ -5,8 +5,8 @@ ghost use Rattle.std.specs.List.{list_all};
 ghost use Rattle.ada_statements.specs.Scope.{is_task, is_declared, has_entry};
 ghost use Rattle.ada_statements.specs.Text.{is_name as name_form, is_name_byte as name_byte};
 ghost use Rattle.ada_reading.specs.internal.Reading.{Gives, GivesWord, word_at, end_at, keyword_at, moment_at, index_at, pick_at, below_2_32 as low_number};
-ghost use Rattle.ada_reading.specs.internal.Reading.{begins_number, number_is_next, optional_index_at, bounds_at, name_at, task_at};
-ghost use Rattle.ada_reading.specs.internal.Reading.{master_at, new_name_at, entry_at};
+ghost use Rattle.ada_reading.specs.internal.Reading.{begins_number, number_is_next, optional_index_at, bounds_at, name_at, task_name_at};
+ghost use Rattle.ada_reading.specs.internal.Reading.{master_at, new_name_at, entry_name_at};
 
 use crate::cursor::Words;
 use crate::fault::Fault;
@@ -177,9 +177,9 @@ pub fn read_name(words: &mut Words) -> Result<Name, Fault>
 }
 
 /// Takes a word that is the name of a declared task.
-#[tactic(auto, unfolding(crate::specs::internal::Reading::task_at))]
+#[tactic(auto, unfolding(crate::specs::internal::Reading::task_name_at))]
 pub fn read_task_word<'a>(names: &Names, words: &mut Words<'a>) -> Result<&'a [u8], Fault>
-    ensures word { GivesWord result words.new (task_at names.now words.old) }
+    ensures word { GivesWord result words.new (task_name_at names.now words.old) }
     ensures short { IfOk result (λ word. length word.now ≤ 16) }
 {
     let name = read_name_word(words)?;
@@ -192,7 +192,7 @@ pub fn read_task_word<'a>(names: &Names, words: &mut Words<'a>) -> Result<&'a [u
 
 /// Takes the name of a declared task.
 pub fn read_task(names: &Names, words: &mut Words) -> Result<Name, Fault>
-    ensures { Gives result words.new (task_at names.now words.old) }
+    ensures { Gives result words.new (task_name_at names.now words.old) }
 {
     let name = read_task_word(names, words)?;
     Ok(Name::from_bytes(name))
@@ -225,9 +225,9 @@ pub fn read_new_name(names: &Names, words: &mut Words) -> Result<Name, Fault>
 }
 
 /// Takes the name of an entry of a task, and its index where one is written.
-#[tactic(auto, unfolding(crate::specs::internal::Reading::entry_at))]
+#[tactic(auto, unfolding(crate::specs::internal::Reading::entry_name_at))]
 pub fn read_entry(names: &Names, task: &Name, words: &mut Words) -> Result<EntryName, Fault>
-    ensures { Gives result words.new (entry_at names.now task.now words.old) }
+    ensures { Gives result words.new (entry_name_at names.now task.now words.old) }
 {
     let family = read_name(words)?;
     if !names.has_entry(task, &family) {

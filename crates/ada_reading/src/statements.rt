@@ -1,7 +1,7 @@
 //! Reading the statements.
 
 ghost use Rattle.std.specs.Prelude.{◌≡◌, ◌⊎◌, Ok, Err, option_copied, OnOk, IfErr, IsOk};
-ghost use Rattle.ada_reading.specs.internal.Reading.{Gives, Writes, verb_at, open_at, create_at, activate_at, abort_at, call_at};
+ghost use Rattle.ada_reading.specs.internal.Reading.{Gives, Writes, verb_at, open_at, create_at, activate_at, abort_at, call_statement_at};
 ghost use Rattle.ada_reading.specs.internal.Reading.{try_at, accept_at, delay_at, tick_at};
 ghost use Rattle.ada_reading.specs.internal.Reading.{select_at, show_at, act_at, before_colon, speaker_of, speech_at, statement_at, statement_of};
 
@@ -108,14 +108,14 @@ fn read_abort(
     put(statement, Statement::Abort { by, tasks })
 }
 
-#[tactic(auto, unfolding(crate::specs::internal::Reading::call_at))]
+#[tactic(auto, unfolding(crate::specs::internal::Reading::call_statement_at))]
 fn read_call(
     names: &Names,
     by: Name,
     words: &mut Words,
     statement: &mut Statement,
 ) -> Result<(), Fault>
-    ensures { Writes result statement.new words.new (call_at names.now by words.old) }
+    ensures { Writes result statement.new words.new (call_statement_at names.now by words.old) }
 {
     let callee = read_task(names, words)?;
     let entry = read_entry(names, &callee, words)?;

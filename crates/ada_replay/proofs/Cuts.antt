@@ -6,7 +6,7 @@ use Rattle.std.proofs.lemmas.List.{take_more, take-append-drop, take_all}
 use Rattle.ada_script.specs.declared.script.Line.{Line}
 use Rattle.ada_replay.specs.declared.fault.RunFault.{RunFault}
 use Rattle.ada_replay.specs.declared.fault.RunFault.TheVariants.{Write}
-use Rattle.ada_replay.specs.Play.{State, Says, Plays}
+use Rattle.ada_replay.specs.Play.{PlayState, SaysLine, Plays}
 use Rattle.ada_replay.specs.Ends.{IsShortage, IsWritten, IsCutShort}
 use Rattle.ada_replay.proofs.Bytes.{appends_both}
 use Rattle.ada_replay.proofs.Playing.{IsAtRest, plays-push, plays-append, lines_play}
@@ -16,15 +16,15 @@ appends_nothing None = tt
 appends_nothing (Some us) = sym (append-nil us)
 
 -- some lines were played; of what they print some was written, and the text isn't written yet
-pub record IsPending (lines : List Line) (old new : State) (before after : Option (List ℕ)) (text : List ℕ) : Type 0 where
+pub record IsPending (lines : List Line) (old new : PlayState) (before after : Option (List ℕ)) (text : List ℕ) : Type 0 where
   pub written : List ℕ
   pub plays : Plays lines old (written ++ text) new
   pub appended : Appends before after written
 
 -- one more line was played, and what it says was appended to the text
-pub pending_line : (lines : List Line) (i : ℕ) (line : Line) (old mid new : State) (before after : Option (List ℕ)) (text more : List ℕ)
+pub pending_line : (lines : List Line) (i : ℕ) (line : Line) (old mid new : PlayState) (before after : Option (List ℕ)) (text more : List ℕ)
     → i < length lines → line ≡ get_or lines i line → IsPending (take i lines) old mid before after text
-    → (said : List ℕ) × (more ≡ text ++ said) × Says line mid said new → IsPending (take (i + 1) lines) old new before after more
+    → (said : List ℕ) × (more ≡ text ++ said) × SaysLine line mid said new → IsPending (take (i + 1) lines) old new before after more
 pending_line lines i line old mid new before after text more below is so_far (said, grown, says) = record {
   written = so_far.written;
   plays = subst (λ t. Plays (take (i + 1) lines) old t new) (append_assoc so_far.written text said ∙ ap (λ t. so_far.written ++ t) (sym grown))
@@ -34,7 +34,7 @@ pending_line lines i line old mid new before after text more below is so_far (sa
 }
 
 -- a piece of the text was written
-pub pending_piece : (lines : List Line) (old new : State) (before between after : Option (List ℕ)) (text rest : List ℕ)
+pub pending_piece : (lines : List Line) (old new : PlayState) (before between after : Option (List ℕ)) (text rest : List ℕ)
     → IsPending lines old new before between text → (piece : List ℕ) × Appends between after piece × (text ≡ piece ++ rest)
     → IsPending lines old new before after rest
 pending_piece lines old new before between after text rest so_far (piece, appended, cut) = record {
@@ -44,7 +44,7 @@ pending_piece lines old new before between after text rest so_far (piece, append
 }
 
 -- the whole text was written
-pub pending_written : (lines : List Line) (old new : State) (before between after : Option (List ℕ)) (text : List ℕ)
+pub pending_written : (lines : List Line) (old new : PlayState) (before between after : Option (List ℕ)) (text : List ℕ)
     → IsPending lines old new before between text → Appends between after text → IsWritten (Plays lines old) before after new
 pending_written lines old new before between after text so_far appended = record {
   text = so_far.written ++ text;
@@ -53,7 +53,7 @@ pending_written lines old new before between after text so_far appended = record
 }
 
 -- a beginning of the text was written
-pub pending_cut : (lines : List Line) (old new : State) (before between after : Option (List ℕ)) (text : List ℕ)
+pub pending_cut : (lines : List Line) (old new : PlayState) (before between after : Option (List ℕ)) (text : List ℕ)
     → IsPending lines old new before between text → (n : ℕ) × Appends between after (take n text) → IsCutShort (Plays lines old) before after
 pending_cut lines old new before between after text so_far (n, appended) = record {
   written = so_far.written ++ take n text;
@@ -65,7 +65,7 @@ pending_cut lines old new before between after text so_far (n, appended) = recor
 }
 
 -- the play of the first lines was cut short, and so is that of all
-cut_more : (lines : List Line) (i : ℕ) (old : State) (before after : Option (List ℕ)) → (cut : IsCutShort (Plays (take i lines) old) before after)
+cut_more : (lines : List Line) (i : ℕ) (old : PlayState) (before after : Option (List ℕ)) → (cut : IsCutShort (Plays (take i lines) old) before after)
     → IsAtRest cut.new → IsCutShort (Plays lines old) before after
 cut_more lines i old before after cut rest =
     let others = lines_play (drop i lines) cut.new rest in
@@ -81,7 +81,7 @@ cut_more lines i old before after cut rest =
     }
 
 -- the play was broken off behind its first lines, and a beginning of the text was written
-pub lines_cut : (lines : List Line) (i : ℕ) (old mid : State) (before between after : Option (List ℕ)) (text : List ℕ) → IsAtRest mid
+pub lines_cut : (lines : List Line) (i : ℕ) (old mid : PlayState) (before between after : Option (List ℕ)) (text : List ℕ) → IsAtRest mid
     → IsPending (take i lines) old mid before between text → (n : ℕ) × Appends between after (take n text) → IsCutShort (Plays lines old) before after
 unfolding pending_cut
 lines_cut lines i old mid before between after text rest so_far cut =
@@ -96,19 +96,19 @@ some_written text bytes before after (Ok done) same all cut =
 some_written text bytes before after (Err fault) same all (is, n, appended) = (n, subst (λ bs. Appends before after (take n bs)) same appended)
 
 -- the first lines are all lines
-pub all_played : (lines : List Line) (i : ℕ) (old new : State) (before after : Option (List ℕ)) (text : List ℕ)
+pub all_played : (lines : List Line) (i : ℕ) (old new : PlayState) (before after : Option (List ℕ)) (text : List ℕ)
     → length lines ≤ i → IsPending (take i lines) old new before after text → IsPending lines old new before after text
 all_played lines i old new before after text full so_far = subst (λ ls. IsPending ls old new before after text) (take_all i lines full) so_far
 
 -- the last write, of all that is left: what was written is the play where it succeeds, and else a beginning
-pub play_ends : (lines : List Line) (old new : State) (before between after : Option (List ℕ)) (text bytes : List ℕ) (result : Result (Unit {0}) RunFault)
+pub play_ends : (lines : List Line) (old new : PlayState) (before between after : Option (List ℕ)) (text bytes : List ℕ) (result : Result (Unit {0}) RunFault)
     → IsPending lines old new before between text → bytes ≡ text → OnOk result (Appends between after bytes)
     → OnOk result (IsWritten (Plays lines old) before after new)
 play_ends lines old new before between after text bytes (Ok done) so_far same all =
     pending_written lines old new before between after text so_far (subst (Appends between after) same all)
 play_ends lines old new before between after text bytes (Err fault) so_far same all = tt
 
-pub play_is_cut : (lines : List Line) (old new : State) (before between after : Option (List ℕ)) (text bytes : List ℕ) (result : Result (Unit {0}) RunFault)
+pub play_is_cut : (lines : List Line) (old new : PlayState) (before between after : Option (List ℕ)) (text bytes : List ℕ) (result : Result (Unit {0}) RunFault)
     → IsPending lines old new before between text → bytes ≡ text
     → IfErr result (λ fault. (fault ≡ Write) × (n : ℕ) × Appends between after (take n bytes))
     → IfErr result (λ fault. IsShortage fault × IsCutShort (Plays lines old) before after)

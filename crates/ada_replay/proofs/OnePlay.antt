@@ -5,29 +5,29 @@ use Rattle.ada_laws.proofs.RequestLaws.{leads_to_one_journal}
 use Rattle.ada_script.specs.declared.script.Line.{Line}
 use Rattle.ada_statements.specs.Binding.{request_of}
 use Rattle.ada_printing.specs.Texts.{refusal_text}
-use Rattle.ada_replay.specs.Play.{State, group_text, SaysRequest, SaysShown, Plays}
+use Rattle.ada_replay.specs.Play.{PlayState, group_text, SaysRequest, SaysShown, Plays}
 
-state_same : (a b : State) → a.journal ≡ b.journal → a.names ≡ b.names → a ≡ b
+state_same : (a b : PlayState) → a.journal ≡ b.journal → a.names ≡ b.names → a ≡ b
 state_same a b journals names = ap (λ j. record { journal = j; names = a.names }) journals ∙ ap (λ n. record { journal = b.journal; names = n }) names
 
-request_once : (line : Line) (request : Request) (old a b : State) (text other : List ℕ) → SaysRequest line old text a request
+request_once : (line : Line) (request : Request) (old a b : PlayState) (text other : List ℕ) → SaysRequest line old text a request
     → SaysRequest line old other b request → (text ≡ other) × (a ≡ b)
 request_once line request old a b text other (inl one) (inl two) =
     let same : a ≡ b = state_same a b (leads_to_one_journal old.journal request a.journal b.journal one.after two.after) (one.bound ∙ sym two.bound) in
-    (one.printed ∙ ap (λ (s : State). group_text s.names (length old.journal) s.journal) same ∙ sym two.printed, same)
+    (one.printed ∙ ap (λ (s : PlayState). group_text s.names (length old.journal) s.journal) same ∙ sym two.printed, same)
 request_once line request old a b text other (inl one) (inr two) = absurd (let e = sym one.unrefused ∙ two.refused in cc)
 request_once line request old a b text other (inr one) (inl two) = absurd (let e = sym one.refused ∙ two.unrefused in cc)
 request_once line request old a b text other (inr one) (inr two) =
     let causes : one.cause ≡ two.cause = let e = sym one.refused ∙ two.refused in cc in
     (one.printed ∙ ap (refusal_text line.line) causes ∙ sym two.printed, one.unchanged ∙ sym two.unchanged)
 
-asked_once : (line : Line) (asked : Option Request) (old a b : State) (text other : List ℕ)
+asked_once : (line : Line) (asked : Option Request) (old a b : PlayState) (text other : List ℕ)
     → MatchOption asked (SaysShown line old text a) (SaysRequest line old text a)
     → MatchOption asked (SaysShown line old other b) (SaysRequest line old other b) → (text ≡ other) × (a ≡ b)
 asked_once line None old a b text other one two = (one.printed ∙ sym two.printed, one.unchanged ∙ sym two.unchanged)
 asked_once line (Some request) old a b text other one two = request_once line request old a b text other one two
 
-pub plays_once : (lines : List Line) (old a b : State) (text other : List ℕ) → Plays lines old text a → Plays lines old other b → (text ≡ other) × (a ≡ b)
+pub plays_once : (lines : List Line) (old a b : PlayState) (text other : List ℕ) → Plays lines old text a → Plays lines old other b → (text ≡ other) × (a ≡ b)
 plays_once [] old a b text other one two = (one.0 ∙ sym two.0, one.1 ∙ sym two.1)
 plays_once (line ∷ lines) old a b text other (m, s, r, says, plays, whole) (m', s', r', says', plays', whole') =
     let first = asked_once line (request_of old.names line.statement) old m m' s s' says says' in

@@ -12,52 +12,52 @@ use Rattle.ada_laws.proofs.RequestLaws.{stays_lawful}
 use Rattle.ada_script.specs.declared.script.Line.{Line}
 use Rattle.ada_statements.specs.Binding.{bind, request_of}
 use Rattle.ada_printing.specs.Texts.{refusal_text}
-use Rattle.ada_replay.specs.Play.{State, group_text, SaysRequest, SaysShown, Says, Plays, shown, show_text}
+use Rattle.ada_replay.specs.Play.{PlayState, group_text, SaysRequest, SaysShown, SaysLine, Plays, shown, show_text}
 
 -- the journal of a state is lawful and settled
-pub record IsAtRest (state : State) : Type 0 where
+pub record IsAtRest (state : PlayState) : Type 0 where
   pub lawful : IsLawful state.journal
   pub settled : IsSettled state.journal
 
 -- one more line at the end
-pub plays-push : (lines : List Line) (line : Line) (old mid new : State) (text said : List ℕ) → Plays lines old text mid → Says line mid said new
+pub plays-push : (lines : List Line) (line : Line) (old mid new : PlayState) (text said : List ℕ) → Plays lines old text mid → SaysLine line mid said new
     → Plays (lines ++ line ∷ []) old (text ++ said) new
 plays-push [] line old mid new text said (empty, same) says =
-    (new, said, [], subst (λ s. Says line s said new) same says, (refl, refl), ap (λ t. t ++ said) empty ∙ sym (append-nil said))
+    (new, said, [], subst (λ s. SaysLine line s said new) same says, (refl, refl), ap (λ t. t ++ said) empty ∙ sym (append-nil said))
 plays-push (first ∷ lines) line old mid new text said (next, a, b, first_says, plays, whole) says =
     (next, a, b ++ said, first_says, plays-push lines line next mid new b said plays says, ap (λ t. t ++ said) whole ∙ append_assoc a b said)
 
 -- some more lines at the end
-pub plays-append : (lines more : List Line) (old mid new : State) (text rest : List ℕ) → Plays lines old text mid → Plays more mid rest new
+pub plays-append : (lines more : List Line) (old mid new : PlayState) (text rest : List ℕ) → Plays lines old text mid → Plays more mid rest new
     → Plays (lines ++ more) old (text ++ rest) new
 plays-append [] more old mid new text rest (empty, same) plays =
     subst (λ t. Plays more old t new) (sym (ap (λ t. t ++ rest) empty)) (subst (λ s. Plays more s rest new) same plays)
 plays-append (first ∷ lines) more old mid new text rest (next, a, b, first_says, plays, whole) more_plays =
     (next, a, b ++ rest, first_says, plays-append lines more next mid new b rest plays more_plays, ap (λ t. t ++ rest) whole ∙ append_assoc a b rest)
 
-request_at_rest : (line : Line) (request : Request) (old new : State) (text : List ℕ) → IsAtRest old → SaysRequest line old text new request → IsAtRest new
+request_at_rest : (line : Line) (request : Request) (old new : PlayState) (text : List ℕ) → IsAtRest old → SaysRequest line old text new request → IsAtRest new
 request_at_rest line request old new text rest (inl group) = record {
   lawful = stays_lawful old.journal request new.journal rest.lawful rest.settled group.unrefused group.after;
   settled = group.after.settled;
 }
 request_at_rest line request old new text rest (inr refused) = subst IsAtRest (sym refused.unchanged) rest
 
-at_rest : (line : Line) (asked : Option Request) (old new : State) (text : List ℕ) → IsAtRest old
+at_rest : (line : Line) (asked : Option Request) (old new : PlayState) (text : List ℕ) → IsAtRest old
     → MatchOption asked (SaysShown line old text new) (SaysRequest line old text new) → IsAtRest new
 at_rest line None old new text rest says = subst IsAtRest (sym says.unchanged) rest
 at_rest line (Some request) old new text rest says = request_at_rest line request old new text rest says
 
 -- what a line says leaves a state at rest
-pub says_at_rest : (line : Line) (old new : State) (text : List ℕ) → IsAtRest old → Says line old text new → IsAtRest new
+pub says_at_rest : (line : Line) (old new : PlayState) (text : List ℕ) → IsAtRest old → SaysLine line old text new → IsAtRest new
 says_at_rest line old new text rest says = at_rest line (request_of old.names line.statement) old new text rest says
 
 -- what a line may say, where its request is refused or not
-pub record Said (line : Line) (asked : Option Request) (old : State) : Type 0 where
+pub record Said (line : Line) (asked : Option Request) (old : PlayState) : Type 0 where
   pub text : List ℕ
-  pub new : State
+  pub new : PlayState
   pub says : MatchOption asked (SaysShown line old text new) (SaysRequest line old text new)
 
-refused_or_not : (line : Line) (request : Request) (old : State) → IsAtRest old → (answer : Option Refusal) → refusal old.journal request ≡ answer
+refused_or_not : (line : Line) (request : Request) (old : PlayState) → IsAtRest old → (answer : Option Refusal) → refusal old.journal request ≡ answer
     → Said line (Some request) old
 refused_or_not line request old rest (Some cause) is = record {
   text = refusal_text line.line cause;
@@ -73,7 +73,7 @@ refused_or_not line request old rest None is =
       says = inl (record { unrefused = is; after = after; bound = refl; printed = refl });
     }
 
-said : (line : Line) (asked : Option Request) (old : State) → IsAtRest old → Said line asked old
+said : (line : Line) (asked : Option Request) (old : PlayState) → IsAtRest old → Said line asked old
 said line None old rest = record {
   text = show_text line.line (shown old.names old.journal line.statement);
   new = old;
@@ -82,17 +82,17 @@ said line None old rest = record {
 said line (Some request) old rest = refused_or_not line request old rest (refusal old.journal request) refl
 
 -- each line says something
-pub each_line_says : (line : Line) (old : State) → IsAtRest old → Said line (request_of old.names line.statement) old
+pub each_line_says : (line : Line) (old : PlayState) → IsAtRest old → Said line (request_of old.names line.statement) old
 each_line_says line old rest = said line (request_of old.names line.statement) old rest
 
 -- a play of some lines
-pub record Played (lines : List Line) (old : State) : Type 0 where
+pub record Played (lines : List Line) (old : PlayState) : Type 0 where
   pub text : List ℕ
-  pub new : State
+  pub new : PlayState
   pub plays : Plays lines old text new
 
 -- there is one
-pub lines_play : (lines : List Line) (old : State) → IsAtRest old → Played lines old
+pub lines_play : (lines : List Line) (old : PlayState) → IsAtRest old → Played lines old
 lines_play [] old rest = record { text = []; new = old; plays = (refl, refl) }
 lines_play (line ∷ lines) old rest =
     let first = each_line_says line old rest in

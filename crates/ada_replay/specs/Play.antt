@@ -23,7 +23,7 @@ use Rattle.ada_printing.specs.declared.value.Value.TheVariants.{Truth, Number}
 use Rattle.ada_printing.specs.Texts.{event_line, refusal_text, shown_text}
 
 -- what a play has come to: the journal, the newest event first, and what names are bound to
-pub record State : Type 0 where
+pub record PlayState : Type 0 where
   pub journal : List Event
   pub names : Scope
 
@@ -34,20 +34,20 @@ group_text names from (event ∷ before) =
     if nat_lt (length before) from then [] else group_text names from before ++ event_line names (suc (length before)) event
 
 -- an accepted request prints its event and all that it forces, with its own name already bound
-pub record SaysGroup (line : Line) (request : Request) (old : State) (text : List ℕ) (new : State) : Type 0 where
+pub record SaysGroup (line : Line) (request : Request) (old : PlayState) (text : List ℕ) (new : PlayState) : Type 0 where
   pub unrefused : refusal old.journal request ≡ None
   pub after : After old.journal request new.journal
   pub bound : new.names ≡ bind old.names line.statement (length old.journal + 1) (task_no (task_count old.journal))
   pub printed : text ≡ group_text new.names (length old.journal) new.journal
 
 -- a refused one prints its line and cause, and changes nothing
-pub record SaysRefusal (line : Line) (request : Request) (old : State) (text : List ℕ) (new : State) : Type 0 where
+pub record SaysRefusal (line : Line) (request : Request) (old : PlayState) (text : List ℕ) (new : PlayState) : Type 0 where
   pub cause : Refusal
   pub refused : refusal old.journal request ≡ Some cause
   pub unchanged : new ≡ old
   pub printed : text ≡ refusal_text line.line cause
 
-abbrev pub SaysRequest : Line → State → List ℕ → State → Request → Type 0
+abbrev pub SaysRequest : Line → PlayState → List ℕ → PlayState → Request → Type 0
 SaysRequest line old text new request = SaysGroup line request old text new ⊎ SaysRefusal line request old text new
 
 -- an attribute of a task, where the task that asks and the one that is asked about exist
@@ -57,16 +57,16 @@ attribute journal by task test =
     then Err UnknownTask
     else Ok (Truth (test journal task.0))
 
-abbrev pub counted : Result ℕ Refusal → Result Value Refusal
-counted (Ok count) = Ok (Number count)
-counted (Err cause) = Err cause
+abbrev pub count_value : Result ℕ Refusal → Result Value Refusal
+count_value (Ok count) = Ok (Number count)
+count_value (Err cause) = Err cause
 
 -- the attribute that a statement shows (9.9), or the cause for which it isn't shown; of no account for
 -- statements that show nothing
 abbrev pub shown : Scope → List Event → Statement → Result Value Refusal
 shown names journal (ShowCallable by task) = attribute journal (task_of names by) (task_of names task) is_callable
 shown names journal (ShowTerminated by task) = attribute journal (task_of names by) (task_of names task) is_terminated
-shown names journal (ShowCount by entry) = counted (own_count journal (task_of names by).0 (entry_of names by entry))
+shown names journal (ShowCount by entry) = count_value (own_count journal (task_of names by).0 (entry_of names by entry))
 shown names journal _ = Err UnknownTask
 
 abbrev pub show_text : ℕ → Result Value Refusal → List ℕ
@@ -74,16 +74,16 @@ show_text line (Ok value) = shown_text line value
 show_text line (Err cause) = refusal_text line cause
 
 -- a line that shows an attribute prints its value, or why it isn't shown, and changes nothing
-pub record SaysShown (line : Line) (old : State) (text : List ℕ) (new : State) : Type 0 where
+pub record SaysShown (line : Line) (old : PlayState) (text : List ℕ) (new : PlayState) : Type 0 where
   pub unchanged : new ≡ old
   pub printed : text ≡ show_text line.line (shown old.names old.journal line.statement)
 
 -- what a line prints
-abbrev pub Says : Line → State → List ℕ → State → Type 0
-Says line old text new = MatchOption (request_of old.names line.statement) (SaysShown line old text new) (SaysRequest line old text new)
+abbrev pub SaysLine : Line → PlayState → List ℕ → PlayState → Type 0
+SaysLine line old text new = MatchOption (request_of old.names line.statement) (SaysShown line old text new) (SaysRequest line old text new)
 
 -- what some lines print, one after another
-abbrev pub Plays : List Line → State → List ℕ → State → Type 0
+abbrev pub Plays : List Line → PlayState → List ℕ → PlayState → Type 0
 Plays [] old text new = (text ≡ []) × (new ≡ old)
 Plays (line ∷ lines) old text new =
-    (mid : State) × (said : List ℕ) × (rest : List ℕ) × Says line old said mid × Plays lines mid rest new × (text ≡ said ++ rest)
+    (mid : PlayState) × (said : List ℕ) × (rest : List ℕ) × SaysLine line old said mid × Plays lines mid rest new × (text ≡ said ++ rest)

@@ -12,11 +12,11 @@ use Rattle.ada_replay.specs.declared.fault.Ending.TheVariants.{Finished, Unfinis
 use Rattle.ada_replay.specs.declared.fault.RunFault.{RunFault}
 use Rattle.ada_replay.specs.declared.fault.RunFault.TheVariants.{Script, TooManyTasks, Memory, Read, Write, Threads}
 use Rattle.ada_replay.specs.Input.{text_of, IsInputFault}
-use Rattle.ada_replay.specs.Play.{State, Plays}
+use Rattle.ada_replay.specs.Play.{PlayState, Plays}
 use Rattle.ada_replay.specs.Ends.{IsWritten, IsCutShort}
 
 -- the state before a script's first line: an empty journal, and the main program's name alone bound
-abbrev pub beginning : List Line → State
+abbrev pub beginning : List Line → PlayState
 beginning script = record { journal = []; names = scope_of script }
 
 -- the ending says whether the main program is terminated
@@ -26,7 +26,7 @@ Tells Unfinished journal = is_finished journal ≡ false
 
 -- a script's play was written
 pub record IsScriptReplayed (ending : Ending) (script : List Line) (before after : Option (List ℕ)) : Type 0 where
-  pub new : State
+  pub new : PlayState
   pub written : IsWritten (Plays script (beginning script)) before after new
   pub tells : Tells ending new.journal
 

@@ -1,7 +1,7 @@
 //! Playing the lines of a script on a kernel.
 ghost use Rattle.std.specs.Prelude.{◌≡◌, ℕ, ◌<◌, ◌≤◌, ◌^◌, ◌++◌, List, length, reverse, IfErr, OnOk};
 ghost use Rattle.ada_events.specs.Lawful.{IsLawful, IsSettled};
-ghost use Rattle.ada_replay.specs.Play.{group_text, SaysRequest, SaysShown, Says, Plays};
+ghost use Rattle.ada_replay.specs.Play.{group_text, SaysRequest, SaysShown, SaysLine, Plays};
 ghost use Rattle.ada_replay.specs.Ends.{state, IsShortage, IsWritten, IsCutShort};
 ghost use Rattle.ada_printing.specs.Texts.{refusal_text, shown_text};
 ghost use Rattle.ada_events.specs.Tasks.{task_count};
@@ -117,7 +117,7 @@ fn say(
     text: &mut Vec<u8>,
 ) -> Result<(), RunFault>
     ensures ok { OnOk result ((said : List ℕ) × (text.new.items ≡ text.old.items ++ said)
-        × Says line.now (state kernel.old names.old) said (state kernel.new names.new)) }
+        × SaysLine line.now (state kernel.old names.old) said (state kernel.new names.new)) }
     ensures err { IfErr result (λ fault. (fault ≡ RunFault.Memory)
         × (text.new.items ≡ text.old.items)) }
     ensures at_rest { IsLawful kernel.old × IsSettled kernel.old }

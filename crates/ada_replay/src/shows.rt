@@ -2,7 +2,7 @@
 ghost use Rattle.std.specs.Prelude.{◌≡◌, Ok, Err, MatchOption};
 ghost use Rattle.ada_events.specs.Attributes.{is_callable, own_count};
 ghost use Rattle.ada_events.specs.Phases.{is_terminated as terminated_in};
-ghost use Rattle.ada_replay.specs.Play.{attribute, counted, shown as shown_of};
+ghost use Rattle.ada_replay.specs.Play.{attribute, count_value, shown as shown_of};
 
 use ada_events::{Entry, Refusal, TaskNo};
 use ada_kernel::Kernel;
@@ -40,7 +40,7 @@ fn shown_terminated(kernel: &Kernel, by: TaskNo, task: TaskNo) -> Result<Value, 
 
 // COUNT of an entry of the asking task's own.
 fn shown_count(kernel: &Kernel, by: TaskNo, entry: Entry) -> Result<Value, Refusal>
-    ensures { result ≡ counted (own_count kernel.now by.0 entry) }
+    ensures { result ≡ count_value (own_count kernel.now by.0 entry) }
 {
     match kernel.count(by, entry) {
         Ok(count) => Ok(Value::Number(count)),

@@ -22,7 +22,7 @@ use Rattle.ada_laws.proofs.Stepping.{forced-step}
 use Rattle.ada_laws.proofs.Saying.{held_in-wait}
 use Rattle.ada_queues.specs.Queues.{QueuedCall, queue_at}
 use Rattle.ada_queues.specs.internal.Queues.{front_call}
-use Rattle.ada_tables.specs.Tables.{State, slot_at, HasEntry}
+use Rattle.ada_tables.specs.Tables.{TableState, slot_at, HasEntry}
 use Rattle.ada_tables.specs.Standing.{StandFor}
 use Rattle.ada_tables.specs.Dependents.{Facts}
 use Rattle.ada_touching.proofs.Acting.{any_none}
@@ -66,7 +66,7 @@ choices_are_of_task (newest ∷ before) p event wait lawful at says =
     ]
 
 -- an entry that a task has stands in the tables
-pub declared_has : (tables : State) (journal : List Event) (task : ℕ) (entry : Entry) → StandFor tables journal → IsDeclared journal task entry
+pub declared_has : (tables : TableState) (journal : List Event) (task : ℕ) (entry : Entry) → StandFor tables journal → IsDeclared journal task entry
     → HasEntry tables.tasks task entry
 declared_has tables journal task entry stand (n, is) =
     let known = declarer_exists journal task entry n is in
@@ -80,6 +80,6 @@ front_is [] positions is = rw (sym is) refl
 front_is (first ∷ rest) positions is = rw (sym is) refl
 
 -- the front of an entry's queue is what the tables hold there
-pub front_told : (tables : State) (journal : List Event) (task : ℕ) (entry : Entry) → StandFor tables journal → HasEntry tables.tasks task entry
+pub front_told : (tables : TableState) (journal : List Event) (task : ℕ) (entry : Entry) → StandFor tables journal → HasEntry tables.tasks task entry
     → front_call (queue_at tables.queues (slot_at tables.tasks task entry)) ≡ slice_get (queue journal task entry) 0
 front_told tables journal task entry stand has = front_is _ (queue journal task entry) (stand.queues task entry has).positions

@@ -17,7 +17,7 @@ use Rattle.ada_events.specs.Termination.{all_terminated}
 use Rattle.ada_events.specs.Lawful.{IsLawful}
 use Rattle.ada_laws.proofs.Suspending.{suspended_exists}
 use Rattle.ada_tables.specs.Dependents.{Facts, Stands, count_below, holds, live_dependents}
-use Rattle.ada_tables.specs.Tables.{State}
+use Rattle.ada_tables.specs.Tables.{TableState}
 use Rattle.ada_tables.specs.Standing.{StandFor}
 use Rattle.ada_touching.proofs.Places.{closer_within}
 use Rattle.ada_touching.proofs.Waiting.{suspended_at}
@@ -25,7 +25,8 @@ use Rattle.ada_counts.proofs.Owners.{has_contained}
 use Rattle.ada_rows.specs.internal.States.{IsHeldBySome}
 
 -- a master that a task holds stands in the tables
-pub held_stands : (tables : State) (journal : List Event) (master : Master) → StandFor tables journal → IsHeldBySome journal master → Stands tables.tasks master
+pub held_stands : (tables : TableState) (journal : List Event) (master : Master) → StandFor tables journal → IsHeldBySome journal master
+    → Stands tables.tasks master
 held_stands tables journal master stand held = record {
   task = held.task;
   within = subst (λ n. held.task < n) (sym stand.many) held.known;
@@ -61,7 +62,7 @@ live_bits false true = refl
 live_bits false false = refl
 
 -- all dependents are terminated exactly where none is counted
-pub none_live : (tables : State) (journal : List Event) (master : Master) → StandFor tables journal → IsHeldBySome journal master
+pub none_live : (tables : TableState) (journal : List Event) (master : Master) → StandFor tables journal → IsHeldBySome journal master
     → eqb (live_dependents tables.tasks master) 0 ≡ all_terminated journal master
 unfolding all_terminated
 none_live tables journal master stand held =

@@ -14,7 +14,7 @@ use Rattle.ada_events.specs.Termination.{all_terminated, is_complete, is_ready_t
 use Rattle.ada_events.specs.Forced.{task_no, is_to_quit}
 use Rattle.ada_forcing.specs.declared.row.Row.TheVariants.{QuittingBody}
 use Rattle.ada_forcing.specs.Rows.{step_at}
-use Rattle.ada_tables.specs.Tables.{State, unready_dependents}
+use Rattle.ada_tables.specs.Tables.{TableState, unready_dependents}
 use Rattle.ada_tables.specs.Standing.{StandFor}
 use Rattle.ada_rows.specs.internal.States.{IsHeldBySome}
 use Rattle.ada_rows.proofs.Leaving.{held_stands, none_counted}
@@ -28,7 +28,7 @@ ready_bits false false true = refl
 ready_bits false false false = refl
 
 -- all that depend on a complete master of which some live are to terminate together where none of them is unready
-pub quit_told : (tables : State) (journal : List Event) (master : Master) → StandFor tables journal → IsHeldBySome journal master
+pub quit_told : (tables : TableState) (journal : List Event) (master : Master) → StandFor tables journal → IsHeldBySome journal master
     → is_complete journal master ≡ true → all_terminated journal master ≡ false
     → eqb (unready_dependents tables.tasks tables.queues master) 0 ≡ is_to_quit journal master
 unfolding is_to_quit

@@ -8,7 +8,7 @@ use Rattle.ada_events.specs.Tasks.{task_count, creation_of, moment}
 use Rattle.ada_events.specs.Lawful.{IsLawful}
 use Rattle.ada_records.specs.declared.record.Record.{Record}
 use Rattle.ada_records.specs.Records.{AreRecords}
-use Rattle.ada_tables.specs.Tables.{State}
+use Rattle.ada_tables.specs.Tables.{TableState}
 use Rattle.ada_tables.specs.Standing.{StandFor}
 
 -- the position of each task's creation (9.1) is kept, and 0 for the main program, which has none; none lies past the end
@@ -18,7 +18,7 @@ pub record AreMade (made : List ℕ) (journal : List Event) : Type 0 where
   pub past : (task : ℕ) → task < length made → slice_index_or made task 0 ≤ length journal
 
 -- the journal is lawful, and records, tables, the positions of creations and the moment are right
-pub record IsKept (journal : List Event) (records : List Record) (tables : State) (made : List ℕ) (now : ℤ) : Type 0 where
+pub record IsKept (journal : List Event) (records : List Record) (tables : TableState) (made : List ℕ) (now : ℤ) : Type 0 where
   pub lawful : IsLawful journal
   pub recorded : AreRecords records journal
   pub tabled : StandFor tables journal

@@ -5,7 +5,7 @@ use Rattle.ada_events.specs.declared.request.Request.{Request}
 use Rattle.ada_statements.specs.Binding.{request_of}
 use Rattle.ada_script.specs.declared.script.Line.{Line}
 use Rattle.ada_replay.specs.declared.fault.RunFault.{RunFault}
-use Rattle.ada_replay.specs.Play.{State}
+use Rattle.ada_replay.specs.Play.{PlayState}
 use Rattle.ada_replay.specs.Ends.{state, IsShortage, IsWritten, IsCutShort}
 use Rattle.ada_replay.specs.Replay.{beginning}
 use Rattle.ada_hall.specs.declared.answer.Answer.{Answer}
@@ -24,25 +24,25 @@ same_journal : (old new : List Event) → Continues old new → length old ≡ l
 same_journal old new ([], is) long = is
 same_journal old new (step ∷ steps, is) long = absurd (omega (arith, ap length is, length-append (step ∷ steps) old))
 
-same_state : (old new : State) → GoesOn old new → length old.journal ≡ length new.journal → new ≡ old
+same_state : (old new : PlayState) → GoesOn old new → length old.journal ≡ length new.journal → new ≡ old
 same_state old new on long =
     ap (λ j. state j new.names) (same_journal old.journal new.journal on.journal long) ∙ ap (λ n. state old.journal n) on.names
 
 -- an answer ends at the end of the journal that it leads to
-ends_there : (line : Line) (old new : State) (answer : Answer) (said : List ℕ) (asked : Option Request) (events : ℕ)
+ends_there : (line : Line) (old new : PlayState) (answer : Answer) (said : List ℕ) (asked : Option Request) (events : ℕ)
     → MatchOption asked (AnswersShow line old answer said new) (AnswersRequest line old answer said new) → events ≡ length old.journal
     → end_of answer events ≡ length new.journal
 ends_there line old new (Group first last) said None events answers from = absurd answers
-ends_there line old new (Refused cause) said None events answers from = from ∙ ap (λ (s : State). length s.journal) (sym answers.0)
-ends_there line old new (Shown value) said None events answers from = from ∙ ap (λ (s : State). length s.journal) (sym answers.0)
+ends_there line old new (Refused cause) said None events answers from = from ∙ ap (λ (s : PlayState). length s.journal) (sym answers.0)
+ends_there line old new (Shown value) said None events answers from = from ∙ ap (λ (s : PlayState). length s.journal) (sym answers.0)
 ends_there line old new (Group first last) said (Some request) events answers from = answers.last_is
-ends_there line old new (Refused cause) said (Some request) events answers from = from ∙ ap (λ (s : State). length s.journal) (sym answers.unchanged)
+ends_there line old new (Refused cause) said (Some request) events answers from = from ∙ ap (λ (s : PlayState). length s.journal) (sym answers.unchanged)
 ends_there line old new (Shown value) said (Some request) events answers from = absurd answers
 
-follow_given : (script : List Line) (answers : List Kept) (old last : State) (text : List ℕ) (journal : List Event) → AreGiven script answers old text last
+follow_given : (script : List Line) (answers : List Kept) (old last : PlayState) (text : List ℕ) (journal : List Event) → AreGiven script answers old text last
     → Continues last.journal journal → AreJoined answers (length old.journal) (length journal) → Follow script answers old text last × (journal ≡ last.journal)
 follow_given script [] old last text journal (empty, same) goes_on joined =
-    ((empty, same), same_journal last.journal journal goes_on (ap (λ (s : State). length s.journal) same ∙ joined))
+    ((empty, same), same_journal last.journal journal goes_on (ap (λ (s : PlayState). length s.journal) same ∙ joined))
 follow_given script (kept ∷ others) old last text journal (before, after, said, rest, on, given, others_given, whole) goes_on (starts, others_joined) =
     let same : before ≡ old = same_state old before on (sym starts ∙ given.events) in
     let ends : end_of kept.answer kept.events ≡ length after.journal =
@@ -53,14 +53,14 @@ follow_given script (kept ∷ others) old last text journal (before, after, said
 
 -- what is printed of answers without a gap is a run
 run_of : (script : List Line) (answers : List Kept) (journal : List Event) → AreWhole script answers (length journal)
-    → (text : List ℕ) (last : State) → ArePrinted script answers journal text last → IsRun script text last × (journal ≡ last.journal)
+    → (text : List ℕ) (last : PlayState) → ArePrinted script answers journal text last → IsRun script text last × (journal ≡ last.journal)
 run_of script answers journal whole text last printed =
     let follow = follow_given script answers (beginning script) last text journal printed.0 printed.1 whole.joined in
     (record { answers = answers; all = whole.all; apart = whole.apart; follow = follow.0 }, follow.1)
 
 pub run_written : (script : List Line) (answers : List Kept) (journal : List Event) (before after : Option (List ℕ)) → AreWhole script answers (length journal)
-    → (written : (last : State) × IsWritten (ArePrinted script answers journal) before after last)
-    → (last : State) × IsWritten (IsRun script) before after last × (journal ≡ last.journal)
+    → (written : (last : PlayState) × IsWritten (ArePrinted script answers journal) before after last)
+    → (last : PlayState) × IsWritten (IsRun script) before after last × (journal ≡ last.journal)
 run_written script answers journal before after whole (last, written) =
     let run = run_of script answers journal whole written.text last written.prints in
     (last, record { text = written.text; prints = run.0; appended = written.appended }, run.1)

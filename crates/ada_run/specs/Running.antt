@@ -7,27 +7,27 @@ use Rattle.ada_replay.specs.declared.fault.Ending.{Ending}
 use Rattle.ada_replay.specs.declared.fault.RunFault.{RunFault}
 use Rattle.ada_replay.specs.declared.fault.RunFault.TheVariants.{Script, TooManyTasks, Memory, Read, Write, Threads}
 use Rattle.ada_replay.specs.Input.{IsInputFault}
-use Rattle.ada_replay.specs.Play.{State}
+use Rattle.ada_replay.specs.Play.{PlayState}
 use Rattle.ada_replay.specs.Ends.{IsWritten, IsCutShort}
 use Rattle.ada_replay.specs.Replay.{beginning, Tells, IsFaultOf, IsReadOf}
 use Rattle.ada_hall.specs.declared.answer.Kept.{Kept}
-use Rattle.ada_hall.specs.Answers.{AreAll, AreApart}
+use Rattle.ada_hall.specs.Answers.{AreAll, AnswerNoPlaceTwice}
 use Rattle.ada_hall.specs.History.{IsGiven}
 use Rattle.ada_hall.specs.Speakers.{created}
 
 -- answers that follow one another: each is that of its own place's line over the very journal and bindings that the one
 -- before it left
-abbrev pub Follow : List Line → List Kept → State → List ℕ → State → Type 0
+abbrev pub Follow : List Line → List Kept → PlayState → List ℕ → PlayState → Type 0
 Follow script [] old text new = (text ≡ []) × (new ≡ old)
 Follow script (kept ∷ others) old text new =
-    (after : State) × (said : List ℕ) × (rest : List ℕ) × IsGiven script kept old said after × Follow script others after rest new × (text ≡ said ++ rest)
+    (after : PlayState) × (said : List ℕ) × (rest : List ℕ) × IsGiven script kept old said after × Follow script others after rest new × (text ≡ said ++ rest)
 
 -- each line of the script is answered once, one after another in some order, from the script's beginning on; this is what
 -- the answers print, and what they lead to
-pub record IsRun (script : List Line) (text : List ℕ) (new : State) : Type 0 where
+pub record IsRun (script : List Line) (text : List ℕ) (new : PlayState) : Type 0 where
   pub answers : List Kept
   pub all : AreAll (length script) answers
-  pub apart : AreApart answers
+  pub apart : AnswerNoPlaceTwice answers
   pub follow : Follow script answers (beginning script) text new
 
 -- there are more tasks than there may be, the main program counted among them
@@ -37,7 +37,7 @@ HasTooMany script = 255 < length (created script)
 -- a run of the script was written; the ending says whether the main program is terminated behind it
 pub record IsScriptRun (ending : Ending) (script : List Line) (before after : Option (List ℕ)) : Type 0 where
   pub few : ¬ HasTooMany script
-  pub new : State
+  pub new : PlayState
   pub written : IsWritten (IsRun script) before after new
   pub tells : Tells ending new.journal
 

@@ -9,7 +9,7 @@ use Rattle.ada_script.specs.declared.script.Line.{Line}
 use Rattle.ada_statements.specs.declared.statement.Statement.{Statement}
 use Rattle.ada_statements.specs.Scope.{Scope, MayStand}
 use Rattle.ada_statements.specs.Text.{words_in}
-use Rattle.ada_script.specs.Script.{Adds, Reads, Says, SaysNothing, IsPlain, IsFault, IsOfWords, Stops, is_skipped, scope_of}
+use Rattle.ada_script.specs.Script.{AddsLine, AddsLines, SpellsStatement, SpellsNothing, IsPlain, IsFault, IsOfWords, Stops, is_skipped, scope_of}
 use Rattle.ada_reading.specs.internal.Reading.{statement_of}
 use Rattle.ada_reading.specs.Fault.{cause_of}
 use Rattle.ada_reading.proofs.TakenStatements.{statement_reads}
@@ -17,27 +17,27 @@ use Rattle.ada_reading.proofs.AgainStatements.{statement_again}
 
 -- a statement that was read is what the line says
 pub says : (names : Scope) (before : List Line) (words : List (List ℕ)) (statement : Statement) → names ≡ scope_of before
-    → statement_of names words ≡ Ok statement → Says before words statement
+    → statement_of names words ≡ Ok statement → SpellsStatement before words statement
 says names before words statement known read =
     let r = statement_reads names words statement read in
     record { stands = subst (λ (n : Scope). MayStand n statement) known r.0; spelled = r.1 }
 
 -- what a line adds
 abbrev pub AddsTo : List Line → ℕ → List ℕ → List Line → Type 0
-AddsTo before number line after = (added : List Line) × Adds before number line added × (after ≡ before ++ added)
+AddsTo before number line after = (added : List Line) × AddsLine before number line added × (after ≡ before ++ added)
 
 -- one line, and then the others
 pub reads_on : (before after : List Line) (number : ℕ) (line : List ℕ) (lines behind : List (List ℕ)) → lines ≡ line ∷ behind → AddsTo before number line after
-    → (all : List Line) → Reads after (number + 1) behind all → Reads before number lines all
+    → (all : List Line) → AddsLines after (number + 1) behind all → AddsLines before number lines all
 reads_on before after number line lines behind first adds all others =
-    subst (λ (ls : List (List ℕ)). Reads before number ls all) (sym first)
-    (adds.0, adds.1, subst (λ (a : List Line). Reads a (number + 1) behind all) adds.2 others)
+    subst (λ (ls : List (List ℕ)). AddsLines before number ls all) (sym first)
+    (adds.0, adds.1, subst (λ (a : List Line). AddsLines a (number + 1) behind all) adds.2 others)
 
 -- ---- faults
 
 -- a fault of the words, which are skipped for no reason
 pub says_nothing : (names : Scope) (before : List Line) (words : List (List ℕ)) (fault : Fault) → names ≡ scope_of before → statement_of names words ≡ Err fault
-    → is_skipped words ≡ false → SaysNothing before words
+    → is_skipped words ≡ false → SpellsNothing before words
 says_nothing names before words fault known read skipped = (
   skipped,
   λ statement said.

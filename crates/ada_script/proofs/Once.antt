@@ -12,7 +12,7 @@ use Rattle.ada_statements.specs.declared.statement.Statement.TheVariants.{Raise,
 use Rattle.ada_statements.specs.Text.{words_in, is_name}
 use Rattle.ada_spelling.specs.Spelling.{speaker, words_of}
 use Rattle.ada_statements.specs.Scope.{Scope, MayStand}
-use Rattle.ada_script.specs.Script.{IsPlain, IsUnplain, begins_comment, is_skipped, Says, Adds, Reads, IsFault, Stops, scope_of}
+use Rattle.ada_script.specs.Script.{IsPlain, IsUnplain, begins_comment, is_skipped, SpellsStatement, AddsLine, AddsLines, IsFault, Stops, scope_of}
 use Rattle.ada_reading.specs.internal.Reading.{statement_of}
 use Rattle.ada_reading.proofs.AgainParts.{name_letter}
 use Rattle.ada_reading.proofs.AgainStatements.{statement_again}
@@ -46,18 +46,19 @@ unskipped names (ShowCallable by task) stands = no_comment by stands.0.0
 unskipped names (ShowTerminated by task) stands = no_comment by stands.0.0
 unskipped names (ShowCount by entry) stands = no_comment by stands.0.0
 
-said_unskipped : (before : List Line) (words : List (List ℕ)) (statement : Statement) → Says before words statement → is_skipped words ≡ false
+said_unskipped : (before : List Line) (words : List (List ℕ)) (statement : Statement) → SpellsStatement before words statement → is_skipped words ≡ false
 said_unskipped before words statement said =
     subst (λ (w : List (List ℕ)). is_skipped w ≡ false) said.spelled (unskipped (scope_of before) statement said.stands)
 
-said_once : (before : List Line) (words : List (List ℕ)) (one other : Statement) → Says before words one → Says before words other → one ≡ other
+said_once : (before : List Line) (words : List (List ℕ)) (one other : Statement) → SpellsStatement before words one → SpellsStatement before words other
+    → one ≡ other
 said_once before words one other first second =
     let names = scope_of before in
     let a : statement_of names words ≡ Ok one = ap (statement_of names) (sym first.spelled) ∙ statement_again names one first.stands in
     let b : statement_of names words ≡ Ok other = ap (statement_of names) (sym second.spelled) ∙ statement_again names other second.stands in
     cc
 
-pub adds_once : (before : List Line) (number : ℕ) (line : List ℕ) (one other : List Line) → Adds before number line one → Adds before number line other
+pub adds_once : (before : List Line) (number : ℕ) (line : List ℕ) (one other : List Line) → AddsLine before number line one → AddsLine before number line other
     → one ≡ other
 adds_once before number line one other (plain, inl first) (plain', inl second) = first.1 ∙ sym second.1
 adds_once before number line one other (plain, inl first) (plain', inr second) =
@@ -81,22 +82,23 @@ unplain number line causes.TooManyLines fault plain = omega (arith, fault, plain
 unplain number line causes.OutOfMemory fault plain = fault
 
 pub fault_adds_nothing : (before : List Line) (number : ℕ) (line : List ℕ) (cause : Cause) (added : List Line) → IsFault before number line cause
-    → Adds before number line added → ⊥
+    → AddsLine before number line added → ⊥
 fault_adds_nothing before number line cause added (inl fault) adds = unplain number line cause fault adds.0
 fault_adds_nothing before number line cause added (inr fault) (plain, inl skipped) = true≢false (sym skipped.0 ∙ fault.2.0)
 fault_adds_nothing before number line cause added (inr fault) (plain, inr said) = fault.2.1 said.0 said.1
 
 -- ---- all lines
 
-pub reads_once : (before : List Line) (number : ℕ) (lines : List (List ℕ)) (one other : List Line) → Reads before number lines one
-    → Reads before number lines other → one ≡ other
+pub reads_once : (before : List Line) (number : ℕ) (lines : List (List ℕ)) (one other : List Line) → AddsLines before number lines one
+    → AddsLines before number lines other → one ≡ other
 reads_once before number [] one other first second = first ∙ sym second
 reads_once before number (line ∷ lines) one other first second =
     let same = adds_once before number line first.0 second.0 first.1 second.1 in
-    reads_once (before ++ second.0) (number + 1) lines one other (subst (λ (a : List Line). Reads (before ++ a) (number + 1) lines one) same first.2) second.2
+    reads_once (before ++ second.0) (number + 1) lines one other
+        (subst (λ (a : List Line). AddsLines (before ++ a) (number + 1) lines one) same first.2) second.2
 
 pub stops_unread : (before : List Line) (number : ℕ) (lines : List (List ℕ)) (fault : ScriptFault) (all : List Line) → Stops before number lines fault
-    → Reads before number lines all → ⊥
+    → AddsLines before number lines all → ⊥
 stops_unread before number [] fault all stops reads = stops
 stops_unread before number (line ∷ lines) fault all (inl here) reads = fault_adds_nothing before number line fault.cause reads.0 here.1 reads.1
 stops_unread before number (line ∷ lines) fault all (inr behind) reads =

@@ -42,24 +42,24 @@ is_skipped [] = true
 is_skipped (word ∷ words) = begins_comment word
 
 -- the words are those of a statement that may stand behind these lines
-pub record Says (before : List Line) (words : List (List ℕ)) (statement : Statement) : Type 0 where
+pub record SpellsStatement (before : List Line) (words : List (List ℕ)) (statement : Statement) : Type 0 where
   pub stands : MayStand (scope_of before) statement
   pub spelled : words_of statement ≡ words
 
 -- what an acceptable line adds to the lines before it: nothing, or its statement
-abbrev pub Adds : List Line → ℕ → List ℕ → List Line → Type 0
-Adds before number line added = IsPlain number line
+abbrev pub AddsLine : List Line → ℕ → List ℕ → List Line → Type 0
+AddsLine before number line added = IsPlain number line
     × ((IsTrue (is_skipped (words_in line)) × (added ≡ []))
-    ⊎ ((statement : Statement) × Says before (words_in line) statement × (added ≡ record { line = number; statement = statement } ∷ [])))
+    ⊎ ((statement : Statement) × SpellsStatement before (words_in line) statement × (added ≡ record { line = number; statement = statement } ∷ [])))
 
 -- lines, of which the first has this number, add to the lines before them what makes all of these
-abbrev pub Reads : List Line → ℕ → List (List ℕ) → List Line → Type 0
-Reads before number [] all = all ≡ before
-Reads before number (line ∷ lines) all = (added : List Line) × Adds before number line added × Reads (before ++ added) (number + 1) lines all
+abbrev pub AddsLines : List Line → ℕ → List (List ℕ) → List Line → Type 0
+AddsLines before number [] all = all ≡ before
+AddsLines before number (line ∷ lines) all = (added : List Line) × AddsLine before number line added × AddsLines (before ++ added) (number + 1) lines all
 
 -- a text is a script of these lines
 abbrev pub IsScript : List ℕ → List Line → Type 0
-IsScript text all = Reads [] 1 (lines_of text) all
+IsScript text all = AddsLines [] 1 (lines_of text) all
 
 -- ---- texts that aren't scripts
 
@@ -75,18 +75,18 @@ IsOfWords TooManyLines = ⊥
 IsOfWords OutOfMemory = ⊥
 
 -- the words are neither skipped nor those of a statement that may stand behind these lines
-abbrev pub SaysNothing : List Line → List (List ℕ) → Type 0
-SaysNothing before words = (is_skipped words ≡ false) × ((statement : Statement) → Says before words statement → ⊥)
+abbrev pub SpellsNothing : List Line → List (List ℕ) → Type 0
+SpellsNothing before words = (is_skipped words ≡ false) × ((statement : Statement) → SpellsStatement before words statement → ⊥)
 
 -- why a line behind these isn't acceptable: its number, its length or its bytes, and else its words
 abbrev pub IsFault : List Line → ℕ → List ℕ → Cause → Type 0
-IsFault before number line cause = IsUnplain number line cause ⊎ (IsOfWords cause × IsPlain number line × SaysNothing before (words_in line))
+IsFault before number line cause = IsUnplain number line cause ⊎ (IsOfWords cause × IsPlain number line × SpellsNothing before (words_in line))
 
 -- of lines behind others, of which the first has this number, the first that isn't acceptable
 abbrev pub Stops : List Line → ℕ → List (List ℕ) → ScriptFault → Type 0
 Stops before number [] fault = ⊥
 Stops before number (line ∷ lines) fault = ((fault.line ≡ number) × IsFault before number line fault.cause)
-    ⊎ ((added : List Line) × Adds before number line added × Stops (before ++ added) (number + 1) lines fault)
+    ⊎ ((added : List Line) × AddsLine before number line added × Stops (before ++ added) (number + 1) lines fault)
 
 -- the first line of a text that isn't acceptable
 abbrev pub IsFirstFault : List ℕ → ScriptFault → Type 0

@@ -2,7 +2,7 @@
 
 ghost use Rattle.std.specs.Prelude.{◌≡◌, ◌↔◌, ◌≤◌, ◌++◌, ◌⊎◌, List, IsTrue, OnOk, IfOk, IfErr};
 ghost use Rattle.ada_statements.specs.Text.{words_in};
-ghost use Rattle.ada_script.specs.Script.{IsPrintable, IsPlain, IsUnplain, is_skipped as skipped, scope_of, Adds, IsScript, IsFault, IsFirstFault};
+ghost use Rattle.ada_script.specs.Script.{IsPrintable, IsPlain, IsUnplain, is_skipped as skipped, scope_of, AddsLine, IsScript, IsFault, IsFirstFault};
 ghost use Rattle.ada_script.specs.declared.script.Line.{Line};
 
 use crate::{Cause, Line, Names, Script, ScriptFault, Statement};
@@ -55,7 +55,8 @@ fn read_line(
     requires { names.old ≡ scope_of lines.old.items }
     ensures number { OnOk result (number ≤ 4096) }
     ensures names { OnOk result (names.new ≡ scope_of lines.new.items) }
-    ensures lines { OnOk result ((added : List Line) × Adds lines.old.items number line.now added
+    ensures lines { OnOk result ((added : List Line)
+        × AddsLine lines.old.items number line.now added
         × (lines.new.items ≡ lines.old.items ++ added)) }
     ensures err { IfErr result (λ cause. (cause ≡ Cause.OutOfMemory)
         ⊎ IsFault lines.old.items number line.now cause) }

@@ -41,14 +41,14 @@ declare names _ = names
 abbrev pub meaning_of : Scope → List ℕ → Option Meaning
 meaning_of names name = lookup (bytes_eq name) names
 
-abbrev pub entries_in : Option Meaning → Option (List (List ℕ))
-entries_in None = None
-entries_in (Some (Task entries made)) = Some entries
-entries_in (Some (Block opened)) = None
+abbrev pub entry_names_in : Option Meaning → Option (List (List ℕ))
+entry_names_in None = None
+entry_names_in (Some (Task entries made)) = Some entries
+entry_names_in (Some (Block opened)) = None
 
 -- the entry names of a task, if the name is a task's
 abbrev pub entries_of : Scope → List ℕ → Option (List (List ℕ))
-entries_of names name = entries_in (meaning_of names name)
+entries_of names name = entry_names_in (meaning_of names name)
 
 abbrev pub is_declared : Scope → List ℕ → Bool
 is_declared names name = is_some (meaning_of names name)

@@ -11,7 +11,7 @@ use Rattle.ada_tables.specs.internal.Layers.{live_at}
 use Rattle.ada_tables.specs.Dependents.{Facts, nobody, task_at, has_block, holds, reaches, is_terminated, is_live_dependent, live_dependents, depends_on}
 use Rattle.ada_tables.specs.Dependents.{count_below}
 use Rattle.ada_tables.specs.Counts.{facts_of, facts}
-use Rattle.ada_tables.specs.internal.Counts.{no_task, record_at, ChangesAlong, StandAlone, AreCounted, IsLed, is_led}
+use Rattle.ada_tables.specs.internal.Counts.{no_record, record_at, ChangesAlong, StandAlone, AreCounted, IsLed, is_led}
 use Rattle.ada_tables.proofs.Reaching.{body_below, Alike, alike_same, reaches_alike, led_alike, led_from}
 use Rattle.ada_events.specs.declared.names.Family.{Family}
 use Rattle.ada_tables.specs.declared.change.Change.TheVariants.{Added}
@@ -58,10 +58,10 @@ module _ (tasks : List Task) (master : Option Master) (holder : ℕ) (families :
   new_fact = ap (λ fs. task_at fs (length tasks)) facts_pushed ∙ get_or_push (facts tasks) (facts_of (made master holder families)) nobody (length tasks) many
 
   old_record : (task : ℕ) → task < length tasks → record_at pushed task ≡ record_at tasks task
-  old_record task low = get_or_append_left tasks (made master holder families ∷ []) no_task task low
+  old_record task low = get_or_append_left tasks (made master holder families ∷ []) no_record task low
 
   new_record : record_at pushed (length tasks) ≡ made master holder families
-  new_record = get_or_push tasks (made master holder families) no_task (length tasks) refl
+  new_record = get_or_push tasks (made master holder families) no_record (length tasks) refl
 
   below : (task : ℕ) → task < length (facts pushed) → (task < length tasks) ⊎ (task ≡ length tasks)
   below task low =

@@ -15,7 +15,7 @@ use Rattle.ada_tables.specs.Layers.{members}
 use Rattle.ada_tables.specs.internal.Layers.{live_at}
 use Rattle.ada_tables.specs.Dependents.{Facts, nobody, task_at, has_block, holds, encloses, reaches, depends_on}
 use Rattle.ada_tables.specs.Counts.{facts_of, facts}
-use Rattle.ada_tables.specs.internal.Counts.{no_task, record_at, counted, ChangesAlong, StandAlone, IsLed}
+use Rattle.ada_tables.specs.internal.Counts.{no_record, record_at, recounted, ChangesAlong, StandAlone, IsLed}
 use Rattle.ada_tables.proofs.Nests.{members-moved_to, live_at-moved_to}
 use Rattle.ada_tables.proofs.Reaching.{reaches_none, passes_holds, reached_held, body_below, Leads, leads}
 
@@ -26,9 +26,9 @@ facts_at (first ∷ rest) zero = refl
 facts_at (first ∷ rest) (suc task) = facts_at rest task
 
 pub master_read : (tasks : List Task) (task : ℕ) (d : Task) → task < length tasks → (task_at (facts tasks) task).master ≡ (get_or tasks task d).master
-master_read tasks task d low = ap (λ (f : Facts). f.master) (facts_at tasks task) ∙ ap (λ (t : Task). t.master) (get_or_default tasks task no_task d low)
+master_read tasks task d low = ap (λ (f : Facts). f.master) (facts_at tasks task) ∙ ap (λ (t : Task). t.master) (get_or_default tasks task no_record d low)
 
-pub facts_counted : (change : Change) (from : Master) (task : Task) → facts_of (counted change from task) ≡ facts_of task
+pub facts_counted : (change : Change) (from : Master) (task : Task) → facts_of (recounted change from task) ≡ facts_of task
 facts_counted change (Body t) task = refl
 facts_counted change (Block block) task =
     ap (λ (ms : List Member). let f : Facts = record { master = task.master; families = task.families; nest = ms; phase = task.phase } in f)
@@ -72,16 +72,16 @@ encloses_body : (task : ℕ) (nest : List Member) (from : Master) (t : TaskNo) �
 encloses_body task nest (Body u) t = refl
 encloses_body task nest (Block block) t = refl
 
-live_counted : (change : Change) (from : Master) (task : Task) → (counted change from task).live ≡ changed change task.live
+live_counted : (change : Change) (from : Master) (task : Task) → (recounted change from task).live ≡ changed change task.live
 live_counted change (Body t) task = refl
 live_counted change (Block block) task = refl
 
-holder_counted : (change : Change) (from : Master) (task : Task) → (counted change from task).holder ≡ task.holder
+holder_counted : (change : Change) (from : Master) (task : Task) → (recounted change from task).holder ≡ task.holder
 holder_counted change (Body t) task = refl
 holder_counted change (Block block) task = refl
 
 live_at-counted : (change : Change) (from : Master) (number block : ℕ) (task : Task) → has_block block (members task.nest) ≡ true
-    → live_at block (counted change from task).nest
+    → live_at block (recounted change from task).nest
     ≡ (if encloses number (members task.nest) from (Block block) then changed change (live_at block task.nest) else live_at block task.nest)
 live_at-counted change (Body t) number block task has = refl
 live_at-counted change (Block inner) number block task has = live_at-moved_to (changed change) inner block task.nest has
@@ -126,7 +126,7 @@ module _ (change : Change) (old now : List Task) (passed : Master → Bool) (at 
       false_from_ne_true _ (λ passing. differs (single.alone task at block (omega (arith, many)) (omega (arith, many)) has
       (passes_holds at here (Some from) (Block block) (and_from _ _ held passing))))
 
-  bodies_now : (task : ℕ) → task < length old → (record_at (set now at (counted change from (record_at now at))) task).live
+  bodies_now : (task : ℕ) → task < length old → (record_at (set now at (recounted change from (record_at now at))) task).live
       ≡ (if passed (Body (record { 0 = task })) && not (depends_on (facts old) at (Body (record { 0 = task }))) then changed change (record_at old task).live
       else (record_at old task).live)
   bodies_now task low =
@@ -137,18 +137,18 @@ module _ (change : Change) (old now : List Task) (passed : Master → Bool) (at 
             counted_here (changed change) (passed (Body (record { 0 = task }))) (left (Body (record { 0 = task }))) _ _ (record_at now task).live _
             (left_is (Body (record { 0 = task })) ∙ or_left _ _ (encloses_body at here.nest from (record { 0 = task }) ∙ eq-eqb task at same))
             none (along.within (Body (record { 0 = task }))) (along.bodies task low)
-            (rw same (ap (λ (t : Task). t.live) (get_or-set_same now at (counted change from (record_at now at)) no_task (omega arith))
+            (rw same (ap (λ (t : Task). t.live) (get_or-set_same now at (recounted change from (record_at now at)) no_record (omega arith))
             ∙ live_counted change from (record_at now at)))
         | inr differs ↦
             counted_elsewhere (changed change) (passed (Body (record { 0 = task }))) (left (Body (record { 0 = task }))) _ _ (record_at now task).live _
             (left_is (Body (record { 0 = task })) ∙ ap (λ b. b || depends_on (facts old) at (Body (record { 0 = task })))
             (encloses_body at here.nest from (record { 0 = task }) ∙ ne_eqb task at differs))
             (along.bodies task low)
-            (ap (λ (t : Task). t.live) (get_or-set_other now at task (counted change from (record_at now at)) no_task differs))
+            (ap (λ (t : Task). t.live) (get_or-set_other now at task (recounted change from (record_at now at)) no_record differs))
       ]
 
   blocks_now : (task block : ℕ) → task < length old → has_block block (task_at (facts old) task).nest ≡ true
-      → live_at block (record_at (set now at (counted change from (record_at now at))) task).nest
+      → live_at block (record_at (set now at (recounted change from (record_at now at))) task).nest
       ≡ (if passed (Block block) && not (depends_on (facts old) at (Block block)) then changed change (live_at block (record_at old task).nest)
       else live_at block (record_at old task).nest)
   blocks_now task block low has =
@@ -158,17 +158,17 @@ module _ (change : Change) (old now : List Task) (passed : Master → Bool) (at 
             counted_elsewhere (changed change) (passed (Block block)) (left (Block block)) _ _ (live_at block (record_at now task).nest) _
             (left_is (Block block) ∙ ap (λ b. b || depends_on (facts old) at (Block block)) (block_here task block low differs has))
             (along.blocks task block low has)
-            (ap (λ (t : Task). live_at block t.nest) (get_or-set_other now at task (counted change from (record_at now at)) no_task differs))
+            (ap (λ (t : Task). live_at block t.nest) (get_or-set_other now at task (recounted change from (record_at now at)) no_record differs))
       ]
     where
-      here_now : task ≡ at → live_at block (record_at (set now at (counted change from (record_at now at))) task).nest
+      here_now : task ≡ at → live_at block (record_at (set now at (recounted change from (record_at now at))) task).nest
           ≡ (if passed (Block block) && not (depends_on (facts old) at (Block block)) then changed change (live_at block (record_at old task).nest)
           else live_at block (record_at old task).nest)
       here_now same =
           let stands : has_block block here.nest ≡ true = rw same at has in
           let read : has_block block (members (record_at now at).nest) ≡ true = ap (λ (f : Facts). has_block block f.nest) read_is ∙ stands in
           let none = block_later block stands in
-          let written = ap (λ (t : Task). live_at block t.nest) (get_or-set_same now at (counted change from (record_at now at)) no_task (omega arith))
+          let written = ap (λ (t : Task). live_at block t.nest) (get_or-set_same now at (recounted change from (record_at now at)) no_record (omega arith))
           ∙ live_at-counted change from at block (record_at now at) read in
           let within_nest : encloses at (members (record_at now at).nest) from (Block block)
           ≡ encloses at here.nest from (Block block) = ap (λ (f : Facts). encloses at f.nest from (Block block)) read_is in
@@ -186,18 +186,18 @@ module _ (change : Change) (old now : List Task) (passed : Master → Bool) (at 
                 (written ∙ rw (within_nest, outside) refl)
           ])
 
-  holders_now : (task : ℕ) → (record_at (set now at (counted change from (record_at now at))) task).holder ≡ (record_at old task).holder
+  holders_now : (task : ℕ) → (record_at (set now at (recounted change from (record_at now at))) task).holder ≡ (record_at old task).holder
   holders_now task =
       elim (cases_eq task at) [
-        | inl same ↦ rw same (ap (λ (t : Task). t.holder) (get_or-set_same now at (counted change from (record_at now at)) no_task (omega arith))
+        | inl same ↦ rw same (ap (λ (t : Task). t.holder) (get_or-set_same now at (recounted change from (record_at now at)) no_record (omega arith))
             ∙ holder_counted change from (record_at now at))
-        | inr differs ↦ ap (λ (t : Task). t.holder) (get_or-set_other now at task (counted change from (record_at now at)) no_task differs)
+        | inr differs ↦ ap (λ (t : Task). t.holder) (get_or-set_other now at task (recounted change from (record_at now at)) no_record differs)
       ] ∙ along.holders task
 
-  pub along_held : ChangesAlong change old (set now at (counted change from (record_at now at))) passed (depends_on (facts old) at)
+  pub along_held : ChangesAlong change old (set now at (recounted change from (record_at now at))) passed (depends_on (facts old) at)
   along_held =
       record {
-        same = facts-set now at (counted change from (record_at now at)) (facts_counted change from (record_at now at)) ∙ along.same;
+        same = facts-set now at (recounted change from (record_at now at)) (facts_counted change from (record_at now at)) ∙ along.same;
         holders = holders_now;
         bodies = bodies_now;
         blocks = blocks_now;
@@ -218,7 +218,7 @@ module _ (change : Change) (old now : List Task) (passed : Master → Bool) (num
   master_is d = ap (λ fs. (task_at fs number).master) (sym so_far.along.same) ∙ master_read now number d (omega (arith, so_far.within, long_now))
 
   holder_is : (d : Task) → (record_at old number).holder ≡ (get_or now number d).holder
-  holder_is d = sym (so_far.along.holders number) ∙ ap (λ (t : Task). t.holder) (get_or_default now number no_task d (omega (arith, so_far.within, long_now)))
+  holder_is d = sym (so_far.along.holders number) ∙ ap (λ (t : Task). t.holder) (get_or_default now number no_record d (omega (arith, so_far.within, long_now)))
 
   -- the way goes by the next holder
   pub next_leads : (master : Master) (d e : Task) → (get_or now number d).master ≡ Some master → Leads old number master (get_or now number e).holder
@@ -229,13 +229,13 @@ module _ (change : Change) (old now : List Task) (passed : Master → Bool) (num
 
   -- the counts of the next holder are changed
   pub goes_outwards : (master : Master) (d e f written : Task) → StandAlone (facts old) → (get_or now number d).master ≡ Some master
-      → written ≡ counted change master (get_or now (get_or now number e).holder f)
+      → written ≡ recounted change master (get_or now (get_or now number e).holder f)
       → IsUnderWay change old (set now (get_or now number e).holder written) passed (get_or now number e).holder
   goes_outwards master d e f written single is written_is =
       let way = next_leads master d e is in
       let low : (get_or now number e).holder < length old = omega (arith, way.low, so_far.within) in
-      let written_there : written ≡ counted change master (record_at now (get_or now number e).holder) = written_is
-      ∙ ap (counted change master) (get_or_default now (get_or now number e).holder f no_task (omega (arith, long_now, low))) in
+      let written_there : written ≡ recounted change master (record_at now (get_or now number e).holder) = written_is
+      ∙ ap (recounted change master) (get_or_default now (get_or now number e).holder f no_record (omega (arith, long_now, low))) in
       record {
         within = low;
         along = rw written_there (along_held change old now passed (get_or now number e).holder master single low long_now way.held

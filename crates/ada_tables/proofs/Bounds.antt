@@ -7,7 +7,7 @@ use Rattle.ada_events.specs.declared.names.Master.TheVariants.{Body}
 use Rattle.ada_tables.specs.declared.task.Task.{Task}
 use Rattle.ada_tables.specs.Dependents.{Facts, reaches, depends_on, count_below, live_dependents}
 use Rattle.ada_tables.specs.Counts.{facts}
-use Rattle.ada_tables.specs.internal.Counts.{no_task, AreCounted}
+use Rattle.ada_tables.specs.internal.Counts.{no_record, AreCounted}
 use Rattle.ada_queues.specs.Queues.{QueuedCall}
 use Rattle.ada_tables.specs.Tables.{is_unready}
 
@@ -43,7 +43,7 @@ live_fits tasks master count right is = rw is (few_dependents (facts tasks) mast
 pub body_fits : (tasks : List Task) (task : ℕ) (read : Task) → AreCounted tasks → task < length tasks → read ≡ get_or tasks task read → read.live ≤ 255
 body_fits tasks task read right low is =
     live_fits tasks (Body (record { 0 = task })) read.live right
-    (ap (λ (t : Task). t.live) (get_or_read tasks task read low is no_task) ∙ right.bodies task low)
+    (ap (λ (t : Task). t.live) (get_or_read tasks task read low is no_record) ∙ right.bodies task low)
 
 pub unready_fits : (tasks : List Facts) (queues : List (List QueuedCall)) (master : Master) (many count : ℕ) → many ≡ length tasks → many ≤ 256
     → count ≡ count_below (λ task. is_unready tasks queues task && depends_on tasks task master) many → count ≤ 255

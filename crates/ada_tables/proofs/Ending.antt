@@ -10,7 +10,7 @@ use Rattle.ada_tables.specs.declared.phase.Phase.{Phase}
 use Rattle.ada_tables.specs.internal.Layers.{live_at}
 use Rattle.ada_tables.specs.Dependents.{Facts, task_at, has_block, holds, encloses, reaches, depends_on, is_terminated, is_live_dependent, live_dependents}
 use Rattle.ada_tables.specs.Counts.{facts_of, facts}
-use Rattle.ada_tables.specs.internal.Counts.{no_task, record_at, ChangesAlong, AreCounted}
+use Rattle.ada_tables.specs.internal.Counts.{no_record, record_at, ChangesAlong, AreCounted}
 use Rattle.ada_tables.proofs.Reaching.{Alike, reaches_alike, led_alike}
 use Rattle.ada_tables.proofs.Alongs.{facts_at}
 use Rattle.ada_tables.specs.declared.phase.Phase.TheVariants.{Terminated}
@@ -67,12 +67,12 @@ module _ (tasks : List Task) (task : ℕ) (phase : Phase) (within : task < lengt
 
   pub phase_here : task_at (facts phased) task ≡ record (task_at (facts tasks) task) { phase = phase }
   phase_here =
-      facts_at phased task ∙ ap facts_of (get_or-set_same tasks task with_phase no_task within)
+      facts_at phased task ∙ ap facts_of (get_or-set_same tasks task with_phase no_record within)
       ∙ ap (λ (f : Facts). let g : Facts = record f { phase = phase } in g) (sym (facts_at tasks task))
 
   pub phase_other : (other : ℕ) → other ≢ task → task_at (facts phased) other ≡ task_at (facts tasks) other
   phase_other other differs =
-      facts_at phased other ∙ ap facts_of (get_or-set_other tasks task other with_phase no_task differs) ∙ sym (facts_at tasks other)
+      facts_at phased other ∙ ap facts_of (get_or-set_other tasks task other with_phase no_record differs) ∙ sym (facts_at tasks other)
 
   pub phased_same : SameButPhases (facts tasks) (facts phased)
   phased_same =
@@ -91,22 +91,22 @@ module _ (tasks : List Task) (task : ℕ) (phase : Phase) (within : task < lengt
   pub live_phased : (other : ℕ) → (record_at phased other).live ≡ (record_at tasks other).live
   live_phased other =
       elim (cases_eq other task) [
-        | inl same ↦ rw same (ap (λ (t : Task). t.live) (get_or-set_same tasks task with_phase no_task within))
-        | inr differs ↦ ap (λ (t : Task). t.live) (get_or-set_other tasks task other with_phase no_task differs)
+        | inl same ↦ rw same (ap (λ (t : Task). t.live) (get_or-set_same tasks task with_phase no_record within))
+        | inr differs ↦ ap (λ (t : Task). t.live) (get_or-set_other tasks task other with_phase no_record differs)
       ]
 
   pub holder_phased : (other : ℕ) → (record_at phased other).holder ≡ (record_at tasks other).holder
   holder_phased other =
       elim (cases_eq other task) [
-        | inl same ↦ rw same (ap (λ (t : Task). t.holder) (get_or-set_same tasks task with_phase no_task within))
-        | inr differs ↦ ap (λ (t : Task). t.holder) (get_or-set_other tasks task other with_phase no_task differs)
+        | inl same ↦ rw same (ap (λ (t : Task). t.holder) (get_or-set_same tasks task with_phase no_record within))
+        | inr differs ↦ ap (λ (t : Task). t.holder) (get_or-set_other tasks task other with_phase no_record differs)
       ]
 
   pub nest_phased : (other : ℕ) → (record_at phased other).nest ≡ (record_at tasks other).nest
   nest_phased other =
       elim (cases_eq other task) [
-        | inl same ↦ rw same (ap (λ (t : Task). t.nest) (get_or-set_same tasks task with_phase no_task within))
-        | inr differs ↦ ap (λ (t : Task). t.nest) (get_or-set_other tasks task other with_phase no_task differs)
+        | inl same ↦ rw same (ap (λ (t : Task). t.nest) (get_or-set_same tasks task with_phase no_record within))
+        | inr differs ↦ ap (λ (t : Task). t.nest) (get_or-set_other tasks task other with_phase no_record differs)
       ]
 
 -- a task gets another phase, and doesn't end

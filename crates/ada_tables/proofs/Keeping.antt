@@ -11,7 +11,7 @@ use Rattle.ada_tables.specs.Layers.{members}
 use Rattle.ada_tables.specs.internal.Layers.{live_at}
 use Rattle.ada_tables.specs.Dependents.{Facts, task_at, has_block, reaches, depends_on, is_terminated, is_live_dependent, live_dependents, count_below}
 use Rattle.ada_tables.specs.Counts.{facts_of, facts}
-use Rattle.ada_tables.specs.internal.Counts.{no_task, record_at, AreCounted, IsLed}
+use Rattle.ada_tables.specs.internal.Counts.{no_record, record_at, AreCounted, IsLed}
 use Rattle.ada_tables.proofs.Reaching.{reached_held, Alike, AlikeBut, alike_same, reaches_alike, led_alike, led_but}
 use Rattle.ada_tables.proofs.Alongs.{facts_at}
 
@@ -98,12 +98,12 @@ module _ (tasks : List Task) (task : ℕ) (layers : List Layer) (right : AreCoun
 
   pub fact_here : task_at (facts after) task ≡ record (task_at (facts tasks) task) { nest = members layers }
   fact_here =
-      facts_at after task ∙ ap facts_of (get_or-set_same tasks task with_nest no_task within)
+      facts_at after task ∙ ap facts_of (get_or-set_same tasks task with_nest no_record within)
       ∙ ap (λ (f : Facts). let g : Facts = record f { nest = members layers } in g) (sym (facts_at tasks task))
 
   pub fact_other : (other : ℕ) → other ≢ task → task_at (facts after) other ≡ task_at (facts tasks) other
   fact_other other differs =
-      facts_at after other ∙ ap facts_of (get_or-set_other tasks task other with_nest no_task differs) ∙ sym (facts_at tasks other)
+      facts_at after other ∙ ap facts_of (get_or-set_other tasks task other with_nest no_record differs) ∙ sym (facts_at tasks other)
 
   phase_same : (other : ℕ) → (task_at (facts after) other).phase ≡ (task_at (facts tasks) other).phase
   phase_same other =
@@ -136,8 +136,8 @@ module _ (tasks : List Task) (task : ℕ) (layers : List Layer) (right : AreCoun
       live_same : (other : ℕ) → (record_at after other).live ≡ (record_at tasks other).live
       live_same other =
           elim (cases_eq other task) [
-            | inl same ↦ rw same (ap (λ (t : Task). t.live) (get_or-set_same tasks task with_nest no_task within))
-            | inr differs ↦ ap (λ (t : Task). t.live) (get_or-set_other tasks task other with_nest no_task differs)
+            | inl same ↦ rw same (ap (λ (t : Task). t.live) (get_or-set_same tasks task with_nest no_record within))
+            | inr differs ↦ ap (λ (t : Task). t.live) (get_or-set_other tasks task other with_nest no_record differs)
           ]
 
       here : (block : ℕ) → has_block block (task_at (facts after) task).nest ≡ true → has_block block (members layers) ≡ true
@@ -153,13 +153,13 @@ module _ (tasks : List Task) (task : ℕ) (layers : List Layer) (right : AreCoun
           elim (cases_eq other task) [
             | inl same ↦
                 let stands = here block (rw same at has) in
-                rw same (ap (λ (t : Task). live_at block t.nest) (get_or-set_same tasks task with_nest no_task within)
+                rw same (ap (λ (t : Task). live_at block t.nest) (get_or-set_same tasks task with_nest no_record within)
                 ∙ elim (each block stands) [
                   | inl old ↦ old.1 ∙ right.blocks task block within old.0 ∙ sym (dependents (Block block))
                   | inr fresh ↦ fresh.1 ∙ sym (dependents (Block block) ∙ no_dependents (facts tasks) block (λ at low. fresh.0 at (rw length-map at low)))
                 ])
             | inr differs ↦
-                ap (λ (t : Task). live_at block t.nest) (get_or-set_other tasks task other with_nest no_task differs)
+                ap (λ (t : Task). live_at block t.nest) (get_or-set_other tasks task other with_nest no_record differs)
                 ∙ right.blocks other block low (there_is other block differs has) ∙ sym (dependents (Block block))
           ]
 
@@ -199,8 +199,8 @@ module _ (tasks : List Task) (task : ℕ) (layers : List Layer) (right : AreCoun
   holder_same : (other : ℕ) → (record_at after other).holder ≡ (record_at tasks other).holder
   holder_same other =
       elim (cases_eq other task) [
-        | inl same ↦ rw same (ap (λ (t : Task). t.holder) (get_or-set_same tasks task with_nest no_task within))
-        | inr differs ↦ ap (λ (t : Task). t.holder) (get_or-set_other tasks task other with_nest no_task differs)
+        | inl same ↦ rw same (ap (λ (t : Task). t.holder) (get_or-set_same tasks task with_nest no_record within))
+        | inr differs ↦ ap (λ (t : Task). t.holder) (get_or-set_other tasks task other with_nest no_record differs)
       ]
 
   -- a nest with the same blocks in the same order keeps all ways

@@ -12,7 +12,7 @@ use Rattle.ada_events.specs.declared.names.Master.TheVariants.{Block}
 use Rattle.ada_tables.specs.Dependents.{Facts, task_at, has_block, Stands}
 use Rattle.ada_tables.specs.internal.Dependents.{block_of, outside, parent_within, parent_from}
 use Rattle.ada_tables.specs.Counts.{facts_of, facts}
-use Rattle.ada_tables.specs.internal.Counts.{no_task, record_at, StandAlone}
+use Rattle.ada_tables.specs.internal.Counts.{no_record, record_at, StandAlone}
 use Rattle.ada_tables.proofs.Nesting.{nest_is}
 use Rattle.ada_tables.proofs.Nests.{is_block-member}
 
@@ -42,7 +42,7 @@ goes_by block tasks number d stands up_to free =
     elim (cases_eq number stands.task) [
       | inl same ↦
           let here : has_block block (task_at (facts tasks) number).nest ≡ true = rw same stands.held in
-          let read : get_or tasks number d ≡ record_at tasks number = get_or_default tasks number d no_task
+          let read : get_or tasks number d ≡ record_at tasks number = get_or_default tasks number d no_record
           (omega (arith, stands.within, length-map tasks facts_of)) in
           absurd (both_ways (has_block block (members (record_at tasks number).nest)) (rw read at free)
           (sym (ap (has_block block) (nest_is tasks number)) ∙ here))

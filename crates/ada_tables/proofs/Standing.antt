@@ -11,7 +11,7 @@ use Rattle.ada_events.specs.Termination.{is_ready_to_quit}
 use Rattle.ada_events.specs.Slots.{number_within}
 use Rattle.ada_tables.specs.Dependents.{task_at, reaches, count_below, live_dependents}
 use Rattle.ada_tables.specs.internal.Dependents.{main_facts}
-use Rattle.ada_tables.specs.Tables.{State, unready_dependents, HasEntry}
+use Rattle.ada_tables.specs.Tables.{TableState, unready_dependents, HasEntry}
 use Rattle.ada_tables.specs.Standing.{facts_in, live_count, unready_count, StandFor}
 
 first_task : (task : ℕ) → task < 1 → task_at (main_facts ∷ []) task ≡ facts_in [] task
@@ -34,7 +34,7 @@ unfolding count_below reaches task_count is_terminated depends_on is_ready_to_qu
 first_unready master = refl
 
 -- tables of the main program alone stand for the empty journal
-pub stand_at_first : (tables : State) → tables.tasks ≡ main_facts ∷ [] → tables.queues ≡ [] → StandFor tables []
+pub stand_at_first : (tables : TableState) → tables.tasks ≡ main_facts ∷ [] → tables.queues ≡ [] → StandFor tables []
 unfolding task_count
 stand_at_first tables tasks_are queues_are =
     rw (tasks_are, queues_are) (record {

@@ -14,7 +14,7 @@ use Rattle.ada_tables.specs.Layers.{members, member_of}
 use Rattle.ada_tables.specs.internal.Layers.{layer_of, live_at}
 use Rattle.ada_tables.specs.Dependents.{Facts, task_at, has_block, depends_on, is_terminated, live_dependents}
 use Rattle.ada_tables.specs.Counts.{facts_of, facts}
-use Rattle.ada_tables.specs.internal.Counts.{no_task, record_at, ChangesAlong, StandAlone, AreCounted, IsLed, is_led}
+use Rattle.ada_tables.specs.internal.Counts.{no_record, record_at, ChangesAlong, StandAlone, AreCounted, IsLed, is_led}
 use Rattle.ada_tables.proofs.Alongs.{facts_at}
 use Rattle.std.proofs.lemmas.List.{take-append-drop, drop_more, drop_all, take-map, get_or_read}
 use Rattle.std.proofs.lemmas.Option.{slice_get-get_or}
@@ -63,7 +63,7 @@ pub pushed : (tasks : List Task) (task : ℕ) (read : Task) (nest : List Layer) 
     → read ≡ get_or tasks task read → nest ≡ read.nest ++ layer_of member ∷ [] → IsFresh member (facts tasks)
     → Holds (set tasks task (record read { nest = nest })) (with_nest task ((task_at (facts tasks) task).nest ++ member ∷ []) (facts tasks))
 pushed tasks task read nest member right within read_is nest_new fresh =
-    let there = get_or_read tasks task read within read_is no_task in
+    let there = get_or_read tasks task read within read_is no_record in
     rw (nest_new, there) (
       counted_still member fresh,
       facts-with_nest tasks task ((record_at tasks task).nest ++ layer_of member ∷ [])
@@ -95,7 +95,7 @@ pub popped : (tasks : List Task) (task : ℕ) (read : Task) (nest : List Layer) 
     → Holds (set tasks task (record read { nest = nest }))
     (with_nest task (take (length (task_at (facts tasks) task).nest - 1) (task_at (facts tasks) task).nest) (facts tasks))
 popped tasks task read nest right within read_is nest_new some idle =
-    let there = get_or_read tasks task read within read_is no_task in
+    let there = get_or_read tasks task read within read_is no_record in
     rw (nest_new, there) (
       counted_still (member_of last) refl (idle (member_of last) innermost_is),
       facts-with_nest tasks task shorter ∙ ap (λ ms. with_nest task ms (facts tasks)) shorter_is,
@@ -140,7 +140,7 @@ pub phased : (tasks : List Task) (task : ℕ) (read : Task) (phase : Phase) → 
     → is_terminated (task_at (facts tasks) task).phase ≡ false → is_terminated phase ≡ false
     → Holds (set tasks task (record read { phase = phase })) (with_phase task phase (facts tasks))
 phased tasks task read phase right within read_is lives on =
-    let there = get_or_read tasks task read within read_is no_task in
+    let there = get_or_read tasks task read within read_is no_record in
     rw there (goes_on tasks task phase right within lives on, facts-with_phase tasks task phase)
 
 -- a task ends
@@ -149,7 +149,7 @@ pub ended : (tasks lowered : List Task) (task : ℕ) (d : Task) → AreCounted t
     → Holds (set lowered task (record (get_or lowered task d) { phase = Terminated })) (with_phase task Terminated (facts tasks))
 ended tasks lowered task d right within lives along =
     let long : length lowered ≡ length tasks = sym (length-map lowered facts_of) ∙ ap (λ fs. length fs) along.same ∙ length-map tasks facts_of in
-    let there : get_or lowered task d ≡ record_at lowered task = get_or_default lowered task d no_task (omega (arith, long)) in
+    let there : get_or lowered task d ≡ record_at lowered task = get_or_default lowered task d no_record (omega (arith, long)) in
     rw there (
       ends tasks lowered task (depends_on (facts tasks) task) right within lives along (λ master. refl),
       facts-with_phase lowered task Terminated ∙ ap (with_phase task Terminated) along.same,
@@ -160,7 +160,7 @@ pub cut_out : (tasks : List Task) (task call : ℕ) (read : Task) (nest : List L
     → nest ≡ cut_layers call read.nest
     → Holds (set tasks task (record read { nest = nest })) (with_nest task (cut call (task_at (facts tasks) task).nest) (facts tasks))
 cut_out tasks task call read nest right within read_is nest_new =
-    let there = get_or_read tasks task read within read_is no_task in
+    let there = get_or_read tasks task read within read_is no_record in
     rw (nest_new, there, cut_layers_is call (record_at tasks task).nest) (
       cut_counted tasks task right within call,
       facts-with_nest tasks task (cut_rec call (record_at tasks task).nest)
@@ -174,13 +174,13 @@ same_known room tasks known same = ap (λ ts. known_of ts room) same
 -- what is read of a record is known
 pub known_of_read : (tasks : List Task) (task : ℕ) (read : Task) → task < length tasks → read ≡ get_or tasks task read
     → task_at (facts tasks) task ≡ facts_of read
-known_of_read tasks task read within read_is = facts_at tasks task ∙ ap facts_of (sym (get_or_read tasks task read within read_is no_task))
+known_of_read tasks task read within read_is = facts_at tasks task ∙ ap facts_of (sym (get_or_read tasks task read within read_is no_record))
 
 module _ (tasks : List Task) (holder block : ℕ) (read : Task) (right : AreCounted tasks) (within : holder < length tasks)
     (read_is : read ≡ get_or tasks holder read) (held : has_block block (task_at (facts tasks) holder).nest ≡ true) where
   -- the count of a block is read of its holder
   pub live_read : live_at block read.nest ≡ live_dependents (facts tasks) (Block block)
-  live_read = ap (λ (t : Task). live_at block t.nest) (get_or_read tasks holder read within read_is no_task) ∙ right.blocks holder block within held
+  live_read = ap (λ (t : Task). live_at block t.nest) (get_or_read tasks holder read within read_is no_record) ∙ right.blocks holder block within held
 
   -- and so is its parent
   pub parent_read : Some (parent_within holder (members read.nest) block) ≡ parent_from 0 (facts tasks) block

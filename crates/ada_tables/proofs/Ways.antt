@@ -7,7 +7,7 @@ use Rattle.ada_tables.specs.declared.task.Task.{Task}
 use Rattle.ada_tables.specs.Layers.{members}
 use Rattle.ada_tables.specs.Dependents.{Facts, task_at, encloses, reaches, depends_on, count_below}
 use Rattle.ada_tables.specs.Counts.{facts}
-use Rattle.ada_tables.specs.internal.Counts.{no_task, record_at, IsLed}
+use Rattle.ada_tables.specs.internal.Counts.{no_record, record_at, IsLed}
 use Rattle.ada_tables.proofs.Reaching.{reaches_none, Leads, leads}
 use Rattle.ada_tables.proofs.Alongs.{facts_at, master_read}
 
@@ -23,7 +23,7 @@ module _ (tasks : List Task) (number : ℕ) (to : Master) (within : number < len
     -- the way goes by the holder
     pub way_leads : Leads tasks number from (get_or tasks number e).holder
     way_leads =
-        let kept : (record_at tasks number).holder ≡ holder = ap (λ (t : Task). t.holder) (get_or_default tasks number no_task e within) in
+        let kept : (record_at tasks number).holder ≡ holder = ap (λ (t : Task). t.holder) (get_or_default tasks number no_record e within) in
         leads tasks number from holder (rw (master_read tasks number d within ∙ is, kept) at led)
 
     pub way_within : (get_or tasks number e).holder < length tasks
@@ -33,7 +33,7 @@ module _ (tasks : List Task) (number : ℕ) (to : Master) (within : number < len
         ≡ (encloses holder (members (get_or tasks holder f).nest) from to || depends_on (facts tasks) holder to)
     way_step f =
         let known : (task_at (facts tasks) holder).nest ≡ members (get_or tasks holder f).nest = ap (λ (g : Facts). g.nest) (facts_at tasks holder)
-        ∙ ap (λ (t : Task). members t.nest) (get_or_default tasks holder no_task f way_within) in
+        ∙ ap (λ (t : Task). members t.nest) (get_or_default tasks holder no_record f way_within) in
         ap (λ m. reaches (facts tasks) number m to) (master_read tasks number d within ∙ is)
         ∙ way_leads.way to ∙ ap (λ nest. encloses holder nest from to || depends_on (facts tasks) holder to) known
 

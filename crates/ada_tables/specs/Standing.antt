@@ -18,7 +18,7 @@ use Rattle.ada_tables.specs.declared.phase.Phase.{Phase}
 use Rattle.ada_tables.specs.declared.phase.Phase.TheVariants.{Unstarted, Active, Held, Quittable, Completed, Terminated}
 use Rattle.ada_tables.specs.Dependents.{Facts, task_at, count_below, live_dependents, Stands}
 use Rattle.ada_queues.specs.Queues.{QueuedCall, queue_at}
-use Rattle.ada_tables.specs.Tables.{State, slot_at, unready_dependents, HasEntry}
+use Rattle.ada_tables.specs.Tables.{TableState, slot_at, unready_dependents, HasEntry}
 
 -- the phase of a task that isn't terminated (9.3, 9.4)
 abbrev pub phase_of_live : List Event → ℕ → Phase
@@ -61,7 +61,7 @@ unready_count journal master =
     count_below (λ u. not (is_terminated journal u) && not (is_ready_to_quit journal u) && depends_on journal u master) (task_count journal)
 
 -- the tables stand for the journal
-pub record StandFor (tables : State) (journal : List Event) : Type 0 where
+pub record StandFor (tables : TableState) (journal : List Event) : Type 0 where
   pub many : length tables.tasks ≡ task_count journal
   pub tasks : (task : ℕ) → task < task_count journal → task_at tables.tasks task ≡ facts_in journal task
   pub queues : (task : ℕ) (entry : Entry) → HasEntry tables.tasks task entry

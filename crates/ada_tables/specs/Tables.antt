@@ -14,7 +14,7 @@ use Rattle.ada_tables.specs.declared.phase.Phase.TheVariants.{Quittable}
 use Rattle.ada_tables.specs.Dependents.{Facts, task_at, depends_on, is_terminated, count_below}
 use Rattle.ada_queues.specs.Queues.{QueuedCall, queue_at}
 
-pub record State : Type 0 where
+pub record TableState : Type 0 where
   pub tasks : List Facts
   pub queues : List (List QueuedCall)
   pub spare : ℕ

@@ -34,10 +34,10 @@ pub struct Tables {
 }
 
 impl Model for Tables {
-    ghost use Rattle.ada_tables.specs.Tables.{State};
+    ghost use Rattle.ada_tables.specs.Tables.{TableState};
     ghost use Rattle.ada_tables.specs.internal.Tables.{AreTied};
 
-    ghost Value = { State };
+    ghost Value = { TableState };
 
     ghost view = { λ t. record {
       tasks = t.tasks.tasks;

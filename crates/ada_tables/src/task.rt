@@ -5,7 +5,7 @@ ghost use Rattle.ada_tables.specs.Layers.{members};
 ghost use Rattle.ada_tables.specs.internal.Layers.{moved_to};
 ghost use Rattle.ada_tables.specs.Dependents.{encloses};
 ghost use Rattle.ada_tables.specs.internal.Dependents.{parent_within};
-ghost use Rattle.ada_tables.specs.internal.Counts.{counted, made};
+ghost use Rattle.ada_tables.specs.internal.Counts.{recounted, made};
 
 use crate::change::Change;
 use crate::{Layers, Phase};
@@ -54,7 +54,7 @@ pub(crate) fn encloses(number: u16, nest: &Layers, from: Master, to: Master) -> 
 
 // Changes the counts of the masters that the task holds, from one of them outwards.
 pub(crate) fn count(task: &mut Task, from: Master, change: Change)
-    ensures { task.new ≡ counted change from task.old }
+    ensures { task.new ≡ recounted change from task.old }
 {
     task.live = change.of(task.live);
     if let Master::Block(block) = from {

@@ -1,7 +1,7 @@
 //! What a thread has done.
 ghost use Rattle.std.specs.Prelude.{◌≡◌, ◌==◌, ◌+◌, ◌<◌, ◌≤◌, ◌^◌, ◌&&◌, OnOk, OnErr, IfErr, cond};
 ghost use Rattle.ada_hall.specs.Counting.{asked_count};
-ghost use Rattle.ada_hall.specs.Halls.{AnswersRequest};
+ghost use Rattle.ada_hall.specs.Halls.{AnswersPlace};
 ghost use Rattle.ada_threads.specs.Reports.{is_newly_refused};
 
 use ada_events::Refusal;
@@ -43,7 +43,7 @@ impl<J: Session> Report<J> {
         place: u32,
     ) -> Result<(), Refusal>
         requires room { self.old.accepted + self.old.refused + 1 < 2 ^ 32 }
-        ensures ok { OnOk result (AnswersRequest J.script place hall.old hall.new) }
+        ensures ok { OnOk result (AnswersPlace J.script place hall.old hall.new) }
         ensures err { IfErr result (λ cause. cause ≡ Refusal.OutOfMemory) }
         ensures unchanged { OnErr result ((self.new.accepted ≡ self.old.accepted)
             × (self.new.refused ≡ self.old.refused) × (hall.new ≡ hall.old)) }

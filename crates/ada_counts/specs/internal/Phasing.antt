@@ -2,12 +2,12 @@
 use Rattle.std.specs.Prelude.{ℕ, if◌then◌else◌}
 use Rattle.ada_tables.specs.Dependents.{task_at, is_terminated}
 use Rattle.ada_tables.specs.internal.Dependents.{with_phase}
-use Rattle.ada_tables.specs.Tables.{State}
+use Rattle.ada_tables.specs.Tables.{TableState}
 use Rattle.ada_records.specs.declared.record.Record.{Record}
 use Rattle.ada_counts.specs.Telling.{phase_by}
 
 -- tables after a task that isn't terminated got the phase that its record tells
-abbrev pub refreshed : ℕ → Record → State → State
+abbrev pub refreshed : ℕ → Record → TableState → TableState
 refreshed task kept tables =
     if is_terminated (task_at tables.tasks task).phase
     then tables

@@ -6,6 +6,6 @@ use Rattle.ada_records.specs.declared.record.Record.{Record}
 use Rattle.ada_records.specs.Records.{IsRecordOf}
 
 -- a right record of the task, or none where there is no such task
-abbrev pub IsKnown : List Event → ℕ → Option Record → Type 0
-IsKnown journal task None = has_task journal task ≡ false
-IsKnown journal task (Some kept) = (has_task journal task ≡ true) × IsRecordOf journal task kept
+abbrev pub IsRecordIfAny : List Event → ℕ → Option Record → Type 0
+IsRecordIfAny journal task None = has_task journal task ≡ false
+IsRecordIfAny journal task (Some kept) = (has_task journal task ≡ true) × IsRecordOf journal task kept

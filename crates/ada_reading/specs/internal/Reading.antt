@@ -125,8 +125,8 @@ name_at words = do
   word ← word_at words
   if is_name word.0 then Ok word else Err BadStatement
 
-unfoldable pub task_at : Scope → List (List ℕ) → Read (List ℕ)
-task_at names words = do
+unfoldable pub task_name_at : Scope → List (List ℕ) → Read (List ℕ)
+task_name_at names words = do
   name ← name_at words
   if is_task names name.0 then Ok name else Err UnknownName
 
@@ -140,8 +140,8 @@ new_name_at names words = do
   name ← name_at words
   if is_declared names name.0 then Err DoubleName else Ok name
 
-unfoldable pub entry_at : Scope → List ℕ → List (List ℕ) → Read EntryName
-entry_at names task words = do
+unfoldable pub entry_name_at : Scope → List ℕ → List (List ℕ) → Read EntryName
+entry_name_at names task words = do
   name ← name_at words
   if has_entry names task name.0 then (optional_index_at name.1 >>= λ index. Ok (record { family = name.0; index = index.0 }, index.1)) else Err UnknownName
 
@@ -156,7 +156,7 @@ repeat_at step (suc room) before (word ∷ words) = do
   repeat_at step room (before ++ x.0 ∷ []) x.1
 
 abbrev pub tasks_at : Scope → List (List ℕ) → Read (List (List ℕ))
-tasks_at names words = repeat_at (λ before rest. task_at names rest) MOST_TASKS [] words
+tasks_at names words = repeat_at (λ before rest. task_name_at names rest) MOST_TASKS [] words
 
 unfoldable pub family_at : List Declaration → List (List ℕ) → Read Declaration
 family_at before words = do
@@ -207,21 +207,21 @@ call_within_at by callee entry words = do
   duration ← moment_at found.1
   Ok (CallWithin by callee entry duration.0, duration.1)
 
-unfoldable pub call_at : Scope → List ℕ → List (List ℕ) → Read Statement
-call_at names by words = do
-  callee ← task_at names words
-  entry ← entry_at names callee.0 callee.1
+unfoldable pub call_statement_at : Scope → List ℕ → List (List ℕ) → Read Statement
+call_statement_at names by words = do
+  callee ← task_name_at names words
+  entry ← entry_name_at names callee.0 callee.1
   if is_over entry.1 then Ok (Call by callee.0 entry.0, entry.1) else call_within_at by callee.0 entry.0 entry.1
 
 unfoldable pub try_at : Scope → List ℕ → List (List ℕ) → Read Statement
 try_at names by words = do
-  callee ← task_at names words
-  entry ← entry_at names callee.0 callee.1
+  callee ← task_name_at names words
+  entry ← entry_name_at names callee.0 callee.1
   Ok (Try by callee.0 entry.0, entry.1)
 
 unfoldable pub accept_at : Scope → List ℕ → List (List ℕ) → Read Statement
 accept_at names by words = do
-  entry ← entry_at names by words
+  entry ← entry_name_at names by words
   Ok (Accept by entry.0, entry.1)
 
 unfoldable pub delay_at : List ℕ → List (List ℕ) → Read Statement
@@ -281,7 +281,7 @@ pauses_at guard words = do
 -- an accept alternative behind its guard, and what follows it
 unfoldable pub choice_at : Scope → List ℕ → Bool → List (List ℕ) → Read (Alternative × Option Tail)
 choice_at names by guard words = do
-  entry ← entry_at names by words
+  entry ← entry_name_at names by words
   link ← link_at entry.1
   Ok ((record { guard = guard; entry = entry.0 }, link.0), link.1)
 
@@ -329,12 +329,12 @@ select_at names by words = do
 
 abbrev pub show_task_at : Scope → (List ℕ → Statement) → List (List ℕ) → Read Statement
 show_task_at names shown words = do
-  task ← task_at names words
+  task ← task_name_at names words
   Ok (shown task.0, task.1)
 
 abbrev pub show_count_at : Scope → List ℕ → List (List ℕ) → Read Statement
 show_count_at names by words = do
-  entry ← entry_at names by words
+  entry ← entry_name_at names by words
   Ok (ShowCount by entry.0, entry.1)
 
 unfoldable pub show_at : Scope → List ℕ → List (List ℕ) → Read Statement
@@ -356,7 +356,7 @@ act_at names by verbs.Create words = create_at names by words
 act_at names by verbs.Activate words = activate_at names by words
 act_at names by verbs.Up words = Ok (Up by, words)
 act_at names by verbs.Fail words = Ok (Fail by, words)
-act_at names by verbs.Call words = call_at names by words
+act_at names by verbs.Call words = call_statement_at names by words
 act_at names by verbs.Try words = try_at names by words
 act_at names by verbs.Accept words = accept_at names by words
 act_at names by verbs.Select words = select_at names by words

@@ -14,20 +14,20 @@ use Rattle.ada_tables.specs.Dependents.{Facts, task_at, has_block, holds, live_d
 use Rattle.ada_tables.specs.Counts.{facts}
 
 -- no task
-abbrev pub no_task : Task
-no_task = record { master = None; families = []; nest = []; live = 0; holder = 0; phase = Unstarted }
+abbrev pub no_record : Task
+no_record = record { master = None; families = []; nest = []; live = 0; holder = 0; phase = Unstarted }
 
 abbrev pub record_at : List Task → ℕ → Task
-record_at tasks task = slice_index_or tasks task no_task
+record_at tasks task = slice_index_or tasks task no_record
 
 -- a task that has just been made under a master, which that task holds
 abbrev pub made : Option Master → ℕ → List Family → Task
 made master holder families = record { master = master; families = families; nest = []; live = 0; holder = holder; phase = Unstarted }
 
 -- a task's record with the counts changed of the masters that it holds, from one of them outwards
-abbrev pub counted : Change → Master → Task → Task
-counted change (Body t) task = record task { live = changed change task.live }
-counted change (Block block) task = record task { live = changed change task.live; nest = moved_to (changed change) block task.nest }
+abbrev pub recounted : Change → Master → Task → Task
+recounted change (Body t) task = record task { live = changed change task.live }
+recounted change (Block block) task = record task { live = changed change task.live; nest = moved_to (changed change) block task.nest }
 
 -- the way outwards from a master goes by holders: that task holds the master, the holder that it keeps holds
 -- the one that it was made under, and so on to the main program, which was made under none. Of the first so
