@@ -1,12 +1,16 @@
 -- What a wait adds to an agenda.
-use Rattle.std.proofs.Common.{◌≡◌, ℕ, ◌+◌, Bool, true, false, List, Some, ◌∷◌, length, sym, refl, ◌∙◌, subst, inl, inr}
+use Rattle.std.proofs.Common.{◌≡◌, ℕ, ◌+◌, Bool, true, false, Option, List, Some, ◌∷◌, length, sym, refl, ◌∙◌, subst, inl, inr}
+use Rattle.std.specs.Option.{is_some}
 use Rattle.std.proofs.lemmas.Bool.{true≢false, false_from_ne_true}
 use Rattle.ada_events.specs.declared.event.Event.{Event}
 use Rattle.ada_events.specs.declared.event.Event.TheVariants.{Waiting}
 use Rattle.ada_events.specs.declared.event.EventTail.{EventTail}
+use Rattle.ada_events.specs.declared.event.Way.{Way}
 use Rattle.ada_events.specs.declared.names.TaskNo.{TaskNo}
 use Rattle.ada_events.specs.declared.names.Choice.{Choice}
 use Rattle.ada_events.specs.Says.{held_in}
+use Rattle.ada_events.specs.Tasks.{moment}
+use Rattle.ada_events.specs.Waits.{way_of}
 use Rattle.ada_events.specs.Phases.{is_terminated}
 use Rattle.ada_events.specs.Termination.{is_open_terminate}
 use Rattle.ada_events.specs.Lawful.{IsLawful}
@@ -38,22 +42,24 @@ waiter_live event before task lawful holds =
     false_from_ne_true (is_terminated before task) (λ ended. true≢false (sym (has_ended-terminated before task ended) ∙ ran.1))
 
 -- all that was put for a wait
-abbrev pub WaitKeys : List Event → ℕ → ℕ → Bool → Row → ℕ → Type 0
-WaitKeys before by at so = Both (Both (AsKey Taking at) (AsKey Passing at)) (When so (AsDependent before by))
+abbrev pub WaitKeys : List Event → ℕ → ℕ → Bool → Bool → Row → ℕ → Type 0
+WaitKeys before by at ends so = Both (Both (AsKey Taking at) (When ends (AsKey Passing at))) (When so (AsDependent before by))
 
-wait_key : (before : List Event) (by at : ℕ) (tail : EventTail) (so : Bool) (row : Row) (key : ℕ) → IsLawful before → is_terminated before by ≡ false
-    → at ≡ own before
-    → so ≡ is_open_terminate tail → OfWait before by tail row key → WaitKeys before by at so row key
-wait_key before by at tail so row key lawful live same is takes = inl (inl (rw same itself))
-wait_key before by at tail so row key lawful live same is passes = inl (inr (rw same itself))
-wait_key before by at tail so row key lawful live same is (wait_quits m opened depends) =
+wait_key : (before : List Event) (by at : ℕ) (way : Option Way) (ends : Bool) (tail : EventTail) (so : Bool) (row : Row) (key : ℕ) → IsLawful before
+    → is_terminated before by ≡ false → at ≡ own before → ends ≡ is_some way → so ≡ is_open_terminate tail → OfWait before by way tail row key
+    → WaitKeys before by at ends so row key
+wait_key before by at way ends tail so row key lawful live same told is takes = inl (inl (rw same itself))
+wait_key before by at way ends tail so row key lawful live same told is (passes there) = inl (inr (holds_so (told ∙ there) (rw same itself)))
+wait_key before by at way ends tail so row key lawful live same told is (wait_quits m opened depends) =
     let up = dependent_held before by m lawful live depends in
     inr (holds_so (is ∙ opened) (through up.holder m (quitting_row m) (quitting_key m) live depends up.held (quits m up.held)))
 
 pub wait_noted : (event : Event) (before : List Event) (old new : List (List ℕ)) (by : TaskNo) (pick : ℕ) (choices : List Choice) (tail : EventTail)
-    (at : ℕ) (so : Bool) → IsLawful (event ∷ before) → IsAgendaOf old before → event ≡ Waiting by pick choices tail → at ≡ length before + 1
-    → so ≡ is_open_terminate tail → Puts old new (WaitKeys before by.0 at so) → IsAgendaOf new (event ∷ before)
-wait_noted event before old new by pick choices tail at so lawful agenda is same opened puts =
-    noted event before old new (WaitKeys before by.0 at so) lawful agenda puts (λ row key added.
-    wait_key before by.0 at tail so row key lawful.0 (waiter_live event before by.0 lawful (waiter_held event by pick choices tail is)) (own_is before at same)
-    opened (subst (λ (e : Event). Adds before e row key) is added))
+    (at : ℕ) (ends so : Bool) → IsLawful (event ∷ before) → IsAgendaOf old before → event ≡ Waiting by pick choices tail → at ≡ length before + 1
+    → ends ≡ is_some (way_of (moment before) choices pick tail) → so ≡ is_open_terminate tail → Puts old new (WaitKeys before by.0 at ends so)
+    → IsAgendaOf new (event ∷ before)
+wait_noted event before old new by pick choices tail at ends so lawful agenda is same told opened puts =
+    noted event before old new (WaitKeys before by.0 at ends so) lawful agenda puts (λ row key added.
+    wait_key before by.0 at (way_of (moment before) choices pick tail) ends tail so row key lawful.0
+    (waiter_live event before by.0 lawful (waiter_held event by pick choices tail is)) (own_is before at same) told opened
+    (subst (λ (e : Event). Adds before e row key) is added))

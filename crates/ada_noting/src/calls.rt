@@ -1,24 +1,27 @@
 //! What calls and waits add to an agenda.
 
 ghost use Rattle.std.specs.Prelude.{◌≡◌, ◌<◌, true, false, ◌∷◌, length};
-ghost use Rattle.std.specs.Option.{option_map};
+ghost use Rattle.std.specs.Option.{is_some, option_map};
 ghost use Rattle.ada_events.specs.Lawful.{IsLawful};
 ghost use Rattle.ada_events.specs.Says.{Call, call_in, call_at};
 ghost use Rattle.ada_events.specs.declared.event.Event.TheVariants.{Cancelled as CancelledEvent, Ended as EndedEvent, Failed as FailedEvent};
 ghost use Rattle.ada_events.specs.declared.event.Event.TheVariants.{Waiting as WaitingEvent};
 ghost use Rattle.ada_events.specs.declared.names.TaskNo.{TaskNo as Number};
 ghost use Rattle.ada_touching.specs.Keeping.{IsAgendaOf};
+ghost use Rattle.ada_events.specs.Tasks.{moment};
 ghost use Rattle.ada_events.specs.Termination as ending;
+ghost use Rattle.ada_events.specs.Waits as waits;
 ghost use Rattle.ada_forcing.specs.Newly.{IsCallOf};
 ghost use Rattle.ada_noting.specs.internal.Keys.{Puts, When, AsDependent, AsCalleeAt, AsCallerAt};
 
 use crate::masters::put_dependent;
-use crate::passes::put_key;
+use crate::passes::{put_key, put_key_if};
 use ada_agenda::Agenda;
 use ada_events::{Choice, Event, EventTail, TaskNo};
 use ada_forcing::Row;
 use ada_rows::State;
 use ada_touching::keeping::{self, own_key};
+use ada_waits::way_of;
 
 // The task that an event calls.
 #[tactic(auto, unfolding(ada_events::specs::Says::call_in))]
@@ -88,13 +91,13 @@ fn caller_at(state: &State, at: u32) -> Option<TaskNo>
     }
 }
 
-// Puts who made the call at a position into the row of tasks that are halted.
+// Puts who made the call at a position, where that is abnormal, into the row of tasks that are halted.
 fn put_caller(agenda: &mut Agenda, state: &State, at: u32)
     requires many { length agenda.old ≡ 11 }
     ensures { Puts agenda.old agenda.new (AsCallerAt state.now at) }
 {
     match caller_at(state, at) {
-        Some(by) => put_key(agenda, Row::Halting, by.0 as usize),
+        Some(by) => put_key_if(agenda, Row::Halting, by.0 as usize, state.is_abnormal(by)),
         None => (),
     }
 }
@@ -148,30 +151,38 @@ fn put_dependent_if(agenda: &mut Agenda, state: &State, task: TaskNo, so: bool)
     }
 }
 
-/// Notes that a task waits selectively (9.7.1): that it takes a call or passes, and with an open terminate alternative
-/// what the masters may force on which the task depends, may be forced.
+// Whether a wait that comes next ends otherwise than by a call, where it takes none (9.7.1).
+fn is_to_pass(state: &State, pick: u32, choices: &[Choice], tail: &EventTail) -> bool
+    ensures { result ≡ is_some (waits.way_of (moment state.now) choices.now pick tail.now) }
+{
+    way_of(state.moment(), choices, pick, tail).is_some()
+}
+
+/// Notes that a task waits selectively (9.7.1): that it takes a call, that it passes, where there is a way, and with an
+/// open terminate alternative what the masters may force on which the task depends, may be forced.
 pub(crate) fn note_wait(
     agenda: &mut Agenda,
     state: &State,
     event: &Event,
     by: TaskNo,
-    _pick: u32,
-    _choices: &[Choice],
+    pick: u32,
+    choices: &[Choice],
     tail: &EventTail,
 )
     requires lawful { IsLawful (event.now ∷ state.now) }
     requires stands { IsAgendaOf agenda.old state.now }
-    requires waits { event.now ≡ WaitingEvent by _pick _choices.now tail.now }
+    requires waits { event.now ≡ WaitingEvent by pick choices.now tail.now }
     ensures { IsAgendaOf agenda.new (event.now ∷ state.now) }
 {
     let own = own_key(state.journal(), event);
     put_key(agenda, Row::Taking, own);
-    put_key(agenda, Row::Passing, own);
+    let passes = is_to_pass(state, pick, choices, tail);
+    put_key_if(agenda, Row::Passing, own, passes);
     put_dependent_if(agenda, state, by, is_open_terminate(tail));
 }
 
-/// Notes that an entry of a task is called (9.5): that the call fails or is cancelled, and that the wait takes it at
-/// which the callee is suspended, may be forced.
+/// Notes that an entry of a task is called (9.5): that the call fails, where the task has ended or is abnormal, that it
+/// is cancelled, where it is given up, and that the wait takes it at which the task is suspended, may be forced.
 pub(crate) fn note_call(agenda: &mut Agenda, state: &State, event: &Event, callee: TaskNo)
     requires lawful { IsLawful (event.now ∷ state.now) }
     requires stands { IsAgendaOf agenda.old state.now }
@@ -179,5 +190,7 @@ pub(crate) fn note_call(agenda: &mut Agenda, state: &State, event: &Event, calle
     ensures { IsAgendaOf agenda.new (event.now ∷ state.now) }
 {
     let at = state.record(callee).doing.at;
-    keeping::note_call(agenda, state.journal(), event, callee, at);
+    let lost = state.is_lost(callee);
+    let given_up = state.gives_up(event);
+    keeping::note_call(agenda, state.journal(), event, callee, at, lost, given_up);
 }

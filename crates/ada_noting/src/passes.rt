@@ -5,7 +5,7 @@ ghost use Rattle.ada_events.specs.Lawful.{IsLawful};
 ghost use Rattle.ada_events.specs.Search.{is_some_and, event_at};
 ghost use Rattle.ada_events.specs.Tasks.{task_count};
 ghost use Rattle.ada_touching.specs.Keeping.{Grows, has_key};
-ghost use Rattle.ada_noting.specs.internal.Keys.{Puts, OfFirst, AsKey, AsHeld, AsCaller, AsLost, calls};
+ghost use Rattle.ada_noting.specs.internal.Keys.{Puts, OfFirst, When, AsKey, AsHeld, AsCaller, AsLost, calls};
 
 use ada_agenda::Agenda;
 use ada_events::{Event, TaskNo};
@@ -21,6 +21,18 @@ pub(crate) fn put_key(agenda: &mut Agenda, row: Row, key: usize)
     ensures { Puts agenda.old agenda.new (AsKey row key) }
 {
     put(agenda, row, key);
+}
+
+// Puts a key into a row, where that is so.
+#[tactic(auto, using(crate::proofs::Putting::so_put, crate::proofs::Putting::not_put))]
+pub(crate) fn put_key_if(agenda: &mut Agenda, row: Row, key: usize, so: bool)
+    requires many { length agenda.old ≡ 11 }
+    requires fits { key < 69632 }
+    ensures { Puts agenda.old agenda.new (When so (AsKey row key)) }
+{
+    if so {
+        put_key(agenda, row, key);
+    }
 }
 
 /// Puts the numbers of all tasks into a row.

@@ -1,7 +1,9 @@
 -- The open choices of a wait name entries of its task, and what tables hold of their queues.
-use Rattle.std.proofs.Common.{◌≡◌, ℕ, ◌<◌, ◌&&◌, Some, None, List, [], ◌∷◌, map, refl, sym, ap, ◌∙◌, subst}
+use Rattle.std.proofs.Common.{◌≡◌, ℕ, ◌<◌, ◌%◌, ◌&&◌, Bool, true, false, Some, None, List, [], ◌∷◌, map, length, refl, sym, ap, ◌∙◌, subst, arith}
 use Rattle.std.proofs.Common.{inl, inr}
 use Rattle.std.specs.Prelude.{slice_get}
+use Rattle.std.specs.Bool.{then_some}
+use Rattle.std.proofs.lemmas.Nat.{mod_below}
 use Rattle.std.proofs.lemmas.Option.{none-some, same_Some}
 use Rattle.ada_events.specs.declared.event.Event.{Event}
 use Rattle.ada_events.specs.declared.names.Choice.{Choice}
@@ -14,6 +16,7 @@ use Rattle.ada_events.specs.Asks.{asked_event}
 use Rattle.ada_events.specs.Tasks.{families_of}
 use Rattle.ada_events.specs.Slots.{number_within}
 use Rattle.ada_events.specs.Calls.{queue}
+use Rattle.ada_events.specs.Waits.{picked, numbers_from}
 use Rattle.ada_events.specs.Refusals.{refusal, lacks_family, is_outside, names_no_family, breaks_constraint}
 use Rattle.ada_events.specs.Lawful.{IsLawful, MayFollow}
 use Rattle.ada_laws.proofs.Searching.{event_at-cases}
@@ -83,3 +86,19 @@ front_is (first ∷ rest) positions is = rw (sym is) refl
 pub front_told : (tables : TableState) (journal : List Event) (task : ℕ) (entry : Entry) → StandFor tables journal → HasEntry tables.tasks task entry
     → front_call (queue_at tables.queues (slot_at tables.tasks task entry)) ≡ slice_get (queue journal task entry) 0
 front_told tables journal task entry stand has = front_is _ (queue journal task entry) (stand.queues task entry has).positions
+
+mod_one : (n : ℕ) → n % 1 ≡ 0
+mod_one n =
+    let below : n % 1 < 1 = mod_below n 1 (omega arith) in
+    omega (arith, below)
+
+-- of one choice it is the first that is picked, where it passes
+pub one_picked : (test : Choice → Bool) (pick : ℕ) (choice : Choice) (rest : List Choice) → length rest ≡ 0
+    → picked pick (numbers_from test 0 (choice ∷ rest)) ≡ then_some (test choice) 0
+unfolding numbers_from
+one_picked test pick choice [] none = by_test (test choice) refl
+  where
+    by_test : (passes : Bool) → test choice ≡ passes → picked pick (numbers_from test 0 (choice ∷ [])) ≡ then_some (test choice) 0
+    by_test true is = rw is (ap (slice_get (0 ∷ [])) (mod_one pick))
+    by_test false is = rw is refl
+one_picked test pick choice (a ∷ rest) none = absurd (omega (arith, none))

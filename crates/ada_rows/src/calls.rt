@@ -5,17 +5,18 @@ ghost use Rattle.std.specs.Bool.{then_some};
 ghost use Rattle.ada_events.specs.Calls.{is_pending, is_met};
 ghost use Rattle.ada_events.specs.Forced as forced;
 ghost use Rattle.ada_events.specs.Says.{held_in};
-ghost use Rattle.ada_events.specs.Waits as waits;
 ghost use Rattle.ada_events.specs.Phases.{has_ended, is_abnormal};
 ghost use Rattle.ada_events.specs.Search.{event_at};
 ghost use Rattle.ada_events.specs.declared.event.Event.TheVariants as step;
 ghost use Rattle.ada_forcing.specs.Rows.{step_at};
 ghost use Rattle.ada_forcing.specs.declared.row.Row.TheVariants as row;
+ghost use Rattle.ada_touching.specs.Kinds.{gives_up};
 ghost use Rattle.ada_rows.specs.internal.Deciding.{is_to_halt_by, is_lost_by as lost, is_queued_by as queued};
 
 use crate::state::State;
 use ada_events::{Event, Patience, TaskNo};
 use ada_records::Record;
+use ada_waits::is_due;
 
 // Whether the task of this record is to be halted.
 fn is_to_halt(kept: &Record) -> bool
@@ -46,16 +47,6 @@ fn is_conditional(patience: Patience) -> bool
     matches!(patience, Patience::Conditional)
 }
 
-// Whether the due moment, where there is one, has come.
-fn is_due(now: i64, due: Option<i64>) -> bool
-    ensures { result ≡ waits.is_due now due }
-{
-    match due {
-        Some(due) => due <= now,
-        None => false,
-    }
-}
-
 impl<'a> State<'a> {
     /// Whether the task is halted (9.10): it is abnormal, hasn't ended, and isn't the caller of a rendezvous.
     #[tactic(auto, using(crate::proofs::Deciding::halts_told))]
@@ -71,6 +62,27 @@ impl<'a> State<'a> {
         ensures { result ≡ (has_ended self.now task.0 || is_abnormal self.now task.0) }
     {
         is_lost_by(&self.record(task))
+    }
+
+    /// Whether the task is abnormal (9.10).
+    pub fn is_abnormal(&self, task: TaskNo) -> bool
+        ensures { result ≡ is_abnormal self.now task.0 }
+    {
+        self.record(task).stage.abnormal
+    }
+
+    /// Whether the event is a call that is given up where it isn't served at once (9.7.2, 9.7.3): it is conditional, or
+    /// its moment has come.
+    #[tactic(auto, unfolding(ada_events::specs::Says::call_in))]
+    pub fn gives_up(&self, event: &Event) -> bool
+        ensures { result ≡ gives_up self.now event.now }
+    {
+        match event {
+            Event::Called { patience, due, .. } => {
+                is_conditional(*patience) || is_due(self.moment(), *due)
+            }
+            _ => false,
+        }
     }
 
     // Whether the event is a call that fails.

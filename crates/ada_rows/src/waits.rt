@@ -1,6 +1,7 @@
 //! The rows of selective waits (9.7.1): what takes a call, and what ends otherwise.
 
 ghost use Rattle.std.specs.Prelude.{◌≡◌, ◌≤◌, Some, length, slice_get};
+ghost use Rattle.std.specs.Bool.{then_some};
 ghost use Rattle.std.specs.Option.{option_and_then, option_map, unwrap_or};
 ghost use Rattle.ada_events.specs.Lawful.{IsLawful};
 ghost use Rattle.ada_events.specs.Outcomes as outcomes;
@@ -66,14 +67,30 @@ impl<'a> State<'a> {
         }
     }
 
-    // The number of the choice by which a wait with these choices takes a call.
+    // The number of a choice that is the only one, where it is selectable.
+    fn only_choice(&self, task: TaskNo, choice: Choice) -> Option<u8>
+        requires { IsOfTask self.now task.0 choice }
+        ensures { result ≡ then_some (waits.is_selectable self.now task.0 choice) 0 }
+    {
+        if self.is_selectable(task, choice) {
+            Some(0)
+        } else {
+            None
+        }
+    }
+
+    // The number of the choice by which a wait with these choices takes a call. Most waits have one choice.
+    #[tactic(auto, using(crate::proofs::Choosing::one_picked))]
     fn taken_choice(&self, task: TaskNo, choices: &[Choice], pick: u32) -> Option<u8>
         requires few { length choices.now ≤ MOST_CHOICES }
         requires declared { AreOfTask self.now task.0 choices.now }
         ensures { result ≡ waits.picked pick
             (waits.numbers_from (waits.is_selectable self.now task.0) 0 choices.now) }
     {
-        picked(pick, self.selectable(task, choices).as_slice())
+        match choices.split_first() {
+            Some((choice, rest)) if rest.is_empty() => self.only_choice(task, *choice),
+            _ => picked(pick, self.selectable(task, choices).as_slice()),
+        }
     }
 
     // The call that a wait with these choices takes.

@@ -151,7 +151,7 @@ lost_by event before u p only call (inr over) = absurd (none_over event before u
 
 change_key : (event : Event) (before : List Event) (row : Row) (key : ℕ) → IsLawful (event ∷ before) → OnlyChanges event → Key event before row key
     → ChangeKey event before row key
-change_key event before row key lawful only (own same says) = absurd (no_own event row only.silent says)
+change_key event before row key lawful only (own same says) = absurd (no_own event before row only.silent says)
 change_key event before row key lawful only (made c says) = makes c says
 change_key event before row key lawful only (hit u new) = hits u new
 change_key event before row key lawful only (freed u p call released at by abnormal) = absurd (none-some p (sym only.releases ∙ released))

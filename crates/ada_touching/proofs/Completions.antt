@@ -188,7 +188,7 @@ done_key e before task t p only of (inr over) =
 
 pub completion_key : (e : Event) (before : List Event) (task : TaskNo) (row : Row) (key : ℕ) → IsLawful (e ∷ before) → OnlyCompletes e task
     → Key e before row key → OfHalt e before task row key
-completion_key e before task row key lawful only (own same says) = absurd (no_own e row only.silent says)
+completion_key e before task row key lawful only (own same says) = absurd (no_own e before row only.silent says)
 completion_key e before task row key lawful only (made c says) = absurd (none-some c (sym only.makes ∙ says))
 completion_key e before task row key lawful only (hit u new) = absurd (no_hit e before task u only new)
 completion_key e before task row key lawful only (freed u p call released at by abnormal) = absurd (none-some p (sym only.releases ∙ released))

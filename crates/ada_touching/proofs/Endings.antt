@@ -129,7 +129,7 @@ done_why e before t p Ends of active (inr over) = each t Activating p (of.over t
 
 pub end_key : (e : Event) (before : List Event) (row : Row) (key : ℕ) (Ends : ℕ → Type 0) → IsLawful (e ∷ before) → IsEndOf e before Ends → Key e before row key
     → EndKey before e Ends row key
-end_key e before row key Ends lawful of (own same says) = absurd (no_own e row of.only.silent says)
+end_key e before row key Ends lawful of (own same says) = absurd (no_own e before row of.only.silent says)
 end_key e before row key Ends lawful of (made c says) = absurd (none-some c (sym of.only.makes ∙ says))
 end_key e before row key Ends lawful of (hit u new) = absurd (unhit e before u of.only new)
 end_key e before row key Ends lawful of (freed u p call released at by abnormal) = absurd (none-some p (sym of.only.releases ∙ released))

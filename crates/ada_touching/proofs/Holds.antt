@@ -19,8 +19,12 @@ use Rattle.ada_events.specs.Lawful.{IsLawful}
 use Rattle.ada_laws.specs.Suspension.{IsSuspendedAt}
 use Rattle.ada_forcing.specs.declared.row.Row.{Row}
 use Rattle.ada_forcing.specs.declared.row.Row.TheVariants.{Halting, Failing, Taking, Cancelling, Passing, Waking, Activating, QuittingBlock, Leaving}
-use Rattle.ada_records.proofs.Holding.{IsQuiet, quiet_ends}
-use Rattle.ada_touching.specs.Kinds.{itself, IsUnstartedIn, ComesDue, OfStart, OfCall, OfWait, OfDelay, OfClose, OfTick}
+use Rattle.ada_events.specs.Tasks.{moment}
+use Rattle.ada_forcing.specs.Touching.{is_lost}
+use Rattle.ada_records.proofs.Calling.{same_abnormal}
+use Rattle.ada_records.proofs.Holding.{IsQuiet, quiet_ends, quiet_ended}
+use Rattle.ada_events.specs.Waits.{way_of}
+use Rattle.ada_touching.specs.Kinds.{itself, is_given_up, IsUnstartedIn, ComesDue, OfStart, OfCall, OfWait, OfDelay, OfClose, OfTick}
 use Rattle.ada_touching.specs.Kinds.OfStart.{is_over}
 use Rattle.ada_touching.specs.Kinds.OfCall.{fails, is_cancelled, is_taken}
 use Rattle.ada_touching.specs.Kinds.OfWait.{takes, passes, quits}
@@ -54,14 +58,14 @@ opens_quiet : (by : TaskNo) (under : Master) → IsQuiet (opens by under)
 unfolding completed_in gone_in quit_in aborted_in elaborated_in failed_in creation_in
 opens_quiet by under = record { completes = refl; goes = refl; quits = refl; aborts = refl; elaborates = refl; fails = refl; makes = refl }
 
-opens_own : (by : TaskNo) (under : Master) (row : Row) → says_row row (opens by under) ≡ true → ⊥
+opens_own : (by : TaskNo) (under : Master) (before : List Event) (row : Row) → says_row before row (opens by under) ≡ true → ⊥
 unfolding call_in wait_in delay_in start_in closing_in
-opens_own by under Halting says = false≢true says
-opens_own by under _ says = false≢true says
+opens_own by under before Halting says = false≢true says
+opens_own by under before _ says = false≢true says
 
 opened_quietly : (by : TaskNo) (under : Master) (before : List Event) (row : Row) (key : ℕ) → QuietKey (opens by under) before row key → ⊥
 unfolding call_in wait_in closing_in released_in moment_in meeting_in
-opened_quietly by under before row key (at_own same says) = opens_own by under row says
+opened_quietly by under before row key (at_own same says) = opens_own by under before row says
 opened_quietly by under before row key (frees_caller u p call released at is abnormal) = none-some p released
 opened_quietly by under before row key (calls_waiting call p says waits) = none-some call says
 opened_quietly by under before row key (brings_moment now same p says comes) = none-some now says
@@ -83,7 +87,7 @@ starts_quiet : (by : TaskNo) (tasks : List TaskNo) → IsQuiet (starts by tasks)
 unfolding completed_in gone_in quit_in aborted_in elaborated_in failed_in creation_in
 starts_quiet by tasks = record { completes = refl; goes = refl; quits = refl; aborts = refl; elaborates = refl; fails = refl; makes = refl }
 
-starts_own : (by : TaskNo) (tasks : List TaskNo) (before : List Event) (row : Row) → says_row row (starts by tasks) ≡ true → OfStart before row (itself before)
+starts_own : (by : TaskNo) (tasks : List TaskNo) (before : List Event) (row : Row) → says_row before row (starts by tasks) ≡ true → OfStart before row (itself before)
 unfolding call_in wait_in delay_in start_in closing_in
 starts_own by tasks before Activating says = is_over
 starts_own by tasks before _ says = absurd (false≢true says)
@@ -114,15 +118,21 @@ asks_quiet : (by callee : TaskNo) (entry : Entry) (patience : Patience) (due : O
 unfolding completed_in gone_in quit_in aborted_in elaborated_in failed_in creation_in
 asks_quiet by callee entry patience due = record { completes = refl; goes = refl; quits = refl; aborts = refl; elaborates = refl; fails = refl; makes = refl }
 
+same_lost : (by callee : TaskNo) (entry : Entry) (patience : Patience) (due : Option ℤ) (before : List Event) (u : ℕ)
+    → is_lost (asks by callee entry patience due ∷ before) u ≡ is_lost before u
+same_lost by callee entry patience due before u =
+    let quiet = asks_quiet by callee entry patience due in
+    rw (quiet_ended (asks by callee entry patience due) before u quiet, same_abnormal (asks by callee entry patience due) before u quiet) refl
+
 asks_own : (by callee : TaskNo) (entry : Entry) (patience : Patience) (due : Option ℤ) (before : List Event) (row : Row)
-    → says_row row (asks by callee entry patience due) ≡ true → OfCall before callee.0 row (itself before)
-unfolding call_in wait_in delay_in start_in closing_in
-asks_own by callee entry patience due before Failing says = fails
-asks_own by callee entry patience due before Cancelling says = is_cancelled
+    → says_row before row (asks by callee entry patience due) ≡ true → OfCall before callee.0 (is_given_up before patience due) row (itself before)
+unfolding call_in wait_in delay_in start_in closing_in moment moment_in
+asks_own by callee entry patience due before Failing says = fails (sym (same_lost by callee entry patience due before callee.0) ∙ says)
+asks_own by callee entry patience due before Cancelling says = is_cancelled says
 asks_own by callee entry patience due before _ says = absurd (false≢true says)
 
 asked_quietly : (by callee : TaskNo) (entry : Entry) (patience : Patience) (due : Option ℤ) (before : List Event) (row : Row) (key : ℕ)
-    → QuietKey (asks by callee entry patience due) before row key → OfCall before callee.0 row key
+    → QuietKey (asks by callee entry patience due) before row key → OfCall before callee.0 (is_given_up before patience due) row key
 unfolding call_in wait_in closing_in released_in moment_in meeting_in
 asked_quietly by callee entry patience due before row key (at_own same says) = asks_own by callee entry patience due before row says
 asked_quietly by callee entry patience due before row key (frees_caller u p call released at is abnormal) = absurd (none-some p released)
@@ -136,7 +146,7 @@ asked_quietly by callee entry patience due before row key (empties_queue m v lef
     absurd (kept_queued (asks by callee entry patience due) before v (asks_quiet by callee entry patience due) refl refl left)
 
 pub call_adds : (by callee : TaskNo) (entry : Entry) (patience : Patience) (due : Option ℤ) (before : List Event) (row : Row) (key : ℕ)
-    → IsLawful (asks by callee entry patience due ∷ before) → Key (asks by callee entry patience due) before row key → OfCall before callee.0 row key
+    → IsLawful (asks by callee entry patience due ∷ before) → Key (asks by callee entry patience due) before row key → OfCall before callee.0 (is_given_up before patience due) row key
 call_adds by callee entry patience due before row key lawful touched =
     asked_quietly by callee entry patience due before row key
     (quietly (asks by callee entry patience due) before row key lawful (asks_quiet by callee entry patience due) touched)
@@ -150,14 +160,14 @@ unfolding completed_in gone_in quit_in aborted_in elaborated_in failed_in creati
 waits_quiet by pick choices tail = record { completes = refl; goes = refl; quits = refl; aborts = refl; elaborates = refl; fails = refl; makes = refl }
 
 waits_own : (by : TaskNo) (pick : ℕ) (choices : List Choice) (tail : EventTail) (before : List Event) (row : Row)
-    → says_row row (waits_for by pick choices tail) ≡ true → OfWait before by.0 tail row (itself before)
-unfolding call_in wait_in delay_in start_in closing_in
+    → says_row before row (waits_for by pick choices tail) ≡ true → OfWait before by.0 (way_of (moment before) choices pick tail) tail row (itself before)
+unfolding call_in wait_in delay_in start_in closing_in moment moment_in
 waits_own by pick choices tail before Taking says = takes
-waits_own by pick choices tail before Passing says = passes
+waits_own by pick choices tail before Passing says = passes says
 waits_own by pick choices tail before _ says = absurd (false≢true says)
 
 waited_quietly : (by : TaskNo) (pick : ℕ) (choices : List Choice) (tail : EventTail) (before : List Event) (row : Row) (key : ℕ)
-    → QuietKey (waits_for by pick choices tail) before row key → OfWait before by.0 tail row key
+    → QuietKey (waits_for by pick choices tail) before row key → OfWait before by.0 (way_of (moment before) choices pick tail) tail row key
 unfolding call_in wait_in closing_in released_in moment_in meeting_in
 waited_quietly by pick choices tail before row key (at_own same says) = waits_own by pick choices tail before row says
 waited_quietly by pick choices tail before row key (frees_caller u p call released at is abnormal) = absurd (none-some p released)
@@ -173,7 +183,7 @@ waited_quietly by pick choices tail before row key (empties_queue m v left ready
     absurd (kept_queued (waits_for by pick choices tail) before v (waits_quiet by pick choices tail) refl refl left)
 
 pub wait_adds : (by : TaskNo) (pick : ℕ) (choices : List Choice) (tail : EventTail) (before : List Event) (row : Row) (key : ℕ)
-    → IsLawful (waits_for by pick choices tail ∷ before) → Key (waits_for by pick choices tail) before row key → OfWait before by.0 tail row key
+    → IsLawful (waits_for by pick choices tail ∷ before) → Key (waits_for by pick choices tail) before row key → OfWait before by.0 (way_of (moment before) choices pick tail) tail row key
 wait_adds by pick choices tail before row key lawful touched =
     waited_quietly by pick choices tail before row key
     (quietly (waits_for by pick choices tail) before row key lawful (waits_quiet by pick choices tail) touched)
@@ -186,7 +196,7 @@ delays_quiet : (by : TaskNo) (until : ℤ) → IsQuiet (delays by until)
 unfolding completed_in gone_in quit_in aborted_in elaborated_in failed_in creation_in
 delays_quiet by until = record { completes = refl; goes = refl; quits = refl; aborts = refl; elaborates = refl; fails = refl; makes = refl }
 
-delays_own : (by : TaskNo) (until : ℤ) (before : List Event) (row : Row) → says_row row (delays by until) ≡ true → OfDelay before row (itself before)
+delays_own : (by : TaskNo) (until : ℤ) (before : List Event) (row : Row) → says_row before row (delays by until) ≡ true → OfDelay before row (itself before)
 unfolding call_in wait_in delay_in start_in closing_in
 delays_own by until before Waking says = wakes
 delays_own by until before _ says = absurd (false≢true says)
@@ -216,7 +226,7 @@ shuts_quiet : (by : TaskNo) (block : ℕ) → IsQuiet (shuts by block)
 unfolding completed_in gone_in quit_in aborted_in elaborated_in failed_in creation_in
 shuts_quiet by block = record { completes = refl; goes = refl; quits = refl; aborts = refl; elaborates = refl; fails = refl; makes = refl }
 
-shuts_own : (by : TaskNo) (block : ℕ) (before : List Event) (row : Row) → says_row row (shuts by block) ≡ true → OfClose before block row (itself before)
+shuts_own : (by : TaskNo) (block : ℕ) (before : List Event) (row : Row) → says_row before row (shuts by block) ≡ true → OfClose before block row (itself before)
 unfolding call_in wait_in delay_in start_in closing_in
 shuts_own by block before Leaving says = leaves
 shuts_own by block before _ says = absurd (false≢true says)
@@ -252,14 +262,14 @@ ticks_quiet : (to : ℤ) → IsQuiet (ticks to)
 unfolding completed_in gone_in quit_in aborted_in elaborated_in failed_in creation_in
 ticks_quiet to = record { completes = refl; goes = refl; quits = refl; aborts = refl; elaborates = refl; fails = refl; makes = refl }
 
-ticks_own : (to : ℤ) (row : Row) → says_row row (ticks to) ≡ true → ⊥
+ticks_own : (to : ℤ) (before : List Event) (row : Row) → says_row before row (ticks to) ≡ true → ⊥
 unfolding call_in wait_in delay_in start_in closing_in
-ticks_own to Halting says = false≢true says
-ticks_own to _ says = false≢true says
+ticks_own to before Halting says = false≢true says
+ticks_own to before _ says = false≢true says
 
 ticked_quietly : (to : ℤ) (before : List Event) (row : Row) (key : ℕ) → QuietKey (ticks to) before row key → OfTick before to row key
 unfolding call_in wait_in closing_in released_in moment_in meeting_in
-ticked_quietly to before row key (at_own same says) = absurd (ticks_own to row says)
+ticked_quietly to before row key (at_own same says) = absurd (ticks_own to before row says)
 ticked_quietly to before row key (frees_caller u p call released at is abnormal) = absurd (none-some p released)
 ticked_quietly to before row key (calls_waiting call p says waits) = absurd (none-some call says)
 ticked_quietly to before row key (brings_moment now same p says comes) =

@@ -1,5 +1,5 @@
 -- Agendas that are kept up with their journal.
-use Rattle.std.proofs.Common.{◌≡◌, ◌≢◌, ℕ, ◌+◌, ◌<◌, ◌≤◌, true, List, ◌∷◌, length, sym, refl, ap, ◌∙◌, subst, arith, ◌⊎◌, inl, inr}
+use Rattle.std.proofs.Common.{◌≡◌, ◌≢◌, ℕ, ◌+◌, ◌<◌, ◌≤◌, Bool, true, List, ◌∷◌, length, sym, refl, ap, ◌∙◌, subst, arith, ◌⊎◌, inl, inr}
 use Rattle.std.specs.Option.{is_some}
 use Rattle.std.proofs.lemmas.Bool.{cases_eq, cases_lt, false≢true, both_ways}
 use Rattle.std.proofs.lemmas.Option.{none-some, same_Some}
@@ -22,7 +22,8 @@ use Rattle.ada_forcing.specs.Rows.{rank}
 use Rattle.ada_agenda.specs.Rows.{keeps}
 use Rattle.ada_records.specs.Records.{IsHeldAt}
 use Rattle.ada_touching.specs.Keeping.{has_key, IsAgendaOf, Grows}
-use Rattle.ada_touching.specs.Kinds.{itself, OfCreation, OfStart, OfCall, OfDelay, Adds}
+use Rattle.ada_forcing.specs.Touching.{is_lost}
+use Rattle.ada_touching.specs.Kinds.{itself, is_given_up, gives_up, OfCreation, OfStart, OfCall, OfDelay, Adds}
 use Rattle.ada_touching.specs.Kinds.OfCreation.{goes}
 use Rattle.ada_touching.specs.Kinds.OfStart.{is_over}
 use Rattle.ada_touching.specs.Kinds.OfCall.{fails, is_cancelled, is_taken}
@@ -146,11 +147,11 @@ creation_noted event before old new task lawful agenda creates same grows here =
 
 -- a call
 of_call : (event : Event) (before : List Event) (callee : ℕ) (row : Row) (key : ℕ) → IsCallOf event callee → Adds before event row key
-    → OfCall before callee row key
+    → OfCall before callee (gives_up before event) row key
 unfolding call_in
 of_call (Called by task entry patience due) before callee row key calls added =
     let same : task.0 ≡ callee = ap (λ (c : Call). c.callee) (same_Some _ calls.call calls.says) ∙ calls.of in
-    subst (λ (n : ℕ). OfCall before n row key) same added
+    subst (λ (n : ℕ). OfCall before n (is_given_up before patience due) row key) same added
 of_call _ before callee row key calls added = absurd (none-some calls.call calls.says)
 
 -- where a task is suspended, if it is
@@ -161,22 +162,25 @@ held_there before task at p lawful held suspended =
       | inr none ↦ absurd (both_ways (is_suspended before task) (held.free (omega arith)) (is_suspended-from before task p suspended))
     ]
 
-pub record HasCallKeys (before : List Event) (new : List (List ℕ)) (own at : ℕ) : Type 0 where
-  pub failing : has_key new Failing own ≡ true
-  pub cancelling : has_key new Cancelling own ≡ true
+pub record HasCallKeys (before : List Event) (new : List (List ℕ)) (callee own at : ℕ) (given_up : Bool) : Type 0 where
+  pub failing : is_lost before callee ≡ true → has_key new Failing own ≡ true
+  pub cancelling : given_up ≡ true → has_key new Cancelling own ≡ true
   pub taking : 0 < at → has_key new Taking at ≡ true
 
-has_call_key : (before : List Event) (new : List (List ℕ)) (callee at own : ℕ) (row : Row) (key : ℕ) → IsLawful before → IsHeldAt before callee at
-    → own ≡ itself before → HasCallKeys before new own at → OfCall before callee row key → has_key new row key ≡ true
-has_call_key before new callee at own row key lawful held same has fails = ap (has_key new Failing) (sym same) ∙ has.failing
-has_call_key before new callee at own row key lawful held same has is_cancelled = ap (has_key new Cancelling) (sym same) ∙ has.cancelling
-has_call_key before new callee at own row key lawful held same has (is_taken p suspended) =
+has_call_key : (before : List Event) (new : List (List ℕ)) (callee at own : ℕ) (given_up : Bool) (row : Row) (key : ℕ) → IsLawful before
+    → IsHeldAt before callee at → own ≡ itself before → HasCallKeys before new callee own at given_up → OfCall before callee given_up row key
+    → has_key new row key ≡ true
+has_call_key before new callee at own given_up row key lawful held same has (fails lost) = ap (has_key new Failing) (sym same) ∙ has.failing lost
+has_call_key before new callee at own given_up row key lawful held same has (is_cancelled gives) =
+    ap (has_key new Cancelling) (sym same) ∙ has.cancelling gives
+has_call_key before new callee at own given_up row key lawful held same has (is_taken p suspended) =
     let there = held_there before callee at p lawful held suspended in
     ap (has_key new Taking) there.1 ∙ has.taking there.0
 
 pub call_noted : (event : Event) (before : List Event) (old new : List (List ℕ)) (callee at own : ℕ) → IsLawful (event ∷ before) → IsAgendaOf old before
-    → IsCallOf event callee → IsHeldAt before callee at → own ≡ length before + 1 → Grows old new → HasCallKeys before new own at
-    → IsAgendaOf new (event ∷ before)
+    → IsCallOf event callee → IsHeldAt before callee at → own ≡ length before + 1 → Grows old new
+    → HasCallKeys before new callee own at (gives_up before event) → IsAgendaOf new (event ∷ before)
 call_noted event before old new callee at own lawful agenda calls held same grows has =
     grown event before old new lawful agenda grows (λ row key added.
-    has_call_key before new callee at own row key lawful.0 held (own_is before own same) has (of_call event before callee row key calls added))
+    has_call_key before new callee at own (gives_up before event) row key lawful.0 held (own_is before own same) has
+    (of_call event before callee row key calls added))

@@ -28,7 +28,7 @@ use Rattle.ada_touching.proofs.Refining.Key.{leaving}
 
 -- what such an event touches
 pub data QuietKey (event : Event) (before : List Event) : Row → ℕ → Type 0 where
-  at_own : (row : Row) → says_row row event ≡ true → QuietKey event before row (itself before)
+  at_own : (row : Row) → says_row before row event ≡ true → QuietKey event before row (itself before)
   frees_caller : (u p : ℕ) (call : Call) → released_in event ≡ Some p → IsCallAt before call p → call.by ≡ u → is_abnormal before u ≡ true
       → QuietKey event before Halting u
   calls_waiting : (call : Call) (p : ℕ) → call_in event ≡ Some call → IsSuspendedAt before call.callee p → QuietKey event before Taking p

@@ -1,5 +1,5 @@
 -- What an event touches, with what the step at the key says of it.
-use Rattle.std.proofs.Common.{◌≡◌, ℕ, ℤ, suc, ◌<◌, ◌≤◌, Bool, true, false, ◌&&◌, Option, Some, None, List, ◌∷◌, length, sym, refl, ap, ◌∙◌, subst, arith, ◌⊎◌}
+use Rattle.std.proofs.Common.{◌≡◌, ℕ, ℤ, suc, ◌<◌, ◌≤◌, Bool, true, false, ◌&&◌, ◌||◌, Option, Some, None, List, ◌∷◌, length, sym, refl, ap, ◌∙◌, subst, arith, ◌⊎◌}
 use Rattle.std.proofs.Common.{inl, inr, nat_lt}
 use Rattle.std.specs.Option.{is_some, option_map, option_and_then}
 use Rattle.std.specs.Bool.{then_some}
@@ -9,17 +9,19 @@ use Rattle.std.proofs.lemmas.Option.{none-some, same_Some, option_and_then_some}
 use Rattle.ada_events.specs.declared.event.Event.{Event}
 use Rattle.ada_events.specs.declared.event.Event.TheVariants as event
 use Rattle.ada_events.specs.declared.event.Event.TheVariants.{Halted, Failed, Met, Cancelled, Passed, Woken, Gone, Quit, Left}
+use Rattle.ada_events.specs.declared.event.Way.{Way}
 use Rattle.ada_events.specs.declared.names.TaskNo.{TaskNo}
 use Rattle.ada_events.specs.declared.names.Master.{Master}
 use Rattle.ada_events.specs.declared.names.Master.TheVariants.{Body, Block}
 use Rattle.ada_events.specs.Search.{is_some_and, event_at}
 use Rattle.ada_events.specs.Says.{Call, Wait, Delay, Start, Closing, Creation, Opening, call_in, wait_in, delay_in, start_in, closing_in, creation_in}
 use Rattle.ada_events.specs.Says.{opening_in, released_in, completed_in, moment_in}
-use Rattle.ada_events.specs.Tasks.{task_count}
+use Rattle.ada_events.specs.Tasks.{task_count, moment}
 use Rattle.ada_events.specs.Masters.{depends_on}
 use Rattle.ada_events.specs.Phases.{is_terminated, has_ended, is_abnormal}
 use Rattle.ada_events.specs.Calls.{is_pending, is_open_at, is_queued_at, is_caller_in_rendezvous}
-use Rattle.ada_events.specs.Waits.{taken_call}
+use Rattle.ada_events.specs.Waits.{taken_call, is_due, way_of}
+use Rattle.ada_events.specs.Forced.{is_conditional}
 use Rattle.ada_events.specs.Forced.{task_no, is_to_halt, is_to_fail, met_at, is_to_cancel, passed_at, is_to_wake, is_done_activating, activated_at, is_to_quit}
 use Rattle.ada_events.specs.Forced.{is_to_leave}
 use Rattle.ada_events.specs.Termination.{all_terminated, is_complete, is_ready_to_quit}
@@ -52,15 +54,15 @@ use Rattle.ada_touching.proofs.Readying.{IsOpenWait, IsUnqueued, readied}
 use Rattle.ada_touching.proofs.Waiting.{suspended_since}
 
 -- the rows in which an event can give a step at its own position
-abbrev pub says_row : Row → Event → Bool
-says_row Failing e = is_some (call_in e)
-says_row Cancelling e = is_some (call_in e)
-says_row Taking e = is_some (wait_in e)
-says_row Passing e = is_some (wait_in e)
-says_row Waking e = is_some (delay_in e)
-says_row Activating e = is_some (start_in e)
-says_row Leaving e = is_some (closing_in e)
-says_row _ e = false
+abbrev pub says_row : List Event → Row → Event → Bool
+says_row before Failing e = is_some_and (call_in e) (λ (c : Call). is_lost (e ∷ before) c.callee)
+says_row before Cancelling e = is_some_and (call_in e) (λ (c : Call). is_conditional c.patience || is_due (moment (e ∷ before)) c.due)
+says_row before Taking e = is_some (wait_in e)
+says_row before Passing e = is_some_and (wait_in e) (λ (w : Wait). is_some (way_of (moment (e ∷ before)) w.choices w.pick w.tail))
+says_row before Waking e = is_some (delay_in e)
+says_row before Activating e = is_some (start_in e)
+says_row before Leaving e = is_some (closing_in e)
+says_row before _ e = false
 
 -- the event terminates the task
 pub record IsNewlyEnded (event : Event) (before : List Event) (task : ℕ) : Type 0 where
@@ -69,7 +71,7 @@ pub record IsNewlyEnded (event : Event) (before : List Event) (task : ℕ) : Typ
 
 -- what an event touches, by what it does
 pub data Key (event : Event) (before : List Event) : Row → ℕ → Type 0 where
-  own : (row : Row) → says_row row event ≡ true → Key event before row (itself before)
+  own : (row : Row) → says_row before row event ≡ true → Key event before row (itself before)
   made : (creation : Creation) → creation_in event ≡ Some creation → Key event before Going (task_count before)
   hit : (u : ℕ) → IsHit event before u → Key event before Halting u
   freed : (u p : ℕ) (call : Call) → released_in event ≡ Some p → IsCallAt before call p → call.by ≡ u → is_abnormal (event ∷ before) u ≡ true
@@ -101,25 +103,33 @@ no_new_block event before lawful quits =
     let within : suc (length before) ≤ length before = event_at-within before (itself before) known.event known.stands in
     omega arith
 
+-- a wait that passes has a way to
+way_taken : (p : ℕ) (way : Option Way) (step : Event) → option_map (Passed p) way ≡ Some step → is_some way ≡ true
+way_taken p None step gives = absurd (none-some step gives)
+way_taken p (Some w) step gives = refl
+
+wait_passes : (event step : Event) (before : List Event) (w : Wait) → passed_at (event ∷ before) (itself before) w ≡ Some step
+    → is_some (way_of (moment (event ∷ before)) w.choices w.pick w.tail) ≡ true
+unfolding passed_at
+wait_passes event step before w gives =
+    way_taken (itself before) (way_of (moment (event ∷ before)) w.choices w.pick w.tail) step
+    (if_some (is_pending (event ∷ before) (itself before) w.by) _ step gives).1
+
 -- at its own position
 at_own : (event step : Event) (before : List Event) (row : Row) → IsLawful (event ∷ before) → goes_by_task row ≡ false
-    → at_event (event ∷ before) row (itself before) event ≡ Some step → says_row row event ≡ true
+    → at_event (event ∷ before) row (itself before) event ≡ Some step → says_row before row event ≡ true
 unfolding is_to_fail is_to_cancel
 at_own event step before Failing lawful by gives =
     let found = (then_some-some (is_to_fail (event ∷ before) (itself before) event) (Failed (itself before)) step gives).0 in
-    let both =
-    and_parts (is_some_and (call_in event) (λ (c : Call). is_lost (event ∷ before) c.callee)) (is_open_at (event ∷ before) (itself before) event) found in
-    let (c, says, unanswered) = option_map_or-true (λ (c : Call). is_lost (event ∷ before) c.callee) (call_in event) both.0 in
-    some_of (call_in event) c says
+    (and_parts (is_some_and (call_in event) (λ (c : Call). is_lost (event ∷ before) c.callee)) (is_open_at (event ∷ before) (itself before) event) found).0
 at_own event step before Cancelling lawful by gives =
     let found = (then_some-some (is_to_cancel (event ∷ before) (itself before) event) (Cancelled (itself before)) step gives).0 in
-    let both = and_parts (is_some_and (call_in event) _) (is_queued_at (event ∷ before) (itself before) event) found in
-    let (c, says, ends) = option_map_or-true _ (call_in event) both.0 in
-    some_of (call_in event) c says
+    (and_parts (is_some_and (call_in event) _) (is_queued_at (event ∷ before) (itself before) event) found).0
 at_own event step before Taking lawful by gives =
     option_and_then_some (met_at (event ∷ before) (itself before)) (wait_in event) step gives (λ w says given. some_of (wait_in event) w says)
 at_own event step before Passing lawful by gives =
-    option_and_then_some (passed_at (event ∷ before) (itself before)) (wait_in event) step gives (λ w says given. some_of (wait_in event) w says)
+    option_and_then_some (passed_at (event ∷ before) (itself before)) (wait_in event) step gives
+    (λ w says given. rw says (wait_passes event step before w given))
 at_own event step before Waking lawful by gives =
     option_and_then_some (λ (d : Delay). then_some (is_to_wake (event ∷ before) (itself before) d) (Woken (itself before))) (delay_in event) step gives
     (λ d says given. some_of (delay_in event) d says)

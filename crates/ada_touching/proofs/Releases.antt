@@ -50,7 +50,7 @@ only_frees _ p says = absurd (none-some p says)
 
 released_quietly : (e : Event) (before : List Event) (p : ℕ) (row : Row) (key : ℕ) → released_in e ≡ Some p → IsSilent e → QuietKey e before row key
     → ReleaseKey e before p row key
-released_quietly e before p row key releases only (at_own same says) = absurd (no_own e row only says)
+released_quietly e before p row key releases only (at_own same says) = absurd (no_own e before row only says)
 released_quietly e before p row key releases only (frees_caller u q call released at is abnormal) =
     let same : q ≡ p = same_Some q p (sym released ∙ releases) in
     subst (λ (n : ℕ). ReleaseKey e before p Halting n) is

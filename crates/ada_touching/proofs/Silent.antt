@@ -1,5 +1,5 @@
 -- Events that give no step at their own position.
-use Rattle.std.proofs.Common.{◌≡◌, true, None}
+use Rattle.std.proofs.Common.{◌≡◌, true, None, List, ◌∷◌}
 use Rattle.std.proofs.lemmas.Bool.{false≢true}
 use Rattle.ada_events.specs.declared.event.Event.{Event}
 use Rattle.ada_events.specs.Says.{call_in, wait_in, delay_in, start_in, closing_in, moment_in}
@@ -17,15 +17,15 @@ pub record IsSilent (event : Event) : Type 0 where
   pub closes : closing_in event ≡ None
   pub moment : moment_in event ≡ None
 
-pub no_own : (e : Event) (row : Row) → IsSilent e → says_row row e ≡ true → ⊥
-no_own e Halting silent says = false≢true says
-no_own e Failing silent says = false≢true (rw silent.calls at says)
-no_own e Cancelling silent says = false≢true (rw silent.calls at says)
-no_own e Taking silent says = false≢true (rw silent.waits at says)
-no_own e Passing silent says = false≢true (rw silent.waits at says)
-no_own e Waking silent says = false≢true (rw silent.delays at says)
-no_own e Activating silent says = false≢true (rw silent.starts at says)
-no_own e Leaving silent says = false≢true (rw silent.closes at says)
-no_own e Going silent says = false≢true says
-no_own e QuittingBody silent says = false≢true says
-no_own e QuittingBlock silent says = false≢true says
+pub no_own : (e : Event) (before : List Event) (row : Row) → IsSilent e → says_row before row e ≡ true → ⊥
+no_own e before Halting silent says = false≢true says
+no_own e before Failing silent says = false≢true (rw silent.calls at says)
+no_own e before Cancelling silent says = false≢true (rw silent.calls at says)
+no_own e before Taking silent says = false≢true (rw silent.waits at says)
+no_own e before Passing silent says = false≢true (rw silent.waits at says)
+no_own e before Waking silent says = false≢true (rw silent.delays at says)
+no_own e before Activating silent says = false≢true (rw silent.starts at says)
+no_own e before Leaving silent says = false≢true (rw silent.closes at says)
+no_own e before Going silent says = false≢true says
+no_own e before QuittingBody silent says = false≢true says
+no_own e before QuittingBlock silent says = false≢true says

@@ -17,7 +17,9 @@ use Rattle.ada_events.specs.Lawful.{IsLawful}
 use Rattle.ada_laws.specs.Masters.{parent_of}
 use Rattle.ada_forcing.specs.declared.row.Row.{Row}
 use Rattle.ada_forcing.specs.Rows.{step_at, IsAgenda}
-use Rattle.ada_touching.specs.Kinds.{Nowhere, OfCreation, OfStart, OfElaboration, OfCall, OfWait, OfDelay, OfClose, OfEnd, OfCancellation, OfCompletion, OfHalt}
+use Rattle.ada_events.specs.Tasks.{moment}
+use Rattle.ada_events.specs.Waits.{way_of}
+use Rattle.ada_touching.specs.Kinds.{is_given_up, Nowhere, OfCreation, OfStart, OfElaboration, OfCall, OfWait, OfDelay, OfClose, OfEnd, OfCancellation, OfCompletion, OfHalt}
 use Rattle.ada_touching.specs.Kinds.{OfAbort, OfTick, OfTermination, OfQuit, Adds}
 
 -- after the event a row gives a step only where it gave one before, or at one of these keys
@@ -86,12 +88,12 @@ abbrev pub CallsAddTheWait : Type 0
 CallsAddTheWait =
     (before : List Event)
     (by callee : TaskNo) (entry : Entry) (patience : Patience) (due : Option ℤ)
-    → LawfullyAddsOnly (Called by callee entry patience due) before (OfCall before callee.0)
+    → LawfullyAddsOnly (Called by callee entry patience due) before (OfCall before callee.0 (is_given_up before patience due))
 
 abbrev pub WaitsAddMasters : Type 0
 WaitsAddMasters =
     (before : List Event) (by : TaskNo) (pick : ℕ) (choices : List Choice) (tail : EventTail)
-    → LawfullyAddsOnly (Waiting by pick choices tail) before (OfWait before by.0 tail)
+    → LawfullyAddsOnly (Waiting by pick choices tail) before (OfWait before by.0 (way_of (moment before) choices pick tail) tail)
 
 abbrev pub DelaysAddThemselves : Type 0
 DelaysAddThemselves =

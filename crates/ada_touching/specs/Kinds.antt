@@ -1,23 +1,27 @@
 -- Which keys an event adds to an agenda, by kind of event.
-use Rattle.std.specs.Prelude.{◌≡◌, ◌⊎◌, ℕ, ℤ, suc, true, false, Option, Some, None, List, ◌∷◌, length, int_le}
+use Rattle.std.specs.Prelude.{◌≡◌, ◌⊎◌, ◌||◌, ℕ, ℤ, suc, Bool, true, false, Option, Some, None, List, ◌∷◌, length, int_le}
 use Rattle.std.specs.List.{Contains}
+use Rattle.std.specs.Option.{is_some}
 use Rattle.ada_events.specs.declared.event.Event.{Event}
 use Rattle.ada_events.specs.declared.event.Event.TheVariants.{Opened, Created, Started, Elaborated, Called, Waiting, Paused, Ended, Closed, Completed, Aborted}
 use Rattle.ada_events.specs.declared.event.Event.TheVariants.{Ticked, Halted, Failed, Met, Cancelled, Passed, Woken, Activated, Gone, Quit, Left}
 use Rattle.ada_events.specs.declared.event.EventTail.{EventTail}
 use Rattle.ada_events.specs.declared.event.EventTail.TheVariants.{Delays}
 use Rattle.ada_events.specs.declared.names.TaskNo.{TaskNo}
+use Rattle.ada_events.specs.declared.event.Way.{Way}
+use Rattle.ada_events.specs.declared.names.Patience.{Patience}
 use Rattle.ada_events.specs.declared.names.Master.{Master}
 use Rattle.ada_events.specs.declared.names.Master.TheVariants.{Body, Block}
 use Rattle.ada_events.specs.declared.names.Member.TheVariants.{Block as BlockMember, Rendezvous}
-use Rattle.ada_events.specs.Search.{event_at}
-use Rattle.ada_events.specs.Says.{Creation, Start, Call, Closing, start_in, closing_in}
+use Rattle.ada_events.specs.Search.{is_some_and, event_at}
+use Rattle.ada_events.specs.Says.{Creation, Start, Call, Closing, call_in, start_in, closing_in}
 use Rattle.ada_events.specs.Tasks.{task_count, moment, creation_of}
 use Rattle.ada_events.specs.Masters.{depends_on}
 use Rattle.ada_events.specs.Phases.{has_start, is_terminated, is_abnormal}
 use Rattle.ada_events.specs.Calls.{queue}
 use Rattle.ada_events.specs.Nests.{nest}
-use Rattle.ada_events.specs.Waits.{least_due}
+use Rattle.ada_events.specs.Waits.{least_due, is_due, way_of}
+use Rattle.ada_events.specs.Forced.{is_conditional}
 use Rattle.ada_events.specs.Termination.{is_open_terminate, is_ready_to_quit}
 use Rattle.ada_laws.specs.Calls.{IsCallAt, IsOpenCallAt}
 use Rattle.ada_laws.specs.Suspension.{IsSuspendedAt}
@@ -142,19 +146,28 @@ pub data OfStart (before : List Event) : Row → ℕ → Type 0 where
 pub data OfElaboration (before : List Event) (task : TaskNo) : Row → ℕ → Type 0 where
   activates : (p : ℕ) → IsActivationOf before task p → OfElaboration before task Activating p
 
--- a call (9.5): itself, and the wait at which its callee is suspended
-pub data OfCall (before : List Event) (callee : ℕ) : Row → ℕ → Type 0 where
-  fails : OfCall before callee Failing (itself before)
-  is_cancelled : OfCall before callee Cancelling (itself before)
-  is_taken : (p : ℕ) → IsSuspendedAt before callee p → OfCall before callee Taking p
+-- a call is given up where it isn't served at once: it is conditional, or its moment has come (9.7.2, 9.7.3)
+abbrev pub is_given_up : List Event → Patience → Option ℤ → Bool
+is_given_up journal patience due = is_conditional patience || is_due (moment journal) due
 
--- a wait (9.7.1): itself; with an open terminate alternative also the masters on which the task
--- depends
-pub data OfWait (before : List Event) (task : ℕ) (tail : EventTail) : Row → ℕ → Type 0 where
-  takes : OfWait before task tail Taking (itself before)
-  passes : OfWait before task tail Passing (itself before)
+-- the event is a call that is given up
+abbrev pub gives_up : List Event → Event → Bool
+gives_up before event = is_some_and (call_in event) (λ (c : Call). is_given_up before c.patience c.due)
+
+-- a call (9.5): itself, where its callee has ended or is abnormal, and where it is given up; and the wait at which its
+-- callee is suspended
+pub data OfCall (before : List Event) (callee : ℕ) (given_up : Bool) : Row → ℕ → Type 0 where
+  fails : is_lost before callee ≡ true → OfCall before callee given_up Failing (itself before)
+  is_cancelled : given_up ≡ true → OfCall before callee given_up Cancelling (itself before)
+  is_taken : (p : ℕ) → IsSuspendedAt before callee p → OfCall before callee given_up Taking p
+
+-- a wait (9.7.1): itself, as one that takes a call, or, where there is a way in which it ends otherwise, as one that
+-- passes; with an open terminate alternative also the masters on which the task depends
+pub data OfWait (before : List Event) (task : ℕ) (way : Option Way) (tail : EventTail) : Row → ℕ → Type 0 where
+  takes : OfWait before task way tail Taking (itself before)
+  passes : is_some way ≡ true → OfWait before task way tail Passing (itself before)
   quits : (m : Master) → is_open_terminate tail ≡ true → depends_on before task m ≡ true
-      → OfWait before task tail (quitting_row m) (quitting_key m)
+      → OfWait before task way tail (quitting_row m) (quitting_key m)
 
 -- a delay (9.6): itself
 pub data OfDelay (before : List Event) : Row → ℕ → Type 0 where
@@ -237,8 +250,8 @@ Adds before (Created by under master families) = OfCreation before
 Adds before (Started by tasks) = OfStart before
 Adds before (Elaborated by true) = OfElaboration before by
 Adds before (Elaborated by false) = OfCompletion before by
-Adds before (Called by callee entry patience due) = OfCall before callee.0
-Adds before (Waiting by pick choices tail) = OfWait before by.0 tail
+Adds before (Called by callee entry patience due) = OfCall before callee.0 (is_given_up before patience due)
+Adds before (Waiting by pick choices tail) = OfWait before by.0 (way_of (moment before) choices pick tail) tail
 Adds before (Paused by due) = OfDelay before
 Adds before (Ended by call raised) = OfEnd before call
 Adds before (Closed by block) = OfClose before block

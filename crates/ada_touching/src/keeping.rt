@@ -8,7 +8,9 @@ ghost use Rattle.ada_events.specs.Says.{start_in, delay_in, creation_in};
 ghost use Rattle.ada_events.specs.Tasks.{task_count};
 ghost use Rattle.ada_forcing.specs.Newly.{IsCallOf};
 ghost use Rattle.ada_records.specs.Records.{IsHeldAt};
+ghost use Rattle.ada_forcing.specs.Touching.{is_lost};
 ghost use Rattle.ada_touching.specs.Keeping.{has_key, IsAgendaOf, Grows};
+ghost use Rattle.ada_touching.specs.Kinds.{gives_up};
 
 use ada_agenda::Agenda;
 use ada_events::{Event, Journal, TaskNo};
@@ -81,17 +83,41 @@ pub fn note_creation(agenda: &mut Agenda, _journal: &Journal, _event: &Event, ta
     put(agenda, Row::Going, tasks);
 }
 
+// Puts a key, below 69,632, into a row, where that is so.
+#[tactic(auto, using(crate::proofs::Noting::grows_same))]
+fn put_if(agenda: &mut Agenda, row: Row, key: usize, so: bool)
+    requires many { length agenda.old ≡ 11 }
+    requires key { key < 69632 }
+    ensures grows { Grows agenda.old agenda.new }
+    ensures here { so ≡ true → has_key agenda.new row key ≡ true }
+{
+    if so {
+        put(agenda, row, key);
+    }
+}
+
 /// Notes that an entry of a task is called (9.5), which is suspended at that position, or at none where it is 0: that
-/// the call fails or is cancelled, or that the wait at which the callee is suspended takes it, may be forced.
-pub fn note_call(agenda: &mut Agenda, journal: &Journal, event: &Event, _callee: TaskNo, at: u32)
+/// the call fails, where the task has ended or is abnormal, that it is cancelled, where it is given up, and that the
+/// wait at which the task is suspended takes it, may be forced.
+pub fn note_call(
+    agenda: &mut Agenda,
+    journal: &Journal,
+    event: &Event,
+    _callee: TaskNo,
+    at: u32,
+    lost: bool,
+    given_up: bool,
+)
     requires lawful { IsLawful (event.now ∷ journal.now.events) }
     requires stands { IsAgendaOf agenda.old journal.now.events }
     requires calls { IsCallOf event.now _callee.0 }
     requires waits { IsHeldAt journal.now.events _callee.0 at }
+    requires lost { lost ≡ is_lost journal.now.events _callee.0 }
+    requires given_up { given_up ≡ gives_up journal.now.events event.now }
     ensures { IsAgendaOf agenda.new (event.now ∷ journal.now.events) }
 {
     let own = own_key(journal, event);
-    put(agenda, Row::Failing, own);
-    put(agenda, Row::Cancelling, own);
+    put_if(agenda, Row::Failing, own, lost);
+    put_if(agenda, Row::Cancelling, own, given_up);
     put_at(agenda, Row::Taking, at);
 }

@@ -12,7 +12,7 @@ use Rattle.ada_events.specs.Says.{Opening, Creation, Call, call_in, moment_in, o
 use Rattle.ada_events.specs.Waits.{is_due}
 use Rattle.ada_events.specs.Tasks.{task_count, creation_of}
 use Rattle.ada_events.specs.Masters.{depends_on}
-use Rattle.ada_events.specs.Phases.{has_start, is_terminated}
+use Rattle.ada_events.specs.Phases.{has_start, is_abnormal, is_terminated}
 use Rattle.ada_events.specs.Nests.{nest}
 use Rattle.ada_laws.specs.Calls.{IsCallAt}
 use Rattle.ada_laws.specs.Suspension.{IsSuspendedAt}
@@ -103,9 +103,9 @@ pub data AsActivation (journal : List Event) (task : TaskNo) : Row → ℕ → T
 pub data AsCalleeAt (journal : List Event) (at : ℕ) : Row → ℕ → Type 0 where
   called : (call : Call) (row : Row) (key : ℕ) → IsCallAt journal call at → AsDependent journal call.callee row key → AsCalleeAt journal at row key
 
--- who made the call at a position, as a task that is halted (9.10)
+-- who made the call at a position, where that is abnormal, as a task that is halted (9.10)
 pub data AsCallerAt (journal : List Event) (at : ℕ) : Row → ℕ → Type 0 where
-  made : (call : Call) → IsCallAt journal call at → AsCallerAt journal at Halting call.by
+  made : (call : Call) → IsCallAt journal call at → is_abnormal journal call.by ≡ true → AsCallerAt journal at Halting call.by
 
 -- the task that holds a master: the body's, or the one that opened the block
 abbrev pub holder_of : List Event → Master → Option ℕ

@@ -6,8 +6,8 @@ use Rattle.ada_noting.proofs.calls.put_caller.Goals as goal
 
 pub returns-in-Some : goal.returns-in-Some
 returns-in-Some c =
-    caller_put c.args.state.now c.args.agenda.now c.put_key.new.agenda c.args.at c.in-Some.by.0
-    (sym c.caller_at.ensures ∙ ap (option_map (λ (t : TaskNo). t.0)) c.in-Some.is) c.put_key.ensures
+    caller_put c.args.state.now c.args.agenda.now c.put_key_if.new.agenda c.args.at c.in-Some.by.0 c.is_abnormal.result
+    (sym c.caller_at.ensures ∙ ap (option_map (λ (t : TaskNo). t.0)) c.in-Some.is) c.is_abnormal.ensures c.put_key_if.ensures
 
 pub returns-in-None : goal.returns-in-None
 returns-in-None c =

@@ -1,3 +1,4 @@
+use Rattle.std.proofs.Common.{◌∙◌}
 use Rattle.ada_forcing.specs.declared.row.Row.TheVariants.{Failing, Cancelling}
 use Rattle.ada_touching.proofs.Noting.{held_fits, grows_on, call_noted}
 use Rattle.ada_touching.proofs.keeping.note_call.Goals as goal
@@ -9,16 +10,16 @@ put_at-requires-clause-fits c some =
 pub returns : goal.returns
 returns c =
     let own = c.own_key-own.result in
-    let one = c.put.ensures in
-    let two = c.put-2.ensures in
+    let one = c.put_if.ensures in
+    let two = c.put_if-2.ensures in
     let three = c.put_at.ensures in
     call_noted c.args.event.now c.args.journal.now.events c.args.agenda.now c.put_at.new.agenda c.args._callee.0 c.args.at own c.requires.lawful
     c.requires.stands
     c.requires.calls c.requires.waits c.own_key-own.ensures.own
-    (grows_on c.args.agenda.now c.put-2.new.agenda c.put_at.new.agenda
-    (grows_on c.args.agenda.now c.put.new.agenda c.put-2.new.agenda one.grows two.grows) three.grows)
+    (grows_on c.args.agenda.now c.put_if-2.new.agenda c.put_at.new.agenda
+    (grows_on c.args.agenda.now c.put_if.new.agenda c.put_if-2.new.agenda one.grows two.grows) three.grows)
     (record {
-      failing = three.grows.kept Failing own (two.grows.kept Failing own one.here);
-      cancelling = three.grows.kept Cancelling own two.here;
+      failing = λ lost. three.grows.kept Failing own (two.grows.kept Failing own (one.here (c.requires.lost ∙ lost)));
+      cancelling = λ gives. three.grows.kept Cancelling own (two.here (c.requires.given_up ∙ gives));
       taking = three.here;
     })
