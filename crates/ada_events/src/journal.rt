@@ -16,9 +16,9 @@ pub struct Journal {
 
 impl Model for Journal {
     ghost use Rattle.std.specs.Prelude.{◌-◌, ◌<◌, ◌^◌, min, reverse, vec_len, vec_capacity};
-    ghost use Rattle.ada_events.specs.Journals.{KeptEvents};
+    ghost use Rattle.ada_events.specs.Journals.{Kept};
 
-    ghost Value = { KeptEvents };
+    ghost Value = { Kept };
 
     ghost view = { λ j. record {
       events = reverse j.events.items;

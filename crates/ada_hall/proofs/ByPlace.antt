@@ -8,7 +8,7 @@ use Rattle.std.proofs.lemmas.List.{get_or-replicate, get_or_past, length-replica
 use Rattle.std.proofs.lemmas.List.Folds.{find-append}
 use Rattle.std.proofs.lemmas.Option.{unwrap_or-slice_get}
 use Rattle.ada_hall.specs.declared.answer.Answer.{Answer}
-use Rattle.ada_hall.specs.declared.answer.Kept.{Kept}
+use Rattle.ada_hall.specs.declared.answer.KeptAnswer.{KeptAnswer}
 use Rattle.ada_hall.specs.Answers.{answer_at}
 use Rattle.ada_hall.specs.internal.Answers.{AreByPlace}
 
@@ -22,44 +22,44 @@ none_yet places place =
     (cases_lt place places)
 
 -- what stands at a place is its answer
-pub answer_there : (by_place : List (Option Answer)) (answers : List Kept) (place : ℕ) (found : Option Answer) → AreByPlace by_place answers
+pub answer_there : (by_place : List (Option Answer)) (answers : List KeptAnswer) (place : ℕ) (found : Option Answer) → AreByPlace by_place answers
     → slice_get by_place place ≡ Some found → found ≡ answer_at answers place
 answer_there by_place answers place found are there =
     sym (ap (λ o. unwrap_or o None) there) ∙ unwrap_or-slice_get by_place place None ∙ are place
 
 -- and where there is no such place, there is none
-pub no_answer_there : (by_place : List (Option Answer)) (answers : List Kept) (place : ℕ) → AreByPlace by_place answers
+pub no_answer_there : (by_place : List (Option Answer)) (answers : List KeptAnswer) (place : ℕ) → AreByPlace by_place answers
     → slice_get by_place place ≡ None → answer_at answers place ≡ None
 no_answer_there by_place answers place are nowhere =
     sym (are place) ∙ sym (unwrap_or-slice_get by_place place None) ∙ ap (λ o. unwrap_or o None) nowhere
 
-is_at : ℕ → Kept → Bool
+is_at : ℕ → KeptAnswer → Bool
 is_at place kept = kept.place == place
 
-answer_of : Kept → Answer
+answer_of : KeptAnswer → Answer
 answer_of kept = kept.answer
 
-either_answer : (first second : Option Kept)
+either_answer : (first second : Option KeptAnswer)
     → option_map answer_of (option_or first second) ≡ option_or (option_map answer_of first) (option_map answer_of second)
 either_answer None second = refl
 either_answer (Some kept) second = refl
 
 -- the answers with one more
-one_more : (answers : List Kept) (kept : Kept) (place : ℕ)
+one_more : (answers : List KeptAnswer) (kept : KeptAnswer) (place : ℕ)
     → answer_at (answers ++ kept ∷ []) place ≡ option_or (answer_at answers place) (answer_at (kept ∷ []) place)
 unfolding is_at answer_of
 one_more answers kept place = ap (option_map answer_of) (find-append (is_at place) answers (kept ∷ []))
     ∙ either_answer (find (is_at place) answers) (find (is_at place) (kept ∷ []))
 
-alone_there : (kept : Kept) (place : ℕ) → place ≡ kept.place → answer_at (kept ∷ []) place ≡ Some kept.answer
+alone_there : (kept : KeptAnswer) (place : ℕ) → place ≡ kept.place → answer_at (kept ∷ []) place ≡ Some kept.answer
 alone_there kept place is = by (kept.place == place) refl where
-  by : (b : Bool) → (kept.place == place) ≡ b → option_map (λ (k : Kept). k.answer) (cond b (Some kept) None) ≡ Some kept.answer
+  by : (b : Bool) → (kept.place == place) ≡ b → option_map (λ (k : KeptAnswer). k.answer) (cond b (Some kept) None) ≡ Some kept.answer
   by true same = refl
   by false other = absurd (let e = is in grind (arith, other))
 
-alone_elsewhere : (kept : Kept) (place : ℕ) → place ≢ kept.place → answer_at (kept ∷ []) place ≡ None
+alone_elsewhere : (kept : KeptAnswer) (place : ℕ) → place ≢ kept.place → answer_at (kept ∷ []) place ≡ None
 alone_elsewhere kept place isnt = by (kept.place == place) refl where
-  by : (b : Bool) → (kept.place == place) ≡ b → option_map (λ (k : Kept). k.answer) (cond b (Some kept) None) ≡ None
+  by : (b : Bool) → (kept.place == place) ≡ b → option_map (λ (k : KeptAnswer). k.answer) (cond b (Some kept) None) ≡ None
   by true same = absurd (isnt (sym (eqb-true kept.place place same)))
   by false other = refl
 
@@ -68,7 +68,7 @@ or_none None = refl
 or_none (Some answer) = refl
 
 -- an answer is written to its place, and comes last
-pub one_kept : (by_place : List (Option Answer)) (answers : List Kept) (kept : Kept) → AreByPlace by_place answers → kept.place < length by_place
+pub one_kept : (by_place : List (Option Answer)) (answers : List KeptAnswer) (kept : KeptAnswer) → AreByPlace by_place answers → kept.place < length by_place
     → answer_at answers kept.place ≡ None → AreByPlace (set by_place kept.place (Some kept.answer)) (answers ++ kept ∷ [])
 one_kept by_place answers kept are below none place = ⊎_elim
     (λ here. ap (λ p. get_or (set by_place kept.place (Some kept.answer)) p None) here

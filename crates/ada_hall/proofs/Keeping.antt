@@ -14,7 +14,7 @@ use Rattle.ada_statements.specs.Scope.{Scope}
 use Rattle.ada_statements.specs.Binding.{is_show}
 use Rattle.ada_replay.specs.Ends.{state}
 use Rattle.ada_hall.specs.declared.answer.Answer.{Answer}
-use Rattle.ada_hall.specs.declared.answer.Kept.{Kept}
+use Rattle.ada_hall.specs.declared.answer.KeptAnswer.{KeptAnswer}
 use Rattle.ada_hall.specs.Answers.{answer_at}
 use Rattle.ada_hall.specs.Counting.{asked_count}
 use Rattle.ada_hall.specs.History.{IsAnswerTo}
@@ -24,7 +24,7 @@ use Rattle.ada_hall.specs.internal.Halls.{IsHall, IsOfShow}
 use Rattle.ada_hall.proofs.Counts.{accepted_counts, count_within, nothing_counted}
 use Rattle.ada_hall.proofs.Telling.{history_begins, history_goes_on, history_push, accepted_goes_on, gives_value, gives_answer}
 
-pub hall_opens : (script : List Line) (places total : ℕ) (showing : Showing) (names : Scope) (answers : List Kept) → places ≡ length script → total ≡ 0
+pub hall_opens : (script : List Line) (places total : ℕ) (showing : Showing) (names : Scope) (answers : List KeptAnswer) → places ≡ length script → total ≡ 0
     → showing ≡ record { journal = []; published = []; behind = false } → names ≡ scope_of script → answers ≡ []
     → IsHall script places total showing names answers
 hall_opens script places total showing names answers places_are none opening names_are empty =
@@ -36,7 +36,7 @@ hall_opens script places total showing names answers places_are none opening nam
       counted = none ∙ sym (ap (λ (w : Showing). asked_count w.journal) opening ∙ nothing_counted);
     }
 
-pub hall_steps : (script : List Line) (places total next : ℕ) (old new : Showing) (names : Scope) (answers : List Kept) (request : Request) (at : ℕ)
+pub hall_steps : (script : List Line) (places total next : ℕ) (old new : Showing) (names : Scope) (answers : List KeptAnswer) (request : Request) (at : ℕ)
     → IsHall script places total old names answers → IsAccepted old.journal request at new.journal → next ≡ total + 1
     → IsHall script places next new names answers
 hall_steps script places total next old new names answers request at hall accepted more = record {
@@ -65,18 +65,18 @@ then_stands true o line is = absurd (none-some line is)
 then_stands false o line is = is
 
 -- a place without an answer has a line
-pub open_stands : (script : List Line) (answers : List Kept) (place : ℕ) (line : Line) → open_line script answers place ≡ Some line
+pub open_stands : (script : List Line) (answers : List KeptAnswer) (place : ℕ) (line : Line) → open_line script answers place ≡ Some line
     → slice_get script place ≡ Some line
 open_stands script answers place line is = then_stands (is_some (answer_at answers place)) (slice_get script place) line is
 
-pub open_within : (script : List Line) (places total : ℕ) (showing : Showing) (names : Scope) (answers : List Kept) (place : ℕ) (line : Line)
+pub open_within : (script : List Line) (places total : ℕ) (showing : Showing) (names : Scope) (answers : List KeptAnswer) (place : ℕ) (line : Line)
     → IsHall script places total showing names answers → open_line script answers place ≡ Some line → place < places
 open_within script places total showing names answers place line hall is =
     let within : place < length script = slice_get_within script place line (open_stands script answers place line is) in
     let same : places ≡ length script = hall.places_are in
     omega arith
 
-pub hall_notes : (script : List Line) (places total : ℕ) (showing : Showing) (names : Scope) (answers : List Kept) (place events tasks : ℕ)
+pub hall_notes : (script : List Line) (places total : ℕ) (showing : Showing) (names : Scope) (answers : List KeptAnswer) (place events tasks : ℕ)
     (answer : Answer) (line : Line) → IsHall script places total showing names answers
     → open_line script answers place ≡ Some line → is_show line.statement ≡ true → IsOfShow answer
     → IsLawful showing.journal → IsSettled showing.journal → events ≡ length showing.journal → tasks ≡ task_count showing.journal
@@ -92,7 +92,7 @@ hall_notes script places total showing names answers place events tasks answer l
       counted = hall.counted;
     }
 
-pub hall_says : (script : List Line) (places total next : ℕ) (old new : Showing) (names bound : Scope) (answers : List Kept)
+pub hall_says : (script : List Line) (places total next : ℕ) (old new : Showing) (names bound : Scope) (answers : List KeptAnswer)
     (place events tasks : ℕ) (answer : Answer) (line : Line)
     → IsHall script places total old names answers → open_line script answers place ≡ Some line → IsLawful old.journal → IsSettled old.journal
     → ((text : List ℕ) × IsAnswerTo line (state old.journal names) answer text (state new.journal bound))
@@ -100,7 +100,7 @@ pub hall_says : (script : List Line) (places total next : ℕ) (old new : Showin
     → tasks ≡ task_count old.journal
     → IsHall script places next new bound (answers ++ record { place = place; events = events; tasks = tasks; answer = answer } ∷ [])
 hall_says script places total next old new names bound answers place events tasks answer line hall is lawful settled said gains more long many =
-    let kept : Kept = record { place = place; events = events; tasks = tasks; answer = answer } in
+    let kept : KeptAnswer = record { place = place; events = events; tasks = tasks; answer = answer } in
     record {
       places_are = hall.places_are;
       history = history_push script answers kept (state old.journal names) (state new.journal bound) said.0 hall.history

@@ -28,7 +28,7 @@ use Rattle.ada_replay.proofs.Bytes.{appends_both}
 use Rattle.ada_replay.proofs.Cuts.{appends_nothing}
 use Rattle.ada_hall.specs.declared.answer.Answer.{Answer}
 use Rattle.ada_hall.specs.declared.answer.Answer.TheVariants.{Group, Refused, Shown}
-use Rattle.ada_hall.specs.declared.answer.Kept.{Kept}
+use Rattle.ada_hall.specs.declared.answer.KeptAnswer.{KeptAnswer}
 use Rattle.ada_hall.specs.History.{IsGroupOf, AnswersRequest, AnswersShow, IsAnswerTo, IsGiven, AreGiven}
 use Rattle.ada_hall.specs.Printing.{Continues, ArePrinted}
 use Rattle.ada_hall.specs.internal.Printing.{EndsWithin, PrintsOne}
@@ -50,11 +50,12 @@ grows_by line old new (Group first last) said (Some request) answers =
 grows_by line old new (Refused cause) said (Some request) answers = ([], ap (λ (s : PlayState). s.journal) answers.unchanged)
 grows_by line old new (Shown value) said (Some request) answers = absurd answers
 
-one_grows : (script : List Line) (kept : Kept) (old new : PlayState) (said : List ℕ) → IsGiven script kept old said new → Continues old.journal new.journal
+one_grows : (script : List Line) (kept : KeptAnswer) (old new : PlayState) (said : List ℕ) → IsGiven script kept old said new
+    → Continues old.journal new.journal
 one_grows script kept old new said given = grows_by given.line old new kept.answer said (request_of old.names given.line.statement) given.answers
 
 -- the journal of the last state went on from that of each before it
-pub given_grows : (script : List Line) (answers : List Kept) (old last : PlayState) (said : List ℕ) → AreGiven script answers old said last
+pub given_grows : (script : List Line) (answers : List KeptAnswer) (old last : PlayState) (said : List ℕ) → AreGiven script answers old said last
     → Continues old.journal last.journal
 given_grows script [] old last said (empty, same) = ([], ap (λ (s : PlayState). s.journal) same)
 given_grows script (kept ∷ others) old last said (before, after, first, rest, on, given, others_given, whole) =
@@ -78,7 +79,7 @@ group_of : (line : Line) (old new : PlayState) (first last : ℕ) (said : List �
 group_of line old new first last said None answers = absurd answers
 group_of line old new first last said (Some request) answers = (request, answers)
 
-pub prints_group : (line : Line) (events : List Event) (kept : Kept) (names bound : Scope) (text more : List ℕ) (first last : ℕ) (made : TaskNo)
+pub prints_group : (line : Line) (events : List Event) (kept : KeptAnswer) (names bound : Scope) (text more : List ℕ) (first last : ℕ) (made : TaskNo)
     → kept.answer ≡ Group first last → bound ≡ bind names line.statement first made → made.0 ≡ kept.tasks
     → more ≡ text ++ group_text bound kept.events (reverse (take last events)) → PrintsOne line events kept names bound text more
 prints_group line events kept names bound text more first last made answer bound_is number printed script old new said given same named continues =
@@ -101,7 +102,7 @@ refusal_of : (line : Line) (old new : PlayState) (cause : Refusal) (said : List 
 refusal_of line old new cause said None answers = answers
 refusal_of line old new cause said (Some request) answers = (answers.unchanged, answers.printed)
 
-pub prints_refusal : (line : Line) (events : List Event) (kept : Kept) (names : Scope) (text more : List ℕ) (cause : Refusal)
+pub prints_refusal : (line : Line) (events : List Event) (kept : KeptAnswer) (names : Scope) (text more : List ℕ) (cause : Refusal)
     → kept.answer ≡ Refused cause → more ≡ text ++ refusal_text line.line cause → PrintsOne line events kept names names text more
 prints_refusal line events kept names text more cause answer printed script old new said given same named continues =
     let answers : IsAnswerTo given.line old (Refused cause) said new = subst (λ a. IsAnswerTo given.line old a said new) answer given.answers in
@@ -116,7 +117,7 @@ value_of : (line : Line) (old new : PlayState) (value : Value) (said : List ℕ)
 value_of line old new value said None answers = answers
 value_of line old new value said (Some request) answers = absurd answers
 
-pub prints_value : (line : Line) (events : List Event) (kept : Kept) (names : Scope) (text more : List ℕ) (value : Value)
+pub prints_value : (line : Line) (events : List Event) (kept : KeptAnswer) (names : Scope) (text more : List ℕ) (value : Value)
     → kept.answer ≡ Shown value → more ≡ text ++ shown_text line.line value → PrintsOne line events kept names names text more
 prints_value line events kept names text more value answer printed script old new said given same named continues =
     let answers : IsAnswerTo given.line old (Shown value) said new = subst (λ a. IsAnswerTo given.line old a said new) answer given.answers in
@@ -128,7 +129,7 @@ prints_value line events kept names text more value answer printed script old ne
 -- ---- one answer after another
 
 -- some of the answers were printed: of their texts some was written, and the rest is pending
-pub record IsLeft (script : List Line) (answers left : List Kept) (events : List Event) (names : Scope) (old new : Option (List ℕ))
+pub record IsLeft (script : List Line) (answers left : List KeptAnswer) (events : List Event) (names : Scope) (old new : Option (List ℕ))
     (pending : List ℕ) : Type 0 where
   pub written : List ℕ
   pub rest : List ℕ
@@ -139,7 +140,7 @@ pub record IsLeft (script : List Line) (answers left : List Kept) (events : List
   pub named : now.names ≡ names
   pub appended : Appends old new written
 
-pub none_printed : (script : List Line) (answers : List Kept) (events : List Event) (names : Scope) (bytes : Option (List ℕ)) → names ≡ scope_of script
+pub none_printed : (script : List Line) (answers : List KeptAnswer) (events : List Event) (names : Scope) (bytes : Option (List ℕ)) → names ≡ scope_of script
     → (text : List ℕ) × (last : PlayState) × ArePrinted script answers (reverse events) text last
     → IsLeft script answers (drop 0 answers) events names bytes bytes []
 none_printed script answers events names bytes begins (text, last, printed) = record {
@@ -154,14 +155,14 @@ none_printed script answers events names bytes begins (text, last, printed) = re
 }
 
 -- the next of the answers that are left
-pub record Next (script : List Line) (kept : Kept) (events : List Event) : Type 0 where
+pub record Next (script : List Line) (kept : KeptAnswer) (events : List Event) : Type 0 where
   pub old : PlayState
   pub new : PlayState
   pub said : List ℕ
   pub given : IsGiven script kept old said new
   pub goes_on : Continues new.journal (reverse events)
 
-next_of : (script : List Line) (kept : Kept) (others : List Kept) (events : List Event) (now last : PlayState) (text : List ℕ)
+next_of : (script : List Line) (kept : KeptAnswer) (others : List KeptAnswer) (events : List Event) (now last : PlayState) (text : List ℕ)
     → AreGiven script (kept ∷ others) now text last → Continues last.journal (reverse events) → Next script kept events
 next_of script kept others events now last text (before, after, said, rest, on, given, others_given, whole) goes_on = record {
   old = before;
@@ -171,7 +172,7 @@ next_of script kept others events now last text (before, after, said, rest, on, 
   goes_on = further after.journal last.journal (reverse events) (given_grows script others after last rest others_given) goes_on;
 }
 
-pub next_left : (script : List Line) (answers : List Kept) (i : ℕ) (d : Kept) (events : List Event) (names : Scope) (old new : Option (List ℕ))
+pub next_left : (script : List Line) (answers : List KeptAnswer) (i : ℕ) (d : KeptAnswer) (events : List Event) (names : Scope) (old new : Option (List ℕ))
     (pending : List ℕ)
     → i < length answers → IsLeft script answers (drop i answers) events names old new pending → Next script (get_or answers i d) events
 next_left script answers i d events names old new pending below left =
@@ -179,7 +180,7 @@ next_left script answers i d events names old new pending below left =
     (subst (λ ks. AreGiven script ks left.now left.rest left.last) (drop_more answers i d below) left.given) left.printed.1
 
 -- its place has a line
-pub next_place : (script : List Line) (kept : Kept) (events : List Event) → Next script kept events → kept.place < length script
+pub next_place : (script : List Line) (kept : KeptAnswer) (events : List Event) → Next script kept events → kept.place < length script
 next_place script kept events next = slice_get_within script kept.place next.given.line next.given.stands
 
 -- and its events are among those of the journal
@@ -196,7 +197,7 @@ ends_within line old new (Shown value) said (Some request) many answers grows wi
 no_shorter : (old new : List Event) → Continues old new → length old ≤ length new
 no_shorter old new (steps, is) = omega (arith, ap length is, length-append steps old)
 
-pub next_within : (script : List Line) (kept : Kept) (events : List Event) → Next script kept events → EndsWithin kept.answer kept.events (length events)
+pub next_within : (script : List Line) (kept : KeptAnswer) (events : List Event) → Next script kept events → EndsWithin kept.answer kept.events (length events)
 next_within script kept events next =
     let grows : length next.old.journal ≤ length next.new.journal =
     no_shorter next.old.journal next.new.journal (one_grows script kept next.old next.new next.said next.given) in
@@ -209,7 +210,8 @@ next_within script kept events next =
 same_line : (script : List Line) (place : ℕ) (one other : Line) → slice_get script place ≡ Some one → slice_get script place ≡ Some other → one ≡ other
 same_line script place one other first second = cc
 
-push_left : (script : List Line) (answers : List Kept) (kept : Kept) (others : List Kept) (line : Line) (events : List Event) (names bound : Scope)
+push_left : (script : List Line) (answers : List KeptAnswer) (kept : KeptAnswer) (others : List KeptAnswer) (line : Line) (events : List Event)
+    (names bound : Scope)
     (old new : Option (List ℕ)) (written pending more : List ℕ) (now last : PlayState) (text : List ℕ)
     → ArePrinted script answers (reverse events) ((written ++ pending) ++ text) last → AreGiven script (kept ∷ others) now text last → now.names ≡ names
     → Appends old new written → slice_get script kept.place ≡ Some line → PrintsOne line events kept names bound pending more
@@ -236,7 +238,7 @@ was_fine (Ok done) fine P is = is
 was_fine (Err fault) fine P is = absurd (fine fault refl)
 
 -- one more answer was printed
-pub left_one : (script : List Line) (answers : List Kept) (i : ℕ) (d : Kept) (line : Line) (events : List Event) (names bound : Scope)
+pub left_one : (script : List Line) (answers : List KeptAnswer) (i : ℕ) (d : KeptAnswer) (line : Line) (events : List Event) (names bound : Scope)
     (old new : Option (List ℕ)) (pending more : List ℕ) (answer : Result (Unit {0}) RunFault)
     → i < length answers → slice_get script (get_or answers i d).place ≡ Some line → IsLeft script answers (drop i answers) events names old new pending
     → ((fault : RunFault) → answer ≡ Err fault → ⊥) → OnOk answer (PrintsOne line events (get_or answers i d) names bound pending more)
@@ -247,7 +249,7 @@ left_one script answers i d line events names bound old new pending more answer 
     (was_fine answer fine (PrintsOne line events (get_or answers i d) names bound pending more) prints)
 
 -- a piece of what is pending was written
-pub left_piece : (script : List Line) (answers others : List Kept) (events : List Event) (names : Scope) (old between new : Option (List ℕ))
+pub left_piece : (script : List Line) (answers others : List KeptAnswer) (events : List Event) (names : Scope) (old between new : Option (List ℕ))
     (pending more : List ℕ)
     → IsLeft script answers others events names old between pending → (piece : List ℕ) × Appends between new piece × (pending ≡ piece ++ more)
     → IsLeft script answers others events names old new more
@@ -264,7 +266,8 @@ left_piece script answers others events names old between new pending more left 
 }
 
 -- a beginning of what is pending was written
-pub left_cut : (script : List Line) (answers others : List Kept) (events : List Event) (names : Scope) (old between new : Option (List ℕ)) (pending : List ℕ)
+pub left_cut : (script : List Line) (answers others : List KeptAnswer) (events : List Event) (names : Scope) (old between new : Option (List ℕ))
+    (pending : List ℕ)
     → IsLeft script answers others events names old between pending → (n : ℕ) × Appends between new (take n pending)
     → IsCutShort (ArePrinted script answers (reverse events)) old new
 left_cut script answers others events names old between new pending left (n, appended) =
@@ -281,7 +284,8 @@ left_cut script answers others events names old between new pending left (n, app
     }
 
 -- all that was pending behind the last answer was written
-pub all_written : (script : List Line) (answers others : List Kept) (events : List Event) (names : Scope) (old between new : Option (List ℕ)) (pending : List ℕ)
+pub all_written : (script : List Line) (answers others : List KeptAnswer) (events : List Event) (names : Scope) (old between new : Option (List ℕ))
+    (pending : List ℕ)
     → others ≡ [] → IsLeft script answers others events names old between pending → Appends between new pending
     → (last : PlayState) × IsWritten (ArePrinted script answers (reverse events)) old new last
 all_written script answers others events names old between new pending none left appended =
@@ -296,7 +300,7 @@ all_written script answers others events names old between new pending none left
     )
 
 -- the last write, of all that is pending
-pub texts_end : (script : List Line) (answers others : List Kept) (events : List Event) (names : Scope) (old between new : Option (List ℕ))
+pub texts_end : (script : List Line) (answers others : List KeptAnswer) (events : List Event) (names : Scope) (old between new : Option (List ℕ))
     (pending bytes : List ℕ)
     (result : Result (Unit {0}) RunFault) → others ≡ [] → IsLeft script answers others events names old between pending → bytes ≡ pending
     → OnOk result (Appends between new bytes) → OnOk result ((last : PlayState) × IsWritten (ArePrinted script answers (reverse events)) old new last)
@@ -304,7 +308,7 @@ texts_end script answers others events names old between new pending bytes (Ok d
     all_written script answers others events names old between new pending none left (subst (Appends between new) same all)
 texts_end script answers others events names old between new pending bytes (Err fault) none left same all = tt
 
-pub texts_are_cut : (script : List Line) (answers others : List Kept) (events : List Event) (names : Scope) (old between new : Option (List ℕ))
+pub texts_are_cut : (script : List Line) (answers others : List KeptAnswer) (events : List Event) (names : Scope) (old between new : Option (List ℕ))
     (pending bytes : List ℕ)
     (result : Result (Unit {0}) RunFault) → IsLeft script answers others events names old between pending → bytes ≡ pending
     → IfErr result (λ fault. (fault ≡ Write) × (n : ℕ) × Appends between new (take n bytes))
@@ -314,7 +318,7 @@ texts_are_cut script answers others events names old between new pending bytes (
     (inr is, left_cut script answers others events names old between new pending left (n, subst (λ bs. Appends between new (take n bs)) same appended))
 
 -- nothing was written yet
-pub nothing_cut : (script : List Line) (answers : List Kept) (journal : List Event) (bytes : Option (List ℕ)) (text : List ℕ) (last : PlayState)
+pub nothing_cut : (script : List Line) (answers : List KeptAnswer) (journal : List Event) (bytes : Option (List ℕ)) (text : List ℕ) (last : PlayState)
     → ArePrinted script answers journal text last → IsCutShort (ArePrinted script answers journal) bytes bytes
 nothing_cut script answers journal bytes text last printed =
     record { written = []; rest = text; new = last; prints = printed; appended = appends_nothing bytes }

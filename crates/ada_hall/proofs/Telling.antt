@@ -25,7 +25,7 @@ use Rattle.ada_replay.specs.Play.{PlayState, group_text}
 use Rattle.ada_replay.specs.Replay.{beginning}
 use Rattle.ada_hall.specs.declared.answer.Answer.{Answer}
 use Rattle.ada_hall.specs.declared.answer.Answer.TheVariants.{Group, Refused, Shown}
-use Rattle.ada_hall.specs.declared.answer.Kept.{Kept}
+use Rattle.ada_hall.specs.declared.answer.KeptAnswer.{KeptAnswer}
 use Rattle.ada_hall.specs.History.{IsAnswerTo, AnswersRequest, AnswersShow, GoesOn, IsGiven, AreGiven}
 use Rattle.ada_hall.specs.Halls.{IsHistory}
 use Rattle.ada_hall.specs.internal.Halls.{IsOfShow}
@@ -52,7 +52,7 @@ accepted_goes_on old new names request at accepted =
 
 -- ---- one more answer
 
-given_push : (script : List Line) (answers : List Kept) (kept : Kept) (old last before after : PlayState) (text said : List ℕ)
+given_push : (script : List Line) (answers : List KeptAnswer) (kept : KeptAnswer) (old last before after : PlayState) (text said : List ℕ)
     → AreGiven script answers old text last
     → GoesOn last before → IsGiven script kept before said after → AreGiven script (answers ++ kept ∷ []) old (text ++ said) after
 given_push script [] kept old last before after text said (empty, same) on given =
@@ -71,12 +71,12 @@ given_push script (first ∷ others) kept old last before after text said (b, a,
 pub history_begins : (script : List Line) → IsHistory script [] (beginning script)
 history_begins script = record { text = []; last = beginning script; given = (refl, refl); goes_on = stays (beginning script) }
 
-pub history_goes_on : (script : List Line) (answers : List Kept) (now next : PlayState) → IsHistory script answers now → GoesOn now next
+pub history_goes_on : (script : List Line) (answers : List KeptAnswer) (now next : PlayState) → IsHistory script answers now → GoesOn now next
     → IsHistory script answers next
 history_goes_on script answers now next history on =
     record { text = history.text; last = history.last; given = history.given; goes_on = goes_further history.last now next history.goes_on on }
 
-pub history_push : (script : List Line) (answers : List Kept) (kept : Kept) (now next : PlayState) (said : List ℕ) → IsHistory script answers now
+pub history_push : (script : List Line) (answers : List KeptAnswer) (kept : KeptAnswer) (now next : PlayState) (said : List ℕ) → IsHistory script answers now
     → IsGiven script kept now said next → IsHistory script (answers ++ kept ∷ []) next
 history_push script answers kept now next said history given = record {
   text = history.text ++ said;
@@ -152,7 +152,7 @@ shows_it line old (Group first last) of_show = absurd of_show
 shows_it line old (Refused cause) of_show = (refusal_text line.line cause, (refl, refl))
 shows_it line old (Shown value) of_show = (shown_text line.line value, (refl, refl))
 
-pub gives_answer : (script : List Line) (line : Line) (kept : Kept) (old new : PlayState) (said : List ℕ) → slice_get script kept.place ≡ Some line
+pub gives_answer : (script : List Line) (line : Line) (kept : KeptAnswer) (old new : PlayState) (said : List ℕ) → slice_get script kept.place ≡ Some line
     → IsLawful old.journal
     → IsSettled old.journal → kept.events ≡ length old.journal → kept.tasks ≡ task_count old.journal → IsAnswerTo line old kept.answer said new
     → IsGiven script kept old said new

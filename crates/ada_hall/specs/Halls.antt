@@ -11,7 +11,7 @@ use Rattle.ada_replay.specs.Play.{PlayState}
 use Rattle.ada_replay.specs.Replay.{beginning}
 use Rattle.ada_hall.specs.declared.answer.Answer.{Answer}
 use Rattle.ada_hall.specs.declared.answer.Answer.TheVariants.{Group, Refused, Shown}
-use Rattle.ada_hall.specs.declared.answer.Kept.{Kept}
+use Rattle.ada_hall.specs.declared.answer.KeptAnswer.{KeptAnswer}
 use Rattle.ada_hall.specs.declared.floor.Floor.{Floor}
 use Rattle.ada_hall.specs.Answers.{answer_at}
 use Rattle.ada_hall.specs.Stations.{Showing, GoesOnShowing}
@@ -23,10 +23,10 @@ use Rattle.ada_hall.specs.History.{GoesOn, IsAnswerTo, AreGiven}
 pub record Held : Type 0 where
   pub showing : Showing
   pub names : Scope
-  pub answers : List Kept
+  pub answers : List KeptAnswer
   pub floor : Floor
 
-abbrev pub hall_of : Showing → Scope → List Kept → Floor → Held
+abbrev pub hall_of : Showing → Scope → List KeptAnswer → Floor → Held
 hall_of showing names answers floor = record { showing = showing; names = names; answers = answers; floor = floor }
 
 -- a new hall
@@ -40,25 +40,25 @@ abbrev pub state_of : Held → PlayState
 state_of hall = record { journal = hall.showing.journal; names = hall.names }
 
 -- the answers were given one after another, from the script's beginning on, and the journal may have gone on since
-pub record IsHistory (script : List Line) (answers : List Kept) (now : PlayState) : Type 0 where
+pub record IsHistory (script : List Line) (answers : List KeptAnswer) (now : PlayState) : Type 0 where
   pub text : List ℕ
   pub last : PlayState
   pub given : AreGiven script answers (beginning script) text last
   pub goes_on : GoesOn last now
 
 -- the line at a place that has no answer yet
-abbrev pub open_line : List Line → List Kept → ℕ → Option Line
+abbrev pub open_line : List Line → List KeptAnswer → ℕ → Option Line
 open_line script answers place = if is_some (answer_at answers place) then None else slice_get script place
 
 -- the line of a request that has no answer yet, and that of an attribute
-abbrev pub open_request : List Line → List Kept → ℕ → Option Line
+abbrev pub open_request : List Line → List KeptAnswer → ℕ → Option Line
 open_request script answers place = option_and_then (λ (line : Line). if is_show line.statement then None else Some line) (open_line script answers place)
 
-abbrev pub open_show : List Line → List Kept → ℕ → Option Line
+abbrev pub open_show : List Line → List KeptAnswer → ℕ → Option Line
 open_show script answers place = option_and_then (λ (line : Line). if is_show line.statement then Some line else None) (open_line script answers place)
 
 -- the answer to a place, over a journal of so many events and tasks
-abbrev pub kept_at : ℕ → List Event → Answer → Kept
+abbrev pub kept_at : ℕ → List Event → Answer → KeptAnswer
 kept_at place journal answer = record { place = place; events = length journal; tasks = task_count journal; answer = answer }
 
 -- how many requests an answer says were accepted

@@ -13,7 +13,7 @@ use Rattle.ada_printing.specs.Texts.{refusal_text, shown_text}
 use Rattle.ada_replay.specs.Play.{PlayState, SaysGroup}
 use Rattle.ada_hall.specs.declared.answer.Answer.{Answer}
 use Rattle.ada_hall.specs.declared.answer.Answer.TheVariants.{Group, Refused, Shown}
-use Rattle.ada_hall.specs.declared.answer.Kept.{Kept}
+use Rattle.ada_hall.specs.declared.answer.KeptAnswer.{KeptAnswer}
 
 -- an accepted request: its answer names exactly the events that it led to
 pub record IsGroupOf (line : Line) (request : Request) (first last : ℕ) (old : PlayState) (text : List ℕ) (new : PlayState) : Type 0 where
@@ -51,7 +51,7 @@ pub record GoesOn (old new : PlayState) : Type 0 where
 
 -- the answer that is kept is that of its own place's line over a lawful and settled journal, of which the
 -- number of events and that of tasks are kept beside it
-pub record IsGiven (script : List Line) (kept : Kept) (old : PlayState) (text : List ℕ) (new : PlayState) : Type 0 where
+pub record IsGiven (script : List Line) (kept : KeptAnswer) (old : PlayState) (text : List ℕ) (new : PlayState) : Type 0 where
   pub line : Line
   pub stands : slice_get script kept.place ≡ Some line
   pub lawful : IsLawful old.journal
@@ -61,7 +61,7 @@ pub record IsGiven (script : List Line) (kept : Kept) (old : PlayState) (text : 
   pub answers : IsAnswerTo line old kept.answer text new
 
 -- answers that were given one after another, and what they print
-abbrev pub AreGiven : List Line → List Kept → PlayState → List ℕ → PlayState → Type 0
+abbrev pub AreGiven : List Line → List KeptAnswer → PlayState → List ℕ → PlayState → Type 0
 AreGiven script [] old text new = (text ≡ []) × (new ≡ old)
 AreGiven script (kept ∷ others) old text new =
     (before : PlayState) × (after : PlayState) × (said : List ℕ) × (rest : List ℕ)

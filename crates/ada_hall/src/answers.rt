@@ -2,7 +2,7 @@
 ghost use Rattle.std.specs.Prelude.{◌≡◌, ◌==◌, ◌<◌, None, [], ◌∷◌, ◌++◌, IsTrue, IfOk, length};
 ghost use Rattle.ada_hall.specs.Answers.{answer_at, AreAll, AnswerNoPlaceTwice};
 
-use crate::answer::{Answer, Kept};
+use crate::answer::{Answer, KeptAnswer};
 use std::alloc::{AllocError, Global};
 use std::marker::Model;
 
@@ -12,7 +12,7 @@ use std::marker::Model;
 pub struct Answers {
     /// The answer at each place.
     by_place: Vec<Option<Answer>>,
-    kept: Vec<Kept>,
+    kept: Vec<KeptAnswer>,
 }
 
 impl Model for Answers {
@@ -43,7 +43,7 @@ impl Answers {
     }
 
     /// The answers in the order in which they were given.
-    pub fn as_slice(&self) -> &[Kept]
+    pub fn as_slice(&self) -> &[KeptAnswer]
         ensures answers { result.now ≡ self.now.kept }
         ensures apart { AnswerNoPlaceTwice self.now.kept }
     {
@@ -67,7 +67,7 @@ impl Answers {
     }
 
     /// Keeps the answer to a place that has none. It takes no memory.
-    pub fn keep(&mut self, kept: Kept)
+    pub fn keep(&mut self, kept: KeptAnswer)
         requires place { kept.place < self.old.places }
         requires unanswered { answer_at self.old.kept kept.place ≡ None }
         ensures { self.new ≡ record {

@@ -15,7 +15,7 @@ ghost use Rattle.ada_hall.specs.Halls.{state_of, IsHistory, AnswersPlace, noted,
 ghost use Rattle.ada_hall.specs.internal.Halls.{IsOfShow};
 ghost use Rattle.ada_hall.specs.Stations.{Publishes, IsTied};
 
-use crate::answer::{Answer, Kept};
+use crate::answer::{Answer, KeptAnswer};
 use crate::answers::Answers;
 use crate::asking::{Asked, asking_of};
 use crate::floor::{Floor, may_play};
@@ -154,7 +154,7 @@ impl<'s, J: Session> Hall<'s, J> {
         let tasks = self.station.kernel().tasks();
         let answer = answer_request(rt, &mut self.station, &mut self.names, line)?;
         self.tally.count(share, answer);
-        self.answers.keep(Kept {
+        self.answers.keep(KeptAnswer {
             place,
             events,
             tasks,
@@ -213,7 +213,7 @@ impl<'s, J: Session> Hall<'s, J> {
         if line.statement.is_show() {
             let events = self.station.kernel().journal().len();
             let tasks = self.station.kernel().tasks();
-            self.answers.keep(Kept {
+            self.answers.keep(KeptAnswer {
                 place,
                 events,
                 tasks,
@@ -250,7 +250,7 @@ impl<'s, J: Session> Hall<'s, J> {
 
     /// The answers in the order in which they were given: each of its own line, over the journal and the
     /// bindings that the answers before it left, and no two of one place.
-    pub fn answers(&self) -> &[Kept]
+    pub fn answers(&self) -> &[KeptAnswer]
         ensures answers { result.now ≡ self.now.answers }
         ensures history { IsHistory J.script self.now.answers (state_of self.now) }
         ensures apart { AnswerNoPlaceTwice self.now.answers }

@@ -14,7 +14,7 @@ pub mod speakers;
 pub mod station;
 pub mod tally;
 
-pub use answer::{Answer, Kept};
+pub use answer::{Answer, KeptAnswer};
 pub use asking::{Asked, Asking};
 pub use floor::Floor;
 pub use hall::Hall;

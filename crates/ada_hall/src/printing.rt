@@ -7,7 +7,7 @@ ghost use Rattle.ada_hall.specs.Answers.{AreJoined};
 ghost use Rattle.ada_hall.specs.Printing.{ArePrinted};
 ghost use Rattle.ada_hall.specs.internal.Printing.{EndsWithin, PrintsOne};
 
-use crate::answer::{Answer, Kept};
+use crate::answer::{Answer, KeptAnswer};
 use crate::hall::Hall;
 use crate::session::Session;
 use ada_events::{Event, TaskNo};
@@ -23,7 +23,7 @@ use std::io::Write;
 fn print_answer(
     line: &Line,
     events: &[Event],
-    kept: &Kept,
+    kept: &KeptAnswer,
     names: &mut Names,
     text: &mut Vec<u8>,
 ) -> Result<(), RunFault>
@@ -58,7 +58,7 @@ fn write_texts<W: Write>(
     alloc: Global,
     lines: &[Line],
     events: &[Event],
-    answers: &[Kept],
+    answers: &[KeptAnswer],
     names: &mut Names,
     writer: &mut W,
 ) -> Result<(), RunFault>
@@ -112,7 +112,7 @@ pub fn write_answers<J: Session, W: Write>(
 
 /// Whether each answer was given where the one before it ended, the first at the beginning, and the last ended
 /// at so many events: then no event lies between them.
-pub fn are_joined(answers: &[Kept], events: u32) -> bool
+pub fn are_joined(answers: &[KeptAnswer], events: u32) -> bool
     ensures joined { IsTrue result → AreJoined answers.now 0 events }
     ensures apart { IsFalse result → AreJoined answers.now 0 events → ⊥ }
 {

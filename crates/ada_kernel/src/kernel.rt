@@ -59,6 +59,7 @@ impl Kernel {
     /// order, and the answer is the position of its event, from 1. Refused, the answer is the first
     /// cause that applies, and nothing is changed; `OutOfMemory` is answered only where no other cause
     /// applies and a growth was refused.
+    #[inline(always)]
     pub fn step(&mut self, request: Request) -> Result<u32, Refusal>
         ensures ok { IfOk result (λ at. IsAccepted self.old request at self.new) }
         ensures err { IfErr result (λ cause. IsRefused self.old request cause self.new) }

@@ -78,14 +78,20 @@ abbrev pub AbortKeys : List Event → Row → ℕ → Type 0
 AbortKeys before = Both (OfFirst (AsKey Halting) (task_count before)) (OfFirst (AsHeld before Failing) (task_count before))
 
 -- the caller of an open call is suspended at it
-pub fails_held : (before : List Event) (at : Row) (u p : ℕ) → IsLawful before → IsOpenCallTo before u p → OfFirst (AsHeld before at) (task_count before) at p
-fails_held before at u p lawful of =
+pub fails_held : (before : List Event) (u p : ℕ) → IsLawful before → IsOpenCallTo before u p
+    → OfFirst (AsHeld before Failing) (task_count before) Failing p
+fails_held before u p lawful of =
     let suspended = open_calls_suspend before of.call p of.opened in
-    record { task = of.call.by; among = suspended_exists before of.call.by p lawful suspended; of = held p suspended }
+    let at = of.opened.stands in
+    record {
+      task = of.call.by;
+      among = suspended_exists before of.call.by p lawful suspended;
+      of = held at.event p at.stands (rw at.says refl) suspended;
+    }
 
 abort_key : (event : Event) (before : List Event) (row : Row) (key : ℕ) → IsLawful before → OfAbort event before row key → AbortKeys before row key
 abort_key event before row key lawful (abort_halts u hit) = inl (record { task = u; among = hit_known event before u hit; of = itself })
-abort_key event before row key lawful (abort_fails u p hit of) = inr (fails_held before Failing u p lawful of)
+abort_key event before row key lawful (abort_fails u p hit of) = inr (fails_held before u p lawful of)
 
 pub abort_noted : (event : Event) (before : List Event) (old new : List (List ℕ)) (by : TaskNo) (tasks : List TaskNo) → IsLawful (event ∷ before)
     → IsAgendaOf old before → event ≡ Aborted by tasks → Puts old new (AbortKeys before) → IsAgendaOf new (event ∷ before)

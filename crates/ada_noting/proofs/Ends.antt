@@ -62,7 +62,8 @@ activation_key : (before : List Event) (new : List (List ℕ)) (task : TaskNo) (
 activation_key before new task by row key made here (activates p active) =
     let same : active.creation.by ≡ by =
     same_Some active.creation.by by (sym (ap (option_map (λ (c : Creation). c.by)) active.made) ∙ made) in
-    here Activating p (held p (subst (λ n. IsSuspendedAt before n p) same active.suspended))
+    here Activating p (held active.stands.event p active.stands.stands (rw active.stands.says refl)
+        (subst (λ n. IsSuspendedAt before n p) same active.suspended))
 
 pub activation_put : (before : List Event) (old new : List (List ℕ)) (task : TaskNo) (by : ℕ)
     → option_map (λ (c : Creation). c.by) (creation_of before task.0) ≡ Some by
@@ -145,7 +146,7 @@ termination_key before task row key lawful live (end_quits m depends) =
 termination_key before task row key lawful live (end_leaves block p depends leaving) =
     let (k, below, is) = leaving.within in
     inr (through leaving.closing.by (Block block) Leaving p live depends (has_contained (nest before leaving.closing.by) block k below is)
-    (leaves p leaving.suspended))
+    (leaves leaving.stands.event p leaving.stands.stands (rw leaving.stands.says refl) leaving.suspended))
 
 pub termination_noted : (event : Event) (before : List Event) (old new : List (List ℕ)) (task : TaskNo) → IsLawful (event ∷ before) → IsAgendaOf old before
     → event ≡ Gone task → Puts old new (TerminationKeys before task) → IsAgendaOf new (event ∷ before)
@@ -161,9 +162,14 @@ QuitKeys before =
 
 ended_key : (before : List Event) (t : TaskNo) (row : Row) (key : ℕ) → IsLawful before → is_terminated before t.0 ≡ false → OfTermination before t row key
     → QuitKeys before row key
-ended_key before t row key lawful live (end_fails p was of) = inl (inl (fails_held before Failing t.0 p lawful of))
+ended_key before t row key lawful live (end_fails p was of) = inl (inl (fails_held before t.0 p lawful of))
 ended_key before t row key lawful live (end_activates p active) =
-    inl (inr (record { task = active.creation.by; among = suspended_exists before active.creation.by p lawful active.suspended; of = held p active.suspended }))
+    let at = active.stands in
+    inl (inr (record {
+      task = active.creation.by;
+      among = suspended_exists before active.creation.by p lawful active.suspended;
+      of = held at.event p at.stands (rw at.says refl) active.suspended;
+    }))
 ended_key before t row key lawful live (end_goes u depends) =
     let known : t.0 < task_count before = depends_exists before t.0 (Body u) depends in
     let later : u.0 < t.0 = depends_after before t.0 u lawful depends in
@@ -177,7 +183,7 @@ ended_key before t row key lawful live (end_leaves block p depends leaving) =
     inr (record {
       task = leaving.closing.by;
       among = suspended_exists before leaving.closing.by p lawful leaving.suspended;
-      of = leaves p leaving.suspended;
+      of = leaves leaving.stands.event p leaving.stands.stands (rw leaving.stands.says refl) leaving.suspended;
     })
 
 quit_key : (before : List Event) (master : Master) (row : Row) (key : ℕ) → IsLawful before → OfQuit before master row key → QuitKeys before row key

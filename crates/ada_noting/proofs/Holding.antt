@@ -77,7 +77,7 @@ held_key journal task (Block b) has =
 holder_key : (journal : List Event) (task : ℕ) (row : Row) (key : ℕ) → AsHolder journal task row key → HolderKeys journal task row key
 holder_key journal task row key (quits m has) = held_key journal task m has
 holder_key journal task row key goes = inl (inl (inl itself))
-holder_key journal task row key (leaves p suspended) = inl (inr (held p suspended))
+holder_key journal task row key (leaves event p stands closes suspended) = inl (inr (held event p stands closes suspended))
 
 pub holder_put : (journal : List Event) (old new : List (List ℕ)) (task : ℕ) → Puts old new (HolderKeys journal task) → Puts old new (AsHolder journal task)
 holder_put journal old new task puts = record { grows = puts.grows; here = λ row key of. puts.here row key (holder_key journal task row key of) }

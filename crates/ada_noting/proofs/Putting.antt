@@ -11,7 +11,7 @@ use Rattle.ada_forcing.specs.declared.row.Row.TheVariants.{Failing}
 use Rattle.ada_records.specs.Records.{IsHeldAt}
 use Rattle.ada_touching.specs.Keeping.{has_key, Grows}
 use Rattle.ada_touching.proofs.Noting.{grows_same, grows_on, held_there}
-use Rattle.ada_noting.specs.internal.Keys.{Puts, Both, OfFirst, AsKey, When, AsHeld, AsCaller, calls}
+use Rattle.ada_noting.specs.internal.Keys.{Puts, Both, OfFirst, AsKey, When, AsHeld, AsCaller, is_of_row, calls}
 use Rattle.ada_noting.specs.internal.Keys.AsKey.{itself}
 use Rattle.ada_noting.specs.internal.Keys.AsHeld.{held}
 use Rattle.ada_noting.specs.internal.Keys.AsCaller.{fails}
@@ -69,13 +69,15 @@ pub key_put : (old new : List (List ℕ)) (at : Row) (task : ℕ) → Grows old 
 key_put old new at task grows here = record { grows = grows; here = λ row key of. has_this new at task row key here of }
 
 has_held : (journal : List Event) (new : List (List ℕ)) (at : Row) (task p : ℕ) (row : Row) (key : ℕ) → IsLawful journal → IsHeldAt journal task p
-    → (0 < p → has_key new at p ≡ true) → AsHeld journal at task row key → has_key new row key ≡ true
-has_held journal new at task p row key lawful is here (held q suspended) =
+    → (is_some_and (event_at journal p) (is_of_row at) ≡ true → 0 < p → has_key new at p ≡ true) → AsHeld journal at task row key
+    → has_key new row key ≡ true
+has_held journal new at task p row key lawful is here (held event q stands fits suspended) =
     let there = held_there journal task p q lawful is suspended in
-    ap (has_key new at) there.1 ∙ here there.0
+    let here_fits : is_some_and (event_at journal q) (is_of_row at) ≡ true = rw stands fits in
+    ap (has_key new at) there.1 ∙ here (ap (λ n. is_some_and (event_at journal n) (is_of_row at)) (sym there.1) ∙ here_fits) there.0
 
 pub held_put : (journal : List Event) (old new : List (List ℕ)) (at : Row) (task p : ℕ) → IsLawful journal → IsHeldAt journal task p → Grows old new
-    → (0 < p → has_key new at p ≡ true) → Puts old new (AsHeld journal at task)
+    → (is_some_and (event_at journal p) (is_of_row at) ≡ true → 0 < p → has_key new at p ≡ true) → Puts old new (AsHeld journal at task)
 held_put journal old new at task p lawful is grows here =
     record { grows = grows; here = λ row key of. has_held journal new at task p row key lawful is here of }
 

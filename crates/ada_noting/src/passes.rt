@@ -5,6 +5,7 @@ ghost use Rattle.ada_events.specs.Lawful.{IsLawful};
 ghost use Rattle.ada_events.specs.Search.{is_some_and, event_at};
 ghost use Rattle.ada_events.specs.Tasks.{task_count};
 ghost use Rattle.ada_touching.specs.Keeping.{Grows, has_key};
+ghost use Rattle.ada_noting.specs.internal.Keys as keys;
 ghost use Rattle.ada_noting.specs.internal.Keys.{Puts, OfFirst, When, AsKey, AsHeld, AsCaller, AsLost, calls};
 
 use ada_agenda::Agenda;
@@ -46,16 +47,41 @@ pub(crate) fn put_tasks(agenda: &mut Agenda, state: &State, row: Row)
     }
 }
 
-// Puts the position at which a task is suspended, if it is, into a row.
+// Whether the event is of the kind of which the row gives a step.
+#[tactic(auto, unfolding(ada_events::specs::Says::call_in, ada_events::specs::Says::start_in, ada_events::specs::Says::closing_in))]
+fn is_of_row(row: Row, event: &Event) -> bool
+    ensures { result ≡ keys.is_of_row row event.now }
+{
+    match row {
+        Row::Failing => matches!(event, Event::Called { .. }),
+        Row::Activating => matches!(event, Event::Started { .. }),
+        Row::Leaving => matches!(event, Event::Closed { .. }),
+        _ => true,
+    }
+}
+
+// Whether an event of that kind stands at the position.
+fn is_of_row_at(state: &State, row: Row, at: u32) -> bool
+    ensures { result ≡ is_some_and (event_at state.now at) (keys.is_of_row row) }
+{
+    match state.event(at) {
+        Some(event) => is_of_row(row, event),
+        None => false,
+    }
+}
+
+// Puts the position at which a task is suspended, if it is, into a row, where the event there is of its kind.
 pub(crate) fn put_held(agenda: &mut Agenda, state: &State, row: Row, task: TaskNo)
     requires lawful { IsLawful state.now }
     requires many { length agenda.old ≡ 11 }
     ensures { Puts agenda.old agenda.new (AsHeld state.now row task.0) }
 {
-    put_at(agenda, row, state.record(task).doing.at);
+    let at = state.record(task).doing.at;
+    let fits = is_of_row_at(state, row, at);
+    put_at_if(agenda, row, at, fits);
 }
 
-/// Puts the positions at which tasks are suspended into a row.
+/// Puts the positions at which tasks are suspended at events of its kind into a row.
 pub(crate) fn put_all_held(agenda: &mut Agenda, state: &State, row: Row)
     requires lawful { IsLawful state.now }
     requires many { length agenda.old ≡ 11 }

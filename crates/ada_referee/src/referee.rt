@@ -3,7 +3,7 @@
 use crate::moment::Moment;
 use crate::speakers::last_of;
 use ada_events::{Event, Refusal, TaskNo};
-use ada_hall::{Answer, Kept};
+use ada_hall::{Answer, KeptAnswer};
 use ada_kernel::Kernel;
 use ada_script::{Line, Names, Script, asked, write_event, write_refusal};
 use std::alloc::Global;
@@ -54,7 +54,7 @@ impl Referee {
         alloc: Global,
         text: &[u8],
         lines: &[Line],
-        answers: &[Kept],
+        answers: &[KeptAnswer],
         events: &[Event],
     ) -> Result<bool, Fail> {
         for at in 0..answers.len() {
@@ -163,7 +163,7 @@ pub fn is_legal(
     alloc: Global,
     text: &[u8],
     script: &Script,
-    answers: &[Kept],
+    answers: &[KeptAnswer],
     events: &[Event],
 ) -> Result<bool, Fail> {
     let mut referee = Referee::new(alloc, script)?;

@@ -1,6 +1,6 @@
 //! Who spoke which line, by the script's text alone.
 
-use ada_hall::Kept;
+use ada_hall::KeptAnswer;
 use ada_script::Line;
 
 /// The speaker of a line of a text, from 1: what stands before its colon, or else the main program.
@@ -20,8 +20,8 @@ fn speaker_of(text: &[u8], line: u32) -> &[u8] {
 pub fn last_of(
     text: &[u8],
     lines: &[Line],
-    before: &[Kept],
-    kept: &Kept,
+    before: &[KeptAnswer],
+    kept: &KeptAnswer,
     number: u32,
 ) -> Option<usize> {
     let speaker = speaker_of(text, number);

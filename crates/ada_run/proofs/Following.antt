@@ -10,7 +10,7 @@ use Rattle.ada_replay.specs.Ends.{state, IsShortage, IsWritten, IsCutShort}
 use Rattle.ada_replay.specs.Replay.{beginning}
 use Rattle.ada_hall.specs.declared.answer.Answer.{Answer}
 use Rattle.ada_hall.specs.declared.answer.Answer.TheVariants.{Group, Refused, Shown}
-use Rattle.ada_hall.specs.declared.answer.Kept.{Kept}
+use Rattle.ada_hall.specs.declared.answer.KeptAnswer.{KeptAnswer}
 use Rattle.ada_hall.specs.Answers.{AreJoined, end_of}
 use Rattle.ada_hall.specs.History.{GoesOn, AnswersRequest, AnswersShow, IsGiven, AreGiven}
 use Rattle.ada_hall.specs.Printing.{Continues, ArePrinted}
@@ -39,7 +39,8 @@ ends_there line old new (Group first last) said (Some request) events answers fr
 ends_there line old new (Refused cause) said (Some request) events answers from = from ∙ ap (λ (s : PlayState). length s.journal) (sym answers.unchanged)
 ends_there line old new (Shown value) said (Some request) events answers from = absurd answers
 
-follow_given : (script : List Line) (answers : List Kept) (old last : PlayState) (text : List ℕ) (journal : List Event) → AreGiven script answers old text last
+follow_given : (script : List Line) (answers : List KeptAnswer) (old last : PlayState) (text : List ℕ) (journal : List Event)
+    → AreGiven script answers old text last
     → Continues last.journal journal → AreJoined answers (length old.journal) (length journal) → Follow script answers old text last × (journal ≡ last.journal)
 follow_given script [] old last text journal (empty, same) goes_on joined =
     ((empty, same), same_journal last.journal journal goes_on (ap (λ (s : PlayState). length s.journal) same ∙ joined))
@@ -52,20 +53,21 @@ follow_given script (kept ∷ others) old last text journal (before, after, said
     ((after, said, rest, subst (λ s. IsGiven script kept s said after) same given, others_follow.0, whole), others_follow.1)
 
 -- what is printed of answers without a gap is a run
-run_of : (script : List Line) (answers : List Kept) (journal : List Event) → AreWhole script answers (length journal)
+run_of : (script : List Line) (answers : List KeptAnswer) (journal : List Event) → AreWhole script answers (length journal)
     → (text : List ℕ) (last : PlayState) → ArePrinted script answers journal text last → IsRun script text last × (journal ≡ last.journal)
 run_of script answers journal whole text last printed =
     let follow = follow_given script answers (beginning script) last text journal printed.0 printed.1 whole.joined in
     (record { answers = answers; all = whole.all; apart = whole.apart; follow = follow.0 }, follow.1)
 
-pub run_written : (script : List Line) (answers : List Kept) (journal : List Event) (before after : Option (List ℕ)) → AreWhole script answers (length journal)
+pub run_written : (script : List Line) (answers : List KeptAnswer) (journal : List Event) (before after : Option (List ℕ))
+    → AreWhole script answers (length journal)
     → (written : (last : PlayState) × IsWritten (ArePrinted script answers journal) before after last)
     → (last : PlayState) × IsWritten (IsRun script) before after last × (journal ≡ last.journal)
 run_written script answers journal before after whole (last, written) =
     let run = run_of script answers journal whole written.text last written.prints in
     (last, record { text = written.text; prints = run.0; appended = written.appended }, run.1)
 
-pub run_cut : (script : List Line) (answers : List Kept) (journal : List Event) (before after : Option (List ℕ)) (fault : RunFault)
+pub run_cut : (script : List Line) (answers : List KeptAnswer) (journal : List Event) (before after : Option (List ℕ)) (fault : RunFault)
     → AreWhole script answers (length journal) → IsShortage fault → IsCutShort (ArePrinted script answers journal) before after
     → BreaksRun fault script before after
 run_cut script answers journal before after fault whole short cut =

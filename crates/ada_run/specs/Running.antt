@@ -10,14 +10,14 @@ use Rattle.ada_replay.specs.Input.{IsInputFault}
 use Rattle.ada_replay.specs.Play.{PlayState}
 use Rattle.ada_replay.specs.Ends.{IsWritten, IsCutShort}
 use Rattle.ada_replay.specs.Replay.{beginning, Tells, IsFaultOf, IsReadOf}
-use Rattle.ada_hall.specs.declared.answer.Kept.{Kept}
+use Rattle.ada_hall.specs.declared.answer.KeptAnswer.{KeptAnswer}
 use Rattle.ada_hall.specs.Answers.{AreAll, AnswerNoPlaceTwice}
 use Rattle.ada_hall.specs.History.{IsGiven}
 use Rattle.ada_hall.specs.Speakers.{created}
 
 -- answers that follow one another: each is that of its own place's line over the very journal and bindings that the one
 -- before it left
-abbrev pub Follow : List Line → List Kept → PlayState → List ℕ → PlayState → Type 0
+abbrev pub Follow : List Line → List KeptAnswer → PlayState → List ℕ → PlayState → Type 0
 Follow script [] old text new = (text ≡ []) × (new ≡ old)
 Follow script (kept ∷ others) old text new =
     (after : PlayState) × (said : List ℕ) × (rest : List ℕ) × IsGiven script kept old said after × Follow script others after rest new × (text ≡ said ++ rest)
@@ -25,7 +25,7 @@ Follow script (kept ∷ others) old text new =
 -- each line of the script is answered once, one after another in some order, from the script's beginning on; this is what
 -- the answers print, and what they lead to
 pub record IsRun (script : List Line) (text : List ℕ) (new : PlayState) : Type 0 where
-  pub answers : List Kept
+  pub answers : List KeptAnswer
   pub all : AreAll (length script) answers
   pub apart : AnswerNoPlaceTwice answers
   pub follow : Follow script answers (beginning script) text new

@@ -2,7 +2,7 @@
 use Rattle.std.proofs.Common.{◌≡◌, ◌+◌, ◌<◌, ◌≤◌, Some, None, List, ◌∷◌, length, sym, ap, ◌∙◌, subst, arith, inl}
 use Rattle.ada_events.specs.declared.event.Event.{Event}
 use Rattle.ada_events.specs.declared.request.Request.{Request}
-use Rattle.ada_events.specs.Journals.{KeptEvents}
+use Rattle.ada_events.specs.Journals.{Kept}
 use Rattle.ada_events.specs.Forced.{forced}
 use Rattle.ada_events.specs.Refusals.{refusal}
 use Rattle.ada_events.specs.Asks.{asked_event}
@@ -11,16 +11,15 @@ use Rattle.ada_laws.specs.Work.{work_left}
 use Rattle.ada_laws.proofs.LimitLaws.{steps_lessen_the_work, work_left-most, asked_lawful, events_are_few}
 use Rattle.ada_steps.specs.internal.Settling.{IsSettling}
 
-pub room_left : (from : List Event) (journal : KeptEvents) (step : Event) → IsSettling from journal → forced journal.events ≡ Some step → 0 < journal.spare
+pub room_left : (from : List Event) (journal : Kept) (step : Event) → IsSettling from journal → forced journal.events ≡ Some step → 0 < journal.spare
 room_left from journal step settling found =
     omega (arith, steps_lessen_the_work journal.events step settling.lawful found, settling.room)
 
-pub less_work : (old new : KeptEvents) (step : Event) → IsLawful old.events → forced old.events ≡ Some step → new.events ≡ step ∷ old.events
+pub less_work : (old new : Kept) (step : Event) → IsLawful old.events → forced old.events ≡ Some step → new.events ≡ step ∷ old.events
     → work_left new.events < work_left old.events
 less_work old new step lawful found appended = rw appended (steps_lessen_the_work old.events step lawful found)
 
-pub settling_more : (from : List Event) (old new : KeptEvents) (step : Event) → IsSettling from old → forced old.events ≡ Some step
-    → new.events ≡ step ∷ old.events
+pub settling_more : (from : List Event) (old new : Kept) (step : Event) → IsSettling from old → forced old.events ≡ Some step → new.events ≡ step ∷ old.events
     → old.spare ≤ new.spare + 1 → IsSettling from new
 settling_more from old new step settling found appended spare = record {
   forces = subst (λ j. Forces from j) (sym appended) (one_more settling.forces found);
@@ -28,14 +27,14 @@ settling_more from old new step settling found appended spare = record {
   room = omega (arith, less_work old new step settling.lawful found appended, settling.room);
 }
 
-pub settling_begins : (journal : KeptEvents) → IsLawful journal.events → work_left journal.events ≤ journal.spare → IsSettling journal.events journal
+pub settling_begins : (journal : Kept) → IsLawful journal.events → work_left journal.events ≤ journal.spare → IsSettling journal.events journal
 settling_begins journal lawful room = record { forces = nothing; lawful = lawful; room = room }
 
 pub has_places : (journal : List Event) → IsLawful journal → length journal + 1024 < 4294967296
 has_places journal lawful = omega (arith, events_are_few journal lawful)
 
 -- with the event of a request appended, the journal is lawful and the work left finds room
-pub asked_room : (old : List Event) (request : Request) (before after : KeptEvents) (event : Event) → IsLawful old → IsSettled old → refusal old request ≡ None
+pub asked_room : (old : List Event) (request : Request) (before after : Kept) (event : Event) → IsLawful old → IsSettled old → refusal old request ≡ None
     → before.events ≡ old → 1024 ≤ before.spare → before.spare ≤ after.spare + 1 → event ≡ asked_event old request → after.events ≡ event ∷ before.events
     → IsLawful after.events × (work_left after.events ≤ after.spare)
 asked_room old request before after event lawful settled unrefused same room spare is appended =

@@ -2,7 +2,7 @@
 
 use crate::rows::RENDEZVOUS;
 use crate::together::play;
-use ada_hall::{Answer, Kept};
+use ada_hall::{Answer, KeptAnswer};
 use ada_kernel::Kernel;
 use ada_referee::{is_legal, replayed};
 use ada_script::{Script, read};
@@ -16,7 +16,7 @@ use std::thread::Threads;
 #[derive(Drop)]
 struct Played {
     script: Script,
-    answers: Vec<Kept>,
+    answers: Vec<KeptAnswer>,
     kernel: Kernel,
 }
 

@@ -2,7 +2,7 @@
 
 use crate::together::{Played, play};
 use ada_events::Refusal;
-use ada_hall::{Answer, Kept, Session};
+use ada_hall::{Answer, KeptAnswer, Session};
 use ada_threads::{Free, Gate, InTurn, Shared};
 use std::process::Abort;
 use std::sync::Wait;

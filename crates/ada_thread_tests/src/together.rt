@@ -4,7 +4,7 @@ ghost use Rattle.std.specs.Prelude.{◌≡◌, ◌+◌, ◌<◌, ◌≤◌, OnOk
 use crate::crew::work_all;
 use ada_board::{History, Readers};
 use ada_hall::speakers::speakers;
-use ada_hall::{Hall, Kept, Session};
+use ada_hall::{Hall, KeptAnswer, Session};
 use ada_hall_tests::opened::{Setting, opened};
 use ada_referee::is_legal;
 use ada_script::{Script, read};
@@ -24,7 +24,7 @@ pub struct Played {
     /// How many were accepted in all.
     pub total: u32,
     /// The answers in the order in which they were given.
-    pub answers: Vec<Kept>,
+    pub answers: Vec<KeptAnswer>,
     /// Whether they are one legal order of the lines.
     pub legal: bool,
 }

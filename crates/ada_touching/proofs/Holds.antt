@@ -87,7 +87,8 @@ starts_quiet : (by : TaskNo) (tasks : List TaskNo) → IsQuiet (starts by tasks)
 unfolding completed_in gone_in quit_in aborted_in elaborated_in failed_in creation_in
 starts_quiet by tasks = record { completes = refl; goes = refl; quits = refl; aborts = refl; elaborates = refl; fails = refl; makes = refl }
 
-starts_own : (by : TaskNo) (tasks : List TaskNo) (before : List Event) (row : Row) → says_row before row (starts by tasks) ≡ true → OfStart before row (itself before)
+starts_own : (by : TaskNo) (tasks : List TaskNo) (before : List Event) (row : Row) → says_row before row (starts by tasks) ≡ true
+    → OfStart before row (itself before)
 unfolding call_in wait_in delay_in start_in closing_in
 starts_own by tasks before Activating says = is_over
 starts_own by tasks before _ says = absurd (false≢true says)
@@ -146,7 +147,8 @@ asked_quietly by callee entry patience due before row key (empties_queue m v lef
     absurd (kept_queued (asks by callee entry patience due) before v (asks_quiet by callee entry patience due) refl refl left)
 
 pub call_adds : (by callee : TaskNo) (entry : Entry) (patience : Patience) (due : Option ℤ) (before : List Event) (row : Row) (key : ℕ)
-    → IsLawful (asks by callee entry patience due ∷ before) → Key (asks by callee entry patience due) before row key → OfCall before callee.0 (is_given_up before patience due) row key
+    → IsLawful (asks by callee entry patience due ∷ before) → Key (asks by callee entry patience due) before row key
+        → OfCall before callee.0 (is_given_up before patience due) row key
 call_adds by callee entry patience due before row key lawful touched =
     asked_quietly by callee entry patience due before row key
     (quietly (asks by callee entry patience due) before row key lawful (asks_quiet by callee entry patience due) touched)
@@ -183,7 +185,8 @@ waited_quietly by pick choices tail before row key (empties_queue m v left ready
     absurd (kept_queued (waits_for by pick choices tail) before v (waits_quiet by pick choices tail) refl refl left)
 
 pub wait_adds : (by : TaskNo) (pick : ℕ) (choices : List Choice) (tail : EventTail) (before : List Event) (row : Row) (key : ℕ)
-    → IsLawful (waits_for by pick choices tail ∷ before) → Key (waits_for by pick choices tail) before row key → OfWait before by.0 (way_of (moment before) choices pick tail) tail row key
+    → IsLawful (waits_for by pick choices tail ∷ before) → Key (waits_for by pick choices tail) before row key
+        → OfWait before by.0 (way_of (moment before) choices pick tail) tail row key
 wait_adds by pick choices tail before row key lawful touched =
     waited_quietly by pick choices tail before row key
     (quietly (waits_for by pick choices tail) before row key lawful (waits_quiet by pick choices tail) touched)

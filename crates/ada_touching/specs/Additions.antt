@@ -19,7 +19,9 @@ use Rattle.ada_forcing.specs.declared.row.Row.{Row}
 use Rattle.ada_forcing.specs.Rows.{step_at, IsAgenda}
 use Rattle.ada_events.specs.Tasks.{moment}
 use Rattle.ada_events.specs.Waits.{way_of}
-use Rattle.ada_touching.specs.Kinds.{is_given_up, Nowhere, OfCreation, OfStart, OfElaboration, OfCall, OfWait, OfDelay, OfClose, OfEnd, OfCancellation, OfCompletion, OfHalt}
+use Rattle.ada_touching.specs.Kinds.{is_given_up, Nowhere, OfCreation, OfStart, OfElaboration, OfCall, OfWait, OfDelay, OfClose, OfEnd, OfCancellation}
+use Rattle.ada_touching.specs.Kinds.{OfCompletion}
+use Rattle.ada_touching.specs.Kinds.{OfHalt}
 use Rattle.ada_touching.specs.Kinds.{OfAbort, OfTick, OfTermination, OfQuit, Adds}
 
 -- after the event a row gives a step only where it gave one before, or at one of these keys

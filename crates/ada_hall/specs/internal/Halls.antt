@@ -6,7 +6,7 @@ use Rattle.ada_replay.specs.Ends.{state}
 use Rattle.ada_hall.specs.declared.answer.Answer.{Answer}
 use Rattle.ada_hall.specs.declared.answer.Answer.TheVariants.{Group, Refused, Shown}
 use Rattle.ada_hall.specs.Counting.{asked_count}
-use Rattle.ada_hall.specs.declared.answer.Kept.{Kept}
+use Rattle.ada_hall.specs.declared.answer.KeptAnswer.{KeptAnswer}
 use Rattle.ada_hall.specs.Stations.{Showing}
 use Rattle.ada_hall.specs.Halls.{IsHistory}
 
@@ -17,7 +17,7 @@ IsOfShow (Refused cause) = Unit {0}
 IsOfShow (Shown value) = Unit {0}
 
 -- what every hall keeps
-pub record IsHall (script : List Line) (places total : ℕ) (showing : Showing) (names : Scope) (answers : List Kept) : Type 0 where
+pub record IsHall (script : List Line) (places total : ℕ) (showing : Showing) (names : Scope) (answers : List KeptAnswer) : Type 0 where
   pub places_are : places ≡ length script
   pub history : IsHistory script answers (state showing.journal names)
   pub counted : total ≡ asked_count showing.journal

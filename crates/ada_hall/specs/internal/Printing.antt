@@ -6,7 +6,7 @@ use Rattle.ada_statements.specs.Scope.{Scope}
 use Rattle.ada_replay.specs.Play.{PlayState}
 use Rattle.ada_hall.specs.declared.answer.Answer.{Answer}
 use Rattle.ada_hall.specs.declared.answer.Answer.TheVariants.{Group, Refused, Shown}
-use Rattle.ada_hall.specs.declared.answer.Kept.{Kept}
+use Rattle.ada_hall.specs.declared.answer.KeptAnswer.{KeptAnswer}
 use Rattle.ada_hall.specs.History.{IsGiven}
 use Rattle.ada_hall.specs.Printing.{Continues}
 
@@ -17,7 +17,7 @@ EndsWithin (Refused cause) from many = Unit {0}
 EndsWithin (Shown value) from many = Unit {0}
 
 -- whatever state the answer was given over, what it prints is appended, and its line's name is bound
-abbrev pub PrintsOne : Line → List Event → Kept → Scope → Scope → List ℕ → List ℕ → Type 0
+abbrev pub PrintsOne : Line → List Event → KeptAnswer → Scope → Scope → List ℕ → List ℕ → Type 0
 PrintsOne line events kept names bound text more =
     (script : List Line) (old new : PlayState) (said : List ℕ) → (given : IsGiven script kept old said new) → given.line ≡ line → old.names ≡ names
     → Continues new.journal (reverse events) → (more ≡ text ++ said) × (bound ≡ new.names)

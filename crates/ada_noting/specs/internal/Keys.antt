@@ -1,6 +1,6 @@
 -- Keys that are put into an agenda together, and who holds what a task was made under.
 use Rattle.std.specs.Prelude.{◌≡◌, ◌⊎◌, ℕ, ◌<◌, ◌==◌, Bool, true, false, not, Option, Some, List, slice_get}
-use Rattle.std.specs.Option.{option_map, option_and_then}
+use Rattle.std.specs.Option.{is_some, option_map, option_and_then}
 use Rattle.ada_events.specs.declared.event.Event.{Event}
 use Rattle.ada_events.specs.declared.names.Master.{Master}
 use Rattle.ada_events.specs.declared.names.Master.TheVariants.{Body, Block}
@@ -8,7 +8,7 @@ use Rattle.ada_events.specs.declared.names.TaskNo.{TaskNo}
 use Rattle.ada_events.specs.declared.names.Member.{Member}
 use Rattle.ada_events.specs.declared.names.Member.TheVariants.{Block as BlockMember}
 use Rattle.ada_events.specs.Search.{is_some_and, event_at}
-use Rattle.ada_events.specs.Says.{Opening, Creation, Call, call_in, moment_in, opening_at}
+use Rattle.ada_events.specs.Says.{Opening, Creation, Call, call_in, start_in, closing_in, moment_in, opening_at}
 use Rattle.ada_events.specs.Waits.{is_due}
 use Rattle.ada_events.specs.Tasks.{task_count, creation_of}
 use Rattle.ada_events.specs.Masters.{depends_on}
@@ -46,9 +46,16 @@ pub data When (so : Bool) (Key : Row → ℕ → Type 0) (row : Row) (key : ℕ)
 pub data AsKey (at : Row) (k : ℕ) : Row → ℕ → Type 0 where
   itself : AsKey at k at k
 
--- the position at which a task is suspended, in that row
+-- the event is of the kind of which that row gives a step: a call that fails, a start that is over, a close that is left
+abbrev pub is_of_row : Row → Event → Bool
+is_of_row Failing event = is_some (call_in event)
+is_of_row Activating event = is_some (start_in event)
+is_of_row Leaving event = is_some (closing_in event)
+is_of_row _ event = true
+
+-- the position at which a task is suspended, in that row, where the event there is of its kind
 pub data AsHeld (journal : List Event) (at : Row) (task : ℕ) : Row → ℕ → Type 0 where
-  held : (p : ℕ) → IsSuspendedAt journal task p → AsHeld journal at task at p
+  held : (event : Event) (p : ℕ) → event_at journal p ≡ Some event → is_of_row at event ≡ true → IsSuspendedAt journal task p → AsHeld journal at task at p
 
 -- a task that was made and never started (9.3)
 pub data AsUnstarted (journal : List Event) (task : ℕ) : Row → ℕ → Type 0 where
@@ -88,7 +95,8 @@ AsBlock members place = AsMember (slice_get members place)
 pub data AsHolder (journal : List Event) (task : ℕ) : Row → ℕ → Type 0 where
   quits : (m : Master) → holds task (nest journal task) m ≡ true → AsHolder journal task (quitting_row m) (quitting_key m)
   goes : AsHolder journal task Going task
-  leaves : (p : ℕ) → IsSuspendedAt journal task p → AsHolder journal task Leaving p
+  leaves : (event : Event) (p : ℕ) → event_at journal p ≡ Some event → is_of_row Leaving event ≡ true → IsSuspendedAt journal task p
+      → AsHolder journal task Leaving p
 
 -- of each master on which a task depends the quitting, the going of its task, and the leaving (9.4)
 pub data AsDependent (journal : List Event) (task : ℕ) : Row → ℕ → Type 0 where

@@ -3,11 +3,11 @@ use Rattle.std.proofs.lemmas.List.{drop_all}
 use Rattle.std.proofs.lemmas.Result.{err_from_is_err_and}
 use Rattle.ada_replay.proofs.Cuts.{some_written}
 use Rattle.ada_hall.specs.declared.answer.Answer.TheVariants.{Group}
-use Rattle.ada_hall.specs.declared.answer.Kept.{Kept}
+use Rattle.ada_hall.specs.declared.answer.KeptAnswer.{KeptAnswer}
 use Rattle.ada_hall.proofs.Printed.{next_left, next_place, next_within, left_one, left_piece, left_cut, texts_end, texts_are_cut}
 use Rattle.ada_hall.proofs.printing.write_texts.Goals as goal
 
-no_answer : Kept
+no_answer : KeptAnswer
 no_answer = record { place = 0; events = 0; tasks = 0; answer = Group 0 0 }
 
 pub line_at-line-requires : goal.line_at-line-requires
