@@ -11,6 +11,7 @@ use Rattle.ada_events.specs.Phases.{is_abnormal, is_terminated}
 use Rattle.ada_events.specs.Lawful.{IsLawful}
 use Rattle.ada_laws.proofs.CallLaws.{open_calls_suspend}
 use Rattle.ada_laws.proofs.Suspending.{suspended_exists}
+use Rattle.ada_forcing.specs.Rows.{step_at}
 use Rattle.ada_forcing.specs.declared.row.Row.{Row}
 use Rattle.ada_forcing.specs.declared.row.Row.TheVariants.{Halting, Failing, QuittingBlock, Leaving}
 use Rattle.ada_touching.specs.Additions.{adds_nothing}
@@ -20,7 +21,7 @@ use Rattle.ada_touching.specs.Kinds.OfClose.{leaves as close_leaves, quits as cl
 use Rattle.ada_touching.specs.Kinds.OfAbort.{halts as abort_halts, fails as abort_fails}
 use Rattle.ada_touching.proofs.Acting.{created_exists}
 use Rattle.ada_touching.proofs.Adding.{agendas_stay}
-use Rattle.ada_touching.proofs.Noting.{grown, own_is}
+use Rattle.ada_touching.proofs.Noting.{grown, grown_giving, own_is}
 use Rattle.ada_touching.proofs.Places.{closing_open}
 use Rattle.ada_noting.specs.internal.Keys.{Puts, Both, OfFirst, AsKey, AsHeld, AsUnstarted}
 use Rattle.ada_noting.specs.internal.Keys.AsKey.{itself}
@@ -33,6 +34,14 @@ pub noted : (event : Event) (before : List Event) (old new : List (List ℕ)) (K
     → Puts old new Key → ((row : Row) (key : ℕ) → Adds before event row key → Key row key) → IsAgendaOf new (event ∷ before)
 noted event before old new Key lawful agenda puts all =
     grown event before old new lawful agenda puts.grows (λ row key added. puts.here row key (all row key added))
+
+-- the same, where those of its keys are there at which a step is given
+pub noted_giving : (event : Event) (before : List Event) (old new : List (List ℕ)) (Key : Row → ℕ → Type 0) → IsLawful (event ∷ before)
+    → IsAgendaOf old before → Puts old new Key
+    → ((row : Row) (key : ℕ) (step : Event) → Adds before event row key → step_at (event ∷ before) row key ≡ Some step → Key row key)
+    → IsAgendaOf new (event ∷ before)
+noted_giving event before old new Key lawful agenda puts all =
+    grown_giving event before old new lawful agenda puts.grows (λ row key step added gives. puts.here row key (all row key step added gives))
 
 pub nothing_noted : (event : Event) (before : List Event) (old : List (List ℕ)) → IsLawful (event ∷ before) → IsAgendaOf old before
     → adds_nothing event ≡ true → IsAgendaOf old (event ∷ before)

@@ -1,5 +1,5 @@
 -- What masters may force on which the callee of a call depends.
-use Rattle.std.proofs.Common.{◌≡◌, ℕ, ◌&&◌, not, true, false, List, Some, None, ◌∷◌, sym, ap, ◌∙◌, subst, inl, inr}
+use Rattle.std.proofs.Common.{◌≡◌, ℕ, ◌&&◌, not, true, false, List, Some, None, ◌∷◌, sym, refl, ap, ◌∙◌, ◌⊎◌, subst, inl, inr}
 use Rattle.std.specs.Option.{option_map, option_and_then}
 use Rattle.std.proofs.lemmas.Bool.{true≢false, false_from_ne_true, and_parts, not-true}
 use Rattle.std.proofs.lemmas.Option.{none-some, same_Some}
@@ -7,8 +7,8 @@ use Rattle.ada_events.specs.declared.event.Event.{Event}
 use Rattle.ada_events.specs.declared.event.Event.TheVariants.{Halted, Cancelled}
 use Rattle.ada_events.specs.declared.names.TaskNo.{TaskNo}
 use Rattle.ada_events.specs.declared.names.Master.{Master}
-use Rattle.ada_events.specs.declared.names.Master.TheVariants.{Block}
-use Rattle.ada_events.specs.Says.{Call, call_in, call_at}
+use Rattle.ada_events.specs.declared.names.Master.TheVariants.{Body, Block}
+use Rattle.ada_events.specs.Says.{Call, call_in, call_at, completed_in}
 use Rattle.ada_events.specs.Masters.{depends_on}
 use Rattle.ada_events.specs.Phases.{is_terminated, has_ended}
 use Rattle.ada_events.specs.Termination.{is_at_open_terminate, is_ready_to_quit, has_empty_queues}
@@ -16,19 +16,22 @@ use Rattle.ada_events.specs.Nests.{nest}
 use Rattle.ada_events.specs.Lawful.{IsLawful}
 use Rattle.ada_laws.specs.Calls.{IsCallAt}
 use Rattle.ada_laws.proofs.Growing.{is_terminated-more, has_ended-terminated}
+use Rattle.ada_forcing.specs.Rows.{step_at}
 use Rattle.ada_forcing.specs.declared.row.Row.{Row}
 use Rattle.ada_records.specs.Records.{IsHeldAt}
 use Rattle.ada_touching.specs.Keeping.{has_key, IsAgendaOf}
 use Rattle.ada_touching.specs.Kinds.{quitting_row, quitting_key, OfCompletion, OfHalt, OfCancellation, Adds}
+use Rattle.ada_touching.specs.Kinds.OfCompletion.{quits as task_quits}
 use Rattle.ada_touching.specs.Kinds.OfHalt.{completes, quits_block, empties}
 use Rattle.ada_touching.specs.Kinds.OfCancellation.{quits as quits_with}
 use Rattle.ada_touching.proofs.Noting.{grows_same, held_there}
 use Rattle.ada_counts.proofs.Owners.{has_contained}
-use Rattle.ada_noting.specs.internal.Keys.{Puts, Both, AsHolder, AsDependent, AsCalleeAt}
+use Rattle.ada_noting.specs.internal.Keys.{Puts, Both, AsHolder, AsDependent, AsCalleeAt, may_quit}
 use Rattle.ada_noting.specs.internal.Keys.AsHolder.{quits}
 use Rattle.ada_noting.specs.internal.Keys.AsDependent.{through}
 use Rattle.ada_noting.specs.internal.Keys.AsCalleeAt.{called}
-use Rattle.ada_noting.proofs.Additions.{noted}
+use Rattle.ada_noting.proofs.Additions.{noted_giving}
+use Rattle.ada_noting.proofs.Giving.{quitter, quitter_of}
 use Rattle.ada_noting.proofs.Ends.{dependent_held}
 
 -- the callee of a call
@@ -69,38 +72,53 @@ ready_live event before u ready =
 
 -- a master on which a callee depends that becomes ready to quit
 quitting_callee : (event : Event) (before : List Event) (at : ℕ) (c : Call) (m : Master) → IsLawful before → IsCallAt before c at
-    → is_ready_to_quit (event ∷ before) c.callee ≡ true → depends_on before c.callee m ≡ true → AsCalleeAt before at (quitting_row m) (quitting_key m)
-quitting_callee event before at c m lawful stands ready depends =
+    → is_ready_to_quit (event ∷ before) c.callee ≡ true → depends_on before c.callee m ≡ true → may_quit before m ≡ true
+    → AsCalleeAt before at (quitting_row m) (quitting_key m)
+quitting_callee event before at c m lawful stands ready depends may =
     let live = ready_live event before c.callee ready in
     let by = dependent_held before c.callee m lawful live depends in
-    called c (quitting_row m) (quitting_key m) stands (through by.holder m (quitting_row m) (quitting_key m) live depends by.held (quits m by.held))
+    called c (quitting_row m) (quitting_key m) stands (through by.holder m (quitting_row m) (quitting_key m) live depends by.held (quits m by.held may))
 
 -- a cancellation
-cancel_key : (event : Event) (before : List Event) (call : ℕ) (row : Row) (key : ℕ) → IsLawful before → OfCancellation event before call row key
-    → AsCalleeAt before call row key
-cancel_key event before call row key lawful (quits_with c m stands ready depends) = quitting_callee event before call c m lawful stands ready depends
+cancel_key : (event step : Event) (before : List Event) (call : ℕ) (row : Row) (key : ℕ) → IsLawful before → completed_in event ≡ None
+    → step_at (event ∷ before) row key ≡ Some step → OfCancellation event before call row key → AsCalleeAt before call row key
+cancel_key event step before call row key lawful none gives (quits_with c m stands ready depends) =
+    quitting_callee event before call c m lawful stands ready depends (quitter event step before m none gives)
+
+cancels_nobody : (call : ℕ) → completed_in (Cancelled call) ≡ None
+unfolding completed_in
+cancels_nobody call = refl
 
 pub cancellation_noted : (event : Event) (before : List Event) (old new : List (List ℕ)) (call : ℕ) → IsLawful (event ∷ before) → IsAgendaOf old before
     → event ≡ Cancelled call → Puts old new (AsCalleeAt before call) → IsAgendaOf new (event ∷ before)
 cancellation_noted event before old new call lawful agenda is puts =
-    noted event before old new (AsCalleeAt before call) lawful agenda puts (λ row key added.
-    cancel_key (Cancelled call) before call row key lawful.0 (subst (λ (e : Event). Adds before e row key) is added))
+    noted_giving event before old new (AsCalleeAt before call) lawful agenda puts (λ row key step added gives.
+    cancel_key (Cancelled call) step before call row key lawful.0 (cancels_nobody call)
+    (subst (λ (e : Event). step_at (e ∷ before) row key ≡ Some step) is gives) (subst (λ (e : Event). Adds before e row key) is added))
 
 -- all that was put for a halt
 abbrev pub HaltKeys : List Event → TaskNo → ℕ → Row → ℕ → Type 0
 HaltKeys before task at = Both (Both (OfCompletion before task) (AsHolder before task.0)) (AsCalleeAt before at)
 
-halt_key : (event : Event) (before : List Event) (task : TaskNo) (at : ℕ) (row : Row) (key : ℕ) → IsLawful before → IsHeldAt before task.0 at
-    → OfHalt event before task row key → HaltKeys before task at row key
-halt_key event before task at row key lawful is (completes r k of) = inl (inl of)
-halt_key event before task at row key lawful is (quits_block p among) =
-    inl (inr (quits (Block p) (has_contained (nest before task.0) p among.0 among.1 among.2)))
-halt_key event before task at row key lawful is (empties p c m suspended stands ready depends) =
+halt_key : (event step : Event) (before : List Event) (task : TaskNo) (at : ℕ) (row : Row) (key : ℕ) → IsLawful before → completed_in event ≡ Some task.0
+    → IsHeldAt before task.0 at → step_at (event ∷ before) row key ≡ Some step → OfHalt event before task row key → HaltKeys before task at row key
+halt_key event step before task at row key lawful done is gives (completes r k of) = inl (inl of)
+halt_key event step before task at row key lawful done is gives (quits_block p among) =
+    inl (inr (quits (Block p) (has_contained (nest before task.0) p among.0 among.1 among.2) refl))
+halt_key event step before task at row key lawful done is gives (empties p c m suspended stands ready depends) =
     let there = held_there before task.0 at p lawful is suspended in
-    inr (quitting_callee event before at c m lawful (subst (IsCallAt before c) there.1 stands) ready depends)
+    elim (quitter_of event step before task m done gives) [
+      | inl own ↦ inl (inl (subst (λ (n : Master). OfCompletion before task (quitting_row n) (quitting_key n)) (sym own) task_quits))
+      | inr may ↦ inr (quitting_callee event before at c m lawful (subst (IsCallAt before c) there.1 stands) ready depends may)
+    ]
+
+halt_completes : (task : TaskNo) → completed_in (Halted task) ≡ Some task.0
+unfolding completed_in
+halt_completes task = refl
 
 pub halt_noted : (event : Event) (before : List Event) (old new : List (List ℕ)) (task : TaskNo) (at : ℕ) → IsLawful (event ∷ before) → IsAgendaOf old before
     → event ≡ Halted task → IsHeldAt before task.0 at → Puts old new (HaltKeys before task at) → IsAgendaOf new (event ∷ before)
 halt_noted event before old new task at lawful agenda is held puts =
-    noted event before old new (HaltKeys before task at) lawful agenda puts (λ row key added.
-    halt_key (Halted task) before task at row key lawful.0 held (subst (λ (e : Event). Adds before e row key) is added))
+    noted_giving event before old new (HaltKeys before task at) lawful agenda puts (λ row key step added gives.
+    halt_key (Halted task) step before task at row key lawful.0 (halt_completes task) held
+    (subst (λ (e : Event). step_at (e ∷ before) row key ≡ Some step) is gives) (subst (λ (e : Event). Adds before e row key) is added))

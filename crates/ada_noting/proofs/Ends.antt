@@ -8,7 +8,7 @@ use Rattle.ada_events.specs.declared.event.Event.TheVariants.{Completed, Elabora
 use Rattle.ada_events.specs.declared.names.TaskNo.{TaskNo}
 use Rattle.ada_events.specs.declared.names.Master.{Master}
 use Rattle.ada_events.specs.declared.names.Master.TheVariants.{Body, Block}
-use Rattle.ada_events.specs.Says.{Creation, gone_in}
+use Rattle.ada_events.specs.Says.{Creation, gone_in, completed_in}
 use Rattle.ada_events.specs.Tasks.{task_count, creation_of}
 use Rattle.ada_events.specs.Masters.{depends_on}
 use Rattle.ada_events.specs.Phases.{is_terminated}
@@ -21,6 +21,7 @@ use Rattle.ada_laws.proofs.Depending.{depends_exists, depends_reaches, depends_a
 use Rattle.ada_laws.proofs.Reaching.{reaches_known}
 use Rattle.ada_laws.proofs.DependentLaws.{going}
 use Rattle.ada_forcing.specs.Touching.{is_lost}
+use Rattle.ada_forcing.specs.Rows.{step_at}
 use Rattle.ada_forcing.specs.declared.row.Row.{Row}
 use Rattle.ada_forcing.specs.declared.row.Row.TheVariants.{Failing, Activating, Going, QuittingBody, Leaving}
 use Rattle.ada_touching.specs.Keeping.{has_key, IsAgendaOf}
@@ -45,7 +46,8 @@ use Rattle.ada_noting.specs.internal.Keys.When.{holds_so}
 use Rattle.ada_noting.specs.internal.Keys.AsHolder.{quits, goes as holder_goes, leaves}
 use Rattle.ada_noting.specs.internal.Keys.AsDependent.{through}
 use Rattle.ada_noting.specs.internal.Keys.AsActivation.{activates}
-use Rattle.ada_noting.proofs.Additions.{noted, fails_held}
+use Rattle.ada_noting.proofs.Additions.{noted, noted_giving, fails_held}
+use Rattle.ada_noting.proofs.Giving.{goer, quitter}
 
 -- a master on which a live task depends is held
 pub dependent_held : (before : List Event) (t : ℕ) (m : Master) → IsLawful before → is_terminated before t ≡ false → depends_on before t m ≡ true
@@ -119,6 +121,14 @@ pub failure_noted : (event : Event) (before : List Event) (old new : List (List 
 failure_noted event before old new task lawful agenda is puts =
     noted event before old new (OfCompletion before task) lawful agenda puts (λ row key added. subst (λ (e : Event). Adds before e row key) is added)
 
+gone_completes : (event : Event) (task : TaskNo) → event ≡ Gone task → completed_in event ≡ None
+unfolding completed_in
+gone_completes event task is = rw is refl
+
+quit_completes : (event : Event) (master : Master) → event ≡ Quit master → completed_in event ≡ None
+unfolding completed_in
+quit_completes event master is = rw is refl
+
 -- who goes isn't terminated yet
 gone_here : (event : Event) (task : TaskNo) → event ≡ Gone task → gone_in event ≡ Some task.0
 unfolding gone_in
@@ -134,16 +144,17 @@ abbrev pub TerminationKeys : List Event → TaskNo → Row → ℕ → Type 0
 TerminationKeys before task =
     Both (Both (AsLost before task.0) (AsActivation before task)) (AsDependent before task.0)
 
-termination_key : (before : List Event) (task : TaskNo) (row : Row) (key : ℕ) → IsLawful before → is_terminated before task.0 ≡ false
-    → OfTermination before task row key → TerminationKeys before task row key
-termination_key before task row key lawful live (end_fails p was of) = inl (inl (lost_key before task.0 p lawful was of))
-termination_key before task row key lawful live (end_activates p active) = inl (inr (activates p active))
-termination_key before task row key lawful live (end_goes t depends) =
-    inr (through t.0 (Body t) Going t.0 live depends (eq-eqb t.0 t.0 refl) holder_goes)
-termination_key before task row key lawful live (end_quits m depends) =
+termination_key : (event step : Event) (before : List Event) (task : TaskNo) (row : Row) (key : ℕ) → IsLawful before → completed_in event ≡ None
+    → is_terminated before task.0 ≡ false → step_at (event ∷ before) row key ≡ Some step → OfTermination before task row key
+    → TerminationKeys before task row key
+termination_key event step before task row key lawful none live gives (end_fails p was of) = inl (inl (lost_key before task.0 p lawful was of))
+termination_key event step before task row key lawful none live gives (end_activates p active) = inl (inr (activates p active))
+termination_key event step before task row key lawful none live gives (end_goes t depends) =
+    inr (through t.0 (Body t) Going t.0 live depends (eq-eqb t.0 t.0 refl) (holder_goes (goer event step before t.0 none gives)))
+termination_key event step before task row key lawful none live gives (end_quits m depends) =
     let by = dependent_held before task.0 m lawful live depends in
-    inr (through by.holder m (quitting_row m) (quitting_key m) live depends by.held (quits m by.held))
-termination_key before task row key lawful live (end_leaves block p depends leaving) =
+    inr (through by.holder m (quitting_row m) (quitting_key m) live depends by.held (quits m by.held (quitter event step before m none gives)))
+termination_key event step before task row key lawful none live gives (end_leaves block p depends leaving) =
     let (k, below, is) = leaving.within in
     inr (through leaving.closing.by (Block block) Leaving p live depends (has_contained (nest before leaving.closing.by) block k below is)
     (leaves leaving.stands.event p leaving.stands.stands (rw leaving.stands.says refl) leaving.suspended))
@@ -151,8 +162,9 @@ termination_key before task row key lawful live (end_leaves block p depends leav
 pub termination_noted : (event : Event) (before : List Event) (old new : List (List ℕ)) (task : TaskNo) → IsLawful (event ∷ before) → IsAgendaOf old before
     → event ≡ Gone task → Puts old new (TerminationKeys before task) → IsAgendaOf new (event ∷ before)
 termination_noted event before old new task lawful agenda is puts =
-    noted event before old new (TerminationKeys before task) lawful agenda puts (λ row key added.
-    termination_key before task row key lawful.0 (goer_live event before task lawful is) (subst (λ (e : Event). Adds before e row key) is added))
+    noted_giving event before old new (TerminationKeys before task) lawful agenda puts (λ row key step added gives.
+    termination_key event step before task row key lawful.0 (gone_completes event task is) (goer_live event before task lawful is) gives
+    (subst (λ (e : Event). Adds before e row key) is added))
 
 -- all that was put where many terminate together
 abbrev pub QuitKeys : List Event → Row → ℕ → Type 0
@@ -160,42 +172,43 @@ QuitKeys before =
     Both (Both (OfFirst (AsHeld before Failing) (task_count before)) (OfFirst (AsHeld before Activating) (task_count before)))
     (OfFirst (AsHolder before) (task_count before))
 
-ended_key : (before : List Event) (t : TaskNo) (row : Row) (key : ℕ) → IsLawful before → is_terminated before t.0 ≡ false → OfTermination before t row key
-    → QuitKeys before row key
-ended_key before t row key lawful live (end_fails p was of) = inl (inl (fails_held before t.0 p lawful of))
-ended_key before t row key lawful live (end_activates p active) =
+ended_key : (event step : Event) (before : List Event) (t : TaskNo) (row : Row) (key : ℕ) → IsLawful before → completed_in event ≡ None
+    → is_terminated before t.0 ≡ false → step_at (event ∷ before) row key ≡ Some step → OfTermination before t row key → QuitKeys before row key
+ended_key event step before t row key lawful none live gives (end_fails p was of) = inl (inl (fails_held before t.0 p lawful of))
+ended_key event step before t row key lawful none live gives (end_activates p active) =
     let at = active.stands in
     inl (inr (record {
       task = active.creation.by;
       among = suspended_exists before active.creation.by p lawful active.suspended;
       of = held at.event p at.stands (rw at.says refl) active.suspended;
     }))
-ended_key before t row key lawful live (end_goes u depends) =
+ended_key event step before t row key lawful none live gives (end_goes u depends) =
     let known : t.0 < task_count before = depends_exists before t.0 (Body u) depends in
     let later : u.0 < t.0 = depends_after before t.0 u lawful depends in
-    inr (record { task = u.0; among = omega (arith, known, later); of = holder_goes })
-ended_key before t row key lawful live (end_quits m depends) =
+    inr (record { task = u.0; among = omega (arith, known, later); of = holder_goes (goer event step before u.0 none gives) })
+ended_key event step before t row key lawful none live gives (end_quits m depends) =
     let by = dependent_held before t.0 m lawful live depends in
     let known : t.0 < task_count before = depends_exists before t.0 m depends in
     let later : by.holder < t.0 = by.before in
-    inr (record { task = by.holder; among = omega (arith, known, later); of = quits m by.held })
-ended_key before t row key lawful live (end_leaves block p depends leaving) =
+    inr (record { task = by.holder; among = omega (arith, known, later); of = quits m by.held (quitter event step before m none gives) })
+ended_key event step before t row key lawful none live gives (end_leaves block p depends leaving) =
     inr (record {
       task = leaving.closing.by;
       among = suspended_exists before leaving.closing.by p lawful leaving.suspended;
       of = leaves leaving.stands.event p leaving.stands.stands (rw leaving.stands.says refl) leaving.suspended;
     })
 
-quit_key : (before : List Event) (master : Master) (row : Row) (key : ℕ) → IsLawful before → OfQuit before master row key → QuitKeys before row key
-quit_key before master row key lawful (ends t r k depends live of) = ended_key before t r k lawful live of
-quit_key before master row key lawful (quit_abandons t u depends live of) =
-    inr (record { task = u; among = created_exists before u of.creation of.made; of = holder_goes })
+quit_key : (event step : Event) (before : List Event) (master : Master) (row : Row) (key : ℕ) → IsLawful before → completed_in event ≡ None
+    → step_at (event ∷ before) row key ≡ Some step → OfQuit before master row key → QuitKeys before row key
+quit_key event step before master row key lawful none gives (ends t r k depends live of) = ended_key event step before t r k lawful none live gives of
+quit_key event step before master row key lawful none gives (quit_abandons t u depends live of) =
+    inr (record { task = u; among = created_exists before u of.creation of.made; of = holder_goes (goer event step before u none gives) })
 
 pub quit_noted : (event : Event) (before : List Event) (old new : List (List ℕ)) (master : Master) → IsLawful (event ∷ before) → IsAgendaOf old before
     → event ≡ Quit master → Puts old new (QuitKeys before) → IsAgendaOf new (event ∷ before)
 quit_noted event before old new master lawful agenda is puts =
-    noted event before old new (QuitKeys before) lawful agenda puts (λ row key added.
-    quit_key before master row key lawful.0 (subst (λ (e : Event). Adds before e row key) is added))
+    noted_giving event before old new (QuitKeys before) lawful agenda puts (λ row key step added gives.
+    quit_key event step before master row key lawful.0 (quit_completes event master is) gives (subst (λ (e : Event). Adds before e row key) is added))
 
 -- the end of an activation without an exception
 up_key : (before : List Event) (task : TaskNo) (row : Row) (key : ℕ) → OfElaboration before task row key → AsActivation before task row key

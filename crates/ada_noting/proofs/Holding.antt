@@ -9,6 +9,7 @@ use Rattle.ada_events.specs.declared.names.Master.{Master}
 use Rattle.ada_events.specs.declared.names.Master.TheVariants.{Body, Block}
 use Rattle.ada_events.specs.declared.names.Member.{Member}
 use Rattle.ada_events.specs.declared.names.Member.TheVariants.{Block as BlockMember, Rendezvous}
+use Rattle.ada_events.specs.Phases.{is_completed}
 use Rattle.ada_events.specs.Nests.{nest}
 use Rattle.ada_events.specs.Lawful.{IsLawful}
 use Rattle.ada_laws.proofs.Searching.{event_at-within}
@@ -25,8 +26,9 @@ use Rattle.ada_tables.specs.declared.layers.Layer.{Layer}
 use Rattle.ada_tables.specs.Layers.{member_of, members}
 use Rattle.std.proofs.lemmas.List.{length-map}
 use Rattle.ada_noting.proofs.Putting.{puts_more, puts_all}
-use Rattle.ada_noting.specs.internal.Keys.{Puts, Both, OfFirst, AsKey, AsHeld, AsMember, AsBlock, AsHolder}
+use Rattle.ada_noting.specs.internal.Keys.{Puts, Both, When, OfFirst, AsKey, AsHeld, AsMember, AsBlock, AsHolder, may_go, may_quit}
 use Rattle.ada_noting.specs.internal.Keys.AsKey.{itself}
+use Rattle.ada_noting.specs.internal.Keys.When.{holds_so}
 use Rattle.ada_noting.specs.internal.Keys.AsHeld.{held}
 use Rattle.ada_noting.specs.internal.Keys.AsMember.{block}
 use Rattle.ada_noting.specs.internal.Keys.AsHolder.{quits, goes, leaves}
@@ -65,18 +67,22 @@ block_place members b has =
 -- what a task that holds masters has put in
 abbrev pub HolderKeys : List Event → ℕ → Row → ℕ → Type 0
 HolderKeys journal task =
-    Both (Both (Both (AsKey Going task) (AsKey QuittingBody task)) (AsHeld journal Leaving task))
+    Both (Both (Both (When (may_go journal task) (AsKey Going task)) (When (is_completed journal task) (AsKey QuittingBody task)))
+    (AsHeld journal Leaving task))
     (OfFirst (AsBlock (nest journal task)) (length (nest journal task)))
 
-held_key : (journal : List Event) (task : ℕ) (m : Master) → holds task (nest journal task) m ≡ true → HolderKeys journal task (quitting_row m) (quitting_key m)
-held_key journal task (Body t) has = inl (inl (inr (rw (eqb-true t.0 task has) itself)))
-held_key journal task (Block b) has =
+held_key : (journal : List Event) (task : ℕ) (m : Master) → holds task (nest journal task) m ≡ true → may_quit journal m ≡ true
+    → HolderKeys journal task (quitting_row m) (quitting_key m)
+held_key journal task (Body t) has may =
+    let same : t.0 ≡ task = eqb-true t.0 task has in
+    inl (inl (inr (rw same (holds_so (ap (is_completed journal) (sym same) ∙ may) itself))))
+held_key journal task (Block b) has may =
     let (k, below, is) = block_place (nest journal task) b has in
     inr (record { task = k; among = below; of = block b is })
 
 holder_key : (journal : List Event) (task : ℕ) (row : Row) (key : ℕ) → AsHolder journal task row key → HolderKeys journal task row key
-holder_key journal task row key (quits m has) = held_key journal task m has
-holder_key journal task row key goes = inl (inl (inl itself))
+holder_key journal task row key (quits m has may) = held_key journal task m has may
+holder_key journal task row key (goes may) = inl (inl (inl (holds_so may itself)))
 holder_key journal task row key (leaves event p stands closes suspended) = inl (inr (held event p stands closes suspended))
 
 pub holder_put : (journal : List Event) (old new : List (List ℕ)) (task : ℕ) → Puts old new (HolderKeys journal task) → Puts old new (AsHolder journal task)

@@ -3,6 +3,7 @@ pub mod Callees
 pub mod Callers
 pub mod Dues
 pub mod Ends
+pub mod Giving
 pub mod Holding
 pub mod Additions
 pub mod Outwards

@@ -4,14 +4,14 @@ ghost use Rattle.std.specs.Prelude.{◌≡◌, ◌<◌, ℕ, false, Some, length
 ghost use Rattle.std.specs.Option.{option_map};
 ghost use Rattle.ada_events.specs.Lawful.{IsLawful};
 ghost use Rattle.ada_events.specs.Nests.{nest};
-ghost use Rattle.ada_events.specs.Phases.{is_terminated};
+ghost use Rattle.ada_events.specs.Phases.{is_completed, is_terminated};
 ghost use Rattle.ada_events.specs.Tasks.{task_count};
 ghost use Rattle.ada_events.specs.declared.names.TaskNo.{TaskNo as Number};
 ghost use Rattle.ada_events.specs.declared.names.Member.TheVariants.{Block as BlockMember};
 ghost use Rattle.ada_noting.specs.internal.Keys as keys;
 ghost use Rattle.ada_noting.specs.internal.Keys.{Puts, OfFirst, AsMember, AsBlock, AsHolder, AsDependent};
 
-use crate::passes::{put_held, put_key};
+use crate::passes::{put_held, put_key, put_key_if};
 use ada_agenda::Agenda;
 use ada_events::{Master, Member, TaskNo};
 use ada_forcing::Row;
@@ -77,6 +77,21 @@ fn put_blocks(agenda: &mut Agenda, state: &State, task: TaskNo)
     }
 }
 
+// Whether the task is completed (9.4).
+fn is_completed(state: &State, task: TaskNo) -> bool
+    ensures { result ≡ is_completed state.now task.0 }
+{
+    state.record(task).stage.completed
+}
+
+// Whether the task is completed, or was never started: no other goes (9.3, 9.4).
+fn may_go(state: &State, task: TaskNo) -> bool
+    ensures { result ≡ keys.may_go state.now task.0 }
+{
+    let stage = state.record(task).stage;
+    stage.completed || !stage.named
+}
+
 /// Puts what the masters that a task holds may force: that the dependents of each quit, that the task goes, and that it
 /// leaves the block at whose close it is suspended.
 pub(crate) fn put_holder(agenda: &mut Agenda, state: &State, task: TaskNo)
@@ -85,8 +100,9 @@ pub(crate) fn put_holder(agenda: &mut Agenda, state: &State, task: TaskNo)
     requires known { task.0 < task_count state.now }
     ensures { Puts agenda.old agenda.new (AsHolder state.now task.0) }
 {
-    put_key(agenda, Row::Going, task.0 as usize);
-    put_key(agenda, Row::QuittingBody, task.0 as usize);
+    let key = task.0 as usize;
+    put_key_if(agenda, Row::Going, key, may_go(state, task));
+    put_key_if(agenda, Row::QuittingBody, key, is_completed(state, task));
     put_held(agenda, state, Row::Leaving, task);
     put_blocks(agenda, state, task);
 }

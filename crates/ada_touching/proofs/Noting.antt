@@ -1,5 +1,5 @@
 -- Agendas that are kept up with their journal.
-use Rattle.std.proofs.Common.{◌≡◌, ◌≢◌, ℕ, ◌+◌, ◌<◌, ◌≤◌, Bool, true, List, ◌∷◌, length, sym, refl, ap, ◌∙◌, subst, arith, ◌⊎◌, inl, inr}
+use Rattle.std.proofs.Common.{◌≡◌, ◌≢◌, ℕ, ◌+◌, ◌<◌, ◌≤◌, Bool, true, Some, List, ◌∷◌, length, sym, refl, ap, ◌∙◌, subst, arith, ◌⊎◌, inl, inr}
 use Rattle.std.specs.Option.{is_some}
 use Rattle.std.proofs.lemmas.Bool.{cases_eq, cases_lt, false≢true, both_ways}
 use Rattle.std.proofs.lemmas.Option.{none-some, same_Some}
@@ -18,7 +18,7 @@ use Rattle.ada_forcing.specs.declared.row.Row.{Row}
 use Rattle.ada_forcing.specs.declared.row.Row.TheVariants.{Halting, Failing, Taking, Cancelling, Passing, Waking, Activating, Going, QuittingBody}
 use Rattle.ada_forcing.specs.declared.row.Row.TheVariants.{QuittingBlock, Leaving}
 use Rattle.ada_forcing.specs.Newly.{IsCallOf}
-use Rattle.ada_forcing.specs.Rows.{rank}
+use Rattle.ada_forcing.specs.Rows.{rank, step_at}
 use Rattle.ada_agenda.specs.Rows.{keeps}
 use Rattle.ada_records.specs.Records.{IsHeldAt}
 use Rattle.ada_touching.specs.Keeping.{has_key, IsAgendaOf, Grows}
@@ -89,6 +89,15 @@ pub grown : (event : Event) (before : List Event) (old new : List (List ℕ)) �
 grown event before old new lawful agenda grows all = record {
   many = grows.many ∙ agenda.many;
   covers = agendas_grow event before (has_key old) (has_key new) lawful agenda.covers grows.kept (λ row key step added gives. all row key added);
+}
+
+-- the same, where those of its keys are there at which a step is given
+pub grown_giving : (event : Event) (before : List Event) (old new : List (List ℕ)) → IsLawful (event ∷ before) → IsAgendaOf old before → Grows old new
+    → ((row : Row) (key : ℕ) (step : Event) → Adds before event row key → step_at (event ∷ before) row key ≡ Some step → has_key new row key ≡ true)
+    → IsAgendaOf new (event ∷ before)
+grown_giving event before old new lawful agenda grows all = record {
+  many = grows.many ∙ agenda.many;
+  covers = agendas_grow event before (has_key old) (has_key new) lawful agenda.covers grows.kept all;
 }
 
 pub own_is : (before : List Event) (own : ℕ) → own ≡ length before + 1 → own ≡ itself before

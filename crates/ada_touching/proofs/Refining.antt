@@ -149,7 +149,7 @@ at_own event step before Going lawful by gives = absurd (true≢false by)
 at_own event step before QuittingBody lawful by gives = absurd (true≢false by)
 
 -- the step of a row that goes by tasks, and of one that goes by positions
-task_step : (journal : List Event) (row : Row) (u : ℕ) (step : Event) → goes_by_task row ≡ true → step_at journal row u ≡ Some step
+pub task_step : (journal : List Event) (row : Row) (u : ℕ) (step : Event) → goes_by_task row ≡ true → step_at journal row u ≡ Some step
     → of_task journal row u ≡ Some step
 unfolding step_at
 task_step journal Halting u step by gives =

@@ -1,5 +1,5 @@
 -- Keys that are put into an agenda together, and who holds what a task was made under.
-use Rattle.std.specs.Prelude.{◌≡◌, ◌⊎◌, ℕ, ◌<◌, ◌==◌, Bool, true, false, not, Option, Some, List, slice_get}
+use Rattle.std.specs.Prelude.{◌≡◌, ◌⊎◌, ℕ, ◌<◌, ◌==◌, ◌||◌, Bool, true, false, not, Option, Some, List, slice_get}
 use Rattle.std.specs.Option.{is_some, option_map, option_and_then}
 use Rattle.ada_events.specs.declared.event.Event.{Event}
 use Rattle.ada_events.specs.declared.names.Master.{Master}
@@ -12,7 +12,7 @@ use Rattle.ada_events.specs.Says.{Opening, Creation, Call, call_in, start_in, cl
 use Rattle.ada_events.specs.Waits.{is_due}
 use Rattle.ada_events.specs.Tasks.{task_count, creation_of}
 use Rattle.ada_events.specs.Masters.{depends_on}
-use Rattle.ada_events.specs.Phases.{has_start, is_abnormal, is_terminated}
+use Rattle.ada_events.specs.Phases.{has_start, is_completed, is_abnormal, is_terminated}
 use Rattle.ada_events.specs.Nests.{nest}
 use Rattle.ada_laws.specs.Calls.{IsCallAt}
 use Rattle.ada_laws.specs.Suspension.{IsSuspendedAt}
@@ -91,10 +91,20 @@ pub data AsMember (member : Option Member) : Row → ℕ → Type 0 where
 abbrev pub AsBlock : List Member → ℕ → Row → ℕ → Type 0
 AsBlock members place = AsMember (slice_get members place)
 
--- the quitting of each master that a task holds, its going, and the leaving of the block that it closes (9.4)
+-- only a task that is completed, or was never started, goes (9.3, 9.4)
+abbrev pub may_go : List Event → ℕ → Bool
+may_go journal task = is_completed journal task || not (has_start journal task)
+
+-- only where a task is completed do the dependents of its body quit (9.4)
+abbrev pub may_quit : List Event → Master → Bool
+may_quit journal (Body t) = is_completed journal t.0
+may_quit journal (Block p) = true
+
+-- the quitting of each master that a task holds, its going, where these may be, and the leaving of the block that it
+-- closes (9.4)
 pub data AsHolder (journal : List Event) (task : ℕ) : Row → ℕ → Type 0 where
-  quits : (m : Master) → holds task (nest journal task) m ≡ true → AsHolder journal task (quitting_row m) (quitting_key m)
-  goes : AsHolder journal task Going task
+  quits : (m : Master) → holds task (nest journal task) m ≡ true → may_quit journal m ≡ true → AsHolder journal task (quitting_row m) (quitting_key m)
+  goes : may_go journal task ≡ true → AsHolder journal task Going task
   leaves : (event : Event) (p : ℕ) → event_at journal p ≡ Some event → is_of_row Leaving event ≡ true → IsSuspendedAt journal task p
       → AsHolder journal task Leaving p
 

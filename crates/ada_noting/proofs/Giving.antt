@@ -1,0 +1,83 @@
+-- What a step that a row gives behind an event says of the task or the master at its key.
+use Rattle.std.proofs.Common.{◌≡◌, ℕ, Bool, true, false, not, ◌&&◌, ◌||◌, Some, None, List, ◌∷◌, sym, refl, ap, ◌∙◌, ◌⊎◌, inl, inr}
+use Rattle.std.proofs.lemmas.Bool.{and_parts, or_cases, or_left, or_right, not-true, true≢false, false_from_ne_true, eqb-true}
+use Rattle.ada_events.specs.declared.event.Event.{Event}
+use Rattle.ada_events.specs.declared.event.Event.TheVariants.{Gone, Quit}
+use Rattle.ada_events.specs.declared.names.TaskNo.{TaskNo}
+use Rattle.ada_events.specs.declared.names.Master.{Master}
+use Rattle.ada_events.specs.declared.names.Master.TheVariants.{Body, Block}
+use Rattle.ada_events.specs.Search.{is_some_and, is_number}
+use Rattle.ada_events.specs.Says.{Creation, completed_in}
+use Rattle.ada_events.specs.Tasks.{task_count, creation_of}
+use Rattle.ada_events.specs.Phases.{has_start, is_completed, is_terminated}
+use Rattle.ada_events.specs.Termination.{is_complete, is_abandoned, all_terminated}
+use Rattle.ada_events.specs.Forced.{task_no, is_to_go, is_to_quit}
+use Rattle.ada_laws.proofs.Searching.{then_some-some}
+use Rattle.ada_forcing.specs.declared.row.Row.{Row}
+use Rattle.ada_forcing.specs.declared.row.Row.TheVariants.{Going, QuittingBody}
+use Rattle.ada_forcing.specs.Rows.{step_at}
+use Rattle.ada_touching.specs.Kinds.{quitting_row, quitting_key}
+use Rattle.ada_touching.proofs.Refining.{task_step}
+use Rattle.ada_noting.specs.internal.Keys.{may_go, may_quit}
+
+-- who goes is completed, or was never started
+goes_so : (journal : List Event) (t : ℕ) → is_to_go journal t ≡ true → may_go journal t ≡ true
+unfolding is_to_go is_abandoned
+goes_so journal t goes =
+    let both = and_parts (not (is_terminated journal t)) _ goes in
+    elim (or_cases (is_completed journal t && all_terminated journal (Body (task_no t))) (is_abandoned journal t) both.1) [
+      | inl done ↦
+          or_left (is_completed journal t) (not (has_start journal t))
+          (and_parts (is_completed journal t) (all_terminated journal (Body (task_no t))) done).0
+      | inr abandoned ↦ or_right (is_completed journal t) (not (has_start journal t)) (and_parts _ (not (has_start journal t)) abandoned).1
+    ]
+
+-- an event that completes nobody leaves it so
+uncompleted : (event : Event) (before : List Event) (t : ℕ) → completed_in event ≡ None → is_completed (event ∷ before) t ≡ is_completed before t
+unfolding is_completed
+uncompleted event before t none = rw none refl
+
+unstarted : (event : Event) (before : List Event) (t : ℕ) → not (has_start (event ∷ before) t) ≡ true → not (has_start before t) ≡ true
+unfolding has_start
+unstarted event before t never =
+    ap not (false_from_ne_true (has_start before t) (λ started.
+    true≢false (sym (or_right _ (has_start before t) started) ∙ not-true (has_start (event ∷ before) t) never)))
+
+pub goer : (event step : Event) (before : List Event) (t : ℕ) → completed_in event ≡ None → step_at (event ∷ before) Going t ≡ Some step
+    → may_go before t ≡ true
+goer event step before t none gives =
+    let goes = (then_some-some (is_to_go (event ∷ before) t) (Gone (task_no t)) step (task_step (event ∷ before) Going t step refl gives)).0 in
+    elim (or_cases (is_completed (event ∷ before) t) (not (has_start (event ∷ before) t)) (goes_so (event ∷ before) t goes)) [
+      | inl done ↦ or_left (is_completed before t) (not (has_start before t)) (sym (uncompleted event before t none) ∙ done)
+      | inr never ↦ or_right (is_completed before t) (not (has_start before t)) (unstarted event before t never)
+    ]
+
+-- a body whose dependents quit is that of a completed task
+body_done : (journal : List Event) (t : TaskNo) → is_to_quit journal (Body t) ≡ true → is_completed journal t.0 ≡ true
+unfolding is_to_quit is_complete
+body_done journal t quits = (and_parts (is_completed journal t.0) _ (and_parts _ _ quits).0).0
+
+pub quitter : (event step : Event) (before : List Event) (m : Master) → completed_in event ≡ None
+    → step_at (event ∷ before) (quitting_row m) (quitting_key m) ≡ Some step → may_quit before m ≡ true
+quitter event step before (Body t) none gives =
+    let quits = (then_some-some (is_to_quit (event ∷ before) (Body (task_no t.0))) (Quit (Body (task_no t.0))) step
+    (task_step (event ∷ before) QuittingBody t.0 step refl gives)).0 in
+    sym (uncompleted event before t.0 none) ∙ body_done (event ∷ before) t quits
+quitter event step before (Block p) none gives = refl
+
+-- where the event completes a task, the body may be that task's own
+quitter_of_body : (event step : Event) (before : List Event) (task t : TaskNo) → completed_in event ≡ Some task.0
+    → step_at (event ∷ before) QuittingBody t.0 ≡ Some step → (Body t ≡ Body task) ⊎ (is_completed before t.0 ≡ true)
+unfolding is_completed
+quitter_of_body event step before task t completes gives =
+    let quits = (then_some-some (is_to_quit (event ∷ before) (Body (task_no t.0))) (Quit (Body (task_no t.0))) step
+    (task_step (event ∷ before) QuittingBody t.0 step refl gives)).0 in
+    elim (or_cases (is_number t.0 (completed_in event)) (is_completed before t.0) (body_done (event ∷ before) t quits)) [
+      | inl own ↦ inl (ap (λ n. Body (record { 0 = n })) (eqb-true t.0 task.0 (ap (is_number t.0) (sym completes) ∙ own)))
+      | inr was ↦ inr was
+    ]
+
+pub quitter_of : (event step : Event) (before : List Event) (task : TaskNo) (m : Master) → completed_in event ≡ Some task.0
+    → step_at (event ∷ before) (quitting_row m) (quitting_key m) ≡ Some step → (m ≡ Body task) ⊎ (may_quit before m ≡ true)
+quitter_of event step before task (Body t) completes gives = quitter_of_body event step before task t completes gives
+quitter_of event step before task (Block p) completes gives = inr refl
