@@ -59,6 +59,7 @@ impl Kernel {
     /// order, and the answer is the position of its event, from 1. Refused, the answer is the first
     /// cause that applies, and nothing is changed; `OutOfMemory` is answered only where no other cause
     /// applies and a growth was refused.
+    // Inlined, so that a request isn't copied on its way to who answers it.
     #[inline(always)]
     pub fn step(&mut self, request: Request) -> Result<u32, Refusal>
         ensures ok { IfOk result (λ at. IsAccepted self.old request at self.new) }

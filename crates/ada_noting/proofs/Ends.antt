@@ -65,7 +65,7 @@ activation_key before new task by row key made here (activates p active) =
     let same : active.creation.by ≡ by =
     same_Some active.creation.by by (sym (ap (option_map (λ (c : Creation). c.by)) active.made) ∙ made) in
     here Activating p (held active.stands.event p active.stands.stands (rw active.stands.says refl)
-        (subst (λ n. IsSuspendedAt before n p) same active.suspended))
+    (subst (λ n. IsSuspendedAt before n p) same active.suspended))
 
 pub activation_put : (before : List Event) (old new : List (List ℕ)) (task : TaskNo) (by : ℕ)
     → option_map (λ (c : Creation). c.by) (creation_of before task.0) ≡ Some by

@@ -61,7 +61,8 @@ wait_key event step before by at way ends tail so row key lawful none live same 
     inl (inr (holds_so (told ∙ there) (rw same itself)))
 wait_key event step before by at way ends tail so row key lawful none live same told is gives (wait_quits m opened depends) =
     let up = dependent_held before by m lawful live depends in
-    inr (holds_so (is ∙ opened) (through up.holder m (quitting_row m) (quitting_key m) live depends up.held (quits m up.held (quitter event step before m none gives))))
+    inr (holds_so (is ∙ opened) (through up.holder m (quitting_row m) (quitting_key m) live depends up.held (quits m up.held
+    (quitter event step before m none gives))))
 
 pub wait_noted : (event : Event) (before : List Event) (old new : List (List ℕ)) (by : TaskNo) (pick : ℕ) (choices : List Choice) (tail : EventTail)
     (at : ℕ) (ends so : Bool) → IsLawful (event ∷ before) → IsAgendaOf old before → event ≡ Waiting by pick choices tail → at ≡ length before + 1

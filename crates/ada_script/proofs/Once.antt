@@ -95,7 +95,7 @@ reads_once before number [] one other first second = first ∙ sym second
 reads_once before number (line ∷ lines) one other first second =
     let same = adds_once before number line first.0 second.0 first.1 second.1 in
     reads_once (before ++ second.0) (number + 1) lines one other
-        (subst (λ (a : List Line). AddsLines (before ++ a) (number + 1) lines one) same first.2) second.2
+    (subst (λ (a : List Line). AddsLines (before ++ a) (number + 1) lines one) same first.2) second.2
 
 pub stops_unread : (before : List Line) (number : ℕ) (lines : List (List ℕ)) (fault : ScriptFault) (all : List Line) → Stops before number lines fault
     → AddsLines before number lines all → ⊥

@@ -148,7 +148,7 @@ asked_quietly by callee entry patience due before row key (empties_queue m v lef
 
 pub call_adds : (by callee : TaskNo) (entry : Entry) (patience : Patience) (due : Option ℤ) (before : List Event) (row : Row) (key : ℕ)
     → IsLawful (asks by callee entry patience due ∷ before) → Key (asks by callee entry patience due) before row key
-        → OfCall before callee.0 (is_given_up before patience due) row key
+    → OfCall before callee.0 (is_given_up before patience due) row key
 call_adds by callee entry patience due before row key lawful touched =
     asked_quietly by callee entry patience due before row key
     (quietly (asks by callee entry patience due) before row key lawful (asks_quiet by callee entry patience due) touched)
@@ -186,7 +186,7 @@ waited_quietly by pick choices tail before row key (empties_queue m v left ready
 
 pub wait_adds : (by : TaskNo) (pick : ℕ) (choices : List Choice) (tail : EventTail) (before : List Event) (row : Row) (key : ℕ)
     → IsLawful (waits_for by pick choices tail ∷ before) → Key (waits_for by pick choices tail) before row key
-        → OfWait before by.0 (way_of (moment before) choices pick tail) tail row key
+    → OfWait before by.0 (way_of (moment before) choices pick tail) tail row key
 wait_adds by pick choices tail before row key lawful touched =
     waited_quietly by pick choices tail before row key
     (quietly (waits_for by pick choices tail) before row key lawful (waits_quiet by pick choices tail) touched)
