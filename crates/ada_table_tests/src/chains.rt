@@ -26,14 +26,20 @@ fn maker(task: u16) -> Master {
     }
 }
 
-/// A chain of 256 tasks, each within a block of its own.
-fn chain<R: Abort + AllocGlobal>(rt: &R) -> Result<CheckedTables, Fail> {
-    let mut tables = CheckedTables::new(rt.alloc())?;
+/// Each of 256 tasks makes the next, within a block of its own.
+fn make_chain<R: Abort>(rt: &R, tables: &mut CheckedTables) -> Result<(), Fail> {
     tables.push(TaskNo(0), Member::Block(block_of(0)))?;
     for task in 1..256u16 {
         assert_eq!(rt; tables.add(maker(task - 1), &[]), Ok(TaskNo(task)));
         tables.push(TaskNo(task), Member::Block(block_of(task)))?;
     }
+    Ok(())
+}
+
+/// A chain of 256 tasks, each within a block of its own.
+fn chain<R: Abort + AllocGlobal>(rt: &R) -> Result<CheckedTables, Fail> {
+    let mut tables = CheckedTables::new(rt.alloc())?;
+    make_chain(rt, &mut tables)?;
     Ok(tables)
 }
 
@@ -116,17 +122,27 @@ fn end_inwards<R: Abort>(rt: &R, tables: &mut CheckedTables) -> Result<(), Fail>
     Ok(())
 }
 
+/// A whole chain is counted, and while it ends from its last task on.
+fn is_counted_outwards<R: Abort>(rt: &R, tables: &mut CheckedTables) -> Result<(), Fail> {
+    parents_are(rt, tables)?;
+    all_are_counted(rt, tables)?;
+    end_outwards(rt, tables)?;
+    parents_are(rt, tables)
+}
+
+/// A chain is counted while it ends from its first task on.
+fn is_counted_inwards<R: Abort>(rt: &R, tables: &mut CheckedTables) -> Result<(), Fail> {
+    end_inwards(rt, tables)?;
+    parents_are(rt, tables)
+}
+
 // A whole chain, and its end from either side.
 #[test]
 fn a_chain_is_counted(rt: HostRuntime) -> Result<(), Fail> {
     let mut tables = chain(&rt)?;
-    parents_are(&rt, &tables)?;
-    all_are_counted(&rt, &tables)?;
-    end_outwards(&rt, &mut tables)?;
-    parents_are(&rt, &tables)?;
+    is_counted_outwards(&rt, &mut tables)?;
     let mut other = chain(&rt)?;
-    end_inwards(&rt, &mut other)?;
-    parents_are(&rt, &other)
+    is_counted_inwards(&rt, &mut other)
 }
 
 /// The tasks from `first` on wait at an open terminate alternative.
@@ -137,16 +153,26 @@ fn wait_to_quit(tables: &mut CheckedTables, first: u16) -> Result<(), Unmet> {
     Ok(())
 }
 
+/// How many dependents of a master hold up its quitting.
+fn unready_are<R: Abort>(rt: &R, tables: &CheckedTables, master: Master, count: u16) {
+    assert_eq!(rt; tables.unready(master), count);
+}
+
+/// What holds up quitting, once the tasks from the 200th on wait for it.
+fn those_before_are_unready<R: Abort>(rt: &R, tables: &CheckedTables) -> Result<(), Fail> {
+    unready_are(rt, tables, Master::Body(TaskNo(0)), 199);
+    unready_are(rt, tables, Master::Block(block_of(101)), 98);
+    unready_are(rt, tables, Master::Block(block_of(100)), 0);
+    unready_are(rt, tables, Master::Body(TaskNo(199)), 0);
+    assert_eq!(rt; tables.live(Master::Body(TaskNo(199))), Ok(56));
+    Ok(())
+}
+
 // Of 255 dependents all hold up quitting at first, and those before the 200th once the others wait for it.
 #[test]
 fn a_chain_waits_to_quit(rt: HostRuntime) -> Result<(), Fail> {
     let mut tables = chain(&rt)?;
-    assert_eq!(rt; tables.unready(Master::Body(TaskNo(0))), 255);
+    unready_are(&rt, &tables, Master::Body(TaskNo(0)), 255);
     wait_to_quit(&mut tables, 200)?;
-    assert_eq!(rt; tables.unready(Master::Body(TaskNo(0))), 199);
-    assert_eq!(rt; tables.unready(Master::Block(block_of(101))), 98);
-    assert_eq!(rt; tables.unready(Master::Block(block_of(100))), 0);
-    assert_eq!(rt; tables.unready(Master::Body(TaskNo(199))), 0);
-    assert_eq!(rt; tables.live(Master::Body(TaskNo(199))), Ok(56));
-    Ok(())
+    those_before_are_unready(&rt, &tables)
 }

@@ -20,16 +20,22 @@ fn member_at(place: u32) -> Member {
     }
 }
 
-/// A task within 32 members, with a task under its outermost block, at 2, and another under its innermost,
-/// at 29.
-fn with_full_nest<R: Abort + AllocGlobal>(rt: &R) -> Result<CheckedTables, Fail> {
-    let mut tables = CheckedTables::new(rt.alloc())?;
+/// The task comes into 32 members, and makes a task under its outermost block, at 2, and another under its
+/// innermost, at 29.
+fn fill_nest<R: Abort>(rt: &R, tables: &mut CheckedTables) -> Result<(), Fail> {
     assert_eq!(rt; tables.add(MAIN, &[]), Ok(DEEP));
     for place in 0..32u32 {
         tables.push(DEEP, member_at(place))?;
     }
     assert_eq!(rt; tables.add(Master::Block(2), &[]), Ok(TaskNo(2)));
     assert_eq!(rt; tables.add(Master::Block(29), &[]), Ok(TaskNo(3)));
+    Ok(())
+}
+
+/// Tables in which the task has done so.
+fn with_full_nest<R: Abort + AllocGlobal>(rt: &R) -> Result<CheckedTables, Fail> {
+    let mut tables = CheckedTables::new(rt.alloc())?;
+    fill_nest(rt, &mut tables)?;
     Ok(tables)
 }
 
@@ -78,18 +84,22 @@ fn assert_cut<R: Abort>(
     nest_lacks(rt, tables, gone)
 }
 
-// Rendezvous are cut from outside, from the middle and from inside, and the rest stays in order. A block is
-// no rendezvous.
+/// Cuts members from outside, from the middle and from inside, and a block, which stays.
+fn cut_members<R: Abort>(rt: &R, tables: &mut CheckedTables) -> Result<(), Fail> {
+    nest_lacks(rt, tables, &[])?;
+    blocks_are_counted(rt, tables)?;
+    assert_cut(rt, tables, 0, &[0])?;
+    assert_cut(rt, tables, 16, &[0, 16])?;
+    assert_cut(rt, tables, 31, &[0, 16, 31])?;
+    assert_cut(rt, tables, 29, &[0, 16, 31])?;
+    blocks_are_counted(rt, tables)
+}
+
+// Rendezvous are cut, and the rest stays in order. A block is no rendezvous.
 #[test]
 fn rendezvous_are_cut_from_a_full_nest(rt: HostRuntime) -> Result<(), Fail> {
     let mut tables = with_full_nest(&rt)?;
-    nest_lacks(&rt, &tables, &[])?;
-    blocks_are_counted(&rt, &tables)?;
-    assert_cut(&rt, &mut tables, 0, &[0])?;
-    assert_cut(&rt, &mut tables, 16, &[0, 16])?;
-    assert_cut(&rt, &mut tables, 31, &[0, 16, 31])?;
-    assert_cut(&rt, &mut tables, 29, &[0, 16, 31])?;
-    blocks_are_counted(&rt, &tables)
+    cut_members(&rt, &mut tables)
 }
 
 fn assert_live<R: Abort>(rt: &R, tables: &CheckedTables, master: Master, tasks: u16) {
@@ -106,15 +116,20 @@ fn leave_all<R: Abort>(rt: &R, tables: &mut CheckedTables) -> Result<(), Fail> {
     Ok(())
 }
 
+/// The dependents of the task's blocks end, and it leaves all that it is in.
+fn end_and_leave<R: Abort>(rt: &R, tables: &mut CheckedTables) -> Result<(), Fail> {
+    tables.set_phase(TaskNo(3), Phase::Terminated)?;
+    assert_live(rt, tables, Master::Block(29), 0);
+    assert_live(rt, tables, Master::Block(2), 1);
+    tables.set_phase(TaskNo(2), Phase::Terminated)?;
+    leave_all(rt, tables)?;
+    assert_live(rt, tables, Master::Body(DEEP), 0);
+    Ok(())
+}
+
 // The task leaves its nest once the dependents of its blocks are terminated.
 #[test]
 fn a_full_nest_is_left(rt: HostRuntime) -> Result<(), Fail> {
     let mut tables = with_full_nest(&rt)?;
-    tables.set_phase(TaskNo(3), Phase::Terminated)?;
-    assert_live(&rt, &tables, Master::Block(29), 0);
-    assert_live(&rt, &tables, Master::Block(2), 1);
-    tables.set_phase(TaskNo(2), Phase::Terminated)?;
-    leave_all(&rt, &mut tables)?;
-    assert_live(&rt, &tables, Master::Body(DEEP), 0);
-    Ok(())
+    end_and_leave(&rt, &mut tables)
 }

@@ -35,14 +35,11 @@ fn call_in_order(tables: &mut CheckedTables, first: u16) -> Result<(), Unmet> {
     Ok(())
 }
 
-/// 256 tasks, where main and the tasks 2 to 255 wait in that order at the callee's first entry, and the
-/// callee itself at its second.
-fn with_callers<R: Abort + AllocGlobal>(rt: &R) -> Result<CheckedTables, Fail> {
-    let mut tables = with_all_tasks(rt)?;
+/// Main and the tasks 2 to 255 call the callee's first entry, in that order, and the callee itself its second.
+fn all_call(tables: &mut CheckedTables) -> Result<(), Unmet> {
     tables.enqueue(CALLEE, CALLEE, entry(1), OWN)?;
     tables.enqueue(TaskNo(0), CALLEE, entry(0), call_of(0))?;
-    call_in_order(&mut tables, 2)?;
-    Ok(tables)
+    call_in_order(tables, 2)
 }
 
 /// What stands first in the queue of a family's entry with index 0, and how many calls wait there.
@@ -58,17 +55,22 @@ fn queue_is<R: Abort>(
     Ok(())
 }
 
+/// All callers of the first entry leave, in the order of arrival.
+fn all_leave<R: Abort>(rt: &R, tables: &mut CheckedTables) -> Result<(), Fail> {
+    for task in 0..256u16 {
+        queue_is(rt, tables, 0, Some(call_of(task)), 256 - task)?;
+        tables.unlink(TaskNo(task))?;
+    }
+    queue_is(rt, tables, 0, None, 0)?;
+    queue_is(rt, tables, 1, None, 0)
+}
+
 // All 256 tasks wait at one entry, the callee too, and leave in the order of arrival (9.5).
 #[test]
 fn as_long_as_a_queue_may_be(rt: HostRuntime) -> Result<(), Fail> {
     let mut tables = with_all_tasks(&rt)?;
     call_in_order(&mut tables, 0)?;
-    for task in 0..256u16 {
-        queue_is(&rt, &tables, 0, Some(call_of(task)), 256 - task)?;
-        tables.unlink(TaskNo(task))?;
-    }
-    queue_is(&rt, &tables, 0, None, 0)?;
-    queue_is(&rt, &tables, 1, None, 0)
+    all_leave(&rt, &mut tables)
 }
 
 /// The odd callers leave, the last of them first.
@@ -79,22 +81,45 @@ fn odd_ones_leave(tables: &mut CheckedTables) -> Result<(), Unmet> {
     Ok(())
 }
 
+/// Main leaves, and calls again.
+fn main_calls_again<R: Abort>(rt: &R, tables: &mut CheckedTables) -> Result<(), Fail> {
+    queue_is(rt, tables, 0, Some(call_of(0)), 128)?;
+    tables.unlink(TaskNo(0))?;
+    tables.enqueue(TaskNo(0), CALLEE, entry(0), 2000)?;
+    Ok(())
+}
+
+/// The even callers leave, in the order of arrival.
+fn even_ones_leave<R: Abort>(rt: &R, tables: &mut CheckedTables) -> Result<(), Fail> {
+    for half in 1..128u16 {
+        queue_is(rt, tables, 0, Some(call_of(2 * half)), 129 - half)?;
+        tables.unlink(TaskNo(2 * half))?;
+    }
+    Ok(())
+}
+
+/// Main is left, and then nobody but the callee itself.
+fn main_leaves_last<R: Abort>(rt: &R, tables: &mut CheckedTables) -> Result<(), Fail> {
+    queue_is(rt, tables, 0, Some(2000), 1)?;
+    tables.unlink(TaskNo(0))?;
+    queue_is(rt, tables, 0, None, 0)?;
+    queue_is(rt, tables, 1, Some(OWN), 1)
+}
+
+/// What is left leaves.
+fn rest_leaves<R: Abort>(rt: &R, tables: &mut CheckedTables) -> Result<(), Fail> {
+    odd_ones_leave(tables)?;
+    main_calls_again(rt, tables)?;
+    even_ones_leave(rt, tables)?;
+    main_leaves_last(rt, tables)
+}
+
 // What is left leaves in the order of arrival, and a caller that calls again stands last (9.5).
 #[test]
 fn the_rest_leaves_in_order(rt: HostRuntime) -> Result<(), Fail> {
-    let mut tables = with_callers(&rt)?;
-    odd_ones_leave(&mut tables)?;
-    queue_is(&rt, &tables, 0, Some(call_of(0)), 128)?;
-    tables.unlink(TaskNo(0))?;
-    tables.enqueue(TaskNo(0), CALLEE, entry(0), 2000)?;
-    for half in 1..128u16 {
-        queue_is(&rt, &tables, 0, Some(call_of(2 * half)), 129 - half)?;
-        tables.unlink(TaskNo(2 * half))?;
-    }
-    queue_is(&rt, &tables, 0, Some(2000), 1)?;
-    tables.unlink(TaskNo(0))?;
-    queue_is(&rt, &tables, 0, None, 0)?;
-    queue_is(&rt, &tables, 1, Some(OWN), 1)
+    let mut tables = with_all_tasks(&rt)?;
+    all_call(&mut tables)?;
+    rest_leaves(&rt, &mut tables)
 }
 
 /// 503 entries of five families, two of which are empty.
@@ -131,17 +156,20 @@ const BOUNDS: [(TaskNo, u8, i32); 6] = [
     (TaskNo(2), 0, 2_147_483_647),
 ];
 
-/// Tasks 1 and 2 with 1,024 entries between them, where tasks 3 to 8 wait each at one of the bounds.
-fn with_bounds_called<R: Abort + AllocGlobal>(rt: &R) -> Result<CheckedTables, Fail> {
-    let mut tables = CheckedTables::new(rt.alloc())?;
+/// Tasks 1 and 2 have 1,024 entries between them, and there is room for no further one.
+fn make_wide<R: Abort>(rt: &R, tables: &mut CheckedTables) {
     assert_eq!(rt; tables.add(MAIN, &WIDE), Ok(TaskNo(1)));
     assert_eq!(rt; tables.add(MAIN, &[REST]), Ok(TaskNo(2)));
     assert_eq!(rt; tables.add(MAIN, &[SINGLE]), Err(Unmet::TooManySlots));
+}
+
+/// Tasks 3 to 8 are made, and call each one of the bounds.
+fn call_bounds(tables: &mut CheckedTables) -> Result<(), Unmet> {
     for (callee, family, index) in BOUNDS {
         let caller = tables.add(MAIN, &[])?;
         tables.enqueue(caller, callee, Entry { family, index }, call_of(caller.0))?;
     }
-    Ok(tables)
+    Ok(())
 }
 
 /// How many calls wait at the entries of a family in all.
@@ -159,10 +187,8 @@ fn calls_at(
     Ok(total)
 }
 
-// Each bound has the queue of its own call, and no other of the 1,024 entries has a call.
-#[test]
-fn entries_at_bounds_are_apart(rt: HostRuntime) -> Result<(), Fail> {
-    let tables = with_bounds_called(&rt)?;
+/// Each bound has the queue of its own call.
+fn bounds_are_apart<R: Abort>(rt: &R, tables: &CheckedTables) {
     let mut caller = 3;
     for (callee, family, index) in BOUNDS {
         let called = Entry { family, index };
@@ -174,7 +200,21 @@ fn entries_at_bounds_are_apart(rt: HostRuntime) -> Result<(), Fail> {
         assert_eq!(rt; tables.queue_len(callee, called), Ok(1), "at {index}");
         caller = caller.saturating_add(1);
     }
-    assert_eq!(rt; calls_at(&tables, TaskNo(1), 0, WIDE[0]), Ok(2));
-    assert_eq!(rt; calls_at(&tables, TaskNo(2), 0, REST), Ok(2));
+}
+
+/// The entries of a family have so many calls in all.
+fn calls_are<R: Abort>(rt: &R, tables: &CheckedTables, callee: TaskNo, range: Family, count: u64) {
+    assert_eq!(rt; calls_at(tables, callee, 0, range), Ok(count));
+}
+
+// Each bound has the queue of its own call, and no other of the 1,024 entries has a call.
+#[test]
+fn entries_at_bounds_are_apart(rt: HostRuntime) -> Result<(), Fail> {
+    let mut tables = CheckedTables::new(rt.alloc())?;
+    make_wide(&rt, &mut tables);
+    call_bounds(&mut tables)?;
+    bounds_are_apart(&rt, &tables);
+    calls_are(&rt, &tables, TaskNo(1), WIDE[0], 2);
+    calls_are(&rt, &tables, TaskNo(2), REST, 2);
     Ok(())
 }
