@@ -32,7 +32,7 @@ fn fill_nest<R: Abort>(rt: &R, tables: &mut CheckedTables) -> Result<(), Fail> {
     Ok(())
 }
 
-/// Tables in which the task has done so.
+/// Tables with a task within 32 members, the most that a nest has.
 fn with_full_nest<R: Abort + AllocGlobal>(rt: &R) -> Result<CheckedTables, Fail> {
     let mut tables = CheckedTables::new(rt.alloc())?;
     fill_nest(rt, &mut tables)?;
