@@ -11,7 +11,7 @@ use std::alloc::Global;
 
 /// The event that a request becomes when it is accepted: the same, with each duration replaced by the
 /// moment at which it is over.
-#[tactic(auto, unfolding(ada_events::specs::Asks::asked_event, ada_events::specs::Limits::is_too_late))]
+#[tactic(auto, unfolding(ada_events::specs::Asks::asked_event))]
 pub fn asked_event(alloc: Global, events: &[Event], request: &Request) -> Result<Event, Refusal>
     requires short { length events.now < 2 ^ 32 }
     requires in_time { limits.is_too_late (reverse events.now) request.now ≡ false }

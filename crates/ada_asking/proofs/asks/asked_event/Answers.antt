@@ -2,8 +2,7 @@ use Rattle.std.proofs.Common.{w64, ap, ◌∙◌, arith}
 use Rattle.std.proofs.lemmas.Int.{to_z-of_z}
 use Rattle.ada_events.specs.Asks.{asker}
 use Rattle.ada_laws.proofs.Accepting.{is_accepted, asker_exists}
-use Rattle.ada_waits.proofs.Dues.{wait_asked}
-use Rattle.ada_asking.proofs.Asking.{call_asked, delay_asked}
+use Rattle.ada_waits.proofs.Dues.{wait_asked, call_asked, delay_asked}
 use Rattle.ada_asking.proofs.asks.asked_event.Goals as goal
 
 pub frame-requires : goal.frame-requires
