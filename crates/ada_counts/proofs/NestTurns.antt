@@ -50,7 +50,7 @@ use Rattle.ada_records.proofs.Saying.{met_says}
 use Rattle.ada_records.proofs.Unnesting.{nest_released}
 use Rattle.ada_tables.specs.Dependents.{has_block, count_below}
 use Rattle.ada_tables.specs.Standing.{live_count}
-use Rattle.ada_counts.specs.Renesting.{IsIdleIn, ChangesNests}
+use Rattle.ada_counts.specs.internal.Renesting.{IsIdleIn, ChangesNests}
 use Rattle.ada_counts.specs.declared.nests.NestChange.TheVariants.{Nothing, Enters, LeavesBlock, EndsRendezvous}
 use Rattle.ada_counts.proofs.Cuts.{all_apart, cuts_keep_the_rest}
 use Rattle.ada_counts.proofs.Entries.{call_names_entry, declarer_exists}

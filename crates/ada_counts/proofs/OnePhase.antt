@@ -1,8 +1,7 @@
--- Events that change one task's phase alone, and tables that follow them.
+-- Events that change one task's phase alone.
 use Rattle.std.proofs.Common.{◌≡◌, ◌≢◌, ℕ, ◌<◌, false, Option, Some, None, List, [], ◌∷◌, length, refl, sym, ap, ◌∙◌, subst, arith, inl, inr}
 use Rattle.std.specs.Option.{option_map, option_and_then}
-use Rattle.std.proofs.lemmas.Bool.{cases_eq, ne_eqb}
-use Rattle.std.proofs.lemmas.List.{length-set, get_or-set_same, get_or-set_other}
+use Rattle.std.proofs.lemmas.Bool.{ne_eqb}
 use Rattle.std.proofs.lemmas.List.Elements.{All-weaker}
 use Rattle.std.proofs.lemmas.Option.{none-some, same_Some}
 use Rattle.ada_events.specs.declared.event.Event.{Event}
@@ -11,30 +10,17 @@ use Rattle.ada_events.specs.declared.names.Entry.{Entry}
 use Rattle.ada_events.specs.declared.names.TaskNo.{TaskNo}
 use Rattle.ada_events.specs.Search.{event_at}
 use Rattle.ada_events.specs.Says.{Call, creation_in, call_in, held_in, opening_in, released_in, meeting_in, completed_in, gone_in, quit_in, started_in}
-use Rattle.ada_events.specs.Tasks.{task_count}
 use Rattle.ada_events.specs.Phases.{is_completed, is_terminated}
 use Rattle.ada_events.specs.Calls.{queue}
-use Rattle.ada_events.specs.Nests.{nest}
-use Rattle.ada_events.specs.Lawful.{IsLawful}
 use Rattle.ada_laws.proofs.Searching.{event_at-older}
-use Rattle.ada_records.specs.declared.record.Record.{Record}
-use Rattle.ada_records.specs.Records.{IsRecordOf}
 use Rattle.ada_records.proofs.Calling.{same_completed, same_terminated}
 use Rattle.ada_records.proofs.Holding.{hold_only}
 use Rattle.ada_records.proofs.KeptQueues.{others_keep_queues}
 use Rattle.ada_records.proofs.NestKinds.{others_keep_nests}
-use Rattle.ada_tables.specs.declared.phase.Phase.{Phase}
-use Rattle.ada_tables.specs.Dependents.{Facts, nobody, task_at, is_terminated as ends}
-use Rattle.ada_tables.specs.internal.Dependents.{with_phase}
-use Rattle.ada_queues.specs.Queues.{QueuedCall, queue_at}
-use Rattle.ada_tables.specs.Tables.{TableState, slot_at}
-use Rattle.ada_tables.specs.Standing.{phase_of, facts_in, caller_of, AreQueued, StandFor}
-use Rattle.ada_counts.specs.Following.{facts_after, ChangesOnePhase, HoldsChangeOnePhase, GoingChangesOnePhase}
-use Rattle.ada_counts.specs.Telling.{phase_by}
-use Rattle.ada_counts.proofs.Agreeing.{ends_phase}
-use Rattle.ada_counts.proofs.Following.{tables_follow}
+use Rattle.ada_queues.specs.Queues.{QueuedCall}
+use Rattle.ada_tables.specs.Standing.{caller_of, AreQueued}
+use Rattle.ada_counts.specs.Following.{HoldsChangeOnePhase, GoingChangesOnePhase}
 use Rattle.ada_counts.proofs.KeptPhases.{others_keep_phases}
-use Rattle.ada_counts.proofs.Telling.{records_tell_phases}
 
 -- who made a call stays who made it
 pub caller_later : (event : Event) (before : List Event) (call caller : ℕ) → caller_of before call ≡ Some caller → caller_of (event ∷ before) call ≡ Some caller
@@ -53,53 +39,6 @@ queued_later event before task entry calls same old = record {
   callers = All-weaker (λ (c : QueuedCall). caller_of before c.call ≡ Some c.caller) (λ (c : QueuedCall). caller_of (event ∷ before) c.call ≡ Some c.caller)
       (λ c made. caller_later event before c.call c.caller made) calls old.callers;
 }
-
--- what the tables hold of a task whose nest and phase stay
-kept_facts : (event : Event) (before : List Event) (task : ℕ) (held : Facts) → held ≡ facts_in before task → nest (event ∷ before) task ≡ nest before task
-    → phase_of (event ∷ before) task ≡ phase_of before task → held ≡ facts_after event before task held
-kept_facts event before task held is nests phases = rw (nests, phases, is) refl
-
-new_facts : (event : Event) (before : List Event) (task : ℕ) (held : Facts) (phase : Phase) → held ≡ facts_in before task
-    → nest (event ∷ before) task ≡ nest before task → phase ≡ phase_of (event ∷ before) task
-    → record held { phase = phase } ≡ facts_after event before task held
-new_facts event before task held phase is nests now = rw (nests, now, is) refl
-
-pub phase_followed : (event : Event) (before : List Event) (old new : TableState) (task : ℕ) (phase : Phase) (kept : Record) → IsLawful (event ∷ before)
-    → StandFor old before → task < task_count before → ChangesOnePhase event before task → IsRecordOf (event ∷ before) task kept → phase ≡ phase_by kept
-    → new ≡ record old { tasks = with_phase task phase old.tasks } → StandFor new (event ∷ before)
-phase_followed event before old new task phase kept lawful stand known changes right by is =
-    tables_follow event before old new lawful changes.makes stand (record {
-      same = ap (λ (s : TableState). length s.tasks) is ∙ length-set old.tasks task (record (task_at old.tasks task) { phase = phase });
-      tasks = λ other below. ap (λ (s : TableState). task_at s.tasks other) is ∙ of_task other below;
-      queues = λ other entry has.
-          subst (λ (queues : List (List QueuedCall)). AreQueued (event ∷ before) other entry (queue_at queues (slot_at old.tasks other entry)))
-          (sym (ap (λ (s : TableState). s.queues) is))
-          (queued_later event before other entry (queue_at old.queues (slot_at old.tasks other entry)) (changes.queues other entry)
-          (stand.queues other entry has));
-    })
-  where
-    within : task < length old.tasks
-    within = omega (arith, known, stand.many)
-
-    of_task : (other : ℕ) → other < length old.tasks
-        → task_at (with_phase task phase old.tasks) other ≡ facts_after event before other (task_at old.tasks other)
-    of_task other below =
-        let exists : other < task_count before = omega (arith, below, stand.many) in
-        elim (cases_eq other task) [
-          | inl same ↦
-              subst (λ (n : ℕ). task_at (with_phase task phase old.tasks) n ≡ facts_after event before n (task_at old.tasks n)) (sym same)
-              (get_or-set_same old.tasks task (record (task_at old.tasks task) { phase = phase }) nobody within
-              ∙ new_facts event before task (task_at old.tasks task) phase (stand.tasks task known) (changes.nests task)
-              (by ∙ records_tell_phases (event ∷ before) task kept right))
-          | inr differs ↦
-              get_or-set_other old.tasks task other (record (task_at old.tasks task) { phase = phase }) nobody differs
-              ∙ kept_facts event before other (task_at old.tasks other) (stand.tasks other exists) (changes.nests other) (changes.phases other differs)
-        ]
-
--- the tables know that a task isn't terminated
-pub live_in_tables : (old : TableState) (before : List Event) (task : ℕ) → StandFor old before → task < task_count before → is_terminated before task ≡ false
-    → ends (task_at old.tasks task).phase ≡ false
-live_in_tables old before task stand known live = ap (λ (f : Facts). ends f.phase) (stand.tasks task known) ∙ ends_phase before task ∙ live
 
 pub held_opens_none : (e : Event) (task : ℕ) → held_in e ≡ Some task → opening_in e ≡ None
 unfolding held_in opening_in

@@ -33,7 +33,7 @@ use Rattle.ada_records.proofs.QueueKinds.{queue_called, queue_released, queue_me
 use Rattle.ada_records.proofs.Saying.{held_apart}
 use Rattle.ada_records.proofs.TaskEnds.{completion_exists}
 use Rattle.ada_tables.specs.Standing.{caller_of}
-use Rattle.ada_counts.specs.Requeuing.{without_caller, ComesLast, ChangesQueues}
+use Rattle.ada_counts.specs.internal.Requeuing.{without_caller, ComesLast, ChangesQueues}
 use Rattle.ada_counts.specs.declared.queues.QueueChange.TheVariants.{Nothing, Joins, Leaves}
 use Rattle.ada_counts.proofs.Empty.{is_some}
 use Rattle.ada_counts.proofs.Entries.{new_number, declarer_exists}

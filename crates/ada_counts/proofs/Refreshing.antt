@@ -21,8 +21,7 @@ use Rattle.ada_tables.specs.internal.Dependents.{with_phase}
 use Rattle.ada_tables.specs.Tables.{TableState}
 use Rattle.ada_tables.specs.Standing.{phase_of, facts_in}
 use Rattle.ada_counts.specs.Facing.{HoldFacts}
-use Rattle.ada_counts.specs.Phasing.{TouchesOnly, facts_between, AreBetween, AreRenested}
-use Rattle.ada_counts.specs.internal.Phasing.{refreshed}
+use Rattle.ada_counts.specs.internal.Phasing.{TouchesOnly, facts_between, AreBetween, AreRenested, refreshed}
 use Rattle.ada_counts.specs.Telling.{phase_by}
 use Rattle.ada_counts.proofs.Agreeing.{ends_phase}
 use Rattle.ada_counts.proofs.Following.{same_facts}

@@ -10,7 +10,7 @@ use Rattle.ada_events.specs.Lawful.{IsLawful}
 use Rattle.ada_tables.specs.Dependents.{Facts, task_at}
 use Rattle.ada_tables.specs.internal.Dependents.{IsIdle}
 use Rattle.ada_counts.specs.Facing.{HoldFacts}
-use Rattle.ada_counts.specs.Renesting.{IsIdleIn, CanLeave}
+use Rattle.ada_counts.specs.internal.Renesting.{IsIdleIn, CanLeave}
 use Rattle.ada_counts.proofs.Agreeing.{live_alike}
 use Rattle.ada_counts.proofs.Walking.{same_dependents}
 

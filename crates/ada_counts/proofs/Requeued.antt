@@ -27,7 +27,7 @@ use Rattle.ada_tables.specs.Tables.{TableState, slot_at, HasEntry}
 use Rattle.ada_tables.specs.Standing.{caller_of, AreQueued}
 use Rattle.ada_queues.proofs.Linking.{any_place}
 use Rattle.ada_counts.specs.Facing.{HoldFacts, HoldQueues}
-use Rattle.ada_counts.specs.Requeuing.{without_caller, ComesLast, LeavesQueue}
+use Rattle.ada_counts.specs.internal.Requeuing.{without_caller, ComesLast, LeavesQueue}
 use Rattle.ada_counts.proofs.OnePhase.{caller_later}
 use Rattle.ada_counts.proofs.QueueTurns.{queued_by}
 use Rattle.ada_counts.proofs.Refreshing.{eqb_swap}

@@ -16,7 +16,7 @@ use Rattle.ada_records.proofs.Holding.{hold_only, holder_ran}
 use Rattle.ada_records.proofs.Saying.{release_only, held_apart}
 use Rattle.ada_records.proofs.TaskEnds.{goer_exists, elaborator_exists}
 use Rattle.ada_tables.specs.Standing.{phase_of}
-use Rattle.ada_counts.specs.Phasing.{TouchesFew, TouchesOnly}
+use Rattle.ada_counts.specs.internal.Phasing.{TouchesFew, TouchesOnly}
 use Rattle.ada_counts.proofs.KeptPhases.{others_keep_phases}
 use Rattle.ada_counts.proofs.OnePhase.{going_changes_one_phase}
 use Rattle.ada_counts.proofs.OnePhaseKinds.{completes_only, other_completed, same_ends}

@@ -3,8 +3,5 @@ pub mod Holders
 pub mod Pending
 pub mod Telling
 pub mod Following
-pub mod Phasing
-pub mod Renesting
-pub mod Requeuing
 pub mod Noting
 pub mod internal

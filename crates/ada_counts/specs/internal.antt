@@ -1,3 +1,5 @@
 -- What only private contracts and invariants cite: no caller meets it.
 pub mod Facing
 pub mod Phasing
+pub mod Renesting
+pub mod Requeuing

@@ -5,7 +5,7 @@
 
 pub mod follow;
 pub mod laws;
-pub mod nests;
-pub mod phases;
-pub mod phasing;
-pub mod queues;
+mod nests;
+mod phases;
+mod phasing;
+mod queues;

@@ -4,8 +4,8 @@ ghost use Rattle.std.specs.Option.{option_map_or};
 ghost use Rattle.ada_events.specs.Lawful.{IsLawful};
 ghost use Rattle.ada_events.specs.Says.{call_in, call_at};
 ghost use Rattle.ada_counts.specs.Facing.{HoldFacts};
-ghost use Rattle.ada_counts.specs.Phasing.{AreRenested};
-ghost use Rattle.ada_counts.specs.Renesting.{ChangesNests};
+ghost use Rattle.ada_counts.specs.internal.Phasing.{AreRenested};
+ghost use Rattle.ada_counts.specs.internal.Renesting.{ChangesNests};
 
 use ada_events::{Event, Journal, Member, TaskNo};
 use ada_records::records::holder_at;
@@ -13,7 +13,7 @@ use ada_tables::Tables;
 
 /// What an event changes in what tasks are within.
 #[derive(Clone, Copy, Debug, PartialEq, Eq)]
-pub enum NestChange {
+pub(crate) enum NestChange {
     Nothing,
     /// A task comes into a block that it opened (9.4), or into a rendezvous (9.5).
     Enters(TaskNo, Member),
@@ -35,7 +35,7 @@ fn callee_in(event: &Event) -> TaskNo
 }
 
 /// The task that the call at a position calls (9.5); the main program where no call stands there.
-pub fn callee_at(journal: &Journal, at: u32) -> TaskNo
+pub(crate) fn callee_at(journal: &Journal, at: u32) -> TaskNo
     ensures { result.0 ≡ option_map_or (λ call. call.callee) (call_at journal.now.events at) 0 }
 {
     match journal.get(at) {
@@ -46,7 +46,7 @@ pub fn callee_at(journal: &Journal, at: u32) -> TaskNo
 
 /// What an event changes in what tasks are within: a block is entered when it is opened, and a rendezvous when it
 /// begins; they are left when the block is left, and when the call ends (9.4, 9.5).
-pub fn nest_change(journal: &Journal, event: &Event) -> NestChange
+pub(crate) fn nest_change(journal: &Journal, event: &Event) -> NestChange
     requires { IsLawful (event.now ∷ journal.now.events) }
     ensures { ChangesNests event.now journal.now.events result }
 {
@@ -79,7 +79,7 @@ pub fn nest_change(journal: &Journal, event: &Event) -> NestChange
 }
 
 /// Changes the nests of tables as an event does.
-pub fn follow_nests(tables: &mut Tables, journal: &Journal, event: &Event)
+pub(crate) fn follow_nests(tables: &mut Tables, journal: &Journal, event: &Event)
     requires lawful { IsLawful (event.now ∷ journal.now.events) }
     requires hold { HoldFacts tables.old.tasks journal.now.events }
     ensures nests { AreRenested event.now journal.now.events tables.new.tasks }

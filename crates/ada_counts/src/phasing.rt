@@ -4,8 +4,7 @@ ghost use Rattle.ada_events.specs.Lawful.{IsLawful};
 ghost use Rattle.ada_events.specs.Says.{creation_in};
 ghost use Rattle.ada_records.specs.Records.{AreRecords, record_at};
 ghost use Rattle.ada_counts.specs.Facing.{HoldFacts};
-ghost use Rattle.ada_counts.specs.Phasing.{TouchesFew, TouchesOnly, AreRenested};
-ghost use Rattle.ada_counts.specs.internal.Phasing.{refreshed};
+ghost use Rattle.ada_counts.specs.internal.Phasing.{TouchesFew, TouchesOnly, AreRenested, refreshed};
 ghost use Rattle.ada_events.specs.declared.event.Event.TheVariants.{Started as StartedEvent};
 
 use crate::phases::phase_of;
@@ -16,7 +15,7 @@ use ada_tables::{Phase, Tables};
 
 /// The task whose phase an event changes, if it changes any: that which it holds up, releases, completes or terminates
 /// (9.3, 9.4, 9.5, 9.6, 9.7.1, 9.10). The event neither starts an activation nor terminates many together.
-pub fn touched_by(journal: &Journal, event: &Event) -> Option<TaskNo>
+pub(crate) fn touched_by(journal: &Journal, event: &Event) -> Option<TaskNo>
     requires lawful { IsLawful (event.now ∷ journal.now.events) }
     requires few { TouchesFew event.now }
     ensures { TouchesOnly event.now journal.now.events result }
@@ -112,7 +111,12 @@ fn refresh_all(tables: &mut Tables, records: &[Record], _journal: &Journal, _eve
 
 /// Gives the phases that an event changes to the tasks of tables in which their nests are changed. The records are
 /// those after the event, which makes no task.
-pub fn follow_phases(tables: &mut Tables, records: &[Record], journal: &Journal, event: &Event)
+pub(crate) fn follow_phases(
+    tables: &mut Tables,
+    records: &[Record],
+    journal: &Journal,
+    event: &Event,
+)
     requires lawful { IsLawful (event.now ∷ journal.now.events) }
     requires makes { creation_in event.now ≡ None }
     requires records { AreRecords records.now (event.now ∷ journal.now.events) }

@@ -4,7 +4,7 @@ ghost use Rattle.ada_events.specs.Lawful.{IsLawful};
 ghost use Rattle.ada_queues.specs.internal.Queues.{without};
 ghost use Rattle.ada_counts.specs.Facing.{HoldFacts, HoldQueues};
 ghost use Rattle.ada_counts.specs.Noting.{HaveAllQueues, HaveRoomFor};
-ghost use Rattle.ada_counts.specs.Requeuing.{ChangesQueues};
+ghost use Rattle.ada_counts.specs.internal.Requeuing.{ChangesQueues};
 
 use ada_events::{Entry, Event, Journal, TaskNo};
 use ada_records::records::holder_at;
@@ -12,7 +12,7 @@ use ada_tables::Tables;
 
 /// What an event changes in queues.
 #[derive(Clone, Copy, Debug, PartialEq, Eq)]
-pub enum QueueChange {
+pub(crate) enum QueueChange {
     Nothing,
     /// A task's call comes last at an entry (9.5).
     Joins {
@@ -26,7 +26,7 @@ pub enum QueueChange {
 
 /// What an event changes in queues: a call comes last at its entry, and leaves it when its rendezvous begins, when it
 /// ends otherwise and when its caller is halted (9.5, 9.7.2, 9.7.3, 9.10).
-pub fn queue_change(journal: &Journal, event: &Event) -> QueueChange
+pub(crate) fn queue_change(journal: &Journal, event: &Event) -> QueueChange
     requires { IsLawful (event.now ∷ journal.now.events) }
     ensures { ChangesQueues event.now journal.now.events result }
 {
@@ -81,7 +81,7 @@ fn leave_queue(tables: &mut Tables, task: TaskNo)
 
 /// Changes the queues of tables as an event does. There is a queue for each entry, and room for one more call where the
 /// event makes one.
-pub fn follow_queues(tables: &mut Tables, journal: &Journal, event: &Event)
+pub(crate) fn follow_queues(tables: &mut Tables, journal: &Journal, event: &Event)
     requires lawful { IsLawful (event.now ∷ journal.now.events) }
     requires hold { HoldFacts tables.old.tasks journal.now.events }
     requires queues { HoldQueues tables.old journal.now.events }

@@ -10,8 +10,8 @@ use Rattle.ada_events.specs.Tasks.{task_count}
 use Rattle.ada_events.specs.Outcomes.{raised_in}
 use Rattle.ada_events.specs.Lawful.{IsLawful}
 use Rattle.ada_records.specs.declared.record.Record.{Record}
-use Rattle.ada_records.specs.Records.{record_at, IsStageOf, IsRecordOf, AreRecords, IsCompletion, freed}
-use Rattle.ada_records.specs.internal.Records.{elaborated_record}
+use Rattle.ada_records.specs.Records.{record_at, IsStageOf, IsRecordOf, AreRecords, freed}
+use Rattle.ada_records.specs.internal.Records.{IsCompletion, elaborated_record}
 use Rattle.ada_records.proofs.Doings.{doing_same}
 use Rattle.ada_records.proofs.Existing.{completed_exists, gone_exists, elaborated_exists}
 use Rattle.ada_records.proofs.Noting.{TouchesOne, records_one, records_end}

@@ -1,8 +1,8 @@
 -- Records that stand for a journal: each field is what the definitions give.
-use Rattle.std.specs.Prelude.{◌≡◌, ◌⊎◌, ℕ, ◌<◌, Bool, true, false, not, ◌==◌, ◌||◌, ◌&&◌, ◌∷◌, Some, None, IsSome, List, [], length, slice_index_or}
+use Rattle.std.specs.Prelude.{◌≡◌, ℕ, ◌<◌, Bool, true, false, not, ◌==◌, ◌||◌, ◌&&◌, ◌∷◌, Some, None, IsSome, List, [], length, slice_index_or}
 use Rattle.std.specs.List.{list_any}
 use Rattle.ada_events.specs.declared.event.Event.{Event}
-use Rattle.ada_events.specs.declared.event.Event.TheVariants.{Aborted, Completed, Halted, Met, Quit}
+use Rattle.ada_events.specs.declared.event.Event.TheVariants.{Aborted, Met, Quit}
 use Rattle.ada_events.specs.declared.names.TaskNo.{TaskNo}
 use Rattle.ada_events.specs.declared.names.Master.TheVariants.{Body}
 use Rattle.ada_events.specs.declared.outcome.Outcome.{Outcome}
@@ -104,10 +104,6 @@ pub record IsPlainRelease (event : Event) (position : ℕ) : Type 0 where
   pub releases : released_in event ≡ Some position
   pub meets : meeting_in event ≡ None
   pub raises : raised_in event ≡ None
-
--- the task completes: by itself, or it is halted (9.4, 9.10)
-abbrev pub IsCompletion : Event → TaskNo → Type 0
-IsCompletion event task = (event ≡ Completed task) ⊎ (event ≡ Halted task)
 
 -- the tasks that an event touches all at once: those that depend on a master and terminate together (9.4), or those
 -- that an abort hits (9.10)

@@ -1,6 +1,7 @@
 -- Records that stand for a journal: each field is what the definitions give.
-use Rattle.std.specs.Prelude.{◌≡◌, ℕ, ◌<◌, ◌≤◌, Bool, true, false, not, ◌||◌, ◌&&◌, ◌∷◌, List, [], length, take}
+use Rattle.std.specs.Prelude.{◌≡◌, ◌⊎◌, ℕ, ◌<◌, ◌≤◌, Bool, true, false, not, ◌||◌, ◌&&◌, ◌∷◌, List, [], length, take}
 use Rattle.ada_events.specs.declared.event.Event.{Event}
+use Rattle.ada_events.specs.declared.event.Event.TheVariants.{Completed, Halted}
 use Rattle.ada_events.specs.declared.names.TaskNo.{TaskNo}
 use Rattle.ada_events.specs.declared.outcome.Outcome.TheVariants.{Held}
 use Rattle.ada_events.specs.Search.{is_some_and}
@@ -59,3 +60,7 @@ pub record AreUpTo (event : Event) (before : List Event) (old new : List Record)
 pub record HaveStarted (first now : List Record) (tasks : List TaskNo) (many : ℕ) : Type 0 where
   pub same : length now ≡ length first
   pub each : (task : ℕ) → task < length first → record_at now task ≡ start_record (lists_task task (take many tasks)) (record_at first task)
+
+-- the task completes: by itself, or it is halted (9.4, 9.10)
+abbrev pub IsCompletion : Event → TaskNo → Type 0
+IsCompletion event task = (event ≡ Completed task) ⊎ (event ≡ Halted task)
