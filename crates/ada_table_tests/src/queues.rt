@@ -43,26 +43,20 @@ fn all_call(tables: &mut CheckedTables) -> Result<(), Unmet> {
 }
 
 /// What stands first in the queue of a family's entry with index 0, and how many calls wait there.
-fn queue_is<R: Abort>(
-    rt: &R,
-    tables: &CheckedTables,
-    family: u8,
-    front: Option<u32>,
-    count: u16,
-) -> Result<(), Fail> {
+fn queue_is<R: Abort>(rt: &R, tables: &CheckedTables, family: u8, front: Option<u32>, count: u16) {
     assert_eq!(rt; tables.front(CALLEE, entry(family)), Ok(front));
     assert_eq!(rt; tables.queue_len(CALLEE, entry(family)), Ok(count));
-    Ok(())
 }
 
 /// All callers of the first entry leave, in the order of arrival.
 fn all_leave<R: Abort>(rt: &R, tables: &mut CheckedTables) -> Result<(), Fail> {
     for task in 0..256u16 {
-        queue_is(rt, tables, 0, Some(call_of(task)), 256 - task)?;
+        queue_is(rt, tables, 0, Some(call_of(task)), 256 - task);
         tables.unlink(TaskNo(task))?;
     }
-    queue_is(rt, tables, 0, None, 0)?;
-    queue_is(rt, tables, 1, None, 0)
+    queue_is(rt, tables, 0, None, 0);
+    queue_is(rt, tables, 1, None, 0);
+    Ok(())
 }
 
 // All 256 tasks wait at one entry, the callee too, and leave in the order of arrival (9.5).
@@ -83,7 +77,7 @@ fn odd_ones_leave(tables: &mut CheckedTables) -> Result<(), Unmet> {
 
 /// Main leaves, and calls again.
 fn main_calls_again<R: Abort>(rt: &R, tables: &mut CheckedTables) -> Result<(), Fail> {
-    queue_is(rt, tables, 0, Some(call_of(0)), 128)?;
+    queue_is(rt, tables, 0, Some(call_of(0)), 128);
     tables.unlink(TaskNo(0))?;
     tables.enqueue(TaskNo(0), CALLEE, entry(0), 2000)?;
     Ok(())
@@ -92,7 +86,7 @@ fn main_calls_again<R: Abort>(rt: &R, tables: &mut CheckedTables) -> Result<(), 
 /// The even callers leave, in the order of arrival.
 fn even_ones_leave<R: Abort>(rt: &R, tables: &mut CheckedTables) -> Result<(), Fail> {
     for half in 1..128u16 {
-        queue_is(rt, tables, 0, Some(call_of(2 * half)), 129 - half)?;
+        queue_is(rt, tables, 0, Some(call_of(2 * half)), 129 - half);
         tables.unlink(TaskNo(2 * half))?;
     }
     Ok(())
@@ -100,10 +94,11 @@ fn even_ones_leave<R: Abort>(rt: &R, tables: &mut CheckedTables) -> Result<(), F
 
 /// Main is left, and then nobody but the callee itself.
 fn main_leaves_last<R: Abort>(rt: &R, tables: &mut CheckedTables) -> Result<(), Fail> {
-    queue_is(rt, tables, 0, Some(2000), 1)?;
+    queue_is(rt, tables, 0, Some(2000), 1);
     tables.unlink(TaskNo(0))?;
-    queue_is(rt, tables, 0, None, 0)?;
-    queue_is(rt, tables, 1, Some(OWN), 1)
+    queue_is(rt, tables, 0, None, 0);
+    queue_is(rt, tables, 1, Some(OWN), 1);
+    Ok(())
 }
 
 /// What is left leaves.
@@ -187,17 +182,25 @@ fn calls_at(
     Ok(total)
 }
 
+/// A call stands first in the queue of an entry.
+fn front_is<R: Abort>(rt: &R, tables: &CheckedTables, callee: TaskNo, called: Entry, call: u32) {
+    let index = called.index;
+    assert_eq!(rt; tables.front(callee, called), Ok(Some(call)), "at {index}");
+}
+
+/// One call waits at an entry.
+fn one_call_waits<R: Abort>(rt: &R, tables: &CheckedTables, callee: TaskNo, called: Entry) {
+    let index = called.index;
+    assert_eq!(rt; tables.queue_len(callee, called), Ok(1), "at {index}");
+}
+
 /// Each bound has the queue of its own call.
 fn bounds_are_apart<R: Abort>(rt: &R, tables: &CheckedTables) {
     let mut caller = 3;
     for (callee, family, index) in BOUNDS {
         let called = Entry { family, index };
-        assert_eq!(rt;
-            tables.front(callee, called),
-            Ok(Some(call_of(caller))),
-            "at {index}"
-        );
-        assert_eq!(rt; tables.queue_len(callee, called), Ok(1), "at {index}");
+        front_is(rt, tables, callee, called, call_of(caller));
+        one_call_waits(rt, tables, callee, called);
         caller = caller.saturating_add(1);
     }
 }
