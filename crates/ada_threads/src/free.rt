@@ -9,6 +9,33 @@ use std::sync::Wait;
 #[derive(Clone, Copy, Debug, Drop)]
 pub struct Free;
 
+/// What a thread does by what it saw of the floor.
+#[derive(Clone, Copy)]
+enum Seen {
+    /// It plays the line, or finds that none is to be played any more.
+    Goes,
+    /// It waits until something changes.
+    Waits,
+    /// It was the last to wait, so it wakes all, and then goes.
+    WakesAll,
+}
+
+// Looks whether the line at a place may be played. Where it may not, one more thread waits, unless this one has
+// waited already for that change of the floor.
+fn look_at<J: Session>(hall: &mut Hall<'_, J>, place: u32, change: &mut Option<u64>) -> Seen {
+    let mut floor = hall.floor();
+    if floor.is_stopped() || floor.is_stuck() || hall.may_go(place) {
+        return Seen::Goes;
+    }
+    *change = Some(floor.wait(*change));
+    hall.set_floor(floor);
+    if floor.is_stuck() {
+        Seen::WakesAll
+    } else {
+        Seen::Waits
+    }
+}
+
 impl Gate for Free {
     fn before<J: Session, R: Wait>(
         &self,
@@ -17,21 +44,17 @@ impl Gate for Free {
         _speaker: u32,
         place: u32,
     ) {
-        let mut seen = None;
+        let mut change = None;
         let mut guard = shared.hall.lock(rt);
         for _ in rt.forever() {
-            let hall: &mut Hall<'_, J> = &mut guard;
-            let mut floor = hall.floor();
-            if floor.is_stopped() || floor.is_stuck() || hall.may_go(place) {
-                return;
+            match look_at(&mut guard, place, &mut change) {
+                Seen::Goes => return,
+                Seen::Waits => guard = shared.wake.wait(rt, guard),
+                Seen::WakesAll => {
+                    shared.wake.notify_all();
+                    return;
+                }
             }
-            seen = Some(floor.wait(seen));
-            hall.set_floor(floor);
-            if floor.is_stuck() {
-                shared.wake.notify_all();
-                return;
-            }
-            guard = shared.wake.wait(rt, guard);
         }
     }
 
