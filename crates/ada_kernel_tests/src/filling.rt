@@ -5,7 +5,7 @@ use crate::asserts::{
 };
 use crate::crowd::make_tasks;
 use ada_events::limits::{MOST_APPENDED, MOST_EVENTS};
-use ada_events::{Event, Outcome, Refusal, Request, TaskNo};
+use ada_events::{Board, Event, Outcome, Refusal, Request, TaskNo};
 use ada_kernel::Kernel;
 use ada_requests::{abort, accept, call, end};
 use std::process::Abort;
@@ -25,18 +25,23 @@ fn ticked<R: Abort + AllocGlobal>(rt: &R, ticks: u32) -> Result<Kernel, Fail> {
     Ok(kernel)
 }
 
+// What is refused behind the last tick that had room.
+fn no_more_fits<R: Abort>(rt: &R, kernel: &mut Kernel) {
+    let late = Request::Tick { now: 64_769 };
+    assert_refused(rt, kernel, late, Refusal::JournalFull);
+    let open = Request::Open { by: TaskNo(0) };
+    assert_refused(rt, kernel, open, Refusal::JournalFull);
+    let early = Request::Tick { now: 64_767 };
+    assert_refused(rt, kernel, early, Refusal::MomentBack);
+    assert_events(rt, kernel, LAST_ACCEPTED);
+    assert_board(rt, kernel, 1, 0, LAST_ACCEPTED);
+}
+
 #[test]
 fn as_many_ticks_as_there_may_be(rt: HostRuntime) -> Result<(), Fail> {
     assert_eq!(rt; LAST_ACCEPTED, 64_768);
     let mut kernel = ticked(&rt, LAST_ACCEPTED)?;
-    let late = Request::Tick { now: 64_769 };
-    assert_refused(&rt, &mut kernel, late, Refusal::JournalFull);
-    let open = Request::Open { by: TaskNo(0) };
-    assert_refused(&rt, &mut kernel, open, Refusal::JournalFull);
-    let early = Request::Tick { now: 64_767 };
-    assert_refused(&rt, &mut kernel, early, Refusal::MomentBack);
-    assert_events(&rt, &kernel, LAST_ACCEPTED);
-    assert_board(&rt, &kernel, 1, 0, LAST_ACCEPTED);
+    no_more_fits(&rt, &mut kernel);
     Ok(())
 }
 
@@ -60,27 +65,32 @@ fn after_rendezvous<R: Abort + AllocGlobal>(rt: &R, rounds: u32) -> Result<Kerne
     Ok(kernel)
 }
 
-// The last call is accepted at position 64,767 and its wait at 64,768; they meet, and don't end.
-#[test]
-fn as_many_rendezvous_as_there_may_be(rt: HostRuntime) -> Result<(), Fail> {
-    let mut kernel = after_rendezvous(&rt, (LAST_ACCEPTED - BEFORE) / EACH)?;
-    assert_accepted(&rt, &mut kernel, call(2, 1, 0), 64_767);
-    assert_accepted(&rt, &mut kernel, accept(1, 0), LAST_ACCEPTED);
-    assert_refused(&rt, &mut kernel, end(1, false), Refusal::JournalFull);
-    assert_refused(&rt, &mut kernel, call(0, 1, 0), Refusal::JournalFull);
-    assert_refused(&rt, &mut kernel, call(2, 1, 0), Refusal::NotRunning);
+// The last call and the last wait that have room meet; nothing has room behind them.
+fn the_last_meets<R: Abort>(rt: &R, kernel: &mut Kernel) {
+    assert_accepted(rt, kernel, call(2, 1, 0), 64_767);
+    assert_accepted(rt, kernel, accept(1, 0), LAST_ACCEPTED);
+    assert_refused(rt, kernel, end(1, false), Refusal::JournalFull);
+    assert_refused(rt, kernel, call(0, 1, 0), Refusal::JournalFull);
+    assert_refused(rt, kernel, call(2, 1, 0), Refusal::NotRunning);
     let met = Event::Met {
         call: 64_767,
         wait: 64_768,
     };
-    assert_event(&rt, &kernel, 64_769, Some(&met));
-    assert_events(&rt, &kernel, 64_769);
+    assert_event(rt, kernel, 64_769, Some(&met));
+    assert_events(rt, kernel, 64_769);
     let accepted = Outcome::Accepted {
         call: 64_767,
         choice: 0,
     };
-    assert_outcome(&rt, &kernel, 1, accepted);
-    assert_outcome(&rt, &kernel, 2, Outcome::Held);
+    assert_outcome(rt, kernel, 1, accepted);
+    assert_outcome(rt, kernel, 2, Outcome::Held);
+}
+
+// The last call is accepted at position 64,767 and its wait at 64,768; they meet, and don't end.
+#[test]
+fn as_many_rendezvous_as_there_may_be(rt: HostRuntime) -> Result<(), Fail> {
+    let mut kernel = after_rendezvous(&rt, (LAST_ACCEPTED - BEFORE) / EACH)?;
+    the_last_meets(&rt, &mut kernel);
     Ok(())
 }
 
@@ -122,29 +132,24 @@ fn assert_all_terminate(rt: &impl Abort, kernel: &Kernel, last: u16) {
     }
 }
 
-// The last task aborts all.
-fn chain_is_aborted<R: Abort + AllocGlobal>(rt: &R, last: u16) -> Result<Kernel, Fail> {
-    let mut kernel = chained(rt, last)?;
+// The last task of a chain of so many aborts all.
+fn chain_is_aborted<R: Abort>(rt: &R, kernel: &mut Kernel, last: u16) {
     let length = u32::from(last);
     let at = 5 * length + 3;
-    assert_accepted(rt, &mut kernel, abort(last, 1, last), at);
+    assert_accepted(rt, kernel, abort(last, 1, last), at);
     let halted = Event::Halted { task: TaskNo(last) };
-    assert_event(rt, &kernel, at + 1, Some(&halted));
+    assert_event(rt, kernel, at + 1, Some(&halted));
     let first = Event::Failed {
         call: 2 * length + 3,
     };
-    assert_event(rt, &kernel, at + 2, Some(&first));
-    assert_callers_fail(rt, &kernel, last);
-    assert_all_terminate(rt, &kernel, last);
-    assert_events(rt, &kernel, at + 3 * length);
-    Ok(kernel)
+    assert_event(rt, kernel, at + 2, Some(&first));
+    assert_callers_fail(rt, kernel, last);
+    assert_all_terminate(rt, kernel, last);
+    assert_events(rt, kernel, at + 3 * length);
 }
 
-#[test]
-fn the_longest_chain_of_rendezvous_is_aborted(rt: HostRuntime) -> Result<(), Fail> {
-    let kernel = chain_is_aborted(&rt, 255)?;
-    assert_board(&rt, &kernel, 256, 255, 2043);
-    let board = kernel.board();
+// On the board of 256 tasks main alone is left, and no call waits.
+fn main_is_left<R: Abort>(rt: &R, board: &Board) {
     assert!(rt; board.callable[0]);
     assert!(rt; !board.terminated[0]);
     assert!(rt; board.callable.iter().skip(1).all(|callable| !*callable));
@@ -156,6 +161,14 @@ fn the_longest_chain_of_rendezvous_is_aborted(rt: HostRuntime) -> Result<(), Fai
             .all(|terminated| *terminated)
     );
     assert!(rt; board.counts.iter().all(|count| *count == 0));
+}
+
+#[test]
+fn the_longest_chain_of_rendezvous_is_aborted(rt: HostRuntime) -> Result<(), Fail> {
+    let mut kernel = chained(&rt, 255)?;
+    chain_is_aborted(&rt, &mut kernel, 255);
+    assert_board(&rt, &kernel, 256, 255, 2043);
+    main_is_left(&rt, &kernel.board());
     assert_outcome(&rt, &kernel, 0, Outcome::TaskingError);
     Ok(())
 }

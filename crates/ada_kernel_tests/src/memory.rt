@@ -23,21 +23,26 @@ fn with_rendezvous<R: Abort + AllocGlobal>(rt: &R) -> Result<Kernel, Fail> {
     Ok(kernel)
 }
 
+// A pause, a tick, a close, an abort and a completion behind the rendezvous.
+fn the_rest_is_accepted<R: Abort>(rt: &R, kernel: &mut Kernel) {
+    let pause = Request::Delay {
+        by: MAIN_TASK,
+        duration: 5,
+    };
+    assert_accepted(rt, kernel, pause, 10);
+    assert_accepted(rt, kernel, Request::Tick { now: 5 }, 11);
+    assert_accepted(rt, kernel, Request::Close { by: MAIN_TASK }, 13);
+    assert_accepted(rt, kernel, abort(0, 1, 1), 15);
+    assert_accepted(rt, kernel, complete(0), 18);
+    assert_events(rt, kernel, 19);
+    assert!(rt; kernel.finished());
+}
+
 // Each kind of request is accepted: a pause ends at 12, the block is left at 14, the server is halted and gone at 16
 // and 17, and the main program at 19.
 #[test]
 fn always_out_of_memory(rt: HostRuntime) -> Result<(), Fail> {
     let mut kernel = with_rendezvous(&rt)?;
-    let pause = Request::Delay {
-        by: MAIN_TASK,
-        duration: 5,
-    };
-    assert_accepted(&rt, &mut kernel, pause, 10);
-    assert_accepted(&rt, &mut kernel, Request::Tick { now: 5 }, 11);
-    assert_accepted(&rt, &mut kernel, Request::Close { by: MAIN_TASK }, 13);
-    assert_accepted(&rt, &mut kernel, abort(0, 1, 1), 15);
-    assert_accepted(&rt, &mut kernel, complete(0), 18);
-    assert_events(&rt, &kernel, 19);
-    assert!(rt; kernel.finished());
+    the_rest_is_accepted(&rt, &mut kernel);
     Ok(())
 }

@@ -30,43 +30,58 @@ fn with_clients<R: Abort + AllocGlobal>(rt: &R) -> Result<Kernel, Fail> {
     Ok(kernel)
 }
 
-#[test]
-fn an_opening_board(rt: HostRuntime) -> Result<(), Fail> {
-    let kernel = Kernel::new(rt.alloc())?;
-    assert_board(&rt, &kernel, 1, 0, 0);
-    assert_counted(&rt, &kernel, 0, 0);
+// The board of a kernel before its first request.
+fn opens_with_main<R: Abort>(rt: &R, kernel: &Kernel) {
+    assert_board(rt, kernel, 1, 0, 0);
+    assert_counted(rt, kernel, 0, 0);
     let board = kernel.board();
     assert!(rt; board.callable[0]);
     assert!(rt; !board.terminated[0]);
     assert!(rt; !board.callable[1]);
+}
+
+#[test]
+fn an_opening_board(rt: HostRuntime) -> Result<(), Fail> {
+    let kernel = Kernel::new(rt.alloc())?;
+    opens_with_main(&rt, &kernel);
     Ok(())
+}
+
+// A call is counted on the board until its time is over; an abort makes its task not callable.
+fn calls_are_counted<R: Abort>(rt: &R, kernel: &mut Kernel) {
+    assert_accepted(rt, kernel, timed_call(2, 1, 0, 5), 9);
+    assert_board(rt, kernel, 4, 2, 9);
+    assert_counted(rt, kernel, 0, 1);
+    assert_counted(rt, kernel, 1, 0);
+    assert_accepted(rt, kernel, Request::Tick { now: 5 }, 10);
+    assert_counted(rt, kernel, 0, 0);
+    assert_outcome(rt, kernel, 2, Outcome::Cancelled);
+    assert_accepted(rt, kernel, abort(0, 1, 1), 12);
+    assert_callable(rt, kernel, 1, Some(false));
 }
 
 #[test]
 fn boards_follow_the_steps(rt: HostRuntime) -> Result<(), Fail> {
     let mut kernel = with_clients(&rt)?;
-    assert_accepted(&rt, &mut kernel, timed_call(2, 1, 0, 5), 9);
-    assert_board(&rt, &kernel, 4, 2, 9);
-    assert_counted(&rt, &kernel, 0, 1);
-    assert_counted(&rt, &kernel, 1, 0);
-    assert_accepted(&rt, &mut kernel, Request::Tick { now: 5 }, 10);
-    assert_counted(&rt, &kernel, 0, 0);
-    assert_outcome(&rt, &kernel, 2, Outcome::Cancelled);
-    assert_accepted(&rt, &mut kernel, abort(0, 1, 1), 12);
-    assert_callable(&rt, &kernel, 1, Some(false));
+    calls_are_counted(&rt, &mut kernel);
     Ok(())
+}
+
+// A task that was aborted is gone from the board.
+fn the_aborted_is_gone<R: Abort>(rt: &R, kernel: &mut Kernel) {
+    assert_accepted(rt, kernel, abort(0, 1, 1), 9);
+    let board = kernel.board();
+    assert!(rt; !board.callable[1]);
+    assert!(rt; board.terminated[1]);
+    assert_outcome(rt, kernel, 1, Outcome::Dead);
+    assert_terminated(rt, kernel, 1, Some(true));
+    assert_callable(rt, kernel, 4, None);
 }
 
 #[test]
 fn boards_follow_an_abort(rt: HostRuntime) -> Result<(), Fail> {
     let mut kernel = with_clients(&rt)?;
-    assert_accepted(&rt, &mut kernel, abort(0, 1, 1), 9);
-    let board = kernel.board();
-    assert!(rt; !board.callable[1]);
-    assert!(rt; board.terminated[1]);
-    assert_outcome(&rt, &kernel, 1, Outcome::Dead);
-    assert_terminated(&rt, &kernel, 1, Some(true));
-    assert_callable(&rt, &kernel, 4, None);
+    the_aborted_is_gone(&rt, &mut kernel);
     Ok(())
 }
 
@@ -75,71 +90,91 @@ fn member(family: u8, index: i32) -> Entry {
     Entry { family, index }
 }
 
+// Slots of single entries, of a family, and of a family without entries.
+fn slots_are_numbered<R: Abort>(rt: &R, kernel: &mut Kernel) {
+    let three = Family { low: 1, high: 3 };
+    let none = Family { low: 2, high: 1 };
+    assert_accepted(rt, kernel, create(0, MAIN, &[three, none, SINGLE]), 9);
+    assert_slot(rt, kernel, 1, entry(0), Some(0));
+    assert_slot(rt, kernel, 1, entry(1), Some(1));
+    assert_slot(rt, kernel, 4, member(0, 1), Some(2));
+    assert_slot(rt, kernel, 4, member(0, 3), Some(4));
+    assert_slot(rt, kernel, 4, member(1, 2), None);
+    assert_slot(rt, kernel, 4, entry(2), Some(5));
+}
+
 #[test]
 fn slots_of_families(rt: HostRuntime) -> Result<(), Fail> {
     let mut kernel = with_clients(&rt)?;
-    let three = Family { low: 1, high: 3 };
-    let none = Family { low: 2, high: 1 };
-    assert_accepted(&rt, &mut kernel, create(0, MAIN, &[three, none, SINGLE]), 9);
-    assert_slot(&rt, &kernel, 1, entry(0), Some(0));
-    assert_slot(&rt, &kernel, 1, entry(1), Some(1));
-    assert_slot(&rt, &kernel, 4, member(0, 1), Some(2));
-    assert_slot(&rt, &kernel, 4, member(0, 3), Some(4));
-    assert_slot(&rt, &kernel, 4, member(1, 2), None);
-    assert_slot(&rt, &kernel, 4, entry(2), Some(5));
+    slots_are_numbered(&rt, &mut kernel);
     Ok(())
+}
+
+// The inner of two rendezvous ends by an exception, the outer one plainly.
+fn an_exception_is_raised<R: Abort>(rt: &R, kernel: &mut Kernel) {
+    assert_accepted(rt, kernel, accept(1, 0), 9);
+    assert_accepted(rt, kernel, call(2, 1, 0), 10);
+    let accepted = Outcome::Accepted {
+        call: 10,
+        choice: 0,
+    };
+    assert_outcome(rt, kernel, 1, accepted);
+    assert_accepted(rt, kernel, call(3, 1, 1), 12);
+    assert_accepted(rt, kernel, accept(1, 1), 13);
+    assert_accepted(rt, kernel, end(1, true), 15);
+    assert_outcome(rt, kernel, 1, Outcome::Raised);
+    assert_outcome(rt, kernel, 3, Outcome::Raised);
+    assert_outcome(rt, kernel, 2, Outcome::Held);
+    assert_accepted(rt, kernel, end(1, false), 16);
+    assert_outcome(rt, kernel, 2, Outcome::Served);
+    assert_outcome(rt, kernel, 1, Outcome::Raised);
 }
 
 // A rendezvous within a rendezvous: the inner one ends by an exception, the outer one plainly.
 #[test]
 fn outcomes_of_an_exception(rt: HostRuntime) -> Result<(), Fail> {
     let mut kernel = with_clients(&rt)?;
-    assert_accepted(&rt, &mut kernel, accept(1, 0), 9);
-    assert_accepted(&rt, &mut kernel, call(2, 1, 0), 10);
-    let accepted = Outcome::Accepted {
-        call: 10,
-        choice: 0,
-    };
-    assert_outcome(&rt, &kernel, 1, accepted);
-    assert_accepted(&rt, &mut kernel, call(3, 1, 1), 12);
-    assert_accepted(&rt, &mut kernel, accept(1, 1), 13);
-    assert_accepted(&rt, &mut kernel, end(1, true), 15);
-    assert_outcome(&rt, &kernel, 1, Outcome::Raised);
-    assert_outcome(&rt, &kernel, 3, Outcome::Raised);
-    assert_outcome(&rt, &kernel, 2, Outcome::Held);
-    assert_accepted(&rt, &mut kernel, end(1, false), 16);
-    assert_outcome(&rt, &kernel, 2, Outcome::Served);
-    assert_outcome(&rt, &kernel, 1, Outcome::Raised);
+    an_exception_is_raised(&rt, &mut kernel);
     Ok(())
+}
+
+// A task fails in its activation.
+fn an_activation_fails<R: Abort>(rt: &R, kernel: &mut Kernel) {
+    assert_accepted(rt, kernel, create(0, MAIN, &[]), 1);
+    assert_accepted(rt, kernel, activate(0, 1, 1), 2);
+    let fail = Request::Elaborated {
+        by: TaskNo(1),
+        ok: false,
+    };
+    assert_accepted(rt, kernel, fail, 3);
+    assert_outcome(rt, kernel, 0, Outcome::ActivationFailed);
+    assert_callable(rt, kernel, 1, Some(false));
 }
 
 #[test]
 fn the_outcome_of_a_failed_activation(rt: HostRuntime) -> Result<(), Fail> {
     let mut kernel = Kernel::new(rt.alloc())?;
-    assert_accepted(&rt, &mut kernel, create(0, MAIN, &[]), 1);
-    assert_accepted(&rt, &mut kernel, activate(0, 1, 1), 2);
-    let fail = Request::Elaborated {
-        by: TaskNo(1),
-        ok: false,
-    };
-    assert_accepted(&rt, &mut kernel, fail, 3);
-    assert_outcome(&rt, &kernel, 0, Outcome::ActivationFailed);
-    assert_callable(&rt, &kernel, 1, Some(false));
+    an_activation_fails(&rt, &mut kernel);
     Ok(())
+}
+
+// COUNT while one call is served, and two wait.
+fn the_queued_are_counted<R: Abort>(rt: &R, kernel: &mut Kernel) {
+    assert!(rt; make_tasks(kernel, 3));
+    assert!(rt; kernel.step(accept(1, 0)).is_ok());
+    assert_count(rt, kernel, 1, entry(0), Err(Refusal::NotRunning));
+    assert!(rt; kernel.step(call(2, 1, 0)).is_ok());
+    assert_count(rt, kernel, 1, entry(0), Ok(0));
+    assert!(rt; kernel.step(call(3, 1, 0)).is_ok());
+    assert!(rt; kernel.step(call(0, 1, 0)).is_ok());
+    assert_count(rt, kernel, 1, entry(0), Ok(2));
+    assert_count(rt, kernel, 1, member(0, 1), Err(Refusal::ConstraintError));
 }
 
 // The call that is being served isn't counted.
 #[test]
 fn counts_leave_out_the_served_call(rt: HostRuntime) -> Result<(), Fail> {
     let mut kernel = Kernel::new(rt.alloc())?;
-    assert!(rt; make_tasks(&mut kernel, 3));
-    assert!(rt; kernel.step(accept(1, 0)).is_ok());
-    assert_count(&rt, &kernel, 1, entry(0), Err(Refusal::NotRunning));
-    assert!(rt; kernel.step(call(2, 1, 0)).is_ok());
-    assert_count(&rt, &kernel, 1, entry(0), Ok(0));
-    assert!(rt; kernel.step(call(3, 1, 0)).is_ok());
-    assert!(rt; kernel.step(call(0, 1, 0)).is_ok());
-    assert_count(&rt, &kernel, 1, entry(0), Ok(2));
-    assert_count(&rt, &kernel, 1, member(0, 1), Err(Refusal::ConstraintError));
+    the_queued_are_counted(&rt, &mut kernel);
     Ok(())
 }
