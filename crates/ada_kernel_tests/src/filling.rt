@@ -65,7 +65,7 @@ fn after_rendezvous<R: Abort + AllocGlobal>(rt: &R, rounds: u32) -> Result<Kerne
     Ok(kernel)
 }
 
-// The last call and the last wait that have room meet; nothing has room behind them.
+// The last call is accepted at position 64,767 and its wait at 64,768; they meet, and don't end.
 fn the_last_meets<R: Abort>(rt: &R, kernel: &mut Kernel) {
     assert_accepted(rt, kernel, call(2, 1, 0), 64_767);
     assert_accepted(rt, kernel, accept(1, 0), LAST_ACCEPTED);
@@ -86,7 +86,6 @@ fn the_last_meets<R: Abort>(rt: &R, kernel: &mut Kernel) {
     assert_outcome(rt, kernel, 2, Outcome::Held);
 }
 
-// The last call is accepted at position 64,767 and its wait at 64,768; they meet, and don't end.
 #[test]
 fn as_many_rendezvous_as_there_may_be(rt: HostRuntime) -> Result<(), Fail> {
     let mut kernel = after_rendezvous(&rt, (LAST_ACCEPTED - BEFORE) / EACH)?;

@@ -144,7 +144,7 @@ fn a_family_that_is_not_declared(rt: HostRuntime) -> Result<(), Fail> {
     Ok(())
 }
 
-// Main and the tasks from the second on call the first, which aborts all tasks.
+// Of 63 tasks all others and main call the first, which aborts them all.
 fn one_aborts_all<R: Abort>(rt: &R, kernel: &mut Kernel) {
     assert!(rt; make_tasks(kernel, 63));
     assert_events(rt, kernel, 128);
@@ -157,7 +157,6 @@ fn one_aborts_all<R: Abort>(rt: &R, kernel: &mut Kernel) {
     assert_events(rt, kernel, 319);
 }
 
-// 63 tasks, of which all others and main call the first, which aborts them all.
 #[test]
 fn everybody_calls_one_that_aborts_all(rt: HostRuntime) -> Result<(), Fail> {
     let mut kernel = Kernel::new(rt.alloc())?;
@@ -165,7 +164,7 @@ fn everybody_calls_one_that_aborts_all(rt: HostRuntime) -> Result<(), Fail> {
     Ok(())
 }
 
-// The last task of a chain of 63 aborts all.
+// The last task of a chain of 63 rendezvous aborts all.
 fn the_last_aborts_63<R: Abort>(rt: &R, kernel: &mut Kernel) {
     assert_events(rt, kernel, 317);
     assert_accepted(rt, kernel, abort(63, 1, 63), 318);
@@ -176,7 +175,6 @@ fn the_last_aborts_63<R: Abort>(rt: &R, kernel: &mut Kernel) {
     assert_events(rt, kernel, 507);
 }
 
-// A chain of 63 rendezvous, whose last task aborts all.
 #[test]
 fn a_chain_of_rendezvous_is_aborted(rt: HostRuntime) -> Result<(), Fail> {
     let mut kernel = chained(&rt, 63)?;

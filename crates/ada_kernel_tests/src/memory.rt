@@ -23,7 +23,8 @@ fn with_rendezvous<R: Abort + AllocGlobal>(rt: &R) -> Result<Kernel, Fail> {
     Ok(kernel)
 }
 
-// A pause, a tick, a close, an abort and a completion behind the rendezvous.
+// Each kind of request is accepted: a pause ends at 12, the block is left at 14, the server is halted and gone at 16
+// and 17, and the main program at 19.
 fn the_rest_is_accepted<R: Abort>(rt: &R, kernel: &mut Kernel) {
     let pause = Request::Delay {
         by: MAIN_TASK,
@@ -38,8 +39,6 @@ fn the_rest_is_accepted<R: Abort>(rt: &R, kernel: &mut Kernel) {
     assert!(rt; kernel.finished());
 }
 
-// Each kind of request is accepted: a pause ends at 12, the block is left at 14, the server is halted and gone at 16
-// and 17, and the main program at 19.
 #[test]
 fn always_out_of_memory(rt: HostRuntime) -> Result<(), Fail> {
     let mut kernel = with_rendezvous(&rt)?;

@@ -110,7 +110,7 @@ fn slots_of_families(rt: HostRuntime) -> Result<(), Fail> {
     Ok(())
 }
 
-// The inner of two rendezvous ends by an exception, the outer one plainly.
+// A rendezvous within a rendezvous: the inner one ends by an exception, the outer one plainly.
 fn an_exception_is_raised<R: Abort>(rt: &R, kernel: &mut Kernel) {
     assert_accepted(rt, kernel, accept(1, 0), 9);
     assert_accepted(rt, kernel, call(2, 1, 0), 10);
@@ -130,7 +130,6 @@ fn an_exception_is_raised<R: Abort>(rt: &R, kernel: &mut Kernel) {
     assert_outcome(rt, kernel, 1, Outcome::Raised);
 }
 
-// A rendezvous within a rendezvous: the inner one ends by an exception, the outer one plainly.
 #[test]
 fn outcomes_of_an_exception(rt: HostRuntime) -> Result<(), Fail> {
     let mut kernel = with_clients(&rt)?;
@@ -158,7 +157,7 @@ fn the_outcome_of_a_failed_activation(rt: HostRuntime) -> Result<(), Fail> {
     Ok(())
 }
 
-// COUNT while one call is served, and two wait.
+// The call that is being served isn't counted.
 fn the_queued_are_counted<R: Abort>(rt: &R, kernel: &mut Kernel) {
     assert!(rt; make_tasks(kernel, 3));
     assert!(rt; kernel.step(accept(1, 0)).is_ok());
@@ -171,7 +170,6 @@ fn the_queued_are_counted<R: Abort>(rt: &R, kernel: &mut Kernel) {
     assert_count(rt, kernel, 1, member(0, 1), Err(Refusal::ConstraintError));
 }
 
-// The call that is being served isn't counted.
 #[test]
 fn counts_leave_out_the_served_call(rt: HostRuntime) -> Result<(), Fail> {
     let mut kernel = Kernel::new(rt.alloc())?;
