@@ -1,3 +1,2 @@
-pub mod Orders
 pub mod Running
 pub mod internal

@@ -1,7 +1,7 @@
 //! Replays and runs over readers of which a read is interrupted. They end there: no read is tried again.
 
-use crate::pieces::{PRINTED, SCRIPT};
-use crate::streams::{Interrupted, Pieces};
+use ada_replay_tests::rendezvous::{PRINTED, SCRIPT};
+use ada_replay_tests::streams::{Interrupted, Pieces};
 use ada_run::{Ending, InTurn, RunFault, replay, run, status_of};
 use std::process::Abort;
 use std::test::Fail;

@@ -1,6 +1,6 @@
 //! Replays and runs where there is memory, and each read and write succeeds.
 
-use crate::pieces::{PRINTED, SCRIPT};
+use ada_replay_tests::rendezvous::{PRINTED, SCRIPT};
 use ada_run::{Ending, Free, InTurn, replay, run};
 use std::test::Fail;
 

@@ -2,8 +2,8 @@ use Rattle.std.proofs.Common.{◌≡◌, true, ap, ap₂, ◌∙◌, codes, rule
 use Rattle.std.proofs.lemmas.Result.{IfOk-weaker}
 use Rattle.clap.specs.Simple.{app_of_fields, on_top}
 use Rattle.clap.specs.Words.{App, Shape, app_of, new_app, rule_of, with_rule, with_subcommand}
-use Rattle.ada_run.specs.Orders.{free_flag, replay_command, run_command, bare}
-use Rattle.ada_run.proofs.order.program.Goals as goal
+use Rattle.ada_command_line.specs.Orders.{free_flag, replay_command, run_command, bare}
+use Rattle.ada_command_line.proofs.order.program.Goals as goal
 
 pub returns : goal.returns
 returns c =

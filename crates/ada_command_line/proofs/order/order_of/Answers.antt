@@ -1,8 +1,8 @@
 use Rattle.std.proofs.Common.{◌≡◌, true, refl, ap, sym, ◌∙◌, map}
 use Rattle.clap.specs.Words.{app_of}
 use Rattle.clap.specs.Faults.{fault_of, is_simple_and_free}
-use Rattle.ada_run.specs.Orders.{adatask}
-use Rattle.ada_run.proofs.order.order_of.Goals as goal
+use Rattle.ada_command_line.specs.Orders.{adatask}
+use Rattle.ada_command_line.proofs.order.order_of.Goals as goal
 
 is_known : is_simple_and_free adatask ≡ true
 is_known = refl

@@ -1,7 +1,7 @@
 //! A script cut after each of its bytes.
 
-use crate::pieces::SCRIPT;
-use ada_run::{RunFault, replay};
+use crate::rendezvous::SCRIPT;
+use ada_replay::{RunFault, replay};
 use std::process::Abort;
 use std::test::Fail;
 

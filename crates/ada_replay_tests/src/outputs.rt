@@ -1,7 +1,7 @@
 //! The output of long plays, which is written in pieces.
 
 use crate::streams::Writes;
-use ada_run::{replay, status_of};
+use ada_replay::{replay, status_of};
 use std::alloc::{AllocError, Global};
 use std::process::Abort;
 use std::test::Fail;

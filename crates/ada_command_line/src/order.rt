@@ -1,7 +1,7 @@
 //! The command line: what its words order.
 ghost use Rattle.std.specs.Prelude.{◌≡◌, IfOk, map};
 ghost use Rattle.clap.specs.Words.{FailsBy, app_of, found_of, rows_of, subcommand_rows_of};
-ghost use Rattle.ada_run.specs.Orders.{adatask, is_free, ordered, order_named, refused_kinds};
+ghost use Rattle.ada_command_line.specs.Orders.{adatask, is_free, ordered, order_named, refused_kinds};
 
 use clap::{Arg, ArgAction, ArgMatches, Command, Error};
 use std::alloc::{AllocError, Global};

@@ -6,8 +6,8 @@ use Rattle.clap.specs.Words.{App, Row, Rule, Shape, Text, Kinds, first_of, new_a
 use Rattle.clap.specs.Simple.{on_top}
 use Rattle.clap.specs.Faults.{fault_of}
 use Rattle.clap.specs.declared.builder.action.ArgAction.TheVariants.{SetTrue}
-use Rattle.ada_run.specs.declared.order.Order.{Order}
-use Rattle.ada_run.specs.declared.order.Order.TheVariants.{Replay, Run, RunFree}
+use Rattle.ada_command_line.specs.declared.order.Order.{Order}
+use Rattle.ada_command_line.specs.declared.order.Order.TheVariants.{Replay, Run, RunFree}
 
 abbrev pub replay_command : App
 replay_command = new_app (codes "replay")

@@ -1,0 +1,13 @@
+//! Tests of replays: readers that come in pieces or fail, writers that fail, long outputs, and a script cut after each
+//! of its bytes.
+#![tactic(auto)]
+
+pub mod rendezvous;
+pub mod streams;
+
+#[cfg(test)]
+mod cuts;
+#[cfg(test)]
+mod outputs;
+#[cfg(test)]
+mod pieces;
