@@ -2,12 +2,11 @@
 //! of its bytes.
 #![tactic(auto)]
 
-pub mod rendezvous;
-pub mod streams;
-
 #[cfg(test)]
 mod cuts;
 #[cfg(test)]
 mod outputs;
 #[cfg(test)]
 mod pieces;
+pub mod rendezvous;
+pub mod streams;

@@ -33,6 +33,23 @@ fn printed(alloc: Global) -> Result<String, AllocError> {
     Ok(text)
 }
 
+/// A writer has taken so many bytes of the long play, and would take so many writes more.
+fn took<R: Abort + AllocGlobal>(
+    rt: &R,
+    writer: &Writes,
+    taken: usize,
+    left: usize,
+) -> Result<(), Fail> {
+    let wanted = printed(rt.alloc())?;
+    assert_eq!(rt; wanted.len(), WHOLE);
+    assert_eq!(rt;
+        Some(writer.taken.as_slice()),
+        wanted.as_bytes().get(..taken)
+    );
+    assert_eq!(rt; writer.writes_left, left);
+    Ok(())
+}
+
 /// A writer that takes so many writes and then fails has taken so many bytes of the long play, and would take
 /// so many writes more; the status is this.
 fn writes<R: Abort + AllocGlobal>(
@@ -43,7 +60,6 @@ fn writes<R: Abort + AllocGlobal>(
     status: u8,
 ) -> Result<(), Fail> {
     let script = long_script(rt.alloc())?;
-    let wanted = printed(rt.alloc())?;
     let mut input = script.as_bytes();
     let mut writer = Writes {
         taken: Vec::new(rt.alloc()),
@@ -51,13 +67,7 @@ fn writes<R: Abort + AllocGlobal>(
     };
     let outcome = replay(rt.alloc(), &mut input, &mut writer);
     assert_eq!(rt; status_of(&outcome), status);
-    assert_eq!(rt; wanted.len(), WHOLE);
-    assert_eq!(rt;
-        Some(writer.taken.as_slice()),
-        wanted.as_bytes().get(..taken)
-    );
-    assert_eq!(rt; writer.writes_left, left);
-    Ok(())
+    took(rt, &writer, taken, left)
 }
 
 // Two writes for all lines. The main program isn't terminated at the end.

@@ -2,25 +2,44 @@
 
 use ada_replay_tests::rendezvous::{PRINTED, SCRIPT};
 use ada_run::{Ending, Free, InTurn, replay, run};
+use std::process::Abort;
+use std::sync::Wait;
 use std::test::Fail;
+use std::thread::Threads;
 
-// Each comes to the end of the script. A free run may print its lines in another order.
+/// A replay comes to the end of the script.
+fn replays<R: Abort + AllocGlobal>(rt: &R) -> Result<(), Fail> {
+    let mut reader = SCRIPT;
+    let mut output = Vec::new(rt.alloc());
+    let outcome = replay(rt.alloc(), &mut reader, &mut output);
+    assert!(rt; matches!(outcome, Ok(Ending::Finished)));
+    assert_eq!(rt; output.as_slice(), PRINTED);
+    Ok(())
+}
+
+/// So does a run in turn.
+fn runs_in_turn<R: Threads + Wait + Sync + Abort + AllocGlobal>(rt: &R) -> Result<(), Fail> {
+    let mut reader = SCRIPT;
+    let mut output = Vec::new(rt.alloc());
+    let outcome = run(rt, &mut reader, &InTurn, &mut output);
+    assert!(rt; matches!(outcome, Ok(Ending::Finished)));
+    assert_eq!(rt; output.as_slice(), PRINTED);
+    Ok(())
+}
+
+/// A free run may print its lines in another order.
+fn runs_free<R: Threads + Wait + Sync + Abort + AllocGlobal>(rt: &R) -> Result<(), Fail> {
+    let mut reader = SCRIPT;
+    let mut output = Vec::new(rt.alloc());
+    let outcome = run(rt, &mut reader, &Free, &mut output);
+    assert!(rt; outcome.is_ok());
+    assert!(rt; !output.is_empty());
+    Ok(())
+}
+
 #[test]
 fn always_out_of_memory(rt: HostRuntime) -> Result<(), Fail> {
-    let mut reader = SCRIPT;
-    let mut replayed = Vec::new(rt.alloc());
-    let outcome = replay(rt.alloc(), &mut reader, &mut replayed);
-    assert!(rt; matches!(outcome, Ok(Ending::Finished)));
-    assert_eq!(rt; replayed.as_slice(), PRINTED);
-    let mut reader = SCRIPT;
-    let mut in_turn = Vec::new(rt.alloc());
-    let outcome = run(&rt, &mut reader, &InTurn, &mut in_turn);
-    assert!(rt; matches!(outcome, Ok(Ending::Finished)));
-    assert_eq!(rt; in_turn.as_slice(), PRINTED);
-    let mut reader = SCRIPT;
-    let mut free = Vec::new(rt.alloc());
-    let outcome = run(&rt, &mut reader, &Free, &mut free);
-    assert!(rt; outcome.is_ok());
-    assert!(rt; !free.is_empty());
-    Ok(())
+    replays(&rt)?;
+    runs_in_turn(&rt)?;
+    runs_free(&rt)
 }

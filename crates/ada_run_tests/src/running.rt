@@ -122,16 +122,20 @@ impl Gate for Together {
     }
 }
 
+/// The status of a run of the clients behind a gate.
+fn status_behind<R: Threads + Wait + Sync + AllocGlobal, G: Gate + Sync>(rt: &R, gate: &G) -> u8 {
+    let mut output = Vec::new(rt.alloc());
+    let mut reader = CLIENTS.as_bytes();
+    status_of(&run(rt, &mut reader, gate, &mut output))
+}
+
 #[test]
 fn one_thread_for_all(rt: HostRuntime) -> Result<(), Fail> {
     let gate = Together {
         come: AtomicU64::new(0),
         given_up: AtomicU64::new(0),
     };
-    let mut output = Vec::new(rt.alloc());
-    let mut reader = CLIENTS.as_bytes();
-    let outcome = run(&rt, &mut reader, &gate, &mut output);
-    assert_eq!(rt; status_of(&outcome), 3);
+    assert_eq!(rt; status_behind(&rt, &gate), 3);
     assert_eq!(rt; gate.given_up.load(Ordering::SeqCst), 0);
     assert_eq!(rt; gate.come.load(Ordering::SeqCst), 4);
     Ok(())
@@ -167,6 +171,21 @@ fn many(alloc: Global, tasks: u32, last: &str) -> Result<String, AllocError> {
     Ok(script)
 }
 
+/// A run ended so.
+fn ended<R: Abort + AllocGlobal>(
+    rt: &R,
+    outcome: &Result<Ending, RunFault>,
+    text: &str,
+) -> Result<(), Fail> {
+    let said = match outcome {
+        Ok(Ending::Finished) => format!(in rt.alloc(); "finished")?,
+        Ok(Ending::Unfinished) => format!(in rt.alloc(); "unfinished")?,
+        Err(fault) => format!(in rt.alloc(); "{fault}")?,
+    };
+    assert_eq!(rt; said.as_str(), text);
+    Ok(())
+}
+
 /// A run of so many tasks ends so, and prints the creation of the 255th so often.
 fn ends<R: Threads + Wait + Sync + Abort + AllocGlobal>(
     rt: &R,
@@ -178,12 +197,8 @@ fn ends<R: Threads + Wait + Sync + Abort + AllocGlobal>(
     let script = many(rt.alloc(), tasks, last)?;
     let mut reader = script.as_bytes();
     let mut output = Vec::new(rt.alloc());
-    let outcome = match run(rt, &mut reader, &InTurn, &mut output) {
-        Ok(Ending::Finished) => format!(in rt.alloc(); "finished")?,
-        Ok(Ending::Unfinished) => format!(in rt.alloc(); "unfinished")?,
-        Err(fault) => format!(in rt.alloc(); "{fault}")?,
-    };
-    assert_eq!(rt; outcome.as_str(), text);
+    let outcome = run(rt, &mut reader, &InTurn, &mut output);
+    ended(rt, &outcome, text)?;
     assert_eq!(rt; lines_with(&output, b"255 main created T254"), times);
     Ok(())
 }
