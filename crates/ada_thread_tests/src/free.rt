@@ -1,6 +1,6 @@
 //! Lines as the threads come.
 
-use crate::together::play;
+use crate::together::{Played, play};
 use ada_threads::Free;
 use std::alloc::{AllocError, Global};
 use std::fs;
@@ -69,12 +69,17 @@ const REQUESTS: u32 = 47;
 /// How often a process looks whether it has one thread.
 const LOOKS: u32 = 1_000;
 
+/// The answers are one legal order, the shares add up to so many requests, and none was refused.
+fn assert_accepted<R: Abort>(rt: &R, played: &Played, requests: u32) {
+    assert!(rt; played.is_whole());
+    assert_eq!(rt; played.total, requests);
+    assert!(rt; played.counts.iter().all(|counts| counts.1 == 0));
+}
+
 /// Plays `EIGHT` once. The answers are one legal order, and the shares add up.
 fn play_eight<R: Threads + Wait + Sync + AllocGlobal + Abort>(rt: &R) -> Result<(), Fail> {
     let played = play(rt, EIGHT, &Free)?;
-    assert!(rt; played.legal);
-    assert_eq!(rt; played.total, REQUESTS);
-    assert!(rt; played.counts.iter().all(|counts| counts.1 == 0));
+    assert_accepted(rt, &played, REQUESTS);
     Ok(())
 }
 
@@ -136,15 +141,19 @@ fn crowd(alloc: Global) -> Result<String, AllocError> {
     Ok(script)
 }
 
+/// There are 256 speakers, of which all but the first made one request.
+fn assert_each_came_up<R: Abort>(rt: &R, counts: &[(u32, u32)]) {
+    assert_eq!(rt; counts.len(), 256);
+    assert!(rt; counts.iter().skip(1).all(|counts| *counts == (1, 0)));
+}
+
 // 255 creations, 15 activations, 255 ends of one, and the end of the main program.
 #[test]
 fn full_house_free(rt: HostRuntime) -> Result<(), Fail> {
     let script = crowd(rt.alloc())?;
     let played = play(&rt, script.as_bytes(), &Free)?;
-    assert!(rt; played.legal);
-    assert_eq!(rt; played.total, 526);
-    assert_eq!(rt; played.counts.len(), 256);
-    assert!(rt; played.counts.iter().skip(1).all(|counts| *counts == (1, 0)));
+    assert_accepted(&rt, &played, 526);
+    assert_each_came_up(&rt, &played.counts);
     assert!(rt; is_alone(&rt)?);
     Ok(())
 }

@@ -92,16 +92,15 @@ fn played<J: Session, R: Wait + AllocGlobal, G: Gate>(
     came
 }
 
+/// What came of a script.
+fn came<R: Wait + AllocGlobal, G: Gate>(rt: &R, text: &[u8], gate: &G) -> Result<Came, Fail> {
+    let script = read(rt.alloc(), text)?;
+    played::<Brand, _, _>(rt, History::new(), Blank::new(2), &script, gate)
+}
+
 #[test]
 fn work_plays_nothing(rt: HostRuntime) -> Result<(), Fail> {
-    let script = read(rt.alloc(), ONE_BY_ONE)?;
-    let (counts, total, third, fourth) = played::<Brand, _, _>(
-        &rt,
-        History::new(),
-        Blank::new(2),
-        &script,
-        &InTurn,
-    )?;
+    let (counts, total, third, fourth) = came(&rt, ONE_BY_ONE, &InTurn)?;
     assert_eq!(rt; counts, [(2, 0), (2, 0)]);
     assert_eq!(rt; total, 4);
     assert_eq!(rt; third, Some(Answer::Group { first: 3, last: 4 }));
@@ -112,14 +111,7 @@ fn work_plays_nothing(rt: HostRuntime) -> Result<(), Fail> {
 // Once the main program's work is done, nobody is left who could activate the task: its line is refused.
 #[test]
 fn waits_for_good_are_found(rt: HostRuntime) -> Result<(), Fail> {
-    let script = read(rt.alloc(), UNSTARTED)?;
-    let (counts, total, third, fourth) = played::<Brand, _, _>(
-        &rt,
-        History::new(),
-        Blank::new(2),
-        &script,
-        &Free,
-    )?;
+    let (counts, total, third, fourth) = came(&rt, UNSTARTED, &Free)?;
     assert_eq!(rt; counts, [(2, 0), (0, 1)]);
     assert_eq!(rt; total, 2);
     assert_eq!(rt; third, Some(Answer::Refused(Refusal::NotRunning)));
@@ -131,15 +123,8 @@ fn waits_for_good_are_found(rt: HostRuntime) -> Result<(), Fail> {
 // lines until all have come.
 #[test]
 fn one_thread_is_late(rt: HostRuntime) -> Result<(), Fail> {
-    let script = read(rt.alloc(), ONE_BY_ONE)?;
     let gate = AllAtOnce::new(1_000);
-    let (_, total, _, _) = played::<Brand, _, _>(
-        &rt,
-        History::new(),
-        Blank::new(2),
-        &script,
-        &gate,
-    )?;
+    let (_, total, _, _) = came(&rt, ONE_BY_ONE, &gate)?;
     assert!(rt; gate.is_late());
     assert_eq!(rt; total, 4);
     Ok(())

@@ -108,10 +108,16 @@ impl Gate for AllAtOnce {
 }
 
 /// Whether the lines were answered in the order of their places.
-fn is_in_turn(played: &Played) -> bool {
+fn is_in_turn(answers: &[KeptAnswer]) -> bool {
     (0u32..)
-        .zip(played.answers.iter())
+        .zip(answers.iter())
         .all(|(place, kept)| kept.place == place)
+}
+
+/// The lines were answered in the order of their places, and so many requests of each speaker accepted and refused.
+fn assert_in_turn<R: Abort>(rt: &R, played: &Played, counts: &[(u32, u32)]) {
+    assert!(rt; is_in_turn(&played.answers));
+    played.assert_reports(rt, counts);
 }
 
 // Were the lines of all speakers played by one thread, the first line would be held for good.
@@ -120,48 +126,33 @@ fn one_thread_for_all(rt: HostRuntime) -> Result<(), Fail> {
     let gate = AllAtOnce::new(LOOKS);
     let played = play(&rt, THREE, &gate)?;
     assert!(rt; !gate.is_late());
-    assert_eq!(rt;
-        played.counts.as_slice(),
-        [(4, 0), (1, 0), (1, 0), (1, 0)].as_slice()
-    );
-    assert_eq!(rt; played.total, 7);
-    assert!(rt; is_in_turn(&played) && played.legal);
+    assert_in_turn(&rt, &played, &[(4, 0), (1, 0), (1, 0), (1, 0)]);
     Ok(())
 }
 
 #[test]
 fn three_threads_report(rt: HostRuntime) -> Result<(), Fail> {
     let played = play(&rt, RENDEZVOUS, &InTurn)?;
-    assert_eq!(rt;
-        played.counts.as_slice(),
-        [(3, 0), (3, 0), (2, 0)].as_slice()
-    );
-    assert_eq!(rt; played.total, 8);
-    assert!(rt; is_in_turn(&played) && played.legal);
-    let last = played.answers.last().map(|kept| kept.answer);
-    assert_eq!(rt;
-        last,
-        Some(Answer::Group {
-            first: 10,
-            last: 10
-        })
-    );
+    assert_in_turn(&rt, &played, &[(3, 0), (3, 0), (2, 0)]);
+    let last = Answer::Group {
+        first: 10,
+        last: 10,
+    };
+    assert_eq!(rt; answer_at(&played.answers, 7), Some(last));
     Ok(())
 }
 
 /// The answer that was given to a place.
-fn answer_at(played: &Played, place: u32) -> Option<Answer> {
-    let found = played.answers.iter().find(|kept| kept.place == place);
+fn answer_at(answers: &[KeptAnswer], place: u32) -> Option<Answer> {
+    let found = answers.iter().find(|kept| kept.place == place);
     found.map(|kept| kept.answer)
 }
 
 #[test]
 fn own_call_waits_for_good(rt: HostRuntime) -> Result<(), Fail> {
     let played = play(&rt, OWN_CALL, &Free)?;
-    assert_eq!(rt; played.counts.as_slice(), [(3, 0), (2, 1)].as_slice());
-    assert_eq!(rt; played.total, 5);
-    assert!(rt; played.legal);
+    played.assert_reports(&rt, &[(3, 0), (2, 1)]);
     let refused = Some(Answer::Refused(Refusal::NotRunning));
-    assert_eq!(rt; answer_at(&played, 4), refused);
+    assert_eq!(rt; answer_at(&played.answers, 4), refused);
     Ok(())
 }

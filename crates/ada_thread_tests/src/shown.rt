@@ -1,8 +1,8 @@
 //! The attributes that lines show, read by a thread for each speaker, in turn.
 
-use crate::together::{Played, play};
+use crate::together::play;
 use ada_events::Refusal;
-use ada_hall::Answer;
+use ada_hall::{Answer, KeptAnswer};
 use ada_script::Value;
 use ada_threads::InTurn;
 use std::process::Abort;
@@ -36,36 +36,47 @@ T: show callable A
 ";
 
 /// Whether the line at a place was answered as the one behind so many others, and so.
-fn is_answered(played: &Played, place: usize, answer: Answer) -> bool {
-    let kept = played.answers.get(place);
+fn is_answered(answers: &[KeptAnswer], place: usize, answer: Answer) -> bool {
+    let kept = answers.get(place);
     kept.is_some_and(|kept| kept.place as usize == place && kept.answer == answer)
+}
+
+/// The lines at these places were answered in their turn, and so.
+fn assert_answers<R: Abort>(rt: &R, answers: &[KeptAnswer], wanted: &[(usize, Answer)]) {
+    for (place, answer) in wanted {
+        assert!(rt; is_answered(answers, *place, *answer), "place {place}");
+    }
 }
 
 #[test]
 fn count_of_arrivals(rt: HostRuntime) -> Result<(), Fail> {
     let played = play(&rt, ARRIVALS, &InTurn)?;
-    assert!(rt; is_answered(&played, 11, Answer::Shown(Value::Number(2))));
-    assert!(rt; is_answered(&played, 14, Answer::Shown(Value::Number(1))));
-    assert_eq!(rt;
-        played.counts.as_slice(),
-        [(5, 0), (4, 0), (2, 0), (2, 0)].as_slice()
+    assert_answers(
+        &rt,
+        &played.answers,
+        &[
+            (11, Answer::Shown(Value::Number(2))),
+            (14, Answer::Shown(Value::Number(1))),
+        ],
     );
-    assert!(rt; played.legal);
+    played.assert_reports(&rt, &[(5, 0), (4, 0), (2, 0), (2, 0)]);
     Ok(())
 }
 
 #[test]
 fn attributes_of_missing_tasks(rt: HostRuntime) -> Result<(), Fail> {
     let played = play(&rt, MISSING, &InTurn)?;
-    assert!(rt; is_answered(&played, 1, Answer::Refused(Refusal::NotYourMaster)));
-    assert!(rt; is_answered(&played, 2, Answer::Refused(Refusal::UnknownTask)));
-    assert!(rt; is_answered(&played, 3, Answer::Shown(Value::Truth(true))));
-    assert!(rt; is_answered(&played, 4, Answer::Shown(Value::Truth(false))));
-    assert!(rt; is_answered(&played, 5, Answer::Refused(Refusal::UnknownTask)));
-    assert_eq!(rt;
-        played.counts.as_slice(),
-        [(1, 1), (0, 0), (0, 0)].as_slice()
+    assert_answers(
+        &rt,
+        &played.answers,
+        &[
+            (1, Answer::Refused(Refusal::NotYourMaster)),
+            (2, Answer::Refused(Refusal::UnknownTask)),
+            (3, Answer::Shown(Value::Truth(true))),
+            (4, Answer::Shown(Value::Truth(false))),
+            (5, Answer::Refused(Refusal::UnknownTask)),
+        ],
     );
-    assert!(rt; played.legal);
+    played.assert_reports(&rt, &[(1, 1), (0, 0), (0, 0)]);
     Ok(())
 }

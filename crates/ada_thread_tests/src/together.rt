@@ -11,6 +11,7 @@ use ada_script::{Script, read};
 use ada_threads::{Gate, Report, Shared};
 use std::alloc::Global;
 use std::marker::Brand;
+use std::process::Abort;
 use std::sync::Wait;
 use std::sync::ledger::{Blank, Share};
 use std::test::Fail;
@@ -27,6 +28,26 @@ pub struct Played {
     pub answers: Vec<KeptAnswer>,
     /// Whether they are one legal order of the lines.
     pub legal: bool,
+}
+
+/// How many requests of all speakers were accepted.
+fn accepted(counts: &[(u32, u32)]) -> u32 {
+    counts
+        .iter()
+        .fold(0u32, |sum, counts| sum.saturating_add(counts.0))
+}
+
+impl Played {
+    /// Whether the answers are one legal order of the lines, and what the threads report as accepted is the total.
+    pub fn is_whole(&self) -> bool {
+        self.legal && accepted(&self.counts) == self.total
+    }
+
+    /// It is whole, and so many requests of each speaker were accepted and refused.
+    pub fn assert_reports<R: Abort>(&self, rt: &R, counts: &[(u32, u32)]) {
+        assert!(rt; self.is_whole());
+        assert_eq!(rt; self.counts.as_slice(), counts);
+    }
 }
 
 /// Puts the shares of all reports together: what the reports say, that of the last speaker first.

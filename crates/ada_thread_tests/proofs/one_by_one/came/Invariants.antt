@@ -1,4 +1,4 @@
-use Rattle.ada_thread_tests.proofs.one_by_one.one_thread_is_late.Given as goal
+use Rattle.ada_thread_tests.proofs.one_by_one.came.Given as goal
 
 -- the board of the history that was just made, the script that was read, and the blank ledger
 abbrev pub ghosts-played-J-Naming : goal.ghosts-played-J-Naming
