@@ -20,15 +20,20 @@ struct Played {
     kernel: Kernel,
 }
 
+/// The answers to one rendezvous.
+fn answers<R: Threads + Wait + Sync + AllocGlobal>(rt: &R) -> Result<Vec<KeptAnswer>, Fail> {
+    Ok(play(rt, RENDEZVOUS, &InTurn)?.answers)
+}
+
 impl Played {
     /// One rendezvous.
     fn rendezvous<R: Threads + Wait + Sync + AllocGlobal>(rt: &R) -> Result<Played, Fail> {
+        let answers = answers(rt)?;
         let script = read(rt.alloc(), RENDEZVOUS)?;
-        let kernel = replayed(rt.alloc(), &script)?;
         Ok(Played {
+            kernel: replayed(rt.alloc(), &script)?,
             script,
-            answers: play(rt, RENDEZVOUS, &InTurn)?.answers,
-            kernel,
+            answers,
         })
     }
 
@@ -44,6 +49,17 @@ impl Played {
         let events = self.kernel.journal().as_slice();
         is_legal(rt.alloc(), RENDEZVOUS, &self.script, &self.answers, events)
     }
+
+    /// Whether the answers are legal once those at two indices are exchanged.
+    fn is_legal_exchanged(
+        &mut self,
+        rt: &impl AllocGlobal,
+        one: usize,
+        other: usize,
+    ) -> Result<bool, Fail> {
+        self.exchange(one, other)?;
+        self.is_legal(rt)
+    }
 }
 
 /// Whether the answers to one rendezvous are legal, but with the answers at two indices exchanged.
@@ -52,9 +68,7 @@ fn is_legal_exchanged<R: Threads + Wait + Sync + AllocGlobal>(
     one: usize,
     other: usize,
 ) -> Result<bool, Fail> {
-    let mut played = Played::rendezvous(rt)?;
-    played.exchange(one, other)?;
-    played.is_legal(rt)
+    Played::rendezvous(rt)?.is_legal_exchanged(rt, one, other)
 }
 
 // The same order is legal. A server can't accept before it is up, and two tasks that come up in another order
