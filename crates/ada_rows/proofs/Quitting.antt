@@ -14,7 +14,10 @@ use Rattle.ada_events.specs.Termination.{all_terminated, is_complete, is_ready_t
 use Rattle.ada_events.specs.Forced.{task_no, is_to_quit}
 use Rattle.ada_forcing.specs.declared.row.Row.TheVariants.{QuittingBody}
 use Rattle.ada_forcing.specs.Rows.{step_at}
+use Rattle.ada_tables.specs.Dependents.{live_dependents}
 use Rattle.ada_tables.specs.Tables.{TableState, unready_dependents}
+use Rattle.ada_tables.specs.internal.Tables.{ready_dependents}
+use Rattle.ada_tables.proofs.Readiness.{ready_all}
 use Rattle.ada_tables.specs.Standing.{StandFor}
 use Rattle.ada_rows.specs.internal.States.{IsHeldBySome}
 use Rattle.ada_rows.proofs.Leaving.{held_stands, none_counted}
@@ -28,16 +31,23 @@ ready_bits false false true = refl
 ready_bits false false false = refl
 
 -- all that depend on a complete master of which some live are to terminate together where none of them is unready
-pub quit_told : (tables : TableState) (journal : List Event) (master : Master) → StandFor tables journal → IsHeldBySome journal master
+none_unready : (tables : TableState) (journal : List Event) (master : Master) → StandFor tables journal → IsHeldBySome journal master
     → is_complete journal master ≡ true → all_terminated journal master ≡ false
     → eqb (unready_dependents tables.tasks tables.queues master) 0 ≡ is_to_quit journal master
 unfolding is_to_quit
-quit_told tables journal master stand held complete some =
+none_unready tables journal master stand held complete some =
     rw (complete, some)
     (ap (λ n. eqb n 0) (stand.unready master (held_stands tables journal master stand held))
     ∙ none_counted (λ u. not (is_terminated journal u) && not (is_ready_to_quit journal u) && depends_on journal u master)
     (λ u. not (depends_on journal u master) || is_terminated journal u || is_ready_to_quit journal u)
     (λ u. ready_bits (is_terminated journal u) (is_ready_to_quit journal u) (depends_on journal u master)) (task_count journal))
+
+-- and so where as many of them are ready as live
+pub quit_told : (tables : TableState) (journal : List Event) (master : Master) → StandFor tables journal → IsHeldBySome journal master
+    → is_complete journal master ≡ true → all_terminated journal master ≡ false
+    → eqb (live_dependents tables.tasks master) (ready_dependents tables.tasks tables.queues master) ≡ is_to_quit journal master
+quit_told tables journal master stand held complete some =
+    ready_all tables.tasks tables.queues master ∙ none_unready tables journal master stand held complete some
 
 pub incomplete_stays : (journal : List Event) (master : Master) → is_complete journal master ≡ false → false ≡ is_to_quit journal master
 unfolding is_to_quit

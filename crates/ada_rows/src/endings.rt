@@ -67,10 +67,12 @@ impl<'a> State<'a> {
         if !complete {
             return false;
         }
-        if self.are_all_terminated(master) {
+        let tables = self.tables();
+        let live = tables.live_dependents(master);
+        if live == 0 {
             return false;
         }
-        self.tables().unready_dependents(master) == 0
+        live == tables.ready_dependents(master)
     }
 
     /// Whether all that depend on the task's body terminate together (9.4).

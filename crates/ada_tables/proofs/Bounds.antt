@@ -8,8 +8,6 @@ use Rattle.ada_tables.specs.declared.task.Task.{Task}
 use Rattle.ada_tables.specs.Dependents.{Facts, reaches, depends_on, count_below, live_dependents}
 use Rattle.ada_tables.specs.Counts.{facts}
 use Rattle.ada_tables.specs.internal.Counts.{no_record, AreCounted}
-use Rattle.ada_queues.specs.Queues.{QueuedCall}
-use Rattle.ada_tables.specs.Tables.{is_unready}
 
 -- one at least isn't counted where the first doesn't pass
 count_but_first : (test : ℕ → Bool) (many : ℕ) → test 0 ≡ false → count_below test (suc many) ≤ many
@@ -45,6 +43,7 @@ body_fits tasks task read right low is =
     live_fits tasks (Body (record { 0 = task })) read.live right
     (ap (λ (t : Task). t.live) (get_or_read tasks task read low is no_record) ∙ right.bodies task low)
 
-pub unready_fits : (tasks : List Facts) (queues : List (List QueuedCall)) (master : Master) (many count : ℕ) → many ≡ length tasks → many ≤ 256
-    → count ≡ count_below (λ task. is_unready tasks queues task && depends_on tasks task master) many → count ≤ 255
-unready_fits tasks queues master many count all few is = rw (is, all) (few_dependents tasks master (is_unready tasks queues) (rw all at few))
+-- of the dependents that pass a test
+pub dependents_fit : (tasks : List Facts) (test : ℕ → Bool) (master : Master) (many count : ℕ) → many ≡ length tasks → many ≤ 256
+    → count ≡ count_below (λ task. test task && depends_on tasks task master) many → count ≤ 255
+dependents_fit tasks test master many count all few is = rw (is, all) (few_dependents tasks master test (rw all at few))

@@ -10,6 +10,7 @@ pub mod Nests
 pub mod Numbers
 pub mod Parents
 pub mod Reaching
+pub mod Readiness
 pub mod Standing
 pub mod Ties
 pub mod Turns

@@ -1,8 +1,8 @@
 -- Nests: their members, and the counts of their blocks, where a nest changes.
-use Rattle.std.proofs.Common.{◌≡◌, ℕ, true, false, List, [], ◌∷◌, ◌++◌, refl, ap, sym, ◌∙◌, inl, inr}
+use Rattle.std.proofs.Common.{◌≡◌, ℕ, true, false, eqb, List, [], ◌∷◌, ◌++◌, refl, ap, sym, ◌∙◌, subst, inl, inr}
 use Rattle.std.specs.Prelude.{if◌then◌else◌}
 use Rattle.std.specs.List.{list_any}
-use Rattle.std.proofs.lemmas.Bool.{cases_Bool, both_ways, eq-eqb, or_parts}
+use Rattle.std.proofs.lemmas.Bool.{cases_Bool, both_ways, eq-eqb, eqb-true, or_parts}
 use Rattle.ada_events.specs.declared.names.Member.{Member}
 use Rattle.ada_events.specs.declared.names.Member.TheVariants.{Block}
 use Rattle.ada_tables.specs.declared.layers.Layer.{Layer}
@@ -68,6 +68,10 @@ has_block-up_to block (member ∷ rest) has =
       | inl here ↦ rw here refl
       | inr other ↦ rw other (has_block-up_to block rest (rw other at has))
     ]
+
+pub has_block_within : (inner block : ℕ) (nest : List Member) → has_block inner nest ≡ true → eqb inner block ≡ true → has_block block (up_to inner nest) ≡ true
+has_block_within inner block nest has same =
+    subst (λ (b : ℕ). has_block b (up_to inner nest) ≡ true) (eqb-true inner block same) (has_block-up_to inner nest has)
 
 -- what stands up to a block stands in the nest
 pub has_block-from_up_to : (inner block : ℕ) (nest : List Member) → has_block block (up_to inner nest) ≡ true → has_block block nest ≡ true

@@ -5,7 +5,7 @@ use Rattle.ada_events.specs.declared.names.Master.{Master}
 use Rattle.std.proofs.lemmas.List.{get_or_default}
 use Rattle.ada_tables.specs.declared.task.Task.{Task}
 use Rattle.ada_tables.specs.Layers.{members}
-use Rattle.ada_tables.specs.Dependents.{Facts, task_at, encloses, reaches, depends_on, count_below}
+use Rattle.ada_tables.specs.Dependents.{Facts, task_at, holds, encloses, reaches, depends_on, count_below}
 use Rattle.ada_tables.specs.Counts.{facts}
 use Rattle.ada_tables.specs.internal.Counts.{no_record, record_at, IsLed}
 use Rattle.ada_tables.proofs.Reaching.{reaches_none, Leads, leads}
@@ -29,13 +29,20 @@ module _ (tasks : List Task) (number : ℕ) (to : Master) (within : number < len
     pub way_within : (get_or tasks number e).holder < length tasks
     way_within = let way = way_leads in omega (arith, way.low)
 
+    nest_read : (f : Task) → (task_at (facts tasks) holder).nest ≡ members (get_or tasks holder f).nest
+    nest_read f =
+        ap (λ (g : Facts). g.nest) (facts_at tasks holder)
+        ∙ ap (λ (t : Task). members t.nest) (get_or_default tasks holder no_record f way_within)
+
+    -- and the holder holds the master
+    pub way_held : (f : Task) → holds (get_or tasks number e).holder (members (get_or tasks (get_or tasks number e).holder f).nest) from ≡ true
+    way_held f = sym (ap (λ nest. holds holder nest from) (nest_read f)) ∙ way_leads.held
+
     way_step : (f : Task) → depends_on (facts tasks) number to
         ≡ (encloses holder (members (get_or tasks holder f).nest) from to || depends_on (facts tasks) holder to)
     way_step f =
-        let known : (task_at (facts tasks) holder).nest ≡ members (get_or tasks holder f).nest = ap (λ (g : Facts). g.nest) (facts_at tasks holder)
-        ∙ ap (λ (t : Task). members t.nest) (get_or_default tasks holder no_record f way_within) in
         ap (λ m. reaches (facts tasks) number m to) (master_read tasks number d within ∙ is)
-        ∙ way_leads.way to ∙ ap (λ nest. encloses holder nest from to || depends_on (facts tasks) holder to) known
+        ∙ way_leads.way to ∙ ap (λ nest. encloses holder nest from to || depends_on (facts tasks) holder to) (nest_read f)
 
     pub way_arrives : (f : Task) → encloses (get_or tasks number e).holder (members (get_or tasks (get_or tasks number e).holder f).nest) from to ≡ true
         → true ≡ depends_on (facts tasks) number to

@@ -45,12 +45,15 @@ abbrev pub is_quittable : Phase → Bool
 is_quittable Quittable = true
 is_quittable _ = false
 
--- the task is neither terminated nor ready to quit (9.4): suspended at a wait whose terminate alternative is
--- open, with no call at any of its entries
+-- the task is ready to quit (9.4): suspended at a wait whose terminate alternative is open, with no call at any
+-- of its entries
+abbrev pub is_ready : List Facts → List (List QueuedCall) → ℕ → Bool
+is_ready tasks queues task = is_quittable (task_at tasks task).phase && has_no_calls tasks queues task
+
+-- the task is neither terminated nor ready to quit
 abbrev pub is_unready : List Facts → List (List QueuedCall) → ℕ → Bool
 is_unready tasks queues task =
-    not (is_terminated (task_at tasks task).phase)
-    && not (is_quittable (task_at tasks task).phase && has_no_calls tasks queues task)
+    not (is_terminated (task_at tasks task).phase) && not (is_ready tasks queues task)
 
 -- how many dependents of a master are neither terminated nor ready to quit
 abbrev pub unready_dependents : List Facts → List (List QueuedCall) → Master → ℕ

@@ -12,7 +12,8 @@ ghost use Rattle.ada_tables.specs.internal.Dependents.{IsOpen, IsFresh, IsIdle};
 ghost use Rattle.ada_queues.specs.Queues.{queue_at};
 ghost use Rattle.ada_queues.specs.internal.Queues.{waits, with_last, without, front_call};
 ghost use Rattle.ada_tables.specs.Standing.{StandFor};
-ghost use Rattle.ada_tables.specs.Tables.{slot_at, slots_before, declared, has_no_calls, is_unready, unready_dependents, HasEntry};
+ghost use Rattle.ada_tables.specs.Tables.{slot_at, slots_before, declared, has_no_calls, is_ready, is_unready, unready_dependents, HasEntry};
+ghost use Rattle.ada_tables.specs.internal.Tables.{ready_dependents};
 ghost use Rattle.ada_events.specs.declared.limits.TheConstants.{MOST_MEMBERS, MOST_SLOTS, MOST_TASKS};
 
 use crate::tasks::Tasks;
@@ -327,6 +328,41 @@ impl Tables {
         let first = self.firsts[task as usize];
         let many = slots::entries_in(self.tasks.families(task).as_slice()) as u16;
         self.queues.are_empty(first, many)
+    }
+
+    // Whether a task is ready to quit.
+    fn is_ready(&self, task: u16) -> bool
+        requires { task < length self.now.tasks }
+        ensures { result ≡ is_ready self.now.tasks self.now.queues task }
+    {
+        match self.tasks.phase(task) {
+            Phase::Quittable => self.has_no_calls(task),
+            _ => false,
+        }
+    }
+
+    // Whether a task depends on a master, and is ready to quit.
+    fn is_ready_dependent(&self, task: u16, master: Master) -> bool
+        requires { task < length self.now.tasks }
+        ensures { result ≡ (is_ready self.now.tasks self.now.queues task
+            && depends_on self.now.tasks task master) }
+    {
+        self.is_ready(task) && self.tasks.depends_on(task, master)
+    }
+
+    /// How many dependents of a master (9.4) are ready to quit, at most 255: suspended at a wait whose terminate
+    /// alternative is open, while no call waits at any of their entries. Where these are all that live, they terminate
+    /// together once the master is complete.
+    #[tactic(auto, using(crate::proofs::Ways::counted_more, crate::proofs::Ways::count_nothing))]
+    pub fn ready_dependents(&self, master: Master) -> u16
+        ensures value { result ≡ ready_dependents self.now.tasks self.now.queues master }
+        ensures fits { result ≤ 255 }
+    {
+        let mut count = 0;
+        for task in 0..self.tasks() {
+            count += one_if(self.is_ready_dependent(task, master));
+        }
+        count
     }
 
     // Whether a task is neither terminated nor ready to quit.

@@ -1,9 +1,9 @@
 //! The record of one task.
-ghost use Rattle.std.specs.Prelude.{◌≡◌, false};
+ghost use Rattle.std.specs.Prelude.{◌≡◌, true, false};
 ghost use Rattle.ada_tables.specs.internal.Changes.{changed};
 ghost use Rattle.ada_tables.specs.Layers.{members};
 ghost use Rattle.ada_tables.specs.internal.Layers.{moved_to};
-ghost use Rattle.ada_tables.specs.Dependents.{encloses};
+ghost use Rattle.ada_tables.specs.Dependents.{holds, encloses};
 ghost use Rattle.ada_tables.specs.internal.Dependents.{parent_within};
 ghost use Rattle.ada_tables.specs.internal.Counts.{recounted, made};
 
@@ -12,17 +12,18 @@ use crate::{Layers, Phase};
 use ada_events::{Families, Master, TaskNo};
 use std::mem::size_of;
 
-/// What is kept of a task: the master that it was made under, its entries, what it is in, how many live
-/// dependents its body has, the number of the task that holds its master, and its phase. The main program
-/// was made under no master, and its holder says nothing.
+/// What is kept of a task: the master that it was made under, how many live dependents its body has, the number of the
+/// task that holds its master, its phase, what it is in, and its entries. The main program was made under no master,
+/// and its holder says nothing. What passes over all tasks look at comes first, so that it lies in one line of the
+/// cache.
 #[derive(Drop)]
 pub(crate) struct Task {
     pub(crate) master: Option<Master>,
-    pub(crate) families: Families,
-    pub(crate) nest: Layers,
     pub(crate) live: u16,
     pub(crate) holder: u16,
     pub(crate) phase: Phase,
+    pub(crate) nest: Layers,
+    pub(crate) families: Families,
 }
 
 impl Task {
@@ -32,23 +33,27 @@ impl Task {
     {
         Task {
             master,
-            families,
-            nest: Layers::new(),
             live: 0,
             holder,
             phase: Phase::Unstarted,
+            nest: Layers::new(),
+            families,
         }
     }
 }
 
 // Of two masters that the task of that number holds, whether the second is the first or stands outside it.
+#[tactic(auto, using(crate::proofs::Nests::has_block_within))]
 pub(crate) fn encloses(number: u16, nest: &Layers, from: Master, to: Master) -> bool
+    requires { holds number (members nest.now) from ≡ true }
     ensures { result ≡ encloses number (members nest.now) from to }
 {
     match (from, to) {
         (_, Master::Body(TaskNo(task))) => task == number,
         (Master::Body(_), Master::Block(_)) => false,
-        (Master::Block(inner), Master::Block(block)) => nest.encloses(inner, block),
+        (Master::Block(inner), Master::Block(block)) => {
+            inner == block || nest.encloses(inner, block)
+        }
     }
 }
 
