@@ -3,14 +3,15 @@ use Rattle.std.proofs.Common.{◌≡◌, ℕ, zero, suc, ◌+◌, ◌-◌, ◌<�
 use Rattle.std.proofs.Common.{refl, sym, ap, ◌∙◌, subst, arith, inl, inr, append-nil}
 use Rattle.std.specs.Option.{option_map_or, option_or}
 use Rattle.std.specs.Bool.{then_some}
-use Rattle.std.specs.List.{filter, slice_get}
-use Rattle.std.proofs.lemmas.Bool.{eq-eqb, eqb-true, leb-false, or_left, or_right, true≢false, false_from_ne_true}
+use Rattle.std.specs.List.{filter, list_any, slice_get}
+use Rattle.std.proofs.lemmas.Bool.{eq-eqb, eqb-true, leb-false, or_left, or_right, or_parts, true≢false, false≢true, false_from_ne_true}
 use Rattle.std.proofs.lemmas.List.Elements.{filter-append}
 use Rattle.std.proofs.lemmas.Option.{none-some, same_Some}
 use Rattle.ada_events.specs.declared.event.Event.{Event}
 use Rattle.ada_events.specs.declared.limits.TheConstants.{MOST_MEMBERS}
 use Rattle.ada_events.specs.declared.request.Request.{Request}
 use Rattle.ada_events.specs.declared.request.Request.TheVariants as request
+use Rattle.ada_events.specs.declared.request.Tail.TheVariants.{Nothing, Otherwise, Delays, Terminate}
 use Rattle.ada_events.specs.declared.names.Master.TheVariants.{Block as BlockMaster}
 use Rattle.ada_events.specs.declared.names.Member.{Member}
 use Rattle.ada_events.specs.declared.names.Member.TheVariants.{Block, Rendezvous}
@@ -20,9 +21,9 @@ use Rattle.ada_events.specs.Phases.{is_released, has_ended, is_running}
 use Rattle.ada_events.specs.Calls.{is_open_call, is_pending}
 use Rattle.ada_events.specs.Nests.{is_left, is_wait_of, member_at, nest, innermost}
 use Rattle.ada_events.specs.Asks.{asked_event, member_position}
-use Rattle.ada_events.specs.Refusals.{refusal, has_no_block, is_rendezvous}
+use Rattle.ada_events.specs.Refusals.{refusal, has_no_block, is_rendezvous, terminates_in_accept}
 use Rattle.ada_events.specs.Limits.{is_too_deep}
-use Rattle.ada_events.specs.Termination.{all_terminated}
+use Rattle.ada_events.specs.Termination.{all_terminated, is_open_terminate}
 use Rattle.ada_events.specs.Forced.{is_to_leave}
 use Rattle.ada_events.specs.Lawful.{IsLawful, MayFollow}
 use Rattle.ada_laws.specs.Suspension.{IsSuspendedAt}
@@ -40,7 +41,7 @@ use Rattle.ada_records.proofs.Nesting.{wait_same}
 use Rattle.ada_records.proofs.NestKinds.{nest_more, others_keep_nests}
 use Rattle.ada_records.proofs.Saying.{met_frees}
 use Rattle.ada_tables.specs.Dependents.{has_block, is_block}
-use Rattle.ada_counts.specs.Pending.{ClosedBlocksAreInnermost, WaitsHaveRoom}
+use Rattle.ada_counts.specs.Pending.{ClosedBlocksAreInnermost, WaitsHaveRoom, OpenTerminatesAreInNoRendezvous}
 use Rattle.ada_counts.proofs.Nesting.{innermost_last, leaves_ready}
 use Rattle.ada_counts.proofs.OnePhase.{held_opens_none}
 use Rattle.ada_counts.proofs.Owners.{block_in_nest, one_holder}
@@ -265,6 +266,56 @@ waiting_shallow (event ∷ before) c e w lawful at says unreleased live =
           omega (arith, was, shorter, many)
     ]
 
+asked_alone : (journal : List Event) (r : Request) (w : Wait) → refusal journal r ≡ None → wait_in (asked_event journal r) ≡ Some w
+    → is_open_terminate w.tail ≡ true → list_any is_rendezvous (nest journal w.by) ≡ false
+unfolding asked_event wait_in terminates_in_accept
+asked_alone journal (request.Wait by choices (Terminate guard) pick) w accepted says opens =
+    subst (λ (x : Wait). list_any is_rendezvous (nest journal x.by) ≡ false) (same_Some _ w says)
+    (is_accepted journal (request.Wait by choices (Terminate guard) pick) accepted).no_terminate
+asked_alone journal (request.Wait by choices Nothing pick) w accepted says opens =
+    absurd (false≢true (ap (λ (x : Wait). is_open_terminate x.tail) (same_Some _ w says) ∙ opens))
+asked_alone journal (request.Wait by choices Otherwise pick) w accepted says opens =
+    absurd (false≢true (ap (λ (x : Wait). is_open_terminate x.tail) (same_Some _ w says) ∙ opens))
+asked_alone journal (request.Wait by choices (Delays pauses) pick) w accepted says opens =
+    absurd (false≢true (ap (λ (x : Wait). is_open_terminate x.tail) (same_Some _ w says) ∙ opens))
+asked_alone journal _ w accepted says opens = absurd (none-some w says)
+
+new_alone : (event : Event) (before : List Event) (w : Wait) → MayFollow before event → wait_in event ≡ Some w → is_open_terminate w.tail ≡ true
+    → list_any is_rendezvous (nest before w.by) ≡ false
+new_alone event before w (inl forces) says opens =
+    absurd (none-some w.by (sym (forced-step before event forces).holds_none ∙ held_in-wait event w says))
+new_alone event before w (inr asked) says opens = asked_alone before asked.request w asked.accepted (ap wait_in (sym asked.becomes) ∙ says) opens
+
+filter_none : (test stays : Member → Bool) (members : List Member) → list_any test members ≡ false → list_any test (filter stays members) ≡ false
+filter_none test stays [] none = refl
+filter_none test stays (x ∷ rest) none =
+    let parts = or_parts (test x) (list_any test rest) none in
+    by_test (stays x) parts.0 (filter_none test stays rest parts.1)
+  where
+    by_test : (b : Bool) → test x ≡ false → list_any test (filter stays rest) ≡ false
+        → list_any test (cond b (x ∷ filter stays rest) (filter stays rest)) ≡ false
+    by_test true not_this not_those = rw not_this not_those
+    by_test false not_this not_those = not_those
+
+-- while a wait with an open terminate alternative is pending, its task is in no rendezvous
+waiting_alone : (journal : List Event) (c : ℕ) (e : Event) (w : Wait) → IsLawful journal → event_at journal c ≡ Some e → wait_in e ≡ Some w
+    → is_open_terminate w.tail ≡ true → is_released journal c ≡ false → has_ended journal w.by ≡ false → list_any is_rendezvous (nest journal w.by) ≡ false
+unfolding event_at
+waiting_alone [] c e w lawful at says opens unreleased live = absurd (none-some e at)
+waiting_alone (event ∷ before) c e w lawful at says opens unreleased live =
+    elim (event_at-cases event before c e at) [
+      | inl now ↦
+          let here : wait_in event ≡ Some w = ap wait_in now.1 ∙ says in
+          ap (list_any is_rendezvous) (holding_nest event before w.by w.by lawful (held_in-wait event w here))
+          ∙ new_alone event before w lawful.1 here opens
+      | inr older ↦
+          let free = is_released-before event before c unreleased in
+          let lives = has_ended-before event before w.by live in
+          let held : IsSuspendedAt before w.by c = record { event = e; stands = older; holds = held_in-wait e w says; unreleased = free; live = lives } in
+          ap (list_any is_rendezvous) (held_nest event before w.by c lawful held unreleased)
+          ∙ filter_none is_rendezvous (stays event before) (nest before w.by) (waiting_alone before c e w lawful.0 older says opens free lives)
+    ]
+
 pub closed_blocks_are_innermost : ClosedBlocksAreInnermost
 closed_blocks_are_innermost journal task close closing lawful held says =
     let by : closing.by ≡ task = same_Some closing.by task (sym (held_in-closing held.event closing says) ∙ held.holds) in
@@ -276,3 +327,9 @@ waits_have_room journal task position wait lawful held says =
     let by : wait.by ≡ task = same_Some wait.by task (sym (held_in-wait held.event wait says) ∙ held.holds) in
     subst (λ (u : ℕ). length (nest journal u) < MOST_MEMBERS) by
     (waiting_shallow journal position held.event wait lawful held.stands says held.unreleased (ap (has_ended journal) by ∙ held.live))
+
+pub open_terminates_are_in_no_rendezvous : OpenTerminatesAreInNoRendezvous
+open_terminates_are_in_no_rendezvous journal task position wait lawful held says opens =
+    let by : wait.by ≡ task = same_Some wait.by task (sym (held_in-wait held.event wait says) ∙ held.holds) in
+    subst (λ (u : ℕ). list_any is_rendezvous (nest journal u) ≡ false) by
+    (waiting_alone journal position held.event wait lawful held.stands says opens held.unreleased (ap (has_ended journal) by ∙ held.live))

@@ -164,6 +164,27 @@ one_swept event before first old new many kept swept known right is = (
   kept_more many kept first old new swept.1 is,
 )
 
+pub one_passed : (event : Event) (before : List Event) (first old : TableState) (many : ℕ) → AreSwept event before first old many
+    → phase_of (event ∷ before) many ≡ phase_of before many → AreSwept event before first old (many + 1)
+one_passed event before first old many swept same = (
+  record {
+    many = swept.0.many;
+    facts = λ other below.
+        elim (cases_eq other many) [
+          | inl is ↦
+              subst (λ (n : ℕ). task_at old.tasks n ≡ facts_between event before (ltb n (many + 1)) n) (sym is)
+              (swept.0.facts many (subst (λ (n : ℕ). n < task_count before) is below)
+              ∙ done_anyway event before many (ltb many many) (λ _. same)
+              ∙ ap (λ (b : Bool). facts_between event before b many) (sym (lt-ltb many (many + 1) (omega arith))))
+          | inr differs ↦
+              swept.0.facts other below
+              ∙ ap (λ (b : Bool). facts_between event before b other)
+              (sym (ap (λ (b : Bool). b || ltb other many) (ne_eqb other many differs)) ∙ below_more other many)
+        ];
+  },
+  swept.1,
+)
+
 pub all_swept : (event : Event) (before : List Event) (first now : TableState) (many : ℕ) → creation_in event ≡ None → task_count before ≤ many
     → AreSwept event before first now many → HoldFacts now.tasks (event ∷ before)
 all_swept event before first now many makes whole swept =

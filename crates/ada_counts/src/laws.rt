@@ -1,7 +1,7 @@
 //! Laws of nests and of tables that stand for a journal.
 
 ghost use Rattle.ada_counts.specs.Holders.{BlocksNestProperly, OneHolderEach, ALeftBlockHasNoLiveDependent, MastersAreHeld, HeldTablesStand, CutsKeepTheRest};
-ghost use Rattle.ada_counts.specs.Pending.{ClosedBlocksAreInnermost, WaitsHaveRoom};
+ghost use Rattle.ada_counts.specs.Pending.{ClosedBlocksAreInnermost, WaitsHaveRoom, OpenTerminatesAreInNoRendezvous};
 ghost use Rattle.ada_counts.specs.Telling.{RecordsTellPhases, OthersKeepPhases};
 ghost use Rattle.ada_counts.specs.Following.{TablesFollow, HoldsChangeOnePhase, ReleasesChangeOnePhase, CompletionsChangeOnePhase, GoingChangesOnePhase};
 
@@ -45,10 +45,12 @@ pub fn cuts_keep_the_rest()
 {}
 
 /// While a task waits for the dependents of a block that it closed, nothing is further within than that block; while it
-/// waits selectively, its nest has room for the rendezvous that may begin (9.4, 9.5, 9.7.1).
+/// waits selectively, its nest has room for the rendezvous that may begin; while it waits at an open terminate
+/// alternative, it is in no rendezvous (9.4, 9.5, 9.7.1).
 pub fn pending_nests()
     ensures blocks { ClosedBlocksAreInnermost }
     ensures room { WaitsHaveRoom }
+    ensures alone { OpenTerminatesAreInNoRendezvous }
 {}
 
 /// A right record tells its task's phase (9.3, 9.4, 9.7.1).

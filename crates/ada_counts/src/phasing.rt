@@ -5,10 +5,10 @@ ghost use Rattle.ada_events.specs.Says.{creation_in};
 ghost use Rattle.ada_records.specs.Records.{AreRecords, record_at};
 ghost use Rattle.ada_counts.specs.Facing.{HoldFacts};
 ghost use Rattle.ada_counts.specs.internal.Phasing.{TouchesFew, TouchesOnly, AreRenested, refreshed};
-ghost use Rattle.ada_events.specs.declared.event.Event.TheVariants.{Started as StartedEvent};
+ghost use Rattle.ada_events.specs.declared.event.Event.TheVariants.{Started as StartedEvent, Quit as QuitEvent};
 
 use crate::phases::phase_of;
-use ada_events::{Event, Journal, TaskList, TaskNo};
+use ada_events::{Event, Journal, Master, TaskList, TaskNo};
 use ada_records::Record;
 use ada_records::records::holder_at;
 use ada_tables::{Phase, Tables};
@@ -95,17 +95,25 @@ fn refresh_started(
     refresh(tables, by, &records[by.0 as usize]);
 }
 
-// Gives each task the phase that its record tells.
-fn refresh_all(tables: &mut Tables, records: &[Record], _journal: &Journal, _event: &Event)
+// Gives those that terminate together the phase that their records tell; nobody else's changes.
+fn refresh_terminated(
+    tables: &mut Tables,
+    records: &[Record],
+    _journal: &Journal,
+    _event: &Event,
+    _master: Master,
+)
     requires lawful { IsLawful (_event.now ∷ _journal.now.events) }
-    requires makes { creation_in _event.now ≡ None }
+    requires quits { _event.now ≡ QuitEvent _master }
     requires records { AreRecords records.now (_event.now ∷ _journal.now.events) }
     requires nests { AreRenested _event.now _journal.now.events tables.old.tasks }
     ensures phases { HoldFacts tables.new.tasks (_event.now ∷ _journal.now.events) }
     ensures kept { tables.new ≡ record tables.old { tasks = tables.new.tasks } }
 {
     for task in 0..tables.tasks() {
-        refresh(tables, TaskNo(task), &records[task as usize]);
+        if records[task as usize].stage.terminated {
+            refresh(tables, TaskNo(task), &records[task as usize]);
+        }
     }
 }
 
@@ -128,7 +136,7 @@ pub(crate) fn follow_phases(
         Event::Started { by, tasks } => {
             refresh_started(tables, records, journal, event, *by, tasks)
         }
-        Event::Quit { .. } => refresh_all(tables, records, journal, event),
+        Event::Quit { master } => refresh_terminated(tables, records, journal, event, *master),
         _ => refresh_one(tables, records, journal, event),
     }
 }

@@ -2,6 +2,7 @@
 
 ghost use Rattle.std.specs.Prelude.{◌≡◌, ℕ, ◌<◌, false, true, length, slice_index_or};
 ghost use Rattle.ada_events.specs.declared.limits.TheConstants.{MOST_TASKS};
+ghost use Rattle.ada_events.specs.Forced.{is_to_quit};
 ghost use Rattle.ada_events.specs.Masters as masters;
 ghost use Rattle.ada_events.specs.Nests.{nest};
 ghost use Rattle.ada_events.specs.Phases.{is_terminated};
@@ -17,20 +18,27 @@ use ada_rows::State;
 /// A flag for each task.
 pub type Flags = Bounded<bool, MOST_TASKS>;
 
-// Whether a task that isn't terminated depends on a master (9.4).
+// Whether a task that isn't terminated depends on a master whose dependents terminate together (9.4): who isn't at an
+// open terminate alternative doesn't.
 fn is_dependent(state: &State, task: TaskNo, master: Master) -> bool
-    requires { task.0 < task_count state.now }
+    requires known { task.0 < task_count state.now }
+    requires quits { is_to_quit state.now master ≡ true }
     ensures { is_terminated state.now task.0 ≡ false
         → result ≡ masters.depends_on state.now task.0 master }
 {
-    if state.record(task).stage.terminated {
+    let kept = state.record(task);
+    if kept.stage.terminated {
+        return false;
+    }
+    if !kept.doing.quittable {
         return false;
     }
     state.tables().depends_on(task, master)
 }
 
-/// Who depends on a master (9.4).
+/// Who depends on a master whose dependents terminate together (9.4).
 pub(crate) fn dependents(state: &State, master: Master) -> Flags
+    requires { is_to_quit state.now master ≡ true }
     ensures all { length result ≡ task_count state.now }
     ensures tells { records.TellsOfLive state.now result
         (λ task. masters.depends_on state.now task master) }

@@ -125,10 +125,6 @@ gone_completes : (event : Event) (task : TaskNo) → event ≡ Gone task → com
 unfolding completed_in
 gone_completes event task is = rw is refl
 
-quit_completes : (event : Event) (master : Master) → event ≡ Quit master → completed_in event ≡ None
-unfolding completed_in
-quit_completes event master is = rw is refl
-
 -- who goes isn't terminated yet
 gone_here : (event : Event) (task : TaskNo) → event ≡ Gone task → gone_in event ≡ Some task.0
 unfolding gone_in
@@ -165,50 +161,6 @@ termination_noted event before old new task lawful agenda is puts =
     noted_giving event before old new (TerminationKeys before task) lawful agenda puts (λ row key step added gives.
     termination_key event step before task row key lawful.0 (gone_completes event task is) (goer_live event before task lawful is) gives
     (subst (λ (e : Event). Adds before e row key) is added))
-
--- all that was put where many terminate together
-abbrev pub QuitKeys : List Event → Row → ℕ → Type 0
-QuitKeys before =
-    Both (Both (OfFirst (AsHeld before Failing) (task_count before)) (OfFirst (AsHeld before Activating) (task_count before)))
-    (OfFirst (AsHolder before) (task_count before))
-
-ended_key : (event step : Event) (before : List Event) (t : TaskNo) (row : Row) (key : ℕ) → IsLawful before → completed_in event ≡ None
-    → is_terminated before t.0 ≡ false → step_at (event ∷ before) row key ≡ Some step → OfTermination before t row key → QuitKeys before row key
-ended_key event step before t row key lawful none live gives (end_fails p was of) = inl (inl (fails_held before t.0 p lawful of))
-ended_key event step before t row key lawful none live gives (end_activates p active) =
-    let at = active.stands in
-    inl (inr (record {
-      task = active.creation.by;
-      among = suspended_exists before active.creation.by p lawful active.suspended;
-      of = held at.event p at.stands (rw at.says refl) active.suspended;
-    }))
-ended_key event step before t row key lawful none live gives (end_goes u depends) =
-    let known : t.0 < task_count before = depends_exists before t.0 (Body u) depends in
-    let later : u.0 < t.0 = depends_after before t.0 u lawful depends in
-    inr (record { task = u.0; among = omega (arith, known, later); of = holder_goes (goer event step before u.0 none gives) })
-ended_key event step before t row key lawful none live gives (end_quits m depends) =
-    let by = dependent_held before t.0 m lawful live depends in
-    let known : t.0 < task_count before = depends_exists before t.0 m depends in
-    let later : by.holder < t.0 = by.before in
-    inr (record { task = by.holder; among = omega (arith, known, later); of = quits m by.held (quitter event step before m none gives) })
-ended_key event step before t row key lawful none live gives (end_leaves block p depends leaving) =
-    inr (record {
-      task = leaving.closing.by;
-      among = suspended_exists before leaving.closing.by p lawful leaving.suspended;
-      of = leaves leaving.stands.event p leaving.stands.stands (rw leaving.stands.says refl) leaving.suspended;
-    })
-
-quit_key : (event step : Event) (before : List Event) (master : Master) (row : Row) (key : ℕ) → IsLawful before → completed_in event ≡ None
-    → step_at (event ∷ before) row key ≡ Some step → OfQuit before master row key → QuitKeys before row key
-quit_key event step before master row key lawful none gives (ends t r k depends live of) = ended_key event step before t r k lawful none live gives of
-quit_key event step before master row key lawful none gives (quit_abandons t u depends live of) =
-    inr (record { task = u; among = created_exists before u of.creation of.made; of = holder_goes (goer event step before u none gives) })
-
-pub quit_noted : (event : Event) (before : List Event) (old new : List (List ℕ)) (master : Master) → IsLawful (event ∷ before) → IsAgendaOf old before
-    → event ≡ Quit master → Puts old new (QuitKeys before) → IsAgendaOf new (event ∷ before)
-quit_noted event before old new master lawful agenda is puts =
-    noted_giving event before old new (QuitKeys before) lawful agenda puts (λ row key step added gives.
-    quit_key event step before master row key lawful.0 (quit_completes event master is) gives (subst (λ (e : Event). Adds before e row key) is added))
 
 -- the end of an activation without an exception
 up_key : (before : List Event) (task : TaskNo) (row : Row) (key : ℕ) → OfElaboration before task row key → AsActivation before task row key

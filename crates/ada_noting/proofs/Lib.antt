@@ -8,5 +8,7 @@ pub mod Holding
 pub mod Additions
 pub mod Outwards
 pub mod Putting
+pub mod Quitters
+pub mod Quitting
 pub mod Starts
 pub mod Waits

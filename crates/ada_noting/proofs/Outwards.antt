@@ -28,13 +28,13 @@ use Rattle.ada_counts.proofs.Owners.{block_in_nest, one_holder}
 use Rattle.ada_noting.specs.internal.Keys.{Puts, AsHolder, AsDependent, holder_of, holder_above}
 use Rattle.ada_noting.specs.internal.Keys.AsDependent.{through}
 
-holds_enclosed : (task : ℕ) (members : List Member) (from to : Master) → encloses task members from to ≡ true → holds task members to ≡ true
+pub holds_enclosed : (task : ℕ) (members : List Member) (from to : Master) → encloses task members from to ≡ true → holds task members to ≡ true
 holds_enclosed task members from (Body t) inside = inside
 holds_enclosed task members (Body t) (Block b) inside = absurd (false≢true inside)
 holds_enclosed task members (Block inner) (Block b) inside = within b inner members inside
 
 -- who holds a master is found by it
-holder_found : (journal : List Event) (task : ℕ) (x : Master) → holds task (nest journal task) x ≡ true → holder_of journal x ≡ Some task
+pub holder_found : (journal : List Event) (task : ℕ) (x : Master) → holds task (nest journal task) x ≡ true → holder_of journal x ≡ Some task
 holder_found journal task (Body t) has = ap Some (eqb-true t.0 task has)
 holder_found journal task (Block p) has =
     let own = (block_in_nest journal task p has).0 in

@@ -14,8 +14,8 @@ ghost use Rattle.ada_noting.specs.Bounds.{IsStartBound};
 ghost use Rattle.ada_noting.specs.internal.Keys.{Puts, AsActivation, AsCalleeAt};
 
 use crate::calls::put_callee;
-use crate::masters::{put_all_holders, put_dependent, put_holder};
-use crate::passes::{put_all_held, put_held, put_key, put_lost_calls};
+use crate::masters::{put_dependent, put_holder, put_master};
+use crate::passes::{put_held, put_key, put_lost_calls};
 use crate::unstarted::{FirstUnstarted, put_all_unstarted};
 use ada_agenda::Agenda;
 use ada_events::{Event, Master, TaskNo};
@@ -144,17 +144,24 @@ pub(crate) fn note_termination(agenda: &mut Agenda, state: &State, _event: &Even
     put_dependent(agenda, state, task);
 }
 
-/// Notes that all that depend on a master terminate together (9.4): that a call fails, that an activation ends, and
-/// what masters may force may be forced.
-pub(crate) fn note_quit(agenda: &mut Agenda, state: &State, _event: &Event, _master: Master)
+/// Notes that all that depend on a master terminate together (9.4): what the master may force, and what those may on
+/// which its task depends, and that tasks go that were never started, may be forced.
+pub(crate) fn note_quit(
+    agenda: &mut Agenda,
+    first: &mut FirstUnstarted,
+    state: &State,
+    _event: &Event,
+    master: Master,
+)
     requires lawful { IsLawful (_event.now ∷ state.now) }
     requires stands { IsAgendaOf agenda.old state.now }
-    requires quits { _event.now ≡ QuitEvent _master }
-    ensures { IsAgendaOf agenda.new (_event.now ∷ state.now) }
+    requires bound { IsStartBound state.now first.old }
+    requires quits { _event.now ≡ QuitEvent master }
+    ensures stands { IsAgendaOf agenda.new (_event.now ∷ state.now) }
+    ensures bound { IsStartBound state.now first.new }
 {
-    put_all_held(agenda, state, Row::Failing);
-    put_all_held(agenda, state, Row::Activating);
-    put_all_holders(agenda, state);
+    put_master(agenda, state, master);
+    put_all_unstarted(agenda, first, state);
 }
 
 /// Notes that a task ends its activation without an exception (9.3): that the activation ends that names it may be

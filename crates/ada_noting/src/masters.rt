@@ -9,7 +9,7 @@ ghost use Rattle.ada_events.specs.Tasks.{task_count};
 ghost use Rattle.ada_events.specs.declared.names.TaskNo.{TaskNo as Number};
 ghost use Rattle.ada_events.specs.declared.names.Member.TheVariants.{Block as BlockMember};
 ghost use Rattle.ada_noting.specs.internal.Keys as keys;
-ghost use Rattle.ada_noting.specs.internal.Keys.{Puts, OfFirst, AsMember, AsBlock, AsHolder, AsDependent};
+ghost use Rattle.ada_noting.specs.internal.Keys.{Puts, OfFirst, AsMember, AsBlock, AsHolder, AsDependent, AsMaster};
 
 use crate::passes::{put_held, put_key, put_key_if};
 use ada_agenda::Agenda;
@@ -136,13 +136,16 @@ pub(crate) fn put_dependent(agenda: &mut Agenda, state: &State, task: TaskNo)
     }
 }
 
-/// Puts what the masters may force that any tasks hold.
-pub(crate) fn put_all_holders(agenda: &mut Agenda, state: &State)
+/// Puts what a master may force, and what those may on which the task depends that holds it.
+pub(crate) fn put_master(agenda: &mut Agenda, state: &State, master: Master)
     requires lawful { IsLawful state.now }
     requires many { length agenda.old ≡ 11 }
-    ensures { Puts agenda.old agenda.new (OfFirst (AsHolder state.now) (task_count state.now)) }
+    requires known { (task : ℕ) → keys.holder_of state.now master ≡ Some task
+        → task < task_count state.now }
+    ensures { Puts agenda.old agenda.new (AsMaster state.now master) }
 {
-    for number in 0..state.tables().tasks() {
-        put_holder(agenda, state, TaskNo(number));
+    if let Some(holder) = holder_of(state, master) {
+        put_holder(agenda, state, holder);
+        put_dependent(agenda, state, holder);
     }
 }

@@ -64,7 +64,7 @@ fn note_keys(
         Event::Failed { call } => note_failure(agenda, state, event, *call),
         Event::Cancelled { call } => note_cancellation(agenda, state, event, *call),
         Event::Gone { task } => note_termination(agenda, state, event, *task),
-        Event::Quit { master } => note_quit(agenda, state, event, *master),
+        Event::Quit { master } => note_quit(agenda, first, state, event, *master),
         Event::Opened { .. } => note_nothing(agenda, state, event),
         Event::Met { .. } => note_nothing(agenda, state, event),
         Event::Passed { .. } => note_nothing(agenda, state, event),

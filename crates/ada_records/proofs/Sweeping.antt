@@ -136,15 +136,44 @@ up_to_all event before old new many all enough stand makes = record {
       all.done task (omega arith) exists;
 }
 
+-- one record that stays as it was
+up_to_kept : (event : Event) (before : List Event) (old new : List Record) (i : ℕ) → AreUpTo event before old new i
+    → IsRecordOf (event ∷ before) i (record_at old i) → AreUpTo event before old new (i + 1)
+up_to_kept event before old new i so_far right = record {
+  same = so_far.same;
+  done = λ task less exists.
+      elim (cases_eq task i) [
+        | inl same ↦ subst (λ (n : ℕ). IsRecordOf (event ∷ before) n (record_at new n)) (sym same) (rw (so_far.rest i (omega arith)) right)
+        | inr differs ↦ so_far.done task (omega arith) exists
+      ];
+  rest = λ task above. so_far.rest task (omega arith);
+}
+
 pub quit_step : (e : Event) (before : List Event) (m : Master) (old new : List Record) (i : ℕ) (now : Record) (flag : Bool) → IsLawful (e ∷ before)
     → e ≡ event.Quit m → AreRecords old before → AreUpTo e before old new i → i < length old → (is_terminated before i ≡ false → flag ≡ depends_on before i m)
-    → now ≡ quit_record (not (record_at new i).stage.terminated && flag) (record_at new i) → AreUpTo e before old (set new i now) (i + 1)
-quit_step e before m old new i now flag lawful says stand so_far below tells is =
+    → flag ≡ true → now ≡ quit_record (not (record_at new i).stage.terminated) (record_at new i) → AreUpTo e before old (set new i now) (i + 1)
+quit_step e before m old new i now flag lawful says stand so_far below tells on is =
     let same : now ≡ quit_record (not (record_at old i).stage.terminated && flag) (record_at old i) = is
-    ∙ ap (λ (r : Record). quit_record (not r.stage.terminated && flag) r) (so_far.rest i (omega arith)) in
+    ∙ ap (λ (r : Record). quit_record (not r.stage.terminated) r) (so_far.rest i (omega arith))
+    ∙ ap (λ (b : Bool). quit_record b (record_at old i)) (and_on (not (record_at old i).stage.terminated) flag on) in
     up_to_more e before old new i now so_far below
     (rw (same, says) (quit_flagged before m i (record_at old i) flag (record_at old i).stage.terminated
     (subst (λ (x : Event). IsLawful (x ∷ before)) says lawful) refl tells (stand.each i below)))
+  where
+    and_on : (a b : Bool) → b ≡ true → a ≡ (a && b)
+    and_on true b on = sym on
+    and_on false b on = refl
+
+pub quit_pass : (e : Event) (before : List Event) (m : Master) (old new : List Record) (i : ℕ) (flag : Bool) → IsLawful (e ∷ before) → e ≡ event.Quit m
+    → AreRecords old before → AreUpTo e before old new i → i < length old → (is_terminated before i ≡ false → flag ≡ depends_on before i m)
+    → flag ≡ false → AreUpTo e before old new (i + 1)
+quit_pass e before m old new i flag lawful says stand so_far below tells off =
+    let same : quit_record (not (record_at old i).stage.terminated && flag) (record_at old i) ≡ record_at old i =
+    ap (λ (b : Bool). quit_record b (record_at old i))
+    (ap (λ (b : Bool). not (record_at old i).stage.terminated && b) off ∙ no_more (not (record_at old i).stage.terminated)) in
+    up_to_kept e before old new i so_far
+    (rw says (subst (IsRecordOf (event.Quit m ∷ before) i) same (quit_flagged before m i (record_at old i) flag (record_at old i).stage.terminated
+    (subst (λ (x : Event). IsLawful (x ∷ before)) says lawful) refl tells (stand.each i below))))
 
 pub abort_step : (e : Event) (before : List Event) (by : TaskNo) (tasks : List TaskNo) (old new : List Record) (i : ℕ) (now : Record) (flag : Bool)
     → IsLawful (e ∷ before) → e ≡ event.Aborted by tasks → AreRecords old before → AreUpTo e before old new i → i < length old

@@ -42,7 +42,7 @@ use Rattle.ada_touching.proofs.Endings.{OnlyEnds, IsEndOf, EndKey, end_key}
 use Rattle.ada_touching.proofs.Endings.EndKey.{each, leaves_alone, ends_owner, leaves_around, ends_caller}
 
 -- all that depend on a master terminate
-abbrev quits_all : Master → Event
+abbrev pub quits_all : Master → Event
 quits_all m = event.Quit m
 
 quits_only : (m : Master) → OnlyEnds (quits_all m)
@@ -126,7 +126,7 @@ depends_too before m task u p lawful depends block on_block =
       | inr on_task ↦ depends_trans before u task m lawful on_task depends
     ]
 
-live_depends : (m : Master) (before : List Event) (u : ℕ) (n : Master) → depends_on (quits_all m ∷ before) u n ≡ true → depends_on before u n ≡ true
+pub live_depends : (m : Master) (before : List Event) (u : ℕ) (n : Master) → depends_on (quits_all m ∷ before) u n ≡ true → depends_on before u n ≡ true
 unfolding creation_in
 live_depends m before u n depends =
     elim (depends_on-cases (quits_all m) before u n depends) [
@@ -143,7 +143,7 @@ no_live m before task p lawful depends block quit =
     let on_m = depends_too before m task (task_no live.task) p lawful.0 depends block on_block in
     both_ways (is_terminated (quits_all m ∷ before) live.task) live.live (is_terminated-quit (quits_all m) before live.task m refl on_m)
 
-quitter_of : (m : Master) (before : List Event) (u : ℕ) → IsNewlyOver (quits_all m) before u → IsQuitter before m u
+pub quitter_of : (m : Master) (before : List Event) (u : ℕ) → IsNewlyOver (quits_all m) before u → IsQuitter before m u
 quitter_of m before u over = (quits_of m before).over u over
 
 made_by_owner : (m : Master) (before : List Event) (p u : ℕ) (new : IsNewlyAbandoned (quits_all m) before u) (over : IsBlockEnded (quits_all m) before p)

@@ -167,7 +167,7 @@ task_step journal Activating u step by gives = absurd (false≢true by)
 task_step journal QuittingBlock u step by gives = absurd (false≢true by)
 task_step journal Leaving u step by gives = absurd (false≢true by)
 
-position_step : (journal : List Event) (row : Row) (p : ℕ) (step : Event) → goes_by_task row ≡ false → step_at journal row p ≡ Some step
+pub position_step : (journal : List Event) (row : Row) (p : ℕ) (step : Event) → goes_by_task row ≡ false → step_at journal row p ≡ Some step
     → option_and_then (at_event journal row p) (event_at journal p) ≡ Some step
 unfolding step_at
 position_step journal Failing p step by gives = gives
@@ -186,7 +186,7 @@ at_step : (journal : List Event) (row : Row) (p : ℕ) (e step : Event) → goes
     → step_at journal row p ≡ Some step → at_event journal row p e ≡ Some step
 at_step journal row p e step by at gives = sym (ap (option_and_then (at_event journal row p)) at) ∙ position_step journal row p step by gives
 
-older_step : (event step : Event) (before : List Event) (row : Row) (p : ℕ) (e : Event) → goes_by_task row ≡ false → event_at before p ≡ Some e
+pub older_step : (event step : Event) (before : List Event) (row : Row) (p : ℕ) (e : Event) → goes_by_task row ≡ false → event_at before p ≡ Some e
     → step_at (event ∷ before) row p ≡ Some step → at_event (event ∷ before) row p e ≡ Some step
 older_step event step before row p e by at gives = at_step (event ∷ before) row p e step by (event_at-older event before p e at) gives
 
@@ -296,11 +296,11 @@ quits_why event before m lawful quits (idle below) =
       | inr ready ↦ quits_idle m below.task (readied event before below.task was.1 ready) ready below.depends
     ]
 
-quits_body : (event step : Event) (before : List Event) (u : ℕ) → of_task (event ∷ before) QuittingBody u ≡ Some step
+pub quits_body : (event step : Event) (before : List Event) (u : ℕ) → of_task (event ∷ before) QuittingBody u ≡ Some step
     → is_to_quit (event ∷ before) (Body (task_no u)) ≡ true
 quits_body event step before u gives = (then_some-some (is_to_quit (event ∷ before) (Body (task_no u))) (Quit (Body (task_no u))) step gives).0
 
-quits_block : (event step : Event) (before : List Event) (p : ℕ)
+pub quits_block : (event step : Event) (before : List Event) (p : ℕ)
     → option_and_then (at_event (event ∷ before) QuittingBlock p) (event_at (event ∷ before) p) ≡ Some step → is_to_quit (event ∷ before) (Block p) ≡ true
 quits_block event step before p gives =
     option_and_then_some (at_event (event ∷ before) QuittingBlock p) (event_at (event ∷ before) p) step gives (λ e at given.

@@ -32,6 +32,7 @@ pub record IsAtWait (journal : List Event) (task : ℕ) : Type 0 where
   pub suspended : IsSuspendedAt journal task position
   pub stands : event_at journal position ≡ Some event
   pub says : wait_in event ≡ Some wait
+  pub opens : is_open_terminate wait.tail ≡ true
 
 pub at_wait : (journal : List Event) (task : ℕ) → is_at_open_terminate journal task ≡ true → has_ended journal task ≡ false → IsAtWait journal task
 at_wait journal task waits live =
@@ -39,7 +40,8 @@ at_wait journal task waits live =
     any_event-found (λ p e. is_some_and (wait_in e) (λ (w : Wait). eqb w.by task && is_open_terminate w.tail) && not (is_released journal p)) journal waits in
     let both = and_parts (is_some_and (wait_in e) (λ (w : Wait). eqb w.by task && is_open_terminate w.tail)) (not (is_released journal p)) found in
     let (w, says, here) = option_map_or-true (λ (w : Wait). eqb w.by task && is_open_terminate w.tail) (wait_in e) both.0 in
-    let by : w.by ≡ task = eqb-true w.by task (and_parts (eqb w.by task) (is_open_terminate w.tail) here).0 in
+    let parts = and_parts (eqb w.by task) (is_open_terminate w.tail) here in
+    let by : w.by ≡ task = eqb-true w.by task parts.0 in
     record {
       position = p;
       event = e;
@@ -48,6 +50,7 @@ at_wait journal task waits live =
           record { event = e; stands = at; holds = held_in-wait e w says ∙ ap Some by; unreleased = not-true (is_released journal p) both.1; live = live };
       stands = at;
       says = says;
+      opens = parts.1;
     }
 
 pub record IsReady (journal : List Event) (task : ℕ) : Type 0 where

@@ -113,6 +113,12 @@ pub data AsDependent (journal : List Event) (task : ℕ) : Row → ℕ → Type 
   through : (holder : ℕ) (m : Master) (row : Row) (key : ℕ) → is_terminated journal task ≡ false → depends_on journal task m ≡ true
       → holds holder (nest journal holder) m ≡ true → AsHolder journal holder row key → AsDependent journal task row key
 
+-- of a master what may be forced of it, and of those on which the task depends that holds it (9.4)
+pub data AsMaster (journal : List Event) (m : Master) : Row → ℕ → Type 0 where
+  own : (holder : ℕ) (row : Row) (key : ℕ) → holds holder (nest journal holder) m ≡ true → AsHolder journal holder row key → AsMaster journal m row key
+  outer : (holder : ℕ) (row : Row) (key : ℕ) → holds holder (nest journal holder) m ≡ true → AsDependent journal holder row key
+      → AsMaster journal m row key
+
 -- the start that names a task, at which its maker is suspended (9.3)
 pub data AsActivation (journal : List Event) (task : TaskNo) : Row → ℕ → Type 0 where
   activates : (p : ℕ) → IsActivationOf journal task p → AsActivation journal task Activating p

@@ -1,4 +1,4 @@
-use Rattle.ada_counts.proofs.PendingNests.{closed_blocks_are_innermost, waits_have_room}
+use Rattle.ada_counts.proofs.PendingNests.{closed_blocks_are_innermost, waits_have_room, open_terminates_are_in_no_rendezvous}
 use Rattle.ada_counts.proofs.laws.pending_nests.Goals as goal
 
 pub returns-clause-blocks : goal.returns-clause-blocks
@@ -6,3 +6,6 @@ returns-clause-blocks c = closed_blocks_are_innermost
 
 pub returns-clause-room : goal.returns-clause-room
 returns-clause-room c = waits_have_room
+
+pub returns-clause-alone : goal.returns-clause-alone
+returns-clause-alone c = open_terminates_are_in_no_rendezvous
