@@ -11,7 +11,6 @@ use Rattle.ada_forcing.specs.Rows.{rank, step_at}
 use Rattle.ada_forcing.proofs.Keys.{forced_first, forced_nothing, agenda_less}
 use Rattle.ada_agenda.specs.Rows.{keeps}
 use Rattle.ada_touching.specs.Keeping.{has_key, IsAgendaOf}
-use Rattle.ada_index.specs.internal.Indexes.{IsStepOfRank}
 
 abbrev all_rows : List Row
 all_rows = Halting ∷ Failing ∷ Taking ∷ Cancelling ∷ Passing ∷ Waking ∷ Activating ∷ Going ∷ QuittingBody ∷ QuittingBlock ∷ Leaving ∷ []
@@ -33,38 +32,38 @@ ranked Leaving = refl
 pub one_rank : (a b : Row) → rank a ≡ rank b → a ≡ b
 one_rank a b same = sym (ranked a) ∙ ap (λ r. get_or all_rows r Halting) same ∙ ranked b
 
--- the step at the first key is forced
-pub first_is_forced : (rows : List (List ℕ)) (journal : List Event) (place key : ℕ) (found : Option Event) (step : Event) → IsAgendaOf rows journal
+-- what the row of the first key gives there is forced
+pub first_is_forced : (rows : List (List ℕ)) (journal : List Event) (place key : ℕ) (row : Row) (step : Event) → IsAgendaOf rows journal
     → keeps rows place key ≡ true → ((r k : ℕ) → r < place → keeps rows r k ≡ false) → ((k : ℕ) → k < key → keeps rows place k ≡ false)
-    → IsStepOfRank journal place key found → found ≡ Some step → Some step ≡ forced journal
-first_is_forced rows journal place key found step agenda here lower least given is =
-    sym (forced_first journal (has_key rows) given.row key step agenda.covers
+    → rank row ≡ place → step_at journal row key ≡ Some step → forced journal ≡ Some step
+first_is_forced rows journal place key row step agenda here lower least ranked gives =
+    forced_first journal (has_key rows) row key step agenda.covers
     (record {
-      here = ap (λ r. keeps rows r key) given.ranked ∙ here;
-      rows = λ other k less. lower (rank other) k (subst (λ r. rank other < r) given.ranked less);
-      keys = λ k less. ap (λ r. keeps rows r k) given.ranked ∙ least k less;
+      here = ap (λ r. keeps rows r key) ranked ∙ here;
+      rows = λ other k less. lower (rank other) k (subst (λ r. rank other < r) ranked less);
+      keys = λ k less. ap (λ r. keeps rows r k) ranked ∙ least k less;
     })
-    (sym given.gives ∙ is))
+    gives
 
 -- where there is no key, nothing is forced
 pub none_is_forced : (rows : List (List ℕ)) (journal : List Event) → IsAgendaOf rows journal → ((r k : ℕ) → keeps rows r k ≡ false) → None ≡ forced journal
 none_is_forced rows journal agenda empty = sym (forced_nothing journal (has_key rows) agenda.covers (λ row key. empty (rank row) key))
 
 -- a key that gives no step is dropped
-pub key_dropped : (old new : List (List ℕ)) (journal : List Event) (place key : ℕ) (found : Option Event) → IsAgendaOf old journal
-    → IsStepOfRank journal place key found → found ≡ None → length new ≡ length old
+pub key_dropped : (old new : List (List ℕ)) (journal : List Event) (place key : ℕ) (row : Row) → IsAgendaOf old journal
+    → rank row ≡ place → step_at journal row key ≡ None → length new ≡ length old
     → ((r k : ℕ) → (r ≢ place) ⊎ (k ≢ key) → keeps new r k ≡ keeps old r k) → IsAgendaOf new journal
-key_dropped old new journal place key found agenda given none many others = record {
+key_dropped old new journal place key row agenda given none many others = record {
   many = many ∙ agenda.many;
-  covers = agenda_less journal (has_key old) (has_key new) agenda.covers (λ row k step was gives.
-      elim (cases_eq (rank row) place) [
-        | inr apart ↦ others (rank row) k (inl apart) ∙ was
+  covers = agenda_less journal (has_key old) (has_key new) agenda.covers (λ other k step was gives.
+      elim (cases_eq (rank other) place) [
+        | inr apart ↦ others (rank other) k (inl apart) ∙ was
         | inl same ↦
             elim (cases_eq k key) [
-              | inr other ↦ others (rank row) k (inr other) ∙ was
+              | inr apart ↦ others (rank other) k (inr apart) ∙ was
               | inl here ↦
-                  let one : given.row ≡ row = one_rank given.row row (given.ranked ∙ sym same) in
-                  absurd (none-some step (sym none ∙ given.gives ∙ ap (λ r. step_at journal r key) one ∙ ap (step_at journal row) (sym here) ∙ gives))
+                  let one : row ≡ other = one_rank row other (given ∙ sym same) in
+                  absurd (none-some step (sym none ∙ ap (λ r. step_at journal r key) one ∙ ap (step_at journal other) (sym here) ∙ gives))
             ]
       ]);
 }

@@ -24,13 +24,12 @@ impl Answerer for Index {
     }
 
     fn advance(&mut self, journal: &mut Journal) -> bool {
-        match self.next_step(journal) {
-            Some(step) => {
-                self.note_in_room(journal, &step);
-                journal.push_reserved(step);
-                true
+        while let Some((rank, key)) = self.agenda.first() {
+            if self.take_first(journal, rank, key) {
+                return true;
             }
-            None => false,
+            self.agenda.remove(rank, key);
         }
+        false
     }
 }

@@ -1,12 +1,10 @@
 //! What is kept of a journal.
 
 ghost use Rattle.std.specs.Prelude.{◌≡◌, [], IfOk, IfErr};
-ghost use Rattle.ada_events.specs.Forced.{forced};
 ghost use Rattle.ada_index.specs.Indexes.{IsIndexOf};
 
-use crate::stepping::next_step;
 use ada_agenda::Agenda;
-use ada_events::{Event, Journal, Refusal};
+use ada_events::{Journal, Refusal};
 use ada_noting::{FirstUnstarted, NextDue};
 use ada_records::Record;
 use ada_rows::State;
@@ -69,21 +67,5 @@ impl Index {
             &self.made,
             self.moment,
         )
-    }
-
-    // The step that the journal forces, if there is one.
-    pub(crate) fn next_step(&mut self, journal: &Journal) -> Option<Event>
-        requires { IsIndexOf self.old journal.now.events }
-        ensures step { result ≡ forced journal.now.events }
-        ensures stands { IsIndexOf self.new journal.now.events }
-    {
-        let state = State::new(
-            journal,
-            &self.records,
-            &self.tables,
-            &self.made,
-            self.moment,
-        );
-        next_step(&mut self.agenda, &state)
     }
 }

@@ -1,39 +1,207 @@
-//! The step that a journal forces, found by its agenda.
+//! The step that a journal forces, found by its agenda, noted and appended.
 
-ghost use Rattle.std.specs.Prelude.{◌≡◌, ◌<◌};
+ghost use Rattle.std.specs.Prelude.{◌≡◌, ◌<◌, ◌≤◌, ◌+◌, ◌∷◌, Some};
 ghost use Rattle.ada_events.specs.Forced.{forced};
-ghost use Rattle.ada_index.specs.internal.Indexes.{IsStepOfRank};
-ghost use Rattle.ada_touching.specs.Keeping.{IsAgendaOf};
+ghost use Rattle.ada_events.specs.Lawful.{IsLawful};
+ghost use Rattle.ada_forcing.specs.declared.row.Row.TheVariants as row;
+ghost use Rattle.ada_index.specs.Indexes.{IsIndexOf};
+ghost use Rattle.ada_index.specs.internal.Indexes.{MayTake, Takes, MayTakeAtRank, TakesAtRank};
 
-use ada_agenda::Agenda;
-use ada_events::Event;
+use crate::Index;
+use ada_events::{Event, Journal, Master};
 use ada_forcing::Row;
-use ada_rows::State;
 
-// The step that the row of that rank gives at a key.
-fn step_of_rank(state: &State, rank: usize, key: usize) -> Option<Event>
-    requires rank { rank < 11 }
-    requires key { key < 69632 }
-    ensures { IsStepOfRank state.now rank key result }
-{
-    match Row::at_rank(rank) {
-        Some(row) => state.step_at(row, key as u32),
-        None => None,
+impl Index {
+    // Notes and appends the step that the journal forces.
+    fn append(&mut self, journal: &mut Journal, step: Event)
+        requires stands { IsIndexOf self.old journal.old.events }
+        requires forced { forced journal.old.events ≡ Some step }
+        requires room { 0 < journal.old.spare }
+        ensures stands { IsIndexOf self.new journal.new.events }
+        ensures events { journal.new.events ≡ step ∷ journal.old.events }
+        ensures spare { journal.old.spare ≤ journal.new.spare + 1 }
+    {
+        self.note_in_room(journal, &step);
+        journal.push_reserved(step);
     }
-}
 
-/// The step that a journal forces, if there is one. Keys of the agenda before it that give no step are dropped on the
-/// way.
-pub(crate) fn next_step(agenda: &mut Agenda, state: &State) -> Option<Event>
-    requires { IsAgendaOf agenda.old state.now }
-    ensures step { result ≡ forced state.now }
-    ensures stands { IsAgendaOf agenda.new state.now }
-{
-    while let Some((rank, key)) = agenda.first() {
-        if let Some(step) = step_of_rank(state, rank, key) {
-            return Some(step);
+    // Halts the task of that number (9.10), where it is to be halted.
+    #[tactic(auto, using(ada_rows::proofs::Strangers::no_halt))]
+    fn halt(&mut self, journal: &mut Journal, key: u32) -> bool
+        requires { MayTake self.old journal.old row.Halting key }
+        ensures { Takes self.old journal.old row.Halting key result self.new journal.new }
+    {
+        let Some(task) = self.state(journal).task(key) else {
+            return false;
+        };
+        if !self.state(journal).halts(task) {
+            return false;
         }
-        agenda.remove(rank, key);
+        self.append(journal, Event::Halted { task });
+        true
     }
-    None
+
+    // Lets the call at a position fail (9.5, 9.10), where it is to fail.
+    fn fail(&mut self, journal: &mut Journal, call: u32) -> bool
+        requires { MayTake self.old journal.old row.Failing call }
+        ensures { Takes self.old journal.old row.Failing call result self.new journal.new }
+    {
+        if !self.state(journal).fails(call) {
+            return false;
+        }
+        self.append(journal, Event::Failed { call });
+        true
+    }
+
+    // Lets the wait at a position take a call (9.5, 9.7.1), where there is one.
+    fn meet(&mut self, journal: &mut Journal, wait: u32) -> bool
+        requires { MayTake self.old journal.old row.Taking wait }
+        ensures { Takes self.old journal.old row.Taking wait result self.new journal.new }
+    {
+        let Some(call) = self.state(journal).takes(wait) else {
+            return false;
+        };
+        self.append(journal, Event::Met { call, wait });
+        true
+    }
+
+    // Cancels the call at a position (9.7.2, 9.7.3), where it is to be cancelled.
+    fn cancel(&mut self, journal: &mut Journal, call: u32) -> bool
+        requires { MayTake self.old journal.old row.Cancelling call }
+        ensures { Takes self.old journal.old row.Cancelling call result self.new journal.new }
+    {
+        if !self.state(journal).cancels(call) {
+            return false;
+        }
+        self.append(journal, Event::Cancelled { call });
+        true
+    }
+
+    // Lets the wait at a position end without a call (9.7.1), where there is a way.
+    fn pass(&mut self, journal: &mut Journal, wait: u32) -> bool
+        requires { MayTake self.old journal.old row.Passing wait }
+        ensures { Takes self.old journal.old row.Passing wait result self.new journal.new }
+    {
+        let Some(way) = self.state(journal).passes(wait) else {
+            return false;
+        };
+        self.append(journal, Event::Passed { wait, way });
+        true
+    }
+
+    // Ends the delay at a position (9.6), where its moment has come.
+    fn wake(&mut self, journal: &mut Journal, pause: u32) -> bool
+        requires { MayTake self.old journal.old row.Waking pause }
+        ensures { Takes self.old journal.old row.Waking pause result self.new journal.new }
+    {
+        if !self.state(journal).wakes(pause) {
+            return false;
+        }
+        self.append(journal, Event::Woken { pause });
+        true
+    }
+
+    // Ends the activation that started at a position (9.3), where all its tasks are done.
+    fn activate(&mut self, journal: &mut Journal, start: u32) -> bool
+        requires { MayTake self.old journal.old row.Activating start }
+        ensures { Takes self.old journal.old row.Activating start result self.new journal.new }
+    {
+        let Some(ok) = self.state(journal).activates(start) else {
+            return false;
+        };
+        self.append(journal, Event::Activated { start, ok });
+        true
+    }
+
+    // Lets the task of that number terminate by itself (9.3, 9.4), where it is to.
+    #[tactic(auto, using(ada_rows::proofs::Strangers::no_end))]
+    fn terminate(&mut self, journal: &mut Journal, key: u32) -> bool
+        requires { MayTake self.old journal.old row.Going key }
+        ensures { Takes self.old journal.old row.Going key result self.new journal.new }
+    {
+        let Some(task) = self.state(journal).task(key) else {
+            return false;
+        };
+        if !self.state(journal).goes(task) {
+            return false;
+        }
+        self.append(journal, Event::Gone { task });
+        true
+    }
+
+    // Lets all terminate together that depend on the body of the task of that number (9.4), where they are to.
+    #[tactic(auto, using(ada_rows::proofs::Strangers::no_quitting))]
+    fn quit_body(&mut self, journal: &mut Journal, key: u32) -> bool
+        requires { MayTake self.old journal.old row.QuittingBody key }
+        ensures { Takes self.old journal.old row.QuittingBody key result self.new journal.new }
+    {
+        let Some(task) = self.state(journal).task(key) else {
+            return false;
+        };
+        if !self.state(journal).quits_body(task) {
+            return false;
+        }
+        let master = Master::Body(task);
+        self.append(journal, Event::Quit { master });
+        true
+    }
+
+    // Lets all terminate together that depend on the block at a position (9.4), where they are to.
+    fn quit_block(&mut self, journal: &mut Journal, block: u32) -> bool
+        requires { MayTake self.old journal.old row.QuittingBlock block }
+        ensures { Takes self.old journal.old row.QuittingBlock block result self.new journal.new }
+    {
+        if !self.state(journal).quits_block(block) {
+            return false;
+        }
+        let master = Master::Block(block);
+        self.append(journal, Event::Quit { master });
+        true
+    }
+
+    // Lets the block be left that is closed at a position (9.4), where all its dependents are terminated.
+    fn leave(&mut self, journal: &mut Journal, close: u32) -> bool
+        requires { MayTake self.old journal.old row.Leaving close }
+        ensures { Takes self.old journal.old row.Leaving close result self.new journal.new }
+    {
+        if !self.state(journal).leaves(close) {
+            return false;
+        }
+        self.append(journal, Event::Left { close });
+        true
+    }
+
+    // Takes the step that a row gives at a key, if it gives one, and says so.
+    fn take(&mut self, journal: &mut Journal, row: Row, key: u32) -> bool
+        requires { MayTake self.old journal.old row key }
+        ensures { Takes self.old journal.old row key result self.new journal.new }
+    {
+        match row {
+            Row::Halting => self.halt(journal, key),
+            Row::Failing => self.fail(journal, key),
+            Row::Taking => self.meet(journal, key),
+            Row::Cancelling => self.cancel(journal, key),
+            Row::Passing => self.pass(journal, key),
+            Row::Waking => self.wake(journal, key),
+            Row::Activating => self.activate(journal, key),
+            Row::Going => self.terminate(journal, key),
+            Row::QuittingBody => self.quit_body(journal, key),
+            Row::QuittingBlock => self.quit_block(journal, key),
+            Row::Leaving => self.leave(journal, key),
+        }
+    }
+
+    /// Takes the step that the row of that rank gives at a key, if it gives one, and says so. The key is the first of the
+    /// agenda.
+    pub(crate) fn take_first(&mut self, journal: &mut Journal, rank: usize, key: usize) -> bool
+        requires rank { rank < 11 }
+        requires key { key < 69632 }
+        requires first { MayTakeAtRank self.old journal.old rank key }
+        ensures { TakesAtRank self.old journal.old rank key result self.new journal.new }
+    {
+        match Row::at_rank(rank) {
+            Some(row) => self.take(journal, row, key as u32),
+            None => false,
+        }
+    }
 }

@@ -144,12 +144,28 @@ impl<'a> State<'a> {
         }
     }
 
-    // The number of the choice by which the event takes a call, where it is a wait that takes one.
+    // The number of the choice by which a wait with these choices takes a call; 0 where it takes none. Where there is
+    // one choice it isn't asked whether a call waits for it.
+    #[tactic(auto, using(crate::proofs::Choosing::one_picked))]
+    fn number_taken(&self, task: TaskNo, choices: &[Choice], pick: u32) -> u8
+        requires few { length choices.now ≤ MOST_CHOICES }
+        requires declared { AreOfTask self.now task.0 choices.now }
+        ensures { result ≡ unwrap_or (waits.picked pick
+            (waits.numbers_from (waits.is_selectable self.now task.0) 0 choices.now)) 0 }
+    {
+        match choices.split_first() {
+            Some((_, rest)) if rest.is_empty() => 0,
+            _ => picked(pick, self.selectable(task, choices).as_slice()).unwrap_or(0),
+        }
+    }
+
+    // The number of the choice by which the event takes a call, where it is a wait that takes one; else 0.
     #[tactic(auto, unfolding(ada_events::specs::Waits::taken_choice, ada_events::specs::Says::wait_in))]
-    fn choice_of(&self, _at: u32, event: &Event) -> Option<u8>
+    fn choice_of(&self, _at: u32, event: &Event) -> u8
         requires stands { event_at self.now _at ≡ Some event.now }
         requires lawful { IsLawful self.now }
-        ensures { result ≡ option_and_then (waits.taken_choice self.now) (wait_in event.now) }
+        ensures { result ≡ unwrap_or
+            (option_and_then (waits.taken_choice self.now) (wait_in event.now)) 0 }
     {
         match event {
             Event::Waiting {
@@ -157,8 +173,8 @@ impl<'a> State<'a> {
                 pick,
                 choices,
                 ..
-            } => self.taken_choice(*by, choices.as_slice(), *pick),
-            _ => None,
+            } => self.number_taken(*by, choices.as_slice(), *pick),
+            _ => 0,
         }
     }
 
@@ -169,7 +185,7 @@ impl<'a> State<'a> {
         ensures { result ≡ outcomes.choice_met self.now wait }
     {
         match self.event(wait) {
-            Some(event) => self.choice_of(wait, event).unwrap_or(0),
+            Some(event) => self.choice_of(wait, event),
             None => 0,
         }
     }

@@ -4,9 +4,9 @@ use Rattle.ada_rows.specs.internal.Choosing.{AreOfTask}
 use Rattle.ada_rows.proofs.Choosing.{choices_are_of_task}
 use Rattle.ada_rows.proofs.state.State.choice_of.Goals as goal
 
-pub taken_choice-requires-clause-declared : goal.taken_choice-requires-clause-declared
+pub number_taken-requires-clause-declared : goal.number_taken-requires-clause-declared
 unfolding wait_in
-taken_choice-requires-clause-declared c =
+number_taken-requires-clause-declared c =
     let wait : Wait = record { by = c.in-Waiting.by.0; choices = c.in-Waiting.choices; tail = c.in-Waiting.tail; pick = c.in-Waiting.pick } in
     subst (AreOfTask c.args.self.now c.in-Waiting.by.0) (sym c.as_slice.ensures.value)
     (choices_are_of_task c.args.self.now c.args._at c.args.event.now wait c.requires.lawful c.requires.stands (ap wait_in c.in-Waiting.is))
