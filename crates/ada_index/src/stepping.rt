@@ -191,8 +191,8 @@ impl Index {
         }
     }
 
-    /// Takes the step that the row of that rank gives at a key, if it gives one, and says so. The key is the first of the
-    /// agenda.
+    /// Takes the step that the row of that rank gives at a key, if it gives one, and says so. The key is the agenda's
+    /// first.
     pub(crate) fn take_first(&mut self, journal: &mut Journal, rank: usize, key: usize) -> bool
         requires rank { rank < 11 }
         requires key { key < 69632 }

@@ -67,10 +67,20 @@ impl<'a> State<'a> {
     }
 
     // Whether each of the tasks has ended its activation, or has ended.
-    fn are_done(&self, tasks: &[TaskNo]) -> bool
+    fn are_all_done(&self, tasks: &[TaskNo]) -> bool
         ensures { result ≡ list_all (is_done_activating self.now) tasks.now }
     {
         tasks.iter().all(|task| self.is_done_activating(*task))
+    }
+
+    // The same, of which the last is asked first, since tasks mostly come up in the order in which they were started.
+    fn are_done(&self, tasks: &[TaskNo]) -> bool
+        ensures { result ≡ list_all (is_done_activating self.now) tasks.now }
+    {
+        match tasks.split_last() {
+            Some((last, rest)) => self.is_done_activating(*last) && self.are_all_done(rest),
+            None => true,
+        }
     }
 
     // Whether the activation of one of the tasks ended by an exception.

@@ -36,20 +36,22 @@ loop-rank-smaller c =
     c.in-Some.ensures.here c.remove.ensures.fewer
 
 pub loop-rank-preserved : goal.loop-rank-preserved
-loop-rank-preserved c =
-    (stands_left _ c.take_first.new.self c.args.journal.now c.loop-rank.journal c.take_first.new.journal c.in-Some.rank c.in-Some.key _
-    c.loop-rank.invariant.1 c.take_first.ensures c.remove.new.self
-    (subst (λ a. IsIndexOf (record c.loop-rank.self { agenda = a }) c.loop-rank.journal.events) (sym c.first.ensures.same) c.loop-rank.invariant.0)
-    c.if-take_first.false c.remove.ensures.rows c.remove.ensures.others,
-    journal_left _ c.take_first.new.self c.args.journal.now c.loop-rank.journal c.take_first.new.journal c.in-Some.rank c.in-Some.key _
-    c.loop-rank.invariant.1 c.take_first.ensures c.if-take_first.false)
+loop-rank-preserved c = (
+  stands_left _ c.take_first.new.self c.args.journal.now c.loop-rank.journal c.take_first.new.journal c.in-Some.rank c.in-Some.key _
+      c.loop-rank.invariant.1 c.take_first.ensures c.remove.new.self
+      (subst (λ a. IsIndexOf (record c.loop-rank.self { agenda = a }) c.loop-rank.journal.events) (sym c.first.ensures.same) c.loop-rank.invariant.0)
+      c.if-take_first.false c.remove.ensures.rows c.remove.ensures.others,
+  journal_left _ c.take_first.new.self c.args.journal.now c.loop-rank.journal c.take_first.new.journal c.in-Some.rank c.in-Some.key _
+      c.loop-rank.invariant.1 c.take_first.ensures c.if-take_first.false,
+)
 
 pub returns-clause-rest : goal.returns-clause-rest
-returns-clause-rest c _ =
-    (ap (λ j. forced j.events) (sym c.loop-rank.invariant.1)
-    ∙ sym (none_is_forced c.first.new.self c.loop-rank.journal.events
-    (subst (λ rows. IsAgendaOf rows c.loop-rank.journal.events) (sym c.first.ensures.same) c.loop-rank.invariant.0.agenda) c.in_default.ensures.none),
-    ap (λ j. j.events) c.loop-rank.invariant.1)
+returns-clause-rest c _ = (
+  ap (λ j. forced j.events) (sym c.loop-rank.invariant.1)
+      ∙ sym (none_is_forced c.first.new.self c.loop-rank.journal.events
+      (subst (λ rows. IsAgendaOf rows c.loop-rank.journal.events) (sym c.first.ensures.same) c.loop-rank.invariant.0.agenda) c.in_default.ensures.none),
+  ap (λ j. j.events) c.loop-rank.invariant.1,
+)
 
 pub returns-clause-stands : goal.returns-clause-stands
 returns-clause-stands c =
