@@ -1,12 +1,12 @@
 //! What an event changes in what is kept of its journal, before it is appended.
 
-ghost use Rattle.std.specs.Prelude.{◌≡◌, ◌∷◌, None, OnOk, OnErr, IfErr};
+ghost use Rattle.std.specs.Prelude.{◌≡◌, ◌∷◌, true, None, OnOk, OnErr, IfErr};
 ghost use Rattle.ada_counts.specs.Noting.{HaveRoomFor, MakesTask};
 ghost use Rattle.ada_events.specs.Lawful.{IsLawful};
 ghost use Rattle.ada_events.specs.Says.{creation_in};
 ghost use Rattle.ada_events.specs.Tasks as tasks;
 ghost use Rattle.ada_index.specs.Indexes.{IsIndexOf};
-ghost use Rattle.ada_records.specs.Records.{AreFacts};
+ghost use Rattle.ada_records.specs.Records.{AreFacts, touches_many};
 
 use crate::Index;
 use ada_counts::follow::{follow, follow_creation};
@@ -31,6 +31,21 @@ fn moment_after(moment: i64, _journal: &Journal, event: &Event) -> i64
 }
 
 impl Index {
+    // Notes an event that may touch many tasks: dependents that terminate together (9.4), or an abort (9.10). It keeps
+    // a flag for each task, for which no other event makes room.
+    #[inline(never)]
+    fn note_many(&mut self, journal: &Journal, event: &Event)
+        requires lawful { IsLawful (event.now ∷ journal.now.events) }
+        requires stands { IsIndexOf self.old journal.now.events }
+        requires makes { creation_in event.now ≡ None }
+        requires room { HaveRoomFor self.old.tables event.now }
+        requires many { touches_many event.now ≡ true }
+        ensures { IsIndexOf self.new (event.now ∷ journal.now.events) }
+    {
+        let touched = touched_by(&self.state(journal), event);
+        self.note_facts(journal, event, 0, touched.as_slice());
+    }
+
     // Notes an event that makes no task. There is room for one more call where it makes one.
     pub(crate) fn note_in_room(&mut self, journal: &Journal, event: &Event)
         requires lawful { IsLawful (event.now ∷ journal.now.events) }
@@ -40,14 +55,13 @@ impl Index {
         ensures { IsIndexOf self.new (event.now ∷ journal.now.events) }
     {
         match event {
-            Event::Quit { .. } | Event::Aborted { .. } => {
-                let touched = touched_by(&self.state(journal), event);
-                self.note_facts(journal, event, 0, touched.as_slice());
-            }
-            _ => {
+            Event::Quit { .. } => self.note_many(journal, event),
+            Event::Aborted { .. } => self.note_many(journal, event),
+            Event::Met { .. } => {
                 let choice = choice_of(&self.state(journal), event);
                 self.note_facts(journal, event, choice, &[]);
             }
+            _ => self.note_facts(journal, event, 0, &[]),
         }
     }
 
