@@ -2,7 +2,6 @@
 
 ghost use Rattle.std.specs.Prelude.{◌≡◌, ◌<◌, ◌≤◌, ◌+◌, ◌∷◌, Some};
 ghost use Rattle.ada_events.specs.Forced.{forced};
-ghost use Rattle.ada_events.specs.Lawful.{IsLawful};
 ghost use Rattle.ada_forcing.specs.declared.row.Row.TheVariants as row;
 ghost use Rattle.ada_index.specs.Indexes.{IsIndexOf};
 ghost use Rattle.ada_index.specs.internal.Indexes.{MayTake, Takes, MayTakeAtRank, TakesAtRank};
