@@ -200,7 +200,7 @@ waits_for : (journal : List Event) (task p : ℕ) (w : Wait) → wait_at journal
 unfolding is_wait_of
 waits_for journal task p w at = rw at refl
 
--- the begin of a rendezvous
+-- the beginning of a rendezvous
 pub nests_met : (event : Event) (before : List Event) (task : TaskNo) (call wait : ℕ) → event ≡ kind.Met call wait → IsSuspendedAt before task.0 wait
     → IsLawful (event ∷ before) → ChangesNests event before (Enters task (Rendezvous call))
 nests_met event before task call wait is held lawful = (

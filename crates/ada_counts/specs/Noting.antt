@@ -1,9 +1,13 @@
 -- What has to be known where an event is noted in tables.
-use Rattle.std.specs.Prelude.{◌≡◌, ◌<◌, IsSome, List, length}
+use Rattle.std.specs.Prelude.{◌≡◌, ℕ, ℤ, Bool, ◌<◌, Option, IsSome, List, length}
 use Rattle.ada_events.specs.declared.event.Event.{Event}
-use Rattle.ada_events.specs.declared.event.Event.TheVariants.{Created}
+use Rattle.ada_events.specs.declared.event.Event.TheVariants.{Created, Called, Waiting, Ended}
+use Rattle.ada_events.specs.declared.event.EventTail.{EventTail}
+use Rattle.ada_events.specs.declared.names.Choice.{Choice}
+use Rattle.ada_events.specs.declared.names.Entry.{Entry}
 use Rattle.ada_events.specs.declared.names.Family.{Family}
 use Rattle.ada_events.specs.declared.names.Master.{Master}
+use Rattle.ada_events.specs.declared.names.Patience.{Patience}
 use Rattle.ada_events.specs.declared.names.TaskNo.{TaskNo}
 use Rattle.ada_events.specs.Limits.{slot_count}
 use Rattle.ada_events.specs.Says.{call_in}
@@ -22,3 +26,21 @@ pub record MakesTask (event : Event) (master : Master) (families : List Family) 
   pub by : TaskNo
   pub under : Master
   pub is : event ≡ Created by under master families
+
+-- the event is a task's call of an entry of another (9.5)
+pub record MakesCall (event : Event) (by callee : TaskNo) (entry : Entry) : Type 0 where
+  pub patience : Patience
+  pub due : Option ℤ
+  pub is : event ≡ Called by callee entry patience due
+
+-- by the event a task waits selectively, or at an accept statement (9.5, 9.7.1)
+pub record MakesWait (event : Event) (by : TaskNo) : Type 0 where
+  pub pick : ℕ
+  pub choices : List Choice
+  pub tail : EventTail
+  pub is : event ≡ Waiting by pick choices tail
+
+-- by the event a task ends the rendezvous with the call at a position (9.5)
+pub record EndsCall (event : Event) (by : TaskNo) (call : ℕ) : Type 0 where
+  pub raised : Bool
+  pub is : event ≡ Ended by call raised

@@ -9,3 +9,4 @@ mod nests;
 mod phases;
 mod phasing;
 mod queues;
+pub mod rendezvous;

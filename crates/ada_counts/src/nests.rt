@@ -78,6 +78,28 @@ pub(crate) fn nest_change(journal: &Journal, event: &Event) -> NestChange
     }
 }
 
+/// Changes the nests of tables as an event does, where it is known what that is.
+#[inline(always)]
+pub(crate) fn change_nests(
+    tables: &mut Tables,
+    _journal: &Journal,
+    _event: &Event,
+    change: NestChange,
+)
+    requires lawful { IsLawful (_event.now ∷ _journal.now.events) }
+    requires hold { HoldFacts tables.old.tasks _journal.now.events }
+    requires changes { ChangesNests _event.now _journal.now.events change }
+    ensures nests { AreRenested _event.now _journal.now.events tables.new.tasks }
+    ensures kept { tables.new ≡ record tables.old { tasks = tables.new.tasks } }
+{
+    match change {
+        NestChange::Nothing => {}
+        NestChange::Enters(task, member) => tables.push_nest(task, member),
+        NestChange::LeavesBlock(task) => tables.pop_nest(task),
+        NestChange::EndsRendezvous(task, call) => tables.cut_nest(task, call),
+    }
+}
+
 /// Changes the nests of tables as an event does.
 pub(crate) fn follow_nests(tables: &mut Tables, journal: &Journal, event: &Event)
     requires lawful { IsLawful (event.now ∷ journal.now.events) }
@@ -85,10 +107,5 @@ pub(crate) fn follow_nests(tables: &mut Tables, journal: &Journal, event: &Event
     ensures nests { AreRenested event.now journal.now.events tables.new.tasks }
     ensures kept { tables.new ≡ record tables.old { tasks = tables.new.tasks } }
 {
-    match nest_change(journal, event) {
-        NestChange::Nothing => {}
-        NestChange::Enters(task, member) => tables.push_nest(task, member),
-        NestChange::LeavesBlock(task) => tables.pop_nest(task),
-        NestChange::EndsRendezvous(task, call) => tables.cut_nest(task, call),
-    }
+    change_nests(tables, journal, event, nest_change(journal, event));
 }

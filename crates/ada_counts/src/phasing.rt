@@ -57,6 +57,29 @@ fn refresh(tables: &mut Tables, task: TaskNo, kept: &Record)
     }
 }
 
+/// Gives the task whose phase an event changes, if it changes any, the phase that its record tells, where it is known
+/// whose phase that is.
+#[inline(always)]
+pub(crate) fn refresh_touched(
+    tables: &mut Tables,
+    records: &[Record],
+    _journal: &Journal,
+    _event: &Event,
+    touched: Option<TaskNo>,
+)
+    requires lawful { IsLawful (_event.now ∷ _journal.now.events) }
+    requires makes { creation_in _event.now ≡ None }
+    requires touches { TouchesOnly _event.now _journal.now.events touched }
+    requires records { AreRecords records.now (_event.now ∷ _journal.now.events) }
+    requires nests { AreRenested _event.now _journal.now.events tables.old.tasks }
+    ensures phases { HoldFacts tables.new.tasks (_event.now ∷ _journal.now.events) }
+    ensures kept { tables.new ≡ record tables.old { tasks = tables.new.tasks } }
+{
+    if let Some(task) = touched {
+        refresh(tables, task, &records[task.0 as usize]);
+    }
+}
+
 // Gives the task whose phase an event changes, if it changes any, the phase that its record tells.
 fn refresh_one(tables: &mut Tables, records: &[Record], journal: &Journal, event: &Event)
     requires lawful { IsLawful (event.now ∷ journal.now.events) }
@@ -67,9 +90,7 @@ fn refresh_one(tables: &mut Tables, records: &[Record], journal: &Journal, event
     ensures phases { HoldFacts tables.new.tasks (event.now ∷ journal.now.events) }
     ensures kept { tables.new ≡ record tables.old { tasks = tables.new.tasks } }
 {
-    if let Some(task) = touched_by(journal, event) {
-        refresh(tables, task, &records[task.0 as usize]);
-    }
+    refresh_touched(tables, records, journal, event, touched_by(journal, event));
 }
 
 // Gives the tasks that a start names, and the one that starts them, the phases that their records tell.

@@ -66,6 +66,7 @@ pub(crate) fn queue_change(journal: &Journal, event: &Event) -> QueueChange
 }
 
 // Takes a task's call out of the queue in which it waits, if it waits.
+#[inline(always)]
 fn leave_queue(tables: &mut Tables, task: TaskNo)
     requires { task.0 < length tables.old.tasks }
     ensures queues { tables.new ≡ record tables.old {
@@ -76,6 +77,37 @@ fn leave_queue(tables: &mut Tables, task: TaskNo)
 {
     if tables.waits(task) {
         tables.unlink(task);
+    }
+}
+
+/// Changes the queues of tables as an event does, where it is known what that is. There is a queue for each entry, and
+/// room for one more call where the event makes one.
+#[inline(always)]
+pub(crate) fn change_queues(
+    tables: &mut Tables,
+    journal: &Journal,
+    _event: &Event,
+    change: QueueChange,
+)
+    requires lawful { IsLawful (_event.now ∷ journal.now.events) }
+    requires hold { HoldFacts tables.old.tasks journal.now.events }
+    requires queues { HoldQueues tables.old journal.now.events }
+    requires slots { HaveAllQueues tables.old journal.now.events }
+    requires room { HaveRoomFor tables.old _event.now }
+    requires changes { ChangesQueues _event.now journal.now.events change }
+    ensures queues { HoldQueues tables.new (_event.now ∷ journal.now.events) }
+    ensures slots { length tables.new.queues ≡ length tables.old.queues }
+    ensures kept { tables.new ≡ record tables.old {
+      queues = tables.new.queues;
+      spare = tables.new.spare;
+    } }
+{
+    match change {
+        QueueChange::Nothing => {}
+        QueueChange::Joins { by, callee, entry } => {
+            tables.enqueue_reserved(by, callee, entry, journal.len() + 1)
+        }
+        QueueChange::Leaves(task) => leave_queue(tables, task),
     }
 }
 
@@ -94,11 +126,5 @@ pub(crate) fn follow_queues(tables: &mut Tables, journal: &Journal, event: &Even
       spare = tables.new.spare;
     } }
 {
-    match queue_change(journal, event) {
-        QueueChange::Nothing => {}
-        QueueChange::Joins { by, callee, entry } => {
-            tables.enqueue_reserved(by, callee, entry, journal.len() + 1)
-        }
-        QueueChange::Leaves(task) => leave_queue(tables, task),
-    }
+    change_queues(tables, journal, event, queue_change(journal, event));
 }

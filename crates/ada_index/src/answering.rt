@@ -1,9 +1,7 @@
 //! A kernel's answers by what is kept of its journal.
 
 use crate::Index;
-use ada_asking::asked_event;
-use ada_events::{Event, Journal, Refusal, Request};
-use ada_refusing::refusal;
+use ada_events::{Journal, Refusal, Request, Tail};
 use ada_steps::Answerer;
 
 impl Answerer for Index {
@@ -11,16 +9,28 @@ impl Answerer for Index {
 
     ghost stands = { λ index journal. IsIndexOf index journal };
 
-    fn refusal(&self, journal: &Journal, request: &Request) -> Option<Refusal> {
-        refusal(&self.state(journal), request)
-    }
-
-    fn ask(&self, journal: &Journal, request: &Request) -> Result<Event, Refusal> {
-        asked_event(journal.allocator(), &self.state(journal), request)
-    }
-
-    fn note(&mut self, journal: &Journal, event: &Event) -> Result<(), Refusal> {
-        self.note(journal, event)
+    fn begin(&mut self, journal: &mut Journal, request: &Request) -> Result<(), Refusal> {
+        match request {
+            Request::Call {
+                by,
+                callee,
+                entry,
+                patience,
+            } => self.begin_call(journal, *by, *callee, *entry, *patience),
+            Request::Wait {
+                by,
+                choices,
+                tail: Tail::Nothing,
+                pick,
+            } => match choices.as_slice().split_first() {
+                Some((choice, rest)) if rest.is_empty() && choice.guard => {
+                    self.begin_accept(journal, *by, choice.entry, *pick)
+                }
+                _ => self.begin_any(journal, request),
+            },
+            Request::End { by, raised } => self.begin_end(journal, *by, *raised),
+            _ => self.begin_any(journal, request),
+        }
     }
 
     fn advance(&mut self, journal: &mut Journal) -> bool {

@@ -2,8 +2,10 @@
 #![tactic(auto)]
 
 mod answering;
+mod beginning;
 pub mod index;
 mod noting;
+mod rendezvous;
 mod stepping;
 
 pub use index::Index;

@@ -2,6 +2,7 @@
 
 ghost use Rattle.std.specs.Prelude.{◌≡◌, ◌<◌, ◌≤◌, ◌+◌, ◌∷◌, Some};
 ghost use Rattle.ada_events.specs.Forced.{forced};
+ghost use Rattle.ada_events.specs.declared.event.Event.TheVariants.{Met as MetEvent};
 ghost use Rattle.ada_forcing.specs.declared.row.Row.TheVariants as row;
 ghost use Rattle.ada_index.specs.Indexes.{IsIndexOf};
 ghost use Rattle.ada_index.specs.internal.Indexes.{MayTake, Takes, MayTakeAtRank, TakesAtRank};
@@ -22,6 +23,23 @@ impl Index {
     {
         self.note_in_room(journal, &step);
         journal.push_reserved(step);
+    }
+
+    // Notes and appends the beginning of a rendezvous (9.5), which the journal forces. The wait's key goes with it: the
+    // wait is released, and its row gives nothing there any more.
+    #[inline(always)]
+    fn append_meeting(&mut self, journal: &mut Journal, call: u32, wait: u32)
+        requires stands { IsIndexOf self.old journal.old.events }
+        requires forced { forced journal.old.events ≡ Some (MetEvent call wait) }
+        requires room { 0 < journal.old.spare }
+        ensures stands { IsIndexOf self.new journal.new.events }
+        ensures events { journal.new.events ≡ MetEvent call wait ∷ journal.old.events }
+        ensures spare { journal.old.spare ≤ journal.new.spare + 1 }
+    {
+        let step = Event::Met { call, wait };
+        self.note_meeting(journal, &step, call, wait);
+        journal.push_reserved(step);
+        self.agenda.remove(Row::Taking.rank(), wait as usize);
     }
 
     // Halts the task of that number (9.10), where it is to be halted.
@@ -60,7 +78,7 @@ impl Index {
         let Some(call) = self.state(journal).takes(wait) else {
             return false;
         };
-        self.append(journal, Event::Met { call, wait });
+        self.append_meeting(journal, call, wait);
         true
     }
 

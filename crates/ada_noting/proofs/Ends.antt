@@ -1,10 +1,10 @@
 -- What the end of a task adds to an agenda.
-use Rattle.std.proofs.Common.{◌≡◌, ℕ, ◌<◌, true, false, not, List, Some, None, ◌∷◌, sym, refl, ap, ◌∙◌, subst, arith, inl, inr}
+use Rattle.std.proofs.Common.{◌≡◌, ℕ, true, false, not, List, Some, None, ◌∷◌, sym, refl, ap, ◌∙◌, subst, inl, inr}
 use Rattle.std.specs.Option.{option_map}
 use Rattle.std.proofs.lemmas.Bool.{true≢false, eq-eqb, false_from_ne_true}
 use Rattle.std.proofs.lemmas.Option.{none-some, same_Some}
 use Rattle.ada_events.specs.declared.event.Event.{Event}
-use Rattle.ada_events.specs.declared.event.Event.TheVariants.{Completed, Elaborated, Gone, Quit}
+use Rattle.ada_events.specs.declared.event.Event.TheVariants.{Completed, Elaborated, Gone}
 use Rattle.ada_events.specs.declared.names.TaskNo.{TaskNo}
 use Rattle.ada_events.specs.declared.names.Master.{Master}
 use Rattle.ada_events.specs.declared.names.Master.TheVariants.{Body, Block}
@@ -17,7 +17,7 @@ use Rattle.ada_events.specs.Lawful.{IsLawful}
 use Rattle.ada_laws.specs.Suspension.{IsSuspendedAt}
 use Rattle.ada_laws.proofs.CallLaws.{open_calls_suspend}
 use Rattle.ada_laws.proofs.Suspending.{suspended_exists}
-use Rattle.ada_laws.proofs.Depending.{depends_exists, depends_reaches, depends_after}
+use Rattle.ada_laws.proofs.Depending.{depends_exists, depends_reaches}
 use Rattle.ada_laws.proofs.Reaching.{reaches_known}
 use Rattle.ada_laws.proofs.DependentLaws.{going}
 use Rattle.ada_forcing.specs.Touching.{is_lost}
@@ -25,19 +25,18 @@ use Rattle.ada_forcing.specs.Rows.{step_at}
 use Rattle.ada_forcing.specs.declared.row.Row.{Row}
 use Rattle.ada_forcing.specs.declared.row.Row.TheVariants.{Failing, Activating, Going, QuittingBody, Leaving}
 use Rattle.ada_touching.specs.Keeping.{has_key, IsAgendaOf}
-use Rattle.ada_touching.specs.Kinds.{quitting_row, quitting_key, IsOpenCallTo, OfElaboration, OfCompletion, OfTermination, OfQuit, Adds}
+use Rattle.ada_touching.specs.Kinds.{quitting_row, quitting_key, IsOpenCallTo, OfElaboration, OfCompletion, OfTermination, Adds}
 use Rattle.ada_touching.specs.Kinds.OfElaboration.{activates as task_up}
 use Rattle.ada_touching.specs.Kinds.OfCompletion.{goes as task_goes, quits as body_quits, fails as call_fails, activates as start_ends}
 use Rattle.ada_touching.specs.Kinds.OfCompletion.{abandons as task_abandons}
 use Rattle.ada_touching.specs.Kinds.OfTermination.{fails as end_fails, activates as end_activates, goes as end_goes, quits as end_quits, leaves as end_leaves}
-use Rattle.ada_touching.specs.Kinds.OfQuit.{ends, abandons as quit_abandons}
 use Rattle.ada_touching.proofs.Acting.{created_exists}
 use Rattle.ada_touching.proofs.Noting.{grows_same}
 use Rattle.ada_counts.specs.Holders.{IsHeld}
 use Rattle.ada_counts.proofs.LiveHolders.{of_master}
 use Rattle.ada_counts.proofs.Owners.{has_contained}
 use Rattle.ada_rows.proofs.Orphans.{gone_stays}
-use Rattle.ada_noting.specs.internal.Keys.{Puts, Both, OfFirst, AsKey, AsHeld, AsUnstarted, AsCaller, AsLost, AsHolder, AsDependent, AsActivation}
+use Rattle.ada_noting.specs.internal.Keys.{Puts, Both, OfFirst, AsKey, AsHeld, AsUnstarted, AsCaller, AsLost, AsDependent, AsActivation}
 use Rattle.ada_noting.specs.internal.Keys.AsKey.{itself}
 use Rattle.ada_noting.specs.internal.Keys.AsHeld.{held}
 use Rattle.ada_noting.specs.internal.Keys.AsUnstarted.{goes}
@@ -46,7 +45,7 @@ use Rattle.ada_noting.specs.internal.Keys.When.{holds_so}
 use Rattle.ada_noting.specs.internal.Keys.AsHolder.{quits, goes as holder_goes, leaves}
 use Rattle.ada_noting.specs.internal.Keys.AsDependent.{through}
 use Rattle.ada_noting.specs.internal.Keys.AsActivation.{activates}
-use Rattle.ada_noting.proofs.Additions.{noted, noted_giving, fails_held}
+use Rattle.ada_noting.proofs.Additions.{noted, noted_giving}
 use Rattle.ada_noting.proofs.Giving.{goer, quitter}
 
 -- a master on which a live task depends is held

@@ -1,19 +1,17 @@
 -- What a step that a row gives behind an event says of the task or the master at its key.
-use Rattle.std.proofs.Common.{◌≡◌, ℕ, Bool, true, false, not, ◌&&◌, ◌||◌, Some, None, List, ◌∷◌, sym, refl, ap, ◌∙◌, ◌⊎◌, inl, inr}
+use Rattle.std.proofs.Common.{◌≡◌, ℕ, true, not, ◌&&◌, Some, None, List, ◌∷◌, sym, refl, ap, ◌∙◌, ◌⊎◌, inl, inr}
 use Rattle.std.proofs.lemmas.Bool.{and_parts, or_cases, or_left, or_right, not-true, true≢false, false_from_ne_true, eqb-true}
 use Rattle.ada_events.specs.declared.event.Event.{Event}
 use Rattle.ada_events.specs.declared.event.Event.TheVariants.{Gone, Quit}
 use Rattle.ada_events.specs.declared.names.TaskNo.{TaskNo}
 use Rattle.ada_events.specs.declared.names.Master.{Master}
 use Rattle.ada_events.specs.declared.names.Master.TheVariants.{Body, Block}
-use Rattle.ada_events.specs.Search.{is_some_and, is_number}
-use Rattle.ada_events.specs.Says.{Creation, completed_in}
-use Rattle.ada_events.specs.Tasks.{task_count, creation_of}
+use Rattle.ada_events.specs.Search.{is_number}
+use Rattle.ada_events.specs.Says.{completed_in}
 use Rattle.ada_events.specs.Phases.{has_start, is_completed, is_terminated}
 use Rattle.ada_events.specs.Termination.{is_complete, is_abandoned, all_terminated}
 use Rattle.ada_events.specs.Forced.{task_no, is_to_go, is_to_quit}
 use Rattle.ada_laws.proofs.Searching.{then_some-some}
-use Rattle.ada_forcing.specs.declared.row.Row.{Row}
 use Rattle.ada_forcing.specs.declared.row.Row.TheVariants.{Going, QuittingBody}
 use Rattle.ada_forcing.specs.Rows.{step_at}
 use Rattle.ada_touching.specs.Kinds.{quitting_row, quitting_key}

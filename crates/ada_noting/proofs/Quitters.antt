@@ -1,6 +1,6 @@
 -- Who terminates with all that depend on a master (9.4): each is elaborated, is in no rendezvous, and has no open call to
 -- it, so that no call fails by that, and no activation ends.
-use Rattle.std.proofs.Common.{◌≡◌, ℕ, ◌⊎◌, Bool, true, false, not, ◌&&◌, Some, None, List, [], ◌∷◌, eqb, sym, refl, ap, ◌∙◌, subst, inl, inr}
+use Rattle.std.proofs.Common.{◌≡◌, ℕ, true, not, ◌&&◌, Some, None, List, [], ◌∷◌, eqb, sym, refl, ap, ◌∙◌, subst, inl, inr}
 use Rattle.std.specs.List.{list_any, list_all, Contains}
 use Rattle.std.proofs.lemmas.Bool.{and_parts, and_from, or_cases, or_left, or_right, not-true, not-false, not_from_false, both_ways, true≢false}
 use Rattle.std.proofs.lemmas.Bool.{cases_Bool, eq-eqb}

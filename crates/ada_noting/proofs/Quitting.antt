@@ -1,7 +1,6 @@
 -- What is put into an agenda where all that depend on a master terminate together: what the master may force, what those
 -- may on which its task depends, and that tasks go that were never started.
-use Rattle.std.proofs.Common.{◌≡◌, ℕ, ◌⊎◌, ◌<◌, Bool, true, false, not, Option, Some, None, List, [], ◌∷◌, sym, refl, ap, ◌∙◌, subst, arith, inl, inr}
-use Rattle.std.specs.Option.{option_map}
+use Rattle.std.proofs.Common.{◌≡◌, ℕ, ◌⊎◌, ◌<◌, true, false, not, Option, Some, None, List, [], ◌∷◌, sym, refl, ap, ◌∙◌, subst, arith, inl, inr}
 use Rattle.std.proofs.lemmas.Bool.{and_parts, or_cases, or_parts, not-true, both_ways, eqb-true}
 use Rattle.std.proofs.lemmas.Option.{none-some, same_Some}
 use Rattle.ada_events.specs.declared.event.Event.{Event}
@@ -42,7 +41,7 @@ use Rattle.ada_touching.proofs.Waiting.{at_wait}
 use Rattle.ada_counts.specs.Holders.{IsHeld}
 use Rattle.ada_counts.proofs.Enclosing.{reaches_held}
 use Rattle.ada_counts.proofs.Owners.{has_contained, one_holder}
-use Rattle.ada_noting.specs.internal.Keys.{Puts, Both, OfFirst, AsUnstarted, AsHolder, AsDependent, AsMaster, holder_of, may_go}
+use Rattle.ada_noting.specs.internal.Keys.{Puts, Both, OfFirst, AsUnstarted, AsHolder, AsDependent, AsMaster, holder_of}
 use Rattle.ada_noting.specs.internal.Keys.AsUnstarted.{goes}
 use Rattle.ada_noting.specs.internal.Keys.AsHolder.{quits, goes as holder_goes, leaves}
 use Rattle.ada_noting.specs.internal.Keys.AsDependent.{through}

@@ -1,13 +1,15 @@
 -- What a wait adds to an agenda.
-use Rattle.std.proofs.Common.{◌≡◌, ℕ, ◌+◌, Bool, true, false, Option, List, Some, None, ◌∷◌, length, sym, refl, ◌∙◌, subst, inl, inr}
+use Rattle.std.proofs.Common.{◌≡◌, ℕ, ℤ, ◌+◌, Bool, true, false, Option, List, Some, None, [], ◌∷◌, length, sym, refl, ◌∙◌, subst, inl, inr}
 use Rattle.std.specs.Option.{is_some}
 use Rattle.std.proofs.lemmas.Bool.{true≢false, false_from_ne_true}
 use Rattle.ada_events.specs.declared.event.Event.{Event}
 use Rattle.ada_events.specs.declared.event.Event.TheVariants.{Waiting}
 use Rattle.ada_events.specs.declared.event.EventTail.{EventTail}
+use Rattle.ada_events.specs.declared.event.EventTail.TheVariants.{Nothing}
 use Rattle.ada_events.specs.declared.event.Way.{Way}
 use Rattle.ada_events.specs.declared.names.TaskNo.{TaskNo}
 use Rattle.ada_events.specs.declared.names.Choice.{Choice}
+use Rattle.ada_events.specs.declared.names.Entry.{Entry}
 use Rattle.ada_events.specs.Says.{held_in, completed_in}
 use Rattle.ada_events.specs.Tasks.{moment}
 use Rattle.ada_events.specs.Waits.{way_of}
@@ -19,16 +21,17 @@ use Rattle.ada_forcing.specs.Rows.{step_at}
 use Rattle.ada_forcing.specs.declared.row.Row.{Row}
 use Rattle.ada_forcing.specs.declared.row.Row.TheVariants.{Taking, Passing}
 use Rattle.ada_records.proofs.Holding.{holder_ran}
-use Rattle.ada_touching.specs.Keeping.{has_key, IsAgendaOf}
+use Rattle.ada_touching.specs.Keeping.{IsAgendaOf}
 use Rattle.ada_touching.specs.Kinds.{itself as own, quitting_row, quitting_key, OfWait, Adds}
 use Rattle.ada_touching.specs.Kinds.OfWait.{takes, passes, quits as wait_quits}
-use Rattle.ada_touching.proofs.Noting.{grows_same, own_is}
+use Rattle.ada_touching.proofs.Noting.{own_is}
 use Rattle.ada_noting.specs.internal.Keys.{Puts, Both, When, AsKey, AsDependent}
 use Rattle.ada_noting.specs.internal.Keys.AsKey.{itself}
 use Rattle.ada_noting.specs.internal.Keys.AsHolder.{quits}
 use Rattle.ada_noting.specs.internal.Keys.When.{holds_so}
 use Rattle.ada_noting.specs.internal.Keys.AsDependent.{through}
 use Rattle.ada_noting.proofs.Additions.{noted_giving}
+use Rattle.ada_noting.proofs.Putting.{both_put, not_put}
 use Rattle.ada_noting.proofs.Giving.{quitter}
 use Rattle.ada_noting.proofs.Ends.{dependent_held}
 
@@ -74,3 +77,16 @@ wait_noted event before old new by pick choices tail at ends so lawful agenda is
     (waiter_completes event by pick choices tail is)
     (waiter_live event before by.0 lawful (waiter_held event by pick choices tail is)) (own_is before at same) told opened
     gives (subst (λ (e : Event). Adds before e row key) is added))
+
+-- who waits at an open accept statement alone doesn't pass
+open_waits : (now : ℤ) (pick : ℕ) (entry : Entry) → is_some (way_of now (record { guard = true; entry = entry } ∷ []) pick Nothing) ≡ false
+unfolding way_of
+open_waits now pick entry = refl
+
+pub accept_noted : (event : Event) (before : List Event) (old new : List (List ℕ)) (by : TaskNo) (pick : ℕ) (entry : Entry) (at : ℕ)
+    → IsLawful (event ∷ before) → IsAgendaOf old before → event ≡ Waiting by pick (record { guard = true; entry = entry } ∷ []) Nothing
+    → at ≡ length before + 1 → Puts old new (AsKey Taking at) → IsAgendaOf new (event ∷ before)
+accept_noted event before old new by pick entry at lawful agenda is same puts =
+    wait_noted event before old new by pick (record { guard = true; entry = entry } ∷ []) Nothing at false false lawful agenda is same
+    (sym (open_waits (moment before) pick entry)) refl
+    (both_put old new new _ _ (both_put old new new _ _ puts (not_put new false (AsKey Passing at) refl)) (not_put new false (AsDependent before by.0) refl))

@@ -1,11 +1,12 @@
 //! What calls and waits add to an agenda.
 
-ghost use Rattle.std.specs.Prelude.{◌≡◌, ◌<◌, true, false, ◌∷◌, length};
+ghost use Rattle.std.specs.Prelude.{◌≡◌, ◌<◌, true, false, [], ◌∷◌, length};
 ghost use Rattle.std.specs.Option.{is_some, option_map};
 ghost use Rattle.ada_events.specs.Lawful.{IsLawful};
-ghost use Rattle.ada_events.specs.Says.{Call, call_in, call_at};
+ghost use Rattle.ada_events.specs.Says.{Call, call_at};
 ghost use Rattle.ada_events.specs.declared.event.Event.TheVariants.{Cancelled as CancelledEvent, Ended as EndedEvent, Failed as FailedEvent};
 ghost use Rattle.ada_events.specs.declared.event.Event.TheVariants.{Waiting as WaitingEvent};
+ghost use Rattle.ada_events.specs.declared.event.EventTail.TheVariants.{Nothing};
 ghost use Rattle.ada_events.specs.declared.names.TaskNo.{TaskNo as Number};
 ghost use Rattle.ada_touching.specs.Keeping.{IsAgendaOf};
 ghost use Rattle.ada_events.specs.Tasks.{moment};
@@ -17,32 +18,21 @@ ghost use Rattle.ada_noting.specs.internal.Keys.{Puts, When, AsDependent, AsCall
 use crate::masters::put_dependent;
 use crate::passes::{put_key, put_key_if};
 use ada_agenda::Agenda;
-use ada_events::{Choice, Event, EventTail, TaskNo};
+use ada_events::{Choice, Entry, Event, EventTail, TaskNo};
 use ada_forcing::Row;
 use ada_rows::State;
 use ada_touching::keeping::{self, own_key};
 use ada_waits::way_of;
 
-// The task that an event calls.
-#[tactic(auto, unfolding(ada_events::specs::Says::call_in))]
-fn callee_in(event: &Event) -> Option<TaskNo>
-    ensures { option_map (λ (t : Number). t.0) result
-        ≡ option_map (λ (c : Call). c.callee) (call_in event.now) }
-{
-    match event {
-        Event::Called { callee, .. } => Some(*callee),
-        _ => None,
-    }
-}
-
 // The task that the call at a position calls.
+#[tactic(auto, unfolding(ada_events::specs::Says::call_in))]
 fn callee_at(state: &State, at: u32) -> Option<TaskNo>
     ensures { option_map (λ (t : Number). t.0) result
         ≡ option_map (λ (c : Call). c.callee) (call_at state.now at) }
 {
     match state.event(at) {
-        Some(event) => callee_in(event),
-        None => None,
+        Some(Event::Called { callee, .. }) => Some(*callee),
+        _ => None,
     }
 }
 
@@ -68,26 +58,15 @@ pub(crate) fn note_cancellation(agenda: &mut Agenda, state: &State, _event: &Eve
     put_callee(agenda, state, call);
 }
 
-// The task that makes a call.
-#[tactic(auto, unfolding(ada_events::specs::Says::call_in))]
-fn caller_in(event: &Event) -> Option<TaskNo>
-    ensures { option_map (λ (t : Number). t.0) result
-        ≡ option_map (λ (c : Call). c.by) (call_in event.now) }
-{
-    match event {
-        Event::Called { by, .. } => Some(*by),
-        _ => None,
-    }
-}
-
 // The task that made the call at a position.
+#[tactic(auto, unfolding(ada_events::specs::Says::call_in))]
 fn caller_at(state: &State, at: u32) -> Option<TaskNo>
     ensures { option_map (λ (t : Number). t.0) result
         ≡ option_map (λ (c : Call). c.by) (call_at state.now at) }
 {
     match state.event(at) {
-        Some(event) => caller_in(event),
-        None => None,
+        Some(Event::Called { by, .. }) => Some(*by),
+        _ => None,
     }
 }
 
@@ -103,7 +82,7 @@ fn put_caller(agenda: &mut Agenda, state: &State, at: u32)
 }
 
 /// Notes that a rendezvous ends (9.5): that its caller is halted may be forced (9.10).
-pub(crate) fn note_end(
+pub fn note_end(
     agenda: &mut Agenda,
     state: &State,
     _event: &Event,
@@ -181,9 +160,28 @@ pub(crate) fn note_wait(
     put_dependent_if(agenda, state, by, is_open_terminate(tail));
 }
 
+/// Notes that a task waits at an accept statement alone (9.5): that it takes a call may be forced.
+pub fn note_accept(
+    agenda: &mut Agenda,
+    state: &State,
+    event: &Event,
+    _by: TaskNo,
+    _pick: u32,
+    _entry: Entry,
+)
+    requires lawful { IsLawful (event.now ∷ state.now) }
+    requires stands { IsAgendaOf agenda.old state.now }
+    requires accepts { event.now ≡ WaitingEvent _by _pick
+        (record { guard = true; entry = _entry } ∷ []) Nothing }
+    ensures { IsAgendaOf agenda.new (event.now ∷ state.now) }
+{
+    put_key(agenda, Row::Taking, own_key(state.journal(), event));
+}
+
 /// Notes that an entry of a task is called (9.5): that the call fails, where the task has ended or is abnormal, that it
 /// is cancelled, where it is given up, and that the wait takes it at which the task is suspended, may be forced.
-pub(crate) fn note_call(agenda: &mut Agenda, state: &State, event: &Event, callee: TaskNo)
+#[inline(always)]
+pub fn note_call(agenda: &mut Agenda, state: &State, event: &Event, callee: TaskNo)
     requires lawful { IsLawful (event.now ∷ state.now) }
     requires stands { IsAgendaOf agenda.old state.now }
     requires calls { IsCallOf event.now callee.0 }

@@ -2,7 +2,7 @@
 //! newly force is put in, and at times a little more, but never too little.
 #![tactic(auto)]
 
-mod calls;
+pub mod calls;
 mod endings;
 mod kinds;
 mod masters;

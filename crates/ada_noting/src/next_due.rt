@@ -46,8 +46,8 @@ impl NextDue {
         is_due(now, self.0)
     }
 
-    // The earlier of this moment and another, where there are two.
-    pub(crate) fn with(self, due: Option<i64>) -> Self
+    /// The earlier of this moment and another, where there are two.
+    pub fn with(self, due: Option<i64>) -> Self
         ensures { result ≡ waits.earlier self due }
     {
         NextDue(earlier(self.0, due))

@@ -3,11 +3,11 @@ ghost use Rattle.std.specs.Prelude.{◌≡◌, [], IfOk, IfErr};
 ghost use Rattle.ada_events.specs.Lawful.{IsLawful, IsSettled};
 ghost use Rattle.ada_events.specs.Steps.{IsAccepted, IsRefused};
 
-use ada_events::{Event, Journal, Refusal, Request};
+use ada_events::{Journal, Refusal, Request};
 use ada_plain_forced::forced::forced;
 use ada_plain_refusals::asks::asked_event;
 use ada_plain_refusals::refusals::refusal;
-use ada_steps::{Answerer, step};
+use ada_steps::{Answerer, make_room, step};
 use std::alloc::Global;
 use std::marker::Model;
 
@@ -18,15 +18,13 @@ struct Search;
 impl Answerer for Search {
     ghost stands = { λ _ _. Unit {0} };
 
-    fn refusal(&self, journal: &Journal, request: &Request) -> Option<Refusal> {
-        refusal(journal.as_slice(), request)
-    }
-
-    fn ask(&self, journal: &Journal, request: &Request) -> Result<Event, Refusal> {
-        asked_event(journal.allocator(), journal.as_slice(), request)
-    }
-
-    fn note(&mut self, _journal: &Journal, _event: &Event) -> Result<(), Refusal> {
+    fn begin(&mut self, journal: &mut Journal, request: &Request) -> Result<(), Refusal> {
+        if let Some(cause) = refusal(journal.as_slice(), request) {
+            return Err(cause);
+        }
+        make_room(journal)?;
+        let event = asked_event(journal.allocator(), journal.as_slice(), request)?;
+        journal.push_reserved(event);
         Ok(())
     }
 

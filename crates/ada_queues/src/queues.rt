@@ -157,6 +157,7 @@ impl Queues {
 
     /// Puts a call of a task last in the queue at a slot (9.5). There must be room, and no call of the task may
     /// be queued.
+    #[inline(always)]
     pub fn enqueue_reserved(&mut self, by: u16, slot: u16, call: u32)
         requires known { by < self.old.callers }
         requires slot { slot < length self.old.queues }
@@ -180,6 +181,7 @@ impl Queues {
     }
 
     /// Takes a task's call out of the queue in which it waits.
+    #[inline(always)]
     pub fn unlink(&mut self, by: u16)
         requires { waits by self.old.queues ≡ true }
         ensures { self.new ≡ record self.old {

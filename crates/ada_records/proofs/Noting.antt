@@ -204,9 +204,6 @@ raising_says : (e : Event) (by : TaskNo) (call : ℕ) → e ≡ Ended by call tr
 unfolding released_in raised_in meeting_in released_to
 raising_says e by call is = (ap released_in is, ap raised_in is, ap meeting_in is, λ before. ap (released_to before) is)
 
-pub raising_frees : (e : Event) (by : TaskNo) (call : ℕ) → e ≡ Ended by call true → released_in e ≡ Some call
-raising_frees e by call is = (raising_says e by call is).0
-
 met_raises_none : (call wait : ℕ) → raised_in (Met call wait) ≡ None
 unfolding raised_in
 met_raises_none call wait = refl

@@ -1,14 +1,56 @@
 //! What one more event changes in the records, whatever its kind.
-ghost use Rattle.std.specs.Prelude.{◌+◌, ◌<◌, ◌^◌, ◌∷◌, length, vec_len, vec_capacity};
+ghost use Rattle.std.specs.Prelude.{◌≡◌, ◌+◌, ◌<◌, ◌^◌, ◌∷◌, length, vec_len, vec_capacity};
+ghost use Rattle.ada_events.specs.declared.event.Event.TheVariants.{Ended as EndedEvent, Met as MetEvent};
 ghost use Rattle.ada_events.specs.Lawful.{IsLawful};
+ghost use Rattle.ada_events.specs.Outcomes.{choice_met};
 ghost use Rattle.ada_records.specs.Records.{AreRecords, AreFacts, MakesRoom};
 
 use crate::record::Record;
 use crate::records::{
-    note_abort, note_completed, note_created, note_elaborated, note_ended, note_gone, note_hold,
-    note_met, note_quit, note_release, note_start,
+    holder_at, note_abort, note_completed, note_created, note_elaborated, note_ended, note_gone,
+    note_hold, note_met, note_quit, note_release, note_start,
 };
-use ada_events::{Event, Journal};
+use ada_events::{Event, Journal, TaskNo};
+
+// Notes that a task ends the rendezvous with a call (9.5, 11.5), whose caller is looked up.
+fn note_ending(
+    records: &mut [Record],
+    journal: &Journal,
+    event: &Event,
+    by: TaskNo,
+    call: u32,
+    raised: bool,
+)
+    requires lawful { IsLawful (event.now ∷ journal.now.events) }
+    requires stand { AreRecords records.old journal.now.events }
+    requires ends { event.now ≡ EndedEvent by call raised }
+    ensures { AreRecords records.new (event.now ∷ journal.now.events) }
+{
+    let caller = holder_at(journal, call);
+    note_ended(records, journal, event, by, caller, call, raised);
+}
+
+// Notes that a rendezvous begins (9.5), whose caller and acceptor are looked up.
+fn note_meeting(
+    records: &mut [Record],
+    journal: &Journal,
+    event: &Event,
+    call: u32,
+    wait: u32,
+    choice: u8,
+)
+    requires lawful { IsLawful (event.now ∷ journal.now.events) }
+    requires stand { AreRecords records.old journal.now.events }
+    requires met { event.now ≡ MetEvent call wait }
+    requires chosen { choice ≡ choice_met journal.now.events wait }
+    ensures { AreRecords records.new (event.now ∷ journal.now.events) }
+{
+    let caller = holder_at(journal, call);
+    let acceptor = holder_at(journal, wait);
+    note_met(
+        records, journal, event, caller, acceptor, call, wait, choice,
+    );
+}
 
 /// Notes an event in the records, before it is appended to its journal. The choice is the one by which a wait takes a
 /// call, counted from 0, where the event begins a rendezvous. The list says of each task whether it depends on the
@@ -41,7 +83,7 @@ pub fn note(
         Event::Paused { by, .. } => note_hold(records.as_mut_slice(), journal, event, *by),
         Event::Closed { by, .. } => note_hold(records.as_mut_slice(), journal, event, *by),
         Event::Ended { by, call, raised } => {
-            note_ended(records.as_mut_slice(), journal, event, *by, *call, *raised)
+            note_ending(records.as_mut_slice(), journal, event, *by, *call, *raised)
         }
         Event::Completed { by } => note_completed(records.as_mut_slice(), journal, event, *by),
         Event::Halted { task } => note_completed(records.as_mut_slice(), journal, event, *task),
@@ -50,7 +92,7 @@ pub fn note(
         }
         Event::Failed { call } => note_release(records.as_mut_slice(), journal, event, *call),
         Event::Met { call, wait } => {
-            note_met(records.as_mut_slice(), journal, event, *call, *wait, choice)
+            note_meeting(records.as_mut_slice(), journal, event, *call, *wait, choice)
         }
         Event::Cancelled { call } => note_release(records.as_mut_slice(), journal, event, *call),
         Event::Passed { wait, .. } => note_release(records.as_mut_slice(), journal, event, *wait),

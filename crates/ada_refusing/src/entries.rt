@@ -124,7 +124,7 @@ fn families<'a>(state: &'a State, task: TaskNo) -> &'a [Family]
 }
 
 #[tactic(auto, unfolding(ada_events::specs::Refusals::lacks_family))]
-fn lacks_family(state: &State, task: TaskNo, entry: Entry) -> bool
+pub(crate) fn lacks_family(state: &State, task: TaskNo, entry: Entry) -> bool
     ensures { result ≡ refusals.lacks_family state.now task.0 entry }
 {
     families(state, task).get(entry.family as usize).is_none()
@@ -153,7 +153,7 @@ fn names_no_family(state: &State, request: &Request) -> bool
 
 // Whether the index of an entry lies outside its family's range (9.5).
 #[tactic(auto, unfolding(ada_events::specs::Refusals::is_outside))]
-fn is_outside(state: &State, task: TaskNo, entry: Entry) -> bool
+pub(crate) fn is_outside(state: &State, task: TaskNo, entry: Entry) -> bool
     ensures { result ≡ refusals.is_outside state.now task.0 entry }
 {
     match families(state, task).get(entry.family as usize) {

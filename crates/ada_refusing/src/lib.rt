@@ -6,5 +6,6 @@ mod entries;
 mod limits;
 mod names;
 mod nests;
+pub mod rendezvous;
 
 pub use causes::refusal;

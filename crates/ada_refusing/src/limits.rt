@@ -32,7 +32,7 @@ fn aborts_main(request: &Request) -> bool
 
 // A duration from a moment on ends behind the last moment.
 #[tactic(auto, unfolding(ada_events::specs::Asks::due_after))]
-fn ends_too_late(now: i64, duration: i64) -> bool
+pub(crate) fn ends_too_late(now: i64, duration: i64) -> bool
     ensures { result ≡ limits.ends_too_late now duration }
 {
     now.saturating_add(duration.max(0)) > LAST_MOMENT
@@ -125,7 +125,7 @@ fn makes_too_many_slots(state: &State, request: &Request) -> bool
 
 // Whether the journal hasn't room for the most events that one request appends.
 #[tactic(auto, unfolding(ada_events::specs::Limits::is_full))]
-fn is_full(state: &State) -> bool
+pub(crate) fn is_full(state: &State) -> bool
     ensures { result ≡ limits.is_full state.now }
 {
     MOST_EVENTS < state.len() as usize + MOST_APPENDED

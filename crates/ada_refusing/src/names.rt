@@ -38,7 +38,7 @@ fn asker(request: &Request) -> Option<TaskNo>
     }
 }
 
-fn is_known(count: u16, task: TaskNo) -> bool
+pub(crate) fn is_known(count: u16, task: TaskNo) -> bool
     ensures { result ≡ nat_lt task.0 count }
 {
     task.0 < count
@@ -95,7 +95,7 @@ fn names_unknown_task(state: &State, request: &Request) -> bool
     is_unknown_asker(count, asker(request)) || names_unknown(count, request)
 }
 
-fn is_running(state: &State, task: TaskNo) -> bool
+pub(crate) fn is_running(state: &State, task: TaskNo) -> bool
     ensures { result ≡ phases.is_running state.now task.0 }
 {
     state.record(task).is_running()
@@ -119,7 +119,7 @@ fn asker_not_running(state: &State, request: &Request) -> bool
     is_halted_asker(state, asker(request))
 }
 
-fn is_elaborated(state: &State, task: TaskNo) -> bool
+pub(crate) fn is_elaborated(state: &State, task: TaskNo) -> bool
     ensures { result ≡ phases.is_elaborated state.now task.0 }
 {
     state.record(task).stage.elaborated

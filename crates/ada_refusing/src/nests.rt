@@ -32,7 +32,7 @@ fn is_rendezvous(member: Member) -> bool
     matches!(member, Member::Rendezvous(_))
 }
 
-fn is_innermost_rendezvous(member: Option<Member>, otherwise: bool) -> bool
+pub(crate) fn is_innermost_rendezvous(member: Option<Member>, otherwise: bool) -> bool
     ensures { result ≡ option_map_or refusals.is_rendezvous member otherwise }
 {
     match member {
@@ -110,7 +110,7 @@ fn any_is_rendezvous_for(state: &State, family: u8, layers: &[Layer]) -> bool
 }
 
 // Whether a member of a nest is a rendezvous for a family.
-fn has_rendezvous_for(state: &State, family: u8, nest: &Layers) -> bool
+pub(crate) fn has_rendezvous_for(state: &State, family: u8, nest: &Layers) -> bool
     ensures { result ≡ list_any (refusals.is_rendezvous_for state.now family) (members nest.now) }
 {
     any_is_rendezvous_for(state, family, nest.as_slice())

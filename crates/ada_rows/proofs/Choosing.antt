@@ -1,8 +1,9 @@
 -- The open choices of a wait name entries of its task, and what tables hold of their queues.
-use Rattle.std.proofs.Common.{◌≡◌, ℕ, ◌<◌, ◌%◌, ◌&&◌, Bool, true, false, Some, None, List, [], ◌∷◌, map, length, refl, sym, ap, ◌∙◌, subst, arith}
+use Rattle.std.proofs.Common.{◌≡◌, ℕ, ◌<◌, ◌%◌, ◌&&◌, Bool, true, false, Option, Some, None, List, [], ◌∷◌, map, length, refl, sym, ap, ◌∙◌, subst, arith}
 use Rattle.std.proofs.Common.{inl, inr}
 use Rattle.std.specs.Prelude.{slice_get}
 use Rattle.std.specs.Bool.{then_some}
+use Rattle.std.specs.Option.{option_and_then, is_some}
 use Rattle.std.proofs.lemmas.Nat.{mod_below}
 use Rattle.std.proofs.lemmas.Option.{none-some, same_Some}
 use Rattle.ada_events.specs.declared.event.Event.{Event}
@@ -16,7 +17,7 @@ use Rattle.ada_events.specs.Asks.{asked_event}
 use Rattle.ada_events.specs.Tasks.{families_of}
 use Rattle.ada_events.specs.Slots.{number_within}
 use Rattle.ada_events.specs.Calls.{queue}
-use Rattle.ada_events.specs.Waits.{picked, numbers_from}
+use Rattle.ada_events.specs.Waits.{picked, numbers_from, front_of, is_selectable}
 use Rattle.ada_events.specs.Refusals.{refusal, lacks_family, is_outside, names_no_family, breaks_constraint}
 use Rattle.ada_events.specs.Lawful.{IsLawful, MayFollow}
 use Rattle.ada_laws.proofs.Searching.{event_at-cases}
@@ -102,3 +103,19 @@ one_picked test pick choice [] none = by_test (test choice) refl
     by_test true is = rw is (ap (slice_get (0 ∷ [])) (mod_one pick))
     by_test false is = rw is refl
 one_picked test pick choice (a ∷ rest) none = absurd (omega (arith, none))
+
+-- so of one choice the front of its queue is taken
+pub one_front : (journal : List Event) (task pick : ℕ) (choice : Choice) (rest : List Choice) → length rest ≡ 0
+    → option_and_then (front_of journal task) (option_and_then (slice_get (choice ∷ rest))
+    (picked pick (numbers_from (is_selectable journal task) 0 (choice ∷ rest)))) ≡ front_of journal task choice
+unfolding is_selectable
+one_front journal task pick choice rest none =
+    ap (λ number. option_and_then (front_of journal task) (option_and_then (slice_get (choice ∷ rest)) number))
+    (one_picked (is_selectable journal task) pick choice rest none)
+    ∙ of_front (front_of journal task choice) refl
+  where
+    of_front : (front : Option ℕ) → front_of journal task choice ≡ front
+        → option_and_then (front_of journal task) (option_and_then (slice_get (choice ∷ rest)) (then_some (is_some (front_of journal task choice)) 0))
+        ≡ front_of journal task choice
+    of_front (Some call) is = rw is is
+    of_front None is = rw is refl

@@ -67,33 +67,23 @@ impl<'a> State<'a> {
         }
     }
 
-    // The number of a choice that is the only one, where it is selectable.
-    fn only_choice(&self, task: TaskNo, choice: Choice) -> Option<u8>
-        requires { IsOfTask self.now task.0 choice }
-        ensures { result ≡ then_some (waits.is_selectable self.now task.0 choice) 0 }
-    {
-        if self.is_selectable(task, choice) {
-            Some(0)
-        } else {
-            None
-        }
-    }
-
-    // The number of the choice by which a wait with these choices takes a call. Most waits have one choice.
-    #[tactic(auto, using(crate::proofs::Choosing::one_picked))]
-    fn taken_choice(&self, task: TaskNo, choices: &[Choice], pick: u32) -> Option<u8>
+    // The call at the front of the queue of the choice by which a wait with these choices takes a call.
+    fn front_picked(&self, task: TaskNo, choices: &[Choice], pick: u32) -> Option<u32>
         requires few { length choices.now ≤ MOST_CHOICES }
         requires declared { AreOfTask self.now task.0 choices.now }
-        ensures { result ≡ waits.picked pick
-            (waits.numbers_from (waits.is_selectable self.now task.0) 0 choices.now) }
+        ensures { result ≡ option_and_then (waits.front_of self.now task.0)
+            (option_and_then (slice_get choices.now)
+            (waits.picked pick (waits.numbers_from (waits.is_selectable self.now task.0)
+            0 choices.now))) }
     {
-        match choices.split_first() {
-            Some((choice, rest)) if rest.is_empty() => self.only_choice(task, *choice),
-            _ => picked(pick, self.selectable(task, choices).as_slice()),
+        match picked(pick, self.selectable(task, choices).as_slice()) {
+            Some(number) => self.front_of_number(task, choices, number),
+            None => None,
         }
     }
 
-    // The call that a wait with these choices takes.
+    // The call that a wait with these choices takes. Most waits have one choice.
+    #[tactic(auto, using(crate::proofs::Choosing::one_front))]
     fn taken_call(&self, task: TaskNo, choices: &[Choice], pick: u32) -> Option<u32>
         requires few { length choices.now ≤ MOST_CHOICES }
         requires declared { AreOfTask self.now task.0 choices.now }
@@ -102,9 +92,9 @@ impl<'a> State<'a> {
             (waits.picked pick (waits.numbers_from (waits.is_selectable self.now task.0)
             0 choices.now))) }
     {
-        match self.taken_choice(task, choices, pick) {
-            Some(number) => self.front_of_number(task, choices, number),
-            None => None,
+        match choices.split_first() {
+            Some((choice, rest)) if rest.is_empty() => self.front_of(task, *choice),
+            _ => self.front_picked(task, choices, pick),
         }
     }
 

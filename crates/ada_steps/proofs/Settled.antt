@@ -1,14 +1,14 @@
 -- Appending what a request leads to, in a journal that has room for it.
-use Rattle.std.proofs.Common.{◌≡◌, ◌+◌, ◌<◌, ◌≤◌, Some, None, List, ◌∷◌, length, sym, ap, ◌∙◌, subst, arith, inl}
+use Rattle.std.proofs.Common.{◌≡◌, ◌+◌, ◌<◌, ◌≤◌, Some, List, ◌∷◌, length, sym, subst, arith, inl}
 use Rattle.ada_events.specs.declared.event.Event.{Event}
 use Rattle.ada_events.specs.declared.request.Request.{Request}
 use Rattle.ada_events.specs.Journals.{Kept}
 use Rattle.ada_events.specs.Forced.{forced}
-use Rattle.ada_events.specs.Refusals.{refusal}
 use Rattle.ada_events.specs.Asks.{asked_event}
 use Rattle.ada_events.specs.Lawful.{IsLawful, IsSettled, Forces, nothing, one_more}
 use Rattle.ada_laws.specs.Work.{work_left}
 use Rattle.ada_laws.proofs.LimitLaws.{steps_lessen_the_work, work_left-most, asked_lawful, events_are_few}
+use Rattle.ada_steps.specs.Beginning.{HasBegun}
 use Rattle.ada_steps.specs.internal.Settling.{IsSettling}
 
 pub room_left : (from : List Event) (journal : Kept) (step : Event) → IsSettling from journal → forced journal.events ≡ Some step → 0 < journal.spare
@@ -34,11 +34,9 @@ pub has_places : (journal : List Event) → IsLawful journal → length journal 
 has_places journal lawful = omega (arith, events_are_few journal lawful)
 
 -- with the event of a request appended, the journal is lawful and the work left finds room
-pub asked_room : (old : List Event) (request : Request) (before after : Kept) (event : Event) → IsLawful old → IsSettled old → refusal old request ≡ None
-    → before.events ≡ old → 1024 ≤ before.spare → before.spare ≤ after.spare + 1 → event ≡ asked_event old request → after.events ≡ event ∷ before.events
+pub begun_room : (old after : Kept) (request : Request) → IsLawful old.events → IsSettled old.events → HasBegun old request after
     → IsLawful after.events × (work_left after.events ≤ after.spare)
-asked_room old request before after event lawful settled unrefused same room spare is appended =
-    let asked : IsLawful (asked_event old request ∷ old) = asked_lawful old request lawful settled unrefused in
-    let whole : after.events ≡ asked_event old request ∷ old = appended ∙ ap (λ e. e ∷ before.events) is ∙ ap (λ j. asked_event old request ∷ j) same in
-    let after_lawful : IsLawful after.events = subst (λ j. IsLawful j) (sym whole) asked in
-    (after_lawful, omega (arith, work_left-most after.events after_lawful))
+begun_room old after request lawful settled begun =
+    let asked : IsLawful (asked_event old.events request ∷ old.events) = asked_lawful old.events request lawful settled begun.unrefused in
+    let after_lawful : IsLawful after.events = subst (λ j. IsLawful j) (sym begun.appended) asked in
+    (after_lawful, omega (arith, work_left-most after.events after_lawful, begun.room))

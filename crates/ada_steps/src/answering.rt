@@ -1,8 +1,7 @@
 //! Refusing and accepting requests.
 
-ghost use Rattle.std.specs.Prelude.{◌≡◌, ◌≤◌, None, IfOk, IfErr};
+ghost use Rattle.std.specs.Prelude.{◌≡◌, ◌≤◌, IfOk, IfErr, OnOk};
 ghost use Rattle.ada_events.specs.Lawful.{IsLawful, IsSettled, Forces};
-ghost use Rattle.ada_events.specs.Refusals.{refusal as refusal_of};
 ghost use Rattle.ada_events.specs.Steps.{IsAccepted, IsRefused};
 ghost use Rattle.ada_laws.specs.Work.{work_left};
 
@@ -11,6 +10,17 @@ use ada_events::{Journal, Refusal, Request};
 
 /// How many events find room before a request changes anything: more than one request appends.
 const ROOM: u32 = 1024;
+
+/// Makes room in a journal for all that one request appends, at most 769 events, and for more. Fails with `OutOfMemory`
+/// alone, and then changes nothing.
+pub fn make_room(journal: &mut Journal) -> Result<(), Refusal>
+    requires { IsLawful journal.old.events }
+    ensures events { journal.new.events ≡ journal.old.events }
+    ensures ok { OnOk result (1024 ≤ journal.new.spare) }
+    ensures err { IfErr result (λ cause. cause ≡ Refusal.OutOfMemory) }
+{
+    journal.reserve(ROOM)
+}
 
 // Appends the steps that the journal forces, until it forces none.
 fn settle<A: Answerer>(answerer: &mut A, journal: &mut Journal)
@@ -23,33 +33,6 @@ fn settle<A: Answerer>(answerer: &mut A, journal: &mut Journal)
     ensures stands { A.stands answerer.new journal.new.events }
 {
     while answerer.advance(journal) {}
-}
-
-// Appends the event of a request that isn't refused, and the steps that it forces.
-fn accept<A: Answerer>(
-    answerer: &mut A,
-    journal: &mut Journal,
-    request: &Request,
-) -> Result<u32, Refusal>
-    requires stands { A.stands answerer.old journal.old.events }
-    requires lawful { IsLawful journal.old.events }
-    requires settled { IsSettled journal.old.events }
-    requires unrefused { refusal_of journal.old.events request.now ≡ None }
-    ensures ok { IfOk result (λ at.
-        IsAccepted journal.old.events request.now at journal.new.events) }
-    ensures err { IfErr result (λ cause.
-        IsRefused journal.old.events request.now cause journal.new.events) }
-    ensures lawful { IsLawful journal.new.events }
-    ensures settled { IsSettled journal.new.events }
-    ensures stands { A.stands answerer.new journal.new.events }
-{
-    journal.reserve(ROOM)?;
-    let at = journal.len() + 1;
-    let event = answerer.ask(journal, request)?;
-    answerer.note(journal, &event)?;
-    journal.push_reserved(event);
-    settle(answerer, journal);
-    Ok(at)
 }
 
 /// Answers a request: appends its event and the steps that it forces, and gives the event's position; or
@@ -71,8 +54,8 @@ pub fn step<A: Answerer>(
     ensures settled { IsSettled journal.new.events }
     ensures stands { A.stands answerer.new journal.new.events }
 {
-    if let Some(cause) = answerer.refusal(journal, request) {
-        return Err(cause);
-    }
-    accept(answerer, journal, request)
+    let at = journal.len() + 1;
+    answerer.begin(journal, request)?;
+    settle(answerer, journal);
+    Ok(at)
 }

@@ -6,4 +6,4 @@ pub mod answerer;
 mod answering;
 
 pub use answerer::Answerer;
-pub use answering::step;
+pub use answering::{make_room, step};

@@ -245,6 +245,7 @@ impl Layers {
     }
 
     /// Takes out the rendezvous with a call.
+    #[inline(always)]
     pub(crate) fn cut(&mut self, call: u32)
         ensures { self.new ≡ nests.cut_layers call self.old }
     {

@@ -133,6 +133,7 @@ impl Tables {
 
     /// Puts a call last in the queue of an entry (9.5). There must be room, and no call of the caller may be
     /// queued.
+    #[inline(always)]
     pub fn enqueue_reserved(&mut self, by: TaskNo, callee: TaskNo, entry: Entry, call: u32)
         requires by { by.0 < length self.old.tasks }
         requires entry { HasEntry self.old.tasks callee.0 entry }
@@ -157,6 +158,7 @@ impl Tables {
     }
 
     /// Takes a task's call out of the queue in which it waits.
+    #[inline(always)]
     pub fn unlink(&mut self, by: TaskNo)
         requires { waits by.0 self.old.queues ≡ true }
         ensures { self.new ≡ record self.old {
@@ -292,6 +294,7 @@ impl Tables {
     }
 
     /// Takes a task out of the rendezvous with a call, wherever it stands in its nest.
+    #[inline(always)]
     pub fn cut_nest(&mut self, task: TaskNo, call: u32)
         requires { task.0 < length self.old.tasks }
         ensures { self.new ≡ record self.old {

@@ -99,6 +99,7 @@ fn put_if(agenda: &mut Agenda, row: Row, key: usize, so: bool)
 /// Notes that an entry of a task is called (9.5), which is suspended at that position, or at none where it is 0: that
 /// the call fails, where the task has ended or is abnormal, that it is cancelled, where it is given up, and that the
 /// wait at which the task is suspended takes it, may be forced.
+#[inline(always)]
 pub fn note_call(
     agenda: &mut Agenda,
     journal: &Journal,

@@ -1,12 +1,18 @@
--- Taking the step that a row of the forced steps gives at a key.
+-- Beginning the answer to a request, and taking the step that a row of the forced steps gives at a key.
 use Rattle.std.specs.Prelude.{◌≡◌, ℕ, ◌<◌, ◌≤◌, ◌+◌, Bool, true, false, Some, None, List, ◌∷◌}
 use Rattle.ada_events.specs.declared.event.Event.{Event}
 use Rattle.ada_events.specs.Forced.{forced}
 use Rattle.ada_events.specs.Journals.{Kept}
+use Rattle.ada_events.specs.Lawful.{IsSettled}
 use Rattle.ada_forcing.specs.declared.row.Row.{Row}
 use Rattle.ada_forcing.specs.Rows.{rank, step_at}
 use Rattle.ada_index.specs.declared.index.Index.{Index}
 use Rattle.ada_index.specs.Indexes.{IsIndexOf}
+
+-- the index stands for the journal, which forces nothing
+pub record MayBegin (index : Index) (journal : List Event) : Type 0 where
+  pub stands : IsIndexOf index journal
+  pub settled : IsSettled journal
 
 -- the index stands for the journal; what the row gives at the key is forced, and there is room for it
 pub record MayTake (index : Index) (journal : Kept) (row : Row) (key : ℕ) : Type 0 where

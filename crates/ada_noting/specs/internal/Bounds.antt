@@ -1,7 +1,6 @@
 -- The next moment for which a task is suspended, which tells whether a tick makes anything due (9.6).
 use Rattle.std.specs.Prelude.{◌≡◌, ℕ, ℤ, ◌<◌, true, false, Option, Some, List, int_le}
 use Rattle.ada_events.specs.declared.event.Event.{Event}
-use Rattle.ada_events.specs.Tasks.{moment}
 use Rattle.ada_events.specs.Waits.{is_due}
 use Rattle.ada_noting.specs.Bounds.{IsSuspendedUntil}
 

@@ -1,4 +1,4 @@
-use Rattle.std.proofs.Common.{◌≡◌, ◌<◌, Some, None, length, refl, sym, ap, ◌∙◌, subst, arith}
+use Rattle.std.proofs.Common.{◌≡◌, ◌<◌, Some, length, refl, sym, ap, ◌∙◌, subst, arith}
 use Rattle.ada_events.specs.Forced.{forced}
 use Rattle.ada_touching.specs.Keeping.{IsAgendaOf}
 use Rattle.ada_index.specs.Indexes.{IsIndexOf}

@@ -4,7 +4,7 @@ use Rattle.ada_events.specs.Tasks.{moment}
 use Rattle.ada_records.specs.declared.record.Record.{Record}
 use Rattle.ada_records.specs.Records.{AreRecords}
 use Rattle.ada_rows.specs.States.{AreMade}
-use Rattle.ada_index.proofs.Beginning.{main_is_made, empty_agenda}
+use Rattle.ada_index.proofs.Empty.{main_is_made, empty_agenda}
 use Rattle.ada_index.proofs.index.Index.new.Goals as goal
 
 pub returns-clause-ok : goal.returns-clause-ok

@@ -1,0 +1,149 @@
+//! Tables that follow an event of a rendezvous (9.5).
+ghost use Rattle.std.specs.Prelude.{◌≡◌, ◌<◌, ◌∷◌, Some, None};
+ghost use Rattle.ada_events.specs.Lawful.{IsLawful};
+ghost use Rattle.ada_events.specs.Says.{creation_in};
+ghost use Rattle.ada_events.specs.declared.event.Event.TheVariants.{Met as MetEvent};
+ghost use Rattle.ada_laws.specs.Suspension.{IsSuspendedAt};
+ghost use Rattle.ada_tables.specs.Standing.{StandFor};
+ghost use Rattle.ada_records.specs.Records.{AreRecords};
+ghost use Rattle.ada_counts.specs.Noting.{HaveAllQueues, HaveRoomFor, MakesCall, MakesWait, EndsCall};
+ghost use Rattle.ada_counts.specs.internal.Phasing.{TouchesOnly};
+ghost use Rattle.ada_counts.specs.internal.Renesting.{ChangesNests};
+ghost use Rattle.ada_counts.specs.internal.Requeuing.{ChangesQueues};
+
+use crate::nests::{NestChange, change_nests};
+use crate::phasing::refresh_touched;
+use crate::queues::{QueueChange, change_queues};
+use ada_events::{Entry, Event, Journal, Member, TaskNo};
+use ada_records::Record;
+use ada_tables::Tables;
+
+// Lets tables follow an event of which it is known what it changes in queues and nests, and whose phase.
+#[inline(always)]
+fn follow_changes(
+    tables: &mut Tables,
+    records: &[Record],
+    journal: &Journal,
+    event: &Event,
+    queues: QueueChange,
+    nests: NestChange,
+    touched: TaskNo,
+)
+    requires lawful { IsLawful (event.now ∷ journal.now.events) }
+    requires makes { creation_in event.now ≡ None }
+    requires stand { StandFor tables.old journal.now.events }
+    requires slots { HaveAllQueues tables.old journal.now.events }
+    requires records { AreRecords records.now (event.now ∷ journal.now.events) }
+    requires room { HaveRoomFor tables.old event.now }
+    requires queues { ChangesQueues event.now journal.now.events queues }
+    requires nests { ChangesNests event.now journal.now.events nests }
+    requires touches { TouchesOnly event.now journal.now.events (Some touched) }
+    ensures stand { StandFor tables.new (event.now ∷ journal.now.events) }
+    ensures slots { HaveAllQueues tables.new (event.now ∷ journal.now.events) }
+{
+    change_queues(tables, journal, event, queues);
+    change_nests(tables, journal, event, nests);
+    refresh_touched(tables, records, journal, event, Some(touched));
+}
+
+/// Lets tables follow a task's call of an entry, which comes last in its queue and holds the task up (9.5). There is
+/// room for one more call.
+#[inline(always)]
+pub fn follow_call(
+    tables: &mut Tables,
+    records: &[Record],
+    journal: &Journal,
+    event: &Event,
+    by: TaskNo,
+    callee: TaskNo,
+    entry: Entry,
+)
+    requires lawful { IsLawful (event.now ∷ journal.now.events) }
+    requires calls { MakesCall event.now by callee entry }
+    requires stand { StandFor tables.old journal.now.events }
+    requires slots { HaveAllQueues tables.old journal.now.events }
+    requires records { AreRecords records.now (event.now ∷ journal.now.events) }
+    requires room { 0 < tables.old.spare }
+    ensures stand { StandFor tables.new (event.now ∷ journal.now.events) }
+    ensures slots { HaveAllQueues tables.new (event.now ∷ journal.now.events) }
+{
+    let joins = QueueChange::Joins { by, callee, entry };
+    let nests = NestChange::Nothing;
+    follow_changes(tables, records, journal, event, joins, nests, by);
+}
+
+/// Lets tables follow a task's wait at an accept or a select statement, which holds the task up and changes no more
+/// (9.5, 9.7.1).
+#[inline(always)]
+pub fn follow_accept(
+    tables: &mut Tables,
+    records: &[Record],
+    journal: &Journal,
+    event: &Event,
+    by: TaskNo,
+)
+    requires lawful { IsLawful (event.now ∷ journal.now.events) }
+    requires waits { MakesWait event.now by }
+    requires stand { StandFor tables.old journal.now.events }
+    requires slots { HaveAllQueues tables.old journal.now.events }
+    requires records { AreRecords records.now (event.now ∷ journal.now.events) }
+    ensures stand { StandFor tables.new (event.now ∷ journal.now.events) }
+    ensures slots { HaveAllQueues tables.new (event.now ∷ journal.now.events) }
+{
+    let queues = QueueChange::Nothing;
+    let nests = NestChange::Nothing;
+    follow_changes(tables, records, journal, event, queues, nests, by);
+}
+
+/// Lets tables follow the end of a rendezvous by the task called, which leaves it and lets the caller go on (9.5).
+#[inline(always)]
+pub fn follow_end(
+    tables: &mut Tables,
+    records: &[Record],
+    journal: &Journal,
+    event: &Event,
+    by: TaskNo,
+    caller: TaskNo,
+    call: u32,
+)
+    requires lawful { IsLawful (event.now ∷ journal.now.events) }
+    requires ends { EndsCall event.now by call }
+    requires caller { IsSuspendedAt journal.now.events caller.0 call }
+    requires stand { StandFor tables.old journal.now.events }
+    requires slots { HaveAllQueues tables.old journal.now.events }
+    requires records { AreRecords records.now (event.now ∷ journal.now.events) }
+    ensures stand { StandFor tables.new (event.now ∷ journal.now.events) }
+    ensures slots { HaveAllQueues tables.new (event.now ∷ journal.now.events) }
+{
+    let leaves = QueueChange::Leaves(caller);
+    let ends = NestChange::EndsRendezvous(by, call);
+    follow_changes(tables, records, journal, event, leaves, ends, caller);
+}
+
+/// Lets tables follow the beginning of a rendezvous: its call leaves the queue, and the acceptor comes into it and goes
+/// on (9.5).
+#[inline(always)]
+pub fn follow_meeting(
+    tables: &mut Tables,
+    records: &[Record],
+    journal: &Journal,
+    event: &Event,
+    call: u32,
+    _wait: u32,
+    caller: TaskNo,
+    acceptor: TaskNo,
+)
+    requires lawful { IsLawful (event.now ∷ journal.now.events) }
+    requires meets { event.now ≡ MetEvent call _wait }
+    requires caller { IsSuspendedAt journal.now.events caller.0 call }
+    requires acceptor { IsSuspendedAt journal.now.events acceptor.0 _wait }
+    requires stand { StandFor tables.old journal.now.events }
+    requires slots { HaveAllQueues tables.old journal.now.events }
+    requires records { AreRecords records.now (event.now ∷ journal.now.events) }
+    ensures stand { StandFor tables.new (event.now ∷ journal.now.events) }
+    ensures slots { HaveAllQueues tables.new (event.now ∷ journal.now.events) }
+{
+    let leaves = QueueChange::Leaves(caller);
+    let enters = NestChange::Enters(acceptor, Member::Rendezvous(call));
+    follow_changes(tables, records, journal, event, leaves, enters, acceptor);
+}

@@ -1,0 +1,74 @@
+-- What the events of a rendezvous say, and what they leave as it was: none makes a task or moves the moment.
+use Rattle.std.proofs.Common.{◌≡◌, ℕ, ℤ, Bool, Option, None, List, ◌∷◌, refl, ap}
+use Rattle.std.specs.Option.{unwrap_or}
+use Rattle.ada_events.specs.declared.event.Event.{Event}
+use Rattle.ada_events.specs.declared.event.Event.TheVariants.{Called, Waiting, Ended, Met}
+use Rattle.ada_events.specs.declared.event.EventTail.TheVariants.{Nothing}
+use Rattle.ada_events.specs.declared.names.Choice.{Choice}
+use Rattle.ada_events.specs.declared.names.Entry.{Entry}
+use Rattle.ada_events.specs.declared.names.Patience.{Patience}
+use Rattle.ada_events.specs.declared.names.TaskNo.{TaskNo}
+use Rattle.ada_events.specs.Says.{creation_in, moment_in, call_in, held_in, started_in}
+use Rattle.ada_events.specs.Tasks.{moment}
+use Rattle.ada_forcing.specs.Newly.{IsCallOf}
+use Rattle.ada_records.specs.Records.{IsPlainHold}
+use Rattle.ada_records.proofs.EventKinds.{holds_of}
+use Rattle.ada_touching.specs.Kinds.{due_in}
+
+-- the event makes no task and moves no moment
+pub record IsQuiet (event : Event) : Type 0 where
+  pub makes : creation_in event ≡ None
+  pub ticks : moment_in event ≡ None
+
+pub same_moment : (event : Event) (before : List Event) → IsQuiet event → moment (event ∷ before) ≡ moment before
+unfolding moment
+same_moment event before quiet = ap (λ now. unwrap_or now (moment before)) quiet.ticks
+
+module _ (event : Event) (by callee : TaskNo) (entry : Entry) (patience : Patience) (due : Option ℤ) (is : event ≡ Called by callee entry patience due) where
+  pub call_quiet : IsQuiet event
+  unfolding creation_in moment_in
+  call_quiet = record { makes = ap creation_in is; ticks = ap moment_in is }
+
+  pub call_of : IsCallOf event callee.0
+  unfolding call_in
+  call_of = record {
+    call = record { by = by.0; callee = callee.0; entry = entry; patience = patience; due = due };
+    says = ap call_in is;
+    of = refl;
+  }
+
+  pub call_holds : IsPlainHold event by.0
+  unfolding held_in started_in
+  call_holds = holds_of event (Called by callee entry patience due) by.0 is refl refl
+
+  pub call_due : due_in event ≡ due
+  call_due = ap due_in is
+
+module _ (event : Event) (by : TaskNo) (pick : ℕ) (choices : List Choice) (is : event ≡ Waiting by pick choices Nothing) where
+  pub wait_quiet : IsQuiet event
+  unfolding creation_in moment_in
+  wait_quiet = record { makes = ap creation_in is; ticks = ap moment_in is }
+
+  pub wait_holds : IsPlainHold event by.0
+  unfolding held_in started_in
+  wait_holds = holds_of event (Waiting by pick choices Nothing) by.0 is refl refl
+
+  -- at an accept statement alone no moment is waited for
+  pub wait_not_due : due_in event ≡ None
+  wait_not_due = ap due_in is
+
+module _ (event : Event) (by : TaskNo) (call : ℕ) (raised : Bool) (is : event ≡ Ended by call raised) where
+  pub end_quiet : IsQuiet event
+  unfolding creation_in moment_in
+  end_quiet = record { makes = ap creation_in is; ticks = ap moment_in is }
+
+  pub end_not_due : due_in event ≡ None
+  end_not_due = ap due_in is
+
+module _ (event : Event) (call wait : ℕ) (is : event ≡ Met call wait) where
+  pub meeting_quiet : IsQuiet event
+  unfolding creation_in moment_in
+  meeting_quiet = record { makes = ap creation_in is; ticks = ap moment_in is }
+
+  pub meeting_not_due : due_in event ≡ None
+  meeting_not_due = ap due_in is

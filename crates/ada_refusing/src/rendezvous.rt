@@ -1,0 +1,134 @@
+//! The causes for which the requests of a rendezvous are refused: a call, an accept statement and its end (9.5). They
+//! are told by what such a request says, with no request at hand, so a test asks nothing of its kind.
+
+ghost use Rattle.std.specs.Prelude.{◌≡◌, ◌∷◌, [], ℕ, Bool, true, nat_le, length};
+ghost use Rattle.ada_events.specs.declared.limits.TheConstants.{MOST_MEMBERS};
+ghost use Rattle.ada_events.specs.declared.names.Entry.{Entry as EntryValue};
+ghost use Rattle.ada_events.specs.declared.names.TaskNo.{TaskNo as Task};
+ghost use Rattle.ada_events.specs.declared.request.Request.TheVariants as asked;
+ghost use Rattle.ada_events.specs.declared.request.Tail.TheVariants.{Nothing};
+ghost use Rattle.ada_events.specs.Limits as limits;
+ghost use Rattle.ada_events.specs.Refusals as refusals;
+ghost use Rattle.ada_tables.specs.Layers.{members};
+
+use crate::entries::{is_outside, lacks_family};
+use crate::limits::{ends_too_late, is_full};
+use crate::names::{is_elaborated, is_known, is_running};
+use crate::nests::{has_rendezvous_for, is_innermost_rendezvous};
+use ada_events::limits::MOST_MEMBERS;
+use ada_events::{Entry, Patience, Refusal, TaskNo};
+use ada_rows::State;
+use ada_tables::Layers;
+
+// Whether a call, of whichever entry, would be due behind the last moment (9.7.3).
+#[tactic(auto, unfolding(ada_events::specs::Limits::is_too_late))]
+fn is_late_call(state: &State, patience: Patience) -> bool
+    ensures { (by callee : Task) (entry : EntryValue)
+        → result ≡ limits.is_too_late state.now (asked.Call by callee entry patience) }
+{
+    match patience {
+        Patience::Timed(duration) => ends_too_late(state.moment(), duration),
+        _ => false,
+    }
+}
+
+// Whether a nest has its most members.
+fn has_most_members(nest: &Layers) -> bool
+    ensures { result ≡ nat_le MOST_MEMBERS (length (members nest.now)) }
+{
+    MOST_MEMBERS <= nest.len()
+}
+
+/// The cause for which an entry call is refused, if there is one (9.5, 9.7.2, 9.7.3).
+#[inline(always)]
+#[tactic(auto, unfolding(ada_events::specs::Refusals::first_cause), using(crate::proofs::Meeting::call_causes))]
+pub fn refusal_of_call(
+    state: &State,
+    by: TaskNo,
+    callee: TaskNo,
+    entry: Entry,
+    patience: Patience,
+) -> Option<Refusal>
+    ensures { result ≡ refusals.refusal state.now (asked.Call by callee entry patience) }
+{
+    let count = state.tables().tasks();
+    if !is_known(count, by) || !is_known(count, callee) {
+        return Some(Refusal::UnknownTask);
+    }
+    if !is_running(state, by) {
+        return Some(Refusal::NotRunning);
+    }
+    if lacks_family(state, callee, entry) {
+        return Some(Refusal::NoSuchFamily);
+    }
+    if is_outside(state, callee, entry) {
+        return Some(Refusal::ConstraintError);
+    }
+    if is_late_call(state, patience) {
+        return Some(Refusal::MomentTooLarge);
+    }
+    if is_full(state) {
+        return Some(Refusal::JournalFull);
+    }
+    None
+}
+
+/// The cause for which an accept statement, a wait with one open choice and nothing else, is refused, if there is one
+/// (9.5).
+#[inline(always)]
+#[tactic(auto, unfolding(ada_events::specs::Refusals::first_cause), using(crate::proofs::Meeting::accept_causes))]
+pub fn refusal_of_accept(state: &State, by: TaskNo, entry: Entry) -> Option<Refusal>
+    ensures { (pick : ℕ) → result ≡ refusals.refusal state.now
+        (asked.Wait by (record { guard = true; entry = entry } ∷ []) Nothing pick) }
+{
+    if !is_known(state.tables().tasks(), by) {
+        return Some(Refusal::UnknownTask);
+    }
+    if !is_running(state, by) {
+        return Some(Refusal::NotRunning);
+    }
+    if !is_elaborated(state, by) {
+        return Some(Refusal::DuringActivation);
+    }
+    if lacks_family(state, by, entry) {
+        return Some(Refusal::NoSuchFamily);
+    }
+    if is_outside(state, by, entry) {
+        return Some(Refusal::ConstraintError);
+    }
+    let nest = state.nest(by);
+    if has_rendezvous_for(state, entry.family, nest) {
+        return Some(Refusal::SameFamilyNested);
+    }
+    if has_most_members(nest) {
+        return Some(Refusal::TooDeep);
+    }
+    if is_full(state) {
+        return Some(Refusal::JournalFull);
+    }
+    None
+}
+
+/// The cause for which the end of an accept statement, by an exception or not, is refused, if there is one (9.5, 11.5).
+#[inline(always)]
+#[tactic(auto, unfolding(ada_events::specs::Refusals::first_cause), using(crate::proofs::Meeting::end_causes))]
+pub fn refusal_of_end(state: &State, by: TaskNo) -> Option<Refusal>
+    ensures { (raised : Bool) → result ≡ refusals.refusal state.now (asked.End by raised) }
+{
+    if !is_known(state.tables().tasks(), by) {
+        return Some(Refusal::UnknownTask);
+    }
+    if !is_running(state, by) {
+        return Some(Refusal::NotRunning);
+    }
+    if !is_elaborated(state, by) {
+        return Some(Refusal::DuringActivation);
+    }
+    if !is_innermost_rendezvous(state.innermost(by), false) {
+        return Some(Refusal::NotInAccept);
+    }
+    if is_full(state) {
+        return Some(Refusal::JournalFull);
+    }
+    None
+}
