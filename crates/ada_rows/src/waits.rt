@@ -1,7 +1,6 @@
 //! The rows of selective waits (9.7.1): what takes a call, and what ends otherwise.
 
 ghost use Rattle.std.specs.Prelude.{◌≡◌, ◌≤◌, Some, length, slice_get};
-ghost use Rattle.std.specs.Bool.{then_some};
 ghost use Rattle.std.specs.Option.{option_and_then, option_map, unwrap_or};
 ghost use Rattle.ada_events.specs.Lawful.{IsLawful};
 ghost use Rattle.ada_events.specs.Outcomes as outcomes;
