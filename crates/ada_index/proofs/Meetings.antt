@@ -1,6 +1,8 @@
 -- What the events of a rendezvous say, and what they leave as it was: none makes a task or moves the moment.
-use Rattle.std.proofs.Common.{◌≡◌, ℕ, ℤ, Bool, Option, None, List, ◌∷◌, refl, ap}
+use Rattle.std.proofs.Common.{◌≡◌, ℕ, ℤ, Bool, Option, None, List, ◌∷◌, length, refl, sym, ap, ◌∙◌, subst}
 use Rattle.std.specs.Option.{unwrap_or}
+use Rattle.std.specs.Vec.{with_items}
+use Rattle.std.proofs.lemmas.List.{with_items_is}
 use Rattle.ada_events.specs.declared.event.Event.{Event}
 use Rattle.ada_events.specs.declared.event.Event.TheVariants.{Called, Waiting, Ended, Met}
 use Rattle.ada_events.specs.declared.event.EventTail.TheVariants.{Nothing}
@@ -8,21 +10,51 @@ use Rattle.ada_events.specs.declared.names.Choice.{Choice}
 use Rattle.ada_events.specs.declared.names.Entry.{Entry}
 use Rattle.ada_events.specs.declared.names.Patience.{Patience}
 use Rattle.ada_events.specs.declared.names.TaskNo.{TaskNo}
+use Rattle.ada_events.specs.Lawful.{IsLawful}
 use Rattle.ada_events.specs.Says.{creation_in, moment_in, call_in, held_in, started_in}
 use Rattle.ada_events.specs.Tasks.{moment}
 use Rattle.ada_forcing.specs.Newly.{IsCallOf}
-use Rattle.ada_records.specs.Records.{IsPlainHold}
+use Rattle.ada_counts.specs.Noting.{HaveAllQueues}
+use Rattle.ada_noting.specs.Bounds.{IsDueBound}
+use Rattle.ada_noting.proofs.Starts.{bound_stays}
+use Rattle.ada_records.specs.declared.record.Record.{Record}
+use Rattle.ada_records.specs.Records.{AreRecords, IsPlainHold}
 use Rattle.ada_records.proofs.EventKinds.{holds_of}
+use Rattle.ada_tables.specs.Tables.{TableState}
+use Rattle.ada_tables.specs.Standing.{StandFor}
+use Rattle.ada_touching.specs.Keeping.{IsAgendaOf}
 use Rattle.ada_touching.specs.Kinds.{due_in}
+use Rattle.ada_index.specs.declared.index.Index.{Index}
+use Rattle.ada_index.specs.Indexes.{IsIndexOf}
+use Rattle.ada_index.proofs.Creations.{made_same}
 
 -- the event makes no task and moves no moment
 pub record IsQuiet (event : Event) : Type 0 where
   pub makes : creation_in event ≡ None
   pub ticks : moment_in event ≡ None
 
-pub same_moment : (event : Event) (before : List Event) → IsQuiet event → moment (event ∷ before) ≡ moment before
+same_moment : (event : Event) (before : List Event) → IsQuiet event → moment (event ∷ before) ≡ moment before
 unfolding moment
 same_moment event before quiet = ap (λ now. unwrap_or now (moment before)) quiet.ticks
+
+-- an index in which records, tables, agenda and the next due moment follow such an event is one of the longer journal
+pub noted : (index : Index) (event : Event) (before : List Event) (records : List Record) (tables : TableState) (rows : List (List ℕ)) (next : Option ℤ)
+    → IsIndexOf index before → IsLawful (event ∷ before) → IsQuiet event → length records ≡ index.records.len → AreRecords records (event ∷ before)
+    → StandFor tables (event ∷ before) → HaveAllQueues tables (event ∷ before) → IsAgendaOf rows (event ∷ before) → IsDueBound (event ∷ before) next
+    → IsIndexOf (record index { records = with_items index.records records; tables = tables; agenda = rows; next_due = next }) (event ∷ before)
+noted index event before records tables rows next stands lawful quiet long recorded tabled slots agenda due = record {
+  kept = record {
+    lawful = lawful;
+    recorded = subst (λ (rs : List Record). AreRecords rs (event ∷ before)) (sym (with_items_is index.records records long)) recorded;
+    tabled = tabled;
+    created = made_same index.made.items event before stands.kept.created quiet.makes;
+    timed = stands.kept.timed ∙ sym (same_moment event before quiet);
+  };
+  slots = slots;
+  agenda = agenda;
+  due = due;
+  unstarted = bound_stays event before index.unstarted stands.unstarted;
+}
 
 module _ (event : Event) (by callee : TaskNo) (entry : Entry) (patience : Patience) (due : Option ℤ) (is : event ≡ Called by callee entry patience due) where
   pub call_quiet : IsQuiet event

@@ -1,15 +1,10 @@
-use Rattle.std.proofs.Common.{arith, ◌∷◌, sym, ap, ◌∙◌, subst, List}
-use Rattle.std.proofs.lemmas.List.{with_items_is}
+use Rattle.std.proofs.Common.{arith, ◌∷◌, sym, ap, ◌∙◌, subst}
 use Rattle.ada_events.specs.Waits.{earlier}
 use Rattle.ada_laws.proofs.LimitLaws.{events_are_few}
 use Rattle.ada_noting.specs.Bounds.{IsDueBound}
 use Rattle.ada_noting.proofs.Bounds.{bound_noted}
-use Rattle.ada_noting.proofs.Starts.{bound_stays}
-use Rattle.ada_records.specs.declared.record.Record.{Record}
-use Rattle.ada_records.specs.Records.{AreRecords}
 use Rattle.ada_touching.specs.Keeping.{IsAgendaOf}
-use Rattle.ada_index.proofs.Creations.{made_same}
-use Rattle.ada_index.proofs.Meetings.{call_quiet, call_of, call_holds, call_due, same_moment}
+use Rattle.ada_index.proofs.Meetings.{call_quiet, call_of, call_holds, call_due, noted}
 use Rattle.ada_index.proofs.index.Index.note_call.Goals as goal
 
 pub note_call-requires-clause-calls : goal.note_call-requires-clause-calls
@@ -25,24 +20,10 @@ pub returns : goal.returns
 returns c =
     let event = c.args.event.now in
     let before = c.args.journal.now.events in
-    let quiet = call_quiet event c.args.by c.args.callee c.args.entry c.args._patience _ c.requires.calls in
-    record {
-      kept = record {
-        lawful = c.requires.lawful;
-        recorded =
-            subst (λ (records : List Record). AreRecords records (event ∷ before))
-            (sym (with_items_is c.args.self.now.records c.note_hold.new.records (omega (arith, c.note_hold.auto.records, c.as_mut_slice.ensures.len))))
-            c.note_hold.ensures;
-        tabled = c.follow_call.ensures.stand;
-        created = made_same c.args.self.now.made.items event before c.requires.stands.kept.created quiet.makes;
-        timed = c.requires.stands.kept.timed ∙ sym (same_moment event before quiet);
-      };
-      slots = c.follow_call.ensures.slots;
-      agenda = subst (λ journal. IsAgendaOf c.note_call.new.agenda (event ∷ journal)) c.new-state.ensures c.note_call.ensures;
-      due =
-          subst (IsDueBound (event ∷ before))
-          (ap (earlier c.args.self.now.next_due) (call_due event c.args.by c.args.callee c.args.entry c.args._patience _ c.requires.calls)
-          ∙ sym c.with-self.ensures)
-          (bound_noted event before c.args.self.now.next_due c.requires.lawful c.requires.stands.due);
-      unstarted = bound_stays event before c.args.self.now.unstarted c.requires.stands.unstarted;
-    }
+    noted c.args.self.now event before c.note_hold.new.records c.follow_call.new.tables c.note_call.new.agenda _ c.requires.stands c.requires.lawful
+    (call_quiet event c.args.by c.args.callee c.args.entry c.args._patience _ c.requires.calls)
+    (omega (arith, c.note_hold.auto.records, c.as_mut_slice.ensures.len)) c.note_hold.ensures c.follow_call.ensures.stand c.follow_call.ensures.slots
+    (subst (λ journal. IsAgendaOf c.note_call.new.agenda (event ∷ journal)) c.new-state.ensures c.note_call.ensures)
+    (subst (IsDueBound (event ∷ before))
+    (ap (earlier c.args.self.now.next_due) (call_due event c.args.by c.args.callee c.args.entry c.args._patience _ c.requires.calls) ∙ sym c.with-self.ensures)
+    (bound_noted event before c.args.self.now.next_due c.requires.lawful c.requires.stands.due))
