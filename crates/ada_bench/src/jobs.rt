@@ -1,13 +1,12 @@
 //! What is measured: a replay, its parts, and the floors of both.
 
 use crate::sink::Sink;
-use ada_events::{Event, Request};
+use ada_events::{Event, Patience, Request, TaskNo};
 use ada_floors::{Tokens, push_events, read_text, write_text};
 use ada_kernel::Kernel;
 use ada_replay::replay;
 use ada_script::read;
 use ada_timing::Job;
-use std::alloc::{AllocError, Global};
 use std::time::{Duration, Instant};
 
 /// The replay of a script, from its bytes to the text that is written.
@@ -74,16 +73,73 @@ impl Job<HostRuntime> for Floor<'_> {
     }
 }
 
-/// Requests that can be made again and again.
-pub trait Plan {
-    /// Makes the requests of a kernel that come before those that are measured.
-    fn prepare(&self, alloc: Global, kernel: &mut Kernel) -> Result<(), AllocError>;
-
-    /// The requests that are measured.
-    fn measured(&self, alloc: Global) -> Result<Vec<Request>, AllocError>;
+/// What takes requests, one after another.
+pub trait Taker {
+    fn take(&mut self, request: Request);
 }
 
-/// The steps of a kernel alone, without the making of their requests.
+// Inlined, so that a request isn't copied on its way to who answers it.
+impl Taker for Kernel {
+    #[inline(always)]
+    fn take(&mut self, request: Request) {
+        let _ = self.step(request);
+    }
+}
+
+/// What looks at requests, and does nothing else with them.
+#[derive(Clone, Copy, Debug, Default)]
+pub struct Looker {
+    /// The sum of what they say, so that making them isn't left out.
+    pub digest: i64,
+}
+
+impl Taker for Looker {
+    #[inline(always)]
+    fn take(&mut self, request: Request) {
+        self.digest = self.digest.wrapping_add(look_at(&request));
+    }
+}
+
+/// The sum of numbers that a request says.
+#[inline(never)]
+fn look_at(request: &Request) -> i64 {
+    match request {
+        Request::Call {
+            by,
+            callee,
+            entry,
+            patience,
+        } => sum_of(*by, *callee, entry.index, *patience == Patience::Simple),
+        Request::Wait {
+            by,
+            choices,
+            pick,
+            ..
+        } => { i64::from(by.0) + choices.as_slice().len() as i64 + i64::from(*pick) }
+        Request::End { by, raised } => sum_of(*by, *by, 0, *raised),
+        Request::Activate { by, tasks } | Request::Abort { by, tasks } => {
+            i64::from(by.0) + tasks.as_slice().len() as i64
+        }
+        Request::Tick { now } => *now,
+        _ => 0,
+    }
+}
+
+/// The sum of two tasks, an index, and 1 where that is so.
+fn sum_of(by: TaskNo, callee: TaskNo, index: i32, so: bool) -> i64 {
+    i64::from(by.0) + i64::from(callee.0) + i64::from(index) + i64::from(so)
+}
+
+/// Requests that can be made again and again.
+pub trait Plan {
+    /// Makes the requests that come before those that are measured.
+    fn prepare<T: Taker>(&self, taker: &mut T);
+
+    /// Makes the requests that are measured.
+    fn measured<T: Taker>(&self, taker: &mut T);
+}
+
+/// The steps of a kernel: its answers to requests that are made one after another.
 #[derive(Drop)]
 pub struct Stepping<'a, P> {
     pub plan: &'a P,
@@ -102,29 +158,24 @@ fn time_steps<P: Plan>(
     plan: &P,
     kernel: &mut Kernel,
 ) -> anyhow::Result<Duration> {
-    plan.prepare(rt.alloc(), kernel)?;
-    let requests = plan.measured(rt.alloc())?;
+    plan.prepare(kernel);
     let start = Instant::now(rt)?;
-    step_all(kernel, requests);
+    plan.measured(kernel);
     Ok(start.elapsed(rt)?)
 }
 
-/// Makes requests of a kernel, one after another.
-pub fn step_all(kernel: &mut Kernel, requests: Vec<Request>) {
-    for request in requests {
-        let _ = kernel.step(request);
-    }
-}
-
-/// The floor of steps: their events are made and kept.
+/// The floor of steps: the same requests are made, and their events are made and kept.
 #[derive(Drop)]
-pub struct Pushing<'a> {
+pub struct Pushing<'a, P> {
+    pub plan: &'a P,
     pub events: &'a [Event],
+    pub looker: Looker,
 }
 
-impl Job<HostRuntime> for Pushing<'_> {
+impl<P: Plan> Job<HostRuntime> for Pushing<'_, P> {
     fn turn(&mut self, rt: &HostRuntime) -> anyhow::Result<Duration> {
         let start = Instant::now(rt)?;
+        self.plan.measured(&mut self.looker);
         let _journal = push_events(rt.alloc(), self.events)?;
         Ok(start.elapsed(rt)?)
     }

@@ -2,14 +2,12 @@
 
 ghost use Rattle.std.specs.Prelude.{◌≤◌, ◌+◌};
 
-use crate::jobs::{Plan, step_all};
+use crate::jobs::{Plan, Taker};
 use crate::works::Work;
 use ada_events::{
     Bounded, Choice, Choices, Entry, Families, Family, Master, Patience, Request, Tail, TaskNo,
     Tasks,
 };
-use ada_kernel::Kernel;
-use std::alloc::{AllocError, Global};
 
 /// Some work of a size, beside so many idle tasks, of which as many are left out as there is no room for.
 #[derive(Clone, Copy, Debug)]
@@ -58,160 +56,135 @@ impl Beside {
 }
 
 impl Plan for Beside {
-    fn prepare(&self, alloc: Global, kernel: &mut Kernel) -> Result<(), AllocError> {
-        let mut requests = Vec::new(alloc);
+    fn prepare<T: Taker>(&self, taker: &mut T) {
         let busy = self.busy();
         let idle = self.idle_beside(busy);
         match self.work {
-            Work::Quit => wait_to_quit(&mut requests, idle, busy)?,
-            _ => make_tasks(&mut requests, Master::Body(MAIN), 1, busy + idle)?,
+            Work::Quit => wait_to_quit(taker, idle, busy),
+            _ => make_tasks(taker, Master::Body(MAIN), 1, busy + idle),
         }
-        if self.work == Work::Abort {
-            for task in 1..busy {
-                meet(&mut requests, TaskNo(task), TaskNo(task + 1))?;
-            }
-        }
-        step_all(kernel, requests);
-        if self.work == Work::Late {
-            for _ in 0..self.size / ROUND {
-                step_all(kernel, rounds(alloc, 1)?);
-            }
-        }
-        Ok(())
-    }
-
-    fn measured(&self, alloc: Global) -> Result<Vec<Request>, AllocError> {
         match self.work {
-            Work::PingPong => rounds(alloc, self.size),
-            Work::Late => rounds(alloc, LATE_ROUNDS),
-            Work::Abort => one(
-                alloc,
-                Request::Abort {
-                    by: MAIN,
-                    tasks: tasks(1, self.busy()),
-                },
-            ),
-            Work::Quit => one(alloc, Request::Close { by: MAIN }),
-            Work::Tick => ticks(alloc, self.size),
-            Work::Call => calls(alloc, self.busy()),
+            Work::Abort => chain(taker, busy),
+            Work::Late => rounds(taker, self.size / ROUND),
+            _ => {}
         }
     }
-}
 
-/// One request.
-fn one(alloc: Global, request: Request) -> Result<Vec<Request>, AllocError> {
-    let mut requests = Vec::new(alloc);
-    requests.push(request)?;
-    Ok(requests)
+    fn measured<T: Taker>(&self, taker: &mut T) {
+        match self.work {
+            Work::PingPong => rounds(taker, self.size),
+            Work::Late => rounds(taker, LATE_ROUNDS),
+            Work::Abort => taker.take(Request::Abort {
+                by: MAIN,
+                tasks: tasks(1, self.busy()),
+            }),
+            Work::Quit => taker.take(Request::Close { by: MAIN }),
+            Work::Tick => ticks(taker, self.size),
+            Work::Call => calls(taker, self.busy()),
+        }
+    }
 }
 
 /// So many rendezvous between tasks 1 and 2.
-fn rounds(alloc: Global, count: usize) -> Result<Vec<Request>, AllocError> {
-    let mut requests = Vec::new(alloc);
+fn rounds<T: Taker>(taker: &mut T, count: usize) {
     for _ in 0..count {
-        meet(&mut requests, TaskNo(1), TaskNo(2))?;
-        requests.push(Request::End {
+        meet(taker, TaskNo(1), TaskNo(2));
+        taker.take(Request::End {
             by: TaskNo(2),
             raised: false,
-        })?;
+        });
     }
-    Ok(requests)
+}
+
+/// Rendezvous within one another: each of so many tasks calls the next within its own.
+fn chain<T: Taker>(taker: &mut T, last: u16) {
+    for task in 1..last {
+        meet(taker, TaskNo(task), TaskNo(task + 1));
+    }
 }
 
 /// A call of task 1 by each task behind it up to this one.
-fn calls(alloc: Global, last: u16) -> Result<Vec<Request>, AllocError> {
-    let mut requests = Vec::new(alloc);
+fn calls<T: Taker>(taker: &mut T, last: u16) {
     for caller in 1..last {
-        requests.push(call(TaskNo(caller + 1), TaskNo(1)))?;
+        call(taker, TaskNo(caller + 1), TaskNo(1));
     }
-    Ok(requests)
 }
 
 /// So many ticks, each to the next moment.
-fn ticks(alloc: Global, count: usize) -> Result<Vec<Request>, AllocError> {
-    let mut requests = Vec::new(alloc);
+fn ticks<T: Taker>(taker: &mut T, count: usize) {
     for now in 0..count.min(65_536) as i64 {
-        requests.push(Request::Tick { now })?;
+        taker.take(Request::Tick { now });
     }
-    Ok(requests)
 }
 
 /// Servers in a block of the main program's own, each at an open terminate alternative.
-fn wait_to_quit(requests: &mut Vec<Request>, idle: u16, servers: u16) -> Result<(), AllocError>
+fn wait_to_quit<T: Taker>(taker: &mut T, idle: u16, servers: u16)
     requires { idle + servers ≤ 255 }
 {
-    make_tasks(requests, Master::Body(MAIN), 1, idle)?;
-    requests.push(Request::Open { by: MAIN })?;
+    make_tasks(taker, Master::Body(MAIN), 1, idle);
+    taker.take(Request::Open { by: MAIN });
     // The events before it: two for each idle task, and the beginning and the end of their activation.
     let block = if idle == 0 {
         1
     } else {
         2 * u32::from(idle) + 3
     };
-    make_tasks(requests, Master::Block(block), idle + 1, servers)?;
+    make_tasks(taker, Master::Block(block), idle + 1, servers);
     for task in 0..servers {
-        requests.push(Request::Wait {
+        taker.take(Request::Wait {
             by: TaskNo(idle + 1 + task),
             choices: choices(),
             tail: Tail::Terminate(true),
             pick: 0,
-        })?;
+        });
     }
-    Ok(())
 }
 
 /// Makes so many tasks with one entry, and activates them. The first has this number.
-fn make_tasks(
-    requests: &mut Vec<Request>,
-    master: Master,
-    first: u16,
-    count: u16,
-) -> Result<(), AllocError>
+fn make_tasks<T: Taker>(taker: &mut T, master: Master, first: u16, count: u16)
     requires { first + count ≤ 256 }
 {
     for _ in 0..count {
-        requests.push(Request::Create {
+        taker.take(Request::Create {
             by: MAIN,
             master,
             families: Families::from_slice(&[Family { low: 0, high: 0 }]),
-        })?;
+        });
     }
     if count == 0 {
-        return Ok(());
+        return;
     }
-    requests.push(Request::Activate {
+    taker.take(Request::Activate {
         by: MAIN,
         tasks: tasks(first, count),
-    })?;
+    });
     for task in 0..count {
-        requests.push(Request::Elaborated {
+        taker.take(Request::Elaborated {
             by: TaskNo(first + task),
             ok: true,
-        })?;
+        });
     }
-    Ok(())
 }
 
 /// A call and its acceptance.
-fn meet(requests: &mut Vec<Request>, caller: TaskNo, callee: TaskNo) -> Result<(), AllocError> {
-    requests.push(call(caller, callee))?;
-    requests.push(Request::Wait {
+fn meet<T: Taker>(taker: &mut T, caller: TaskNo, callee: TaskNo) {
+    call(taker, caller, callee);
+    taker.take(Request::Wait {
         by: callee,
         choices: choices(),
         tail: Tail::Nothing,
         pick: 0,
-    })?;
-    Ok(())
+    });
 }
 
 /// A simple call.
-fn call(by: TaskNo, callee: TaskNo) -> Request {
-    Request::Call {
+fn call<T: Taker>(taker: &mut T, by: TaskNo, callee: TaskNo) {
+    taker.take(Request::Call {
         by,
         callee,
         entry: ENTRY,
         patience: Patience::Simple,
-    }
+    });
 }
 
 /// The one open accept alternative.

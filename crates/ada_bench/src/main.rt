@@ -14,6 +14,7 @@ mod works;
 
 use queries::Query;
 use scripts::Kind;
+use std::alloc::{AllocError, Global};
 use std::env;
 use workloads::{
     measure_making, measure_query, measure_script, measure_work, try_query, try_script, try_work,
@@ -29,6 +30,9 @@ const TIMES: u64 = 1000;
 /// How many idle tasks there are, where there are any.
 const IDLE: u16 = 250;
 
+/// How many bytes a block may have that the allocator keeps when it is freed: more than any that is measured.
+const KEPT: usize = 1 << 24;
+
 /// The name of the making of kernels.
 const MAKING: &str = "kernels";
 
@@ -42,9 +46,17 @@ fn main(rt: HostRuntime) -> anyhow::Result<()> {
         Some(word) if word.as_str() == "small" => try_all(&rt),
         Some(word) => {
             let size = words.get(2).and_then(|size| size.as_str().parse().ok());
+            keep_memory(rt.alloc())?;
             measure_named(&rt, word.as_str(), size)
         }
     }
+}
+
+/// Has the allocator keep what is freed from now on: it gives a block back to the system where that is larger than the
+/// largest that was freed before.
+fn keep_memory(alloc: Global) -> Result<(), AllocError> {
+    let mut block: Vec<u8> = Vec::new(alloc);
+    block.reserve(KEPT)
 }
 
 fn print_names(rt: &HostRuntime) -> anyhow::Result<()> {

@@ -1,10 +1,10 @@
 //! A script that was played once: what it asked, and what came of it.
 
-use crate::jobs::Plan;
-use ada_events::{Request, TaskNo};
+use crate::jobs::{Plan, Taker};
+use ada_events::TaskNo;
 use ada_kernel::Kernel;
 use ada_script::{Names, Script, asked};
-use std::alloc::{AllocError, Global};
+use std::alloc::Global;
 
 /// A script, and its names as its play has bound them.
 #[derive(Drop)]
@@ -37,17 +37,13 @@ impl Scripted {
 }
 
 impl Plan for Scripted {
-    fn prepare(&self, _alloc: Global, _kernel: &mut Kernel) -> Result<(), AllocError> {
-        Ok(())
-    }
+    fn prepare<T: Taker>(&self, _taker: &mut T) {}
 
-    fn measured(&self, alloc: Global) -> Result<Vec<Request>, AllocError> {
-        let mut requests = Vec::new(alloc);
+    fn measured<T: Taker>(&self, taker: &mut T) {
         for line in self.script.lines() {
             if !line.statement.is_show() {
-                requests.push(asked(&line.statement, &self.names))?;
+                taker.take(asked(&line.statement, &self.names));
             }
         }
-        Ok(requests)
     }
 }

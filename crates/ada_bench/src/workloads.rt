@@ -1,6 +1,6 @@
 //! What is measured of a script, and of the work of a kernel.
 
-use crate::jobs::{Floor, Plan, Pushing, Reading, Replaying, Stepping, step_all};
+use crate::jobs::{Floor, Looker, Plan, Pushing, Reading, Replaying, Stepping};
 use crate::kernels::Beside;
 use crate::queries::{Asking, Listing, Looking, Making, Query};
 use crate::scripted::Scripted;
@@ -76,16 +76,16 @@ fn print_answers(rt: &HostRuntime, kernel: &Kernel, query: Query) -> anyhow::Res
 /// are measured.
 fn done<P: Plan>(rt: &HostRuntime, plan: &P) -> anyhow::Result<(Kernel, u32)> {
     let mut kernel = Kernel::new(rt.alloc())?;
-    let before = do_all(rt, plan, &mut kernel)?;
+    let before = do_all(plan, &mut kernel);
     Ok((kernel, before))
 }
 
 /// Makes the requests of a plan: how long the journal was before those that are measured.
-fn do_all<P: Plan>(rt: &HostRuntime, plan: &P, kernel: &mut Kernel) -> anyhow::Result<u32> {
-    plan.prepare(rt.alloc(), kernel)?;
+fn do_all<P: Plan>(plan: &P, kernel: &mut Kernel) -> u32 {
+    plan.prepare(kernel);
     let before = kernel.journal().len();
-    step_all(kernel, plan.measured(rt.alloc())?);
-    Ok(before)
+    plan.measured(kernel);
+    before
 }
 
 /// A kernel with so many tasks that have nothing to do, beside one that is called by another.
@@ -139,8 +139,26 @@ fn measure_played(
     print_row(rt, "replay", measure(rt, &mut Replaying { text })?, floor)?;
     let floor = measure(rt, &mut Floor::new(text, &[], b""))?;
     print_row(rt, "read", measure(rt, &mut Reading { text })?, floor)?;
-    let floor = measure(rt, &mut Pushing { events })?;
-    print_row(rt, "steps", measure(rt, &mut Stepping { plan })?, floor)?;
+    measure_answers_to(rt, "steps", plan, events)
+}
+
+/// Measures a kernel's answers to the requests of a plan, which lead to these events.
+fn measure_answers_to<P: Plan>(
+    rt: &HostRuntime,
+    name: &str,
+    plan: &P,
+    events: &[Event],
+) -> anyhow::Result<()> {
+    let looker = Looker::default();
+    let floor = measure(
+        rt,
+        &mut Pushing {
+            plan,
+            events,
+            looker,
+        },
+    )?;
+    print_row(rt, name, measure(rt, &mut Stepping { plan })?, floor)?;
     Ok(())
 }
 
@@ -170,8 +188,7 @@ fn measure_steps(
     plan: &Beside,
     events: &[Event],
 ) -> anyhow::Result<()> {
-    let floor = measure(rt, &mut Pushing { events })?;
-    print_row(rt, name, measure(rt, &mut Stepping { plan })?, floor)?;
+    measure_answers_to(rt, name, plan, events)?;
     println!(rt; "  {} events", events.len())?;
     Ok(())
 }
