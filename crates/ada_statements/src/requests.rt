@@ -1,7 +1,8 @@
 //! The requests that statements make.
 
 ghost use Rattle.std.specs.Prelude.{◌≡◌, false, Some, map};
-ghost use Rattle.ada_statements.specs.Binding.{task_of, family_of, choice_of, called, accepted, is_show, request_of};
+ghost use Rattle.ada_events.specs.declared.request.Request.TheVariants as requests;
+ghost use Rattle.ada_statements.specs.Binding.{task_of, master_of, family_of, choice_of, accepted, is_show, request_of};
 
 use crate::statement::{Alternatives, Declarations, EntryName, TaskNames};
 use crate::{Name, Names, Statement};
@@ -55,25 +56,8 @@ fn copy_of(tail: &Tail) -> Tail
     }
 }
 
-/// The call of an entry.
-fn call_of(
-    by: &Name,
-    callee: &Name,
-    entry: &EntryName,
-    patience: Patience,
-    names: &Names,
-) -> Request
-    ensures { result ≡ called names.now by.now callee.now entry.now patience }
-{
-    Request::Call {
-        by: names.task(by),
-        callee: names.task(callee),
-        entry: names.entry(callee, entry),
-        patience,
-    }
-}
-
 /// The wait for a call of one entry.
+#[inline(never)]
 fn accept_of(by: &Name, entry: &EntryName, names: &Names) -> Request
     ensures { result ≡ accepted names.now by.now entry.now }
 {
@@ -90,7 +74,59 @@ fn accept_of(by: &Name, entry: &EntryName, names: &Names) -> Request
     }
 }
 
+/// The creation of a task.
+#[inline(never)]
+fn create_of(by: &Name, under: &Name, families: &Declarations, names: &Names) -> Request
+    ensures { result ≡ requests.Create (task_of names.now by.now) (master_of names.now under.now)
+        (map family_of families.now) }
+{
+    Request::Create {
+        by: names.task(by),
+        master: names.master(under),
+        families: families_of(families),
+    }
+}
+
+/// The activation of tasks.
+#[inline(never)]
+fn activate_of(by: &Name, tasks: &TaskNames, names: &Names) -> Request
+    ensures { result ≡ requests.Activate (task_of names.now by.now)
+        (map (task_of names.now) tasks.now) }
+{
+    Request::Activate {
+        by: names.task(by),
+        tasks: tasks_of(tasks, names),
+    }
+}
+
+/// The wait of a selective wait.
+#[inline(never)]
+fn select_of(by: &Name, pick: u32, choices: &Alternatives, tail: &Tail, names: &Names) -> Request
+    ensures { result ≡ requests.Wait (task_of names.now by.now)
+        (map (choice_of names.now by.now) choices.now) tail.now pick }
+{
+    Request::Wait {
+        by: names.task(by),
+        choices: choices_of(choices, by, names),
+        tail: copy_of(tail),
+        pick,
+    }
+}
+
+/// The abort of tasks.
+#[inline(never)]
+fn abort_of(by: &Name, tasks: &TaskNames, names: &Names) -> Request
+    ensures { result ≡ requests.Abort (task_of names.now by.now)
+        (map (task_of names.now) tasks.now) }
+{
+    Request::Abort {
+        by: names.task(by),
+        tasks: tasks_of(tasks, names),
+    }
+}
+
 /// What a statement that shows no attribute asks of the kernel, under these names: its `request`.
+// Requests with lists are made in functions of their own, so that no other waits for room for a list.
 pub fn asked(statement: &Statement, names: &Names) -> Request
     requires { is_show statement.now ≡ false }
     ensures { Some result ≡ request_of names.now statement.now }
@@ -103,15 +139,8 @@ pub fn asked(statement: &Statement, names: &Names) -> Request
             under,
             families,
             ..
-        } => Request::Create {
-            by: names.task(by),
-            master: names.master(under),
-            families: families_of(families),
-        },
-        Statement::Activate { by, tasks } => Request::Activate {
-            by: names.task(by),
-            tasks: tasks_of(tasks, names),
-        },
+        } => create_of(by, under, families, names),
+        Statement::Activate { by, tasks } => activate_of(by, tasks, names),
         Statement::Up { by } => Request::Elaborated {
             by: names.task(by),
             ok: true,
@@ -120,30 +149,36 @@ pub fn asked(statement: &Statement, names: &Names) -> Request
             by: names.task(by),
             ok: false,
         },
-        Statement::Call { by, callee, entry } => {
-            call_of(by, callee, entry, Patience::Simple, names)
-        }
+        Statement::Call { by, callee, entry } => Request::Call {
+            by: names.task(by),
+            callee: names.task(callee),
+            entry: names.entry(callee, entry),
+            patience: Patience::Simple,
+        },
         Statement::CallWithin {
             by,
             callee,
             entry,
             duration,
-        } => call_of(by, callee, entry, Patience::Timed(*duration), names),
-        Statement::Try { by, callee, entry } => {
-            call_of(by, callee, entry, Patience::Conditional, names)
-        }
+        } => Request::Call {
+            by: names.task(by),
+            callee: names.task(callee),
+            entry: names.entry(callee, entry),
+            patience: Patience::Timed(*duration),
+        },
+        Statement::Try { by, callee, entry } => Request::Call {
+            by: names.task(by),
+            callee: names.task(callee),
+            entry: names.entry(callee, entry),
+            patience: Patience::Conditional,
+        },
         Statement::Accept { by, entry } => accept_of(by, entry, names),
         Statement::Select {
             by,
             pick,
             choices,
             tail,
-        } => Request::Wait {
-            by: names.task(by),
-            choices: choices_of(choices, by, names),
-            tail: copy_of(tail.get()),
-            pick: *pick,
-        },
+        } => select_of(by, *pick, choices, tail.get(), names),
         Statement::End { by } => Request::End {
             by: names.task(by),
             raised: false,
@@ -158,10 +193,7 @@ pub fn asked(statement: &Statement, names: &Names) -> Request
             duration: *duration,
         },
         Statement::Complete { by } => Request::Complete { by: names.task(by) },
-        Statement::Abort { by, tasks } => Request::Abort {
-            by: names.task(by),
-            tasks: tasks_of(tasks, names),
-        },
+        Statement::Abort { by, tasks } => abort_of(by, tasks, names),
         Statement::ShowCallable { .. }
         | Statement::ShowTerminated { .. }
         | Statement::ShowCount { .. } => unreachable!(),
