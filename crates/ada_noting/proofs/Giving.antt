@@ -1,33 +1,44 @@
 -- What a step that a row gives behind an event says of the task or the master at its key.
-use Rattle.std.proofs.Common.{◌≡◌, ℕ, true, not, ◌&&◌, Some, None, List, ◌∷◌, sym, refl, ap, ◌∙◌, ◌⊎◌, inl, inr}
-use Rattle.std.proofs.lemmas.Bool.{and_parts, or_cases, or_left, or_right, not-true, true≢false, false_from_ne_true, eqb-true}
+use Rattle.std.proofs.Common.{◌≡◌, ℕ, ◌<◌, ◌==◌, Bool, true, not, ◌&&◌, ◌||◌, arith, Some, None, List, ◌∷◌, sym, refl, ap, ◌∙◌, ◌⊎◌, inl, inr}
+use Rattle.std.proofs.lemmas.Bool.{and_parts, or_cases, or_left, or_right, not-true, not_from_false, and_from, true≢false, false_from_ne_true, eqb-true, ne_eqb}
 use Rattle.ada_events.specs.declared.event.Event.{Event}
 use Rattle.ada_events.specs.declared.event.Event.TheVariants.{Gone, Quit}
 use Rattle.ada_events.specs.declared.names.TaskNo.{TaskNo}
 use Rattle.ada_events.specs.declared.names.Master.{Master}
 use Rattle.ada_events.specs.declared.names.Master.TheVariants.{Body, Block}
 use Rattle.ada_events.specs.Search.{is_number}
-use Rattle.ada_events.specs.Says.{completed_in}
+use Rattle.ada_events.specs.Says.{Creation, completed_in}
+use Rattle.ada_events.specs.Tasks.{creation_of}
 use Rattle.ada_events.specs.Phases.{has_start, is_completed, is_terminated}
 use Rattle.ada_events.specs.Termination.{is_complete, is_abandoned, all_terminated}
 use Rattle.ada_events.specs.Forced.{task_no, is_to_go, is_to_quit}
-use Rattle.ada_laws.proofs.Searching.{then_some-some}
+use Rattle.ada_laws.proofs.Depending.{created_positive}
+use Rattle.ada_laws.proofs.Searching.{then_some-some, option_map_or-true}
 use Rattle.ada_forcing.specs.declared.row.Row.TheVariants.{Going, QuittingBody}
 use Rattle.ada_forcing.specs.Rows.{step_at}
 use Rattle.ada_touching.specs.Kinds.{quitting_row, quitting_key}
 use Rattle.ada_touching.proofs.Refining.{task_step}
 use Rattle.ada_noting.specs.internal.Keys.{may_go, may_quit}
 
--- who goes is completed, or was never started
+-- the main program isn't abandoned
+not_main : (journal : List Event) (t : ℕ) → is_abandoned journal t ≡ true → not (t == 0) ≡ true
+unfolding is_abandoned
+not_main journal t abandoned =
+    let over : Creation → Bool = λ c. is_complete journal c.under || is_terminated journal c.by in
+    let (c, made, is) = option_map_or-true over (creation_of journal t) (and_parts _ (not (has_start journal t)) abandoned).0 in
+    let later : 0 < t = created_positive journal t c made in
+    not_from_false (t == 0) (ne_eqb t 0 (λ main. omega (arith, later, main)))
+
+-- who goes is completed, or was made and never started
 goes_so : (journal : List Event) (t : ℕ) → is_to_go journal t ≡ true → may_go journal t ≡ true
 unfolding is_to_go is_abandoned
 goes_so journal t goes =
     let both = and_parts (not (is_terminated journal t)) _ goes in
     elim (or_cases (is_completed journal t && all_terminated journal (Body (task_no t))) (is_abandoned journal t) both.1) [
-      | inl done ↦
-          or_left (is_completed journal t) (not (has_start journal t))
-          (and_parts (is_completed journal t) (all_terminated journal (Body (task_no t))) done).0
-      | inr abandoned ↦ or_right (is_completed journal t) (not (has_start journal t)) (and_parts _ (not (has_start journal t)) abandoned).1
+      | inl done ↦ or_left (is_completed journal t) _ (and_parts (is_completed journal t) (all_terminated journal (Body (task_no t))) done).0
+      | inr abandoned ↦
+          or_right (is_completed journal t) _
+          (and_from (not (has_start journal t)) (not (t == 0)) (and_parts _ (not (has_start journal t)) abandoned).1 (not_main journal t abandoned))
     ]
 
 -- an event that completes nobody leaves it so
@@ -44,10 +55,14 @@ unstarted event before t never =
 pub goer : (event step : Event) (before : List Event) (t : ℕ) → completed_in event ≡ None → step_at (event ∷ before) Going t ≡ Some step
     → may_go before t ≡ true
 goer event step before t none gives =
-    let goes = (then_some-some (is_to_go (event ∷ before) t) (Gone (task_no t)) step (task_step (event ∷ before) Going t step refl gives)).0 in
-    elim (or_cases (is_completed (event ∷ before) t) (not (has_start (event ∷ before) t)) (goes_so (event ∷ before) t goes)) [
-      | inl done ↦ or_left (is_completed before t) (not (has_start before t)) (sym (uncompleted event before t none) ∙ done)
-      | inr never ↦ or_right (is_completed before t) (not (has_start before t)) (unstarted event before t never)
+    let after = event ∷ before in
+    let goes = (then_some-some (is_to_go after t) (Gone (task_no t)) step (task_step after Going t step refl gives)).0 in
+    elim (or_cases (is_completed after t) (not (has_start after t) && not (t == 0)) (goes_so after t goes)) [
+      | inl done ↦ or_left (is_completed before t) _ (sym (uncompleted event before t none) ∙ done)
+      | inr never ↦
+          let both = and_parts (not (has_start after t)) (not (t == 0)) never in
+          or_right (is_completed before t) _
+          (and_from (not (has_start before t)) (not (t == 0)) (unstarted event before t both.0) both.1)
     ]
 
 -- a body whose dependents quit is that of a completed task

@@ -84,12 +84,12 @@ fn is_completed(state: &State, task: TaskNo) -> bool
     state.record(task).stage.completed
 }
 
-// Whether the task is completed, or was never started: no other goes (9.3, 9.4).
+// Whether the task is completed, or was made and never started: no other goes (9.3, 9.4).
 fn may_go(state: &State, task: TaskNo) -> bool
     ensures { result ≡ keys.may_go state.now task.0 }
 {
     let stage = state.record(task).stage;
-    stage.completed || !stage.named
+    stage.completed || !stage.named && task.0 != 0
 }
 
 /// Puts what the masters that a task holds may force: that the dependents of each quit, that the task goes, and that it

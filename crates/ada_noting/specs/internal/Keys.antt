@@ -1,5 +1,5 @@
 -- Keys that are put into an agenda together, and who holds what a task was made under.
-use Rattle.std.specs.Prelude.{◌≡◌, ◌⊎◌, ℕ, ◌<◌, ◌==◌, ◌||◌, Bool, true, false, not, Option, Some, List, slice_get}
+use Rattle.std.specs.Prelude.{◌≡◌, ◌⊎◌, ℕ, ◌<◌, ◌==◌, ◌||◌, ◌&&◌, Bool, true, false, not, Option, Some, List, slice_get}
 use Rattle.std.specs.Option.{is_some, option_map, option_and_then}
 use Rattle.ada_events.specs.declared.event.Event.{Event}
 use Rattle.ada_events.specs.declared.names.Master.{Master}
@@ -91,9 +91,9 @@ pub data AsMember (member : Option Member) : Row → ℕ → Type 0 where
 abbrev pub AsBlock : List Member → ℕ → Row → ℕ → Type 0
 AsBlock members place = AsMember (slice_get members place)
 
--- only a task that is completed, or was never started, goes (9.3, 9.4)
+-- only a task that is completed, or was made and never started, goes (9.3, 9.4); no start names the main program
 abbrev pub may_go : List Event → ℕ → Bool
-may_go journal task = is_completed journal task || not (has_start journal task)
+may_go journal task = is_completed journal task || (not (has_start journal task) && not (task == 0))
 
 -- only where a task is completed do the dependents of its body quit (9.4)
 abbrev pub may_quit : List Event → Master → Bool
