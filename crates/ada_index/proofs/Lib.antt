@@ -3,6 +3,7 @@ pub mod Creations
 pub mod Keys
 pub mod Meetings
 pub mod Requests
+pub mod Spent
 pub mod Steps
 pub mod Taken
 pub mod Taking

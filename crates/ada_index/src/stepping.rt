@@ -1,9 +1,10 @@
 //! The step that a journal forces, found by its agenda, noted and appended.
 
-ghost use Rattle.std.specs.Prelude.{◌≡◌, ◌<◌, ◌≤◌, ◌+◌, ◌∷◌, Some};
+ghost use Rattle.std.specs.Prelude.{◌≡◌, ◌<◌, ◌≤◌, ◌+◌, ◌∷◌, Some, None};
 ghost use Rattle.ada_events.specs.Forced.{forced};
 ghost use Rattle.ada_events.specs.declared.event.Event.TheVariants.{Met as MetEvent};
 ghost use Rattle.ada_forcing.specs.declared.row.Row.TheVariants as row;
+ghost use Rattle.ada_forcing.specs.Rows.{step_at};
 ghost use Rattle.ada_index.specs.Indexes.{IsIndexOf};
 ghost use Rattle.ada_index.specs.internal.Indexes.{MayTake, Takes, MayTakeAtRank, TakesAtRank};
 
@@ -23,6 +24,17 @@ impl Index {
     {
         self.note_in_room(journal, &step);
         journal.push_reserved(step);
+    }
+
+    // Drops a key at which its row gives nothing any more.
+    #[inline(always)]
+    fn drop_key(&mut self, _journal: &Journal, row: Row, key: u32)
+        requires stands { IsIndexOf self.old _journal.now.events }
+        requires fits { key < 69632 }
+        requires spent { step_at _journal.now.events row key ≡ None }
+        ensures { IsIndexOf self.new _journal.now.events }
+    {
+        self.agenda.remove(row.rank(), key as usize);
     }
 
     // Notes and appends the beginning of a rendezvous (9.5), which the journal forces. The wait's key goes with it: the
@@ -55,6 +67,7 @@ impl Index {
             return false;
         }
         self.append(journal, Event::Halted { task });
+        self.drop_key(journal, Row::Halting, key);
         true
     }
 
@@ -67,6 +80,7 @@ impl Index {
             return false;
         }
         self.append(journal, Event::Failed { call });
+        self.drop_key(journal, Row::Failing, call);
         true
     }
 
@@ -143,6 +157,7 @@ impl Index {
             return false;
         }
         self.append(journal, Event::Gone { task });
+        self.drop_key(journal, Row::Going, key);
         true
     }
 
