@@ -23,10 +23,12 @@ use Rattle.ada_touching.proofs.Acting.{created_exists}
 use Rattle.ada_touching.proofs.Adding.{agendas_stay}
 use Rattle.ada_touching.proofs.Noting.{grown, grown_giving, own_is}
 use Rattle.ada_touching.proofs.Places.{closing_open}
-use Rattle.ada_noting.specs.internal.Keys.{Puts, Both, OfFirst, AsKey, AsHeld, AsUnstarted}
+use Rattle.ada_noting.specs.internal.Keys.{Puts, Both, OfFirst, AsKey, AsHaltable, AsHeld, AsUnstarted}
+use Rattle.ada_noting.specs.internal.Keys.When.{holds_so}
 use Rattle.ada_noting.specs.internal.Keys.AsKey.{itself}
 use Rattle.ada_noting.specs.internal.Keys.AsHeld.{held}
 use Rattle.ada_noting.specs.internal.Keys.AsUnstarted.{goes}
+use Rattle.ada_noting.proofs.Halting.{haltable}
 use Rattle.ada_noting.proofs.Holding.{block_fits}
 
 -- an agenda into which all was put that the event adds
@@ -84,7 +86,7 @@ hit_known event before u hit =
 
 -- all that was put for an abort
 abbrev pub AbortKeys : List Event → Row → ℕ → Type 0
-AbortKeys before = Both (OfFirst (AsKey Halting) (task_count before)) (OfFirst (AsHeld before Failing) (task_count before))
+AbortKeys before = Both (OfFirst (AsHaltable before) (task_count before)) (OfFirst (AsHeld before Failing) (task_count before))
 
 -- the caller of an open call is suspended at it
 pub fails_held : (before : List Event) (u p : ℕ) → IsLawful before → IsOpenCallTo before u p
@@ -98,12 +100,15 @@ fails_held before u p lawful of =
       of = held at.event p at.stands (rw at.says refl) suspended;
     }
 
-abort_key : (event : Event) (before : List Event) (row : Row) (key : ℕ) → IsLawful before → OfAbort event before row key → AbortKeys before row key
-abort_key event before row key lawful (abort_halts u hit) = inl (record { task = u; among = hit_known event before u hit; of = itself })
-abort_key event before row key lawful (abort_fails u p hit of) = inr (fails_held before u p lawful of)
+abort_key : (by : TaskNo) (tasks : List TaskNo) (step : Event) (before : List Event) (row : Row) (key : ℕ) → IsLawful before
+    → step_at (Aborted by tasks ∷ before) row key ≡ Some step → OfAbort (Aborted by tasks) before row key → AbortKeys before row key
+abort_key by tasks step before row key lawful gives (abort_halts u hit) =
+    inl (record { task = u; among = hit_known (Aborted by tasks) before u hit; of = holds_so (haltable before by tasks u step gives) itself })
+abort_key by tasks step before row key lawful gives (abort_fails u p hit of) = inr (fails_held before u p lawful of)
 
 pub abort_noted : (event : Event) (before : List Event) (old new : List (List ℕ)) (by : TaskNo) (tasks : List TaskNo) → IsLawful (event ∷ before)
     → IsAgendaOf old before → event ≡ Aborted by tasks → Puts old new (AbortKeys before) → IsAgendaOf new (event ∷ before)
 abort_noted event before old new by tasks lawful agenda is puts =
-    noted event before old new (AbortKeys before) lawful agenda puts (λ row key added.
-    abort_key (Aborted by tasks) before row key lawful.0 (subst (λ (e : Event). Adds before e row key) is added))
+    noted_giving event before old new (AbortKeys before) lawful agenda puts (λ row key step added gives.
+    abort_key by tasks step before row key lawful.0 (subst (λ (e : Event). step_at (e ∷ before) row key ≡ Some step) is gives)
+    (subst (λ (e : Event). Adds before e row key) is added))

@@ -4,6 +4,7 @@ pub mod Callers
 pub mod Dues
 pub mod Ends
 pub mod Giving
+pub mod Halting
 pub mod Holding
 pub mod Additions
 pub mod Outwards

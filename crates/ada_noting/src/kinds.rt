@@ -9,7 +9,7 @@ ghost use Rattle.ada_noting.specs.Bounds.{IsStartBound};
 ghost use Rattle.ada_touching.specs.Keeping.{IsAgendaOf};
 ghost use Rattle.ada_touching.specs.Additions.{adds_nothing};
 
-use crate::passes::{put_all_held, put_key, put_tasks};
+use crate::passes::{put_all_haltable, put_all_held, put_key};
 use crate::unstarted::{FirstUnstarted, put_all_unstarted};
 use ada_agenda::Agenda;
 use ada_events::{Event, TaskNo};
@@ -62,6 +62,6 @@ pub(crate) fn note_abort(
     requires aborts { _event.now ≡ AbortedEvent _by _tasks.now }
     ensures { IsAgendaOf agenda.new (_event.now ∷ state.now) }
 {
-    put_tasks(agenda, state, Row::Halting);
+    put_all_haltable(agenda, state);
     put_all_held(agenda, state, Row::Failing);
 }

@@ -6,7 +6,7 @@ ghost use Rattle.ada_events.specs.Search.{is_some_and, event_at};
 ghost use Rattle.ada_events.specs.Tasks.{task_count};
 ghost use Rattle.ada_touching.specs.Keeping.{Grows, has_key};
 ghost use Rattle.ada_noting.specs.internal.Keys as keys;
-ghost use Rattle.ada_noting.specs.internal.Keys.{Puts, OfFirst, When, AsKey, AsHeld, AsCaller, AsLost, calls};
+ghost use Rattle.ada_noting.specs.internal.Keys.{Puts, OfFirst, When, AsKey, AsHaltable, AsHeld, AsCaller, AsLost, calls};
 
 use ada_agenda::Agenda;
 use ada_events::{Event, TaskNo};
@@ -36,14 +36,33 @@ pub(crate) fn put_key_if(agenda: &mut Agenda, row: Row, key: usize, so: bool)
     }
 }
 
-/// Puts the numbers of all tasks into a row.
-pub(crate) fn put_tasks(agenda: &mut Agenda, state: &State, row: Row)
+// Whether the task hasn't ended, and isn't the caller in a rendezvous: no other is halted (9.10).
+#[tactic(auto, using(crate::proofs::Halting::may_halt_told))]
+fn may_halt(state: &State, task: TaskNo) -> bool
+    ensures { result ≡ keys.may_halt state.now task.0 }
+{
+    let kept = state.record(task);
+    let meets = kept.doing.at != 0 && kept.doing.joined;
+    !kept.has_ended() && !meets
+}
+
+// Puts a task that may be halted into the row of those that are halted.
+fn put_haltable(agenda: &mut Agenda, state: &State, task: TaskNo)
+    requires { length agenda.old ≡ 11 }
+    ensures { Puts agenda.old agenda.new (AsHaltable state.now task.0) }
+{
+    let halts = may_halt(state, task);
+    put_key_if(agenda, Row::Halting, task.0 as usize, halts);
+}
+
+/// Puts the tasks that may be halted into the row of those that are halted.
+pub(crate) fn put_all_haltable(agenda: &mut Agenda, state: &State)
     requires lawful { IsLawful state.now }
     requires many { length agenda.old ≡ 11 }
-    ensures { Puts agenda.old agenda.new (OfFirst (AsKey row) (task_count state.now)) }
+    ensures { Puts agenda.old agenda.new (OfFirst (AsHaltable state.now) (task_count state.now)) }
 {
     for number in 0..state.tables().tasks() {
-        put_key(agenda, row, number as usize);
+        put_haltable(agenda, state, TaskNo(number));
     }
 }
 

@@ -61,7 +61,7 @@ met_by journal c p kept lawful right opened met = of_kept kept.doing.at refl rig
         (joined now ∙ ap (is_met journal) there ∙ met)
 
 -- the caller of a rendezvous is told by its record
-met_told : (journal : List Event) (task : ℕ) (kept : Record) → IsLawful journal → IsRecordOf journal task kept
+pub met_told : (journal : List Event) (task : ℕ) (kept : Record) → IsLawful journal → IsRecordOf journal task kept
     → is_met_by kept ≡ is_caller_in_rendezvous journal task
 unfolding is_caller_in_rendezvous is_joined_at is_open_at is_pending
 met_told journal task kept lawful right = same_truth (is_met_by kept) (is_caller_in_rendezvous journal task) there back

@@ -12,7 +12,8 @@ use Rattle.ada_events.specs.Says.{Opening, Creation, Call, call_in, start_in, cl
 use Rattle.ada_events.specs.Waits.{is_due}
 use Rattle.ada_events.specs.Tasks.{task_count, creation_of}
 use Rattle.ada_events.specs.Masters.{depends_on}
-use Rattle.ada_events.specs.Phases.{has_start, is_completed, is_abnormal, is_terminated}
+use Rattle.ada_events.specs.Calls.{is_caller_in_rendezvous}
+use Rattle.ada_events.specs.Phases.{has_start, has_ended, is_completed, is_abnormal, is_terminated}
 use Rattle.ada_events.specs.Nests.{nest}
 use Rattle.ada_laws.specs.Calls.{IsCallAt}
 use Rattle.ada_laws.specs.Suspension.{IsSuspendedAt}
@@ -52,6 +53,14 @@ is_of_row Failing event = is_some (call_in event)
 is_of_row Activating event = is_some (start_in event)
 is_of_row Leaving event = is_some (closing_in event)
 is_of_row _ event = true
+
+-- only a task that hasn't ended, and isn't the caller in a rendezvous, is halted by an abort (9.10)
+abbrev pub may_halt : List Event → ℕ → Bool
+may_halt journal task = not (has_ended journal task) && not (is_caller_in_rendezvous journal task)
+
+-- a task that may be halted
+abbrev pub AsHaltable : List Event → ℕ → Row → ℕ → Type 0
+AsHaltable journal task = When (may_halt journal task) (AsKey Halting task)
 
 -- the position at which a task is suspended, in that row, where the event there is of its kind
 pub data AsHeld (journal : List Event) (at : Row) (task : ℕ) : Row → ℕ → Type 0 where

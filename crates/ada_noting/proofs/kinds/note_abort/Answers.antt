@@ -7,4 +7,4 @@ returns c =
     let old = c.args.agenda.now in
     abort_noted c.args._event.now c.args.state.now old c.put_all_held.new.agenda c.args._by c.args._tasks.now c.requires.lawful c.requires.stands
     c.requires.aborts
-    (both_put old c.put_tasks.new.agenda c.put_all_held.new.agenda _ _ c.put_tasks.ensures c.put_all_held.ensures)
+    (both_put old c.put_all_haltable.new.agenda c.put_all_held.new.agenda _ _ c.put_all_haltable.ensures c.put_all_held.ensures)
