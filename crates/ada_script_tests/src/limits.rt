@@ -1,38 +1,39 @@
 //! Texts at the limits of a script, and each byte.
 
+use crate::common::with_script;
 use ada_script::{Cause, Script, ScriptFault, read};
 use std::process::Abort;
 use std::test::Fail;
 
 /// Why a text is no script, which is found in this line.
 fn cause_of(rt: &impl Abort, answer: Result<Script, ScriptFault>, line: u32) -> Option<Cause> {
-    match answer {
-        Ok(_) => None,
-        Err(fault) => {
-            assert_eq!(rt; fault.line, line);
-            Some(fault.cause)
-        }
-    }
+    let fault = answer.err()?;
+    assert_eq!(rt; fault.line, line);
+    Some(fault.cause)
+}
+
+/// A text is no script for this cause, which is found in this line; `None` where it is one.
+fn assert_cause<R: Abort + AllocGlobal>(rt: &R, text: &[u8], line: u32, cause: Option<Cause>) {
+    assert_eq!(rt; cause_of(rt, read(rt.alloc(), text), line), cause);
+}
+
+/// A line of 201 bytes is too long, and one of 200 isn't.
+fn line_keeps_to_the_limit<R: Abort + AllocGlobal>(rt: &R) -> Result<(), Fail> {
+    let mut comment = vec![in rt.alloc(); b'x'; 200]?;
+    comment.insert(0, b'#')?;
+    assert_cause(rt, &comment, 1, Some(Cause::LineTooLong));
+    comment.pop();
+    assert_cause(rt, &comment, 1, None);
+    Ok(())
 }
 
 #[test]
 fn keeps_to_the_limits(rt: HostRuntime) -> Result<(), Fail> {
-    let alloc = rt.alloc();
-    let mut comment = vec![in alloc; b'x'; 200]?;
-    comment.insert(0, b'#')?;
-    assert_eq!(rt;
-        cause_of(&rt, read(alloc, &comment), 1),
-        Some(Cause::LineTooLong)
-    );
-    comment.pop();
-    assert_eq!(rt; cause_of(&rt, read(alloc, &comment), 1), None);
-    let mut lines = vec![in alloc; b'\n'; 4096]?;
-    assert_eq!(rt; cause_of(&rt, read(alloc, &lines), 1), None);
+    line_keeps_to_the_limit(&rt)?;
+    let mut lines = vec![in rt.alloc(); b'\n'; 4096]?;
+    assert_cause(&rt, &lines, 1, None);
     lines.push(b'\n')?;
-    assert_eq!(rt;
-        cause_of(&rt, read(alloc, &lines), 4097),
-        Some(Cause::TooManyLines)
-    );
+    assert_cause(&rt, &lines, 4097, Some(Cause::TooManyLines));
     Ok(())
 }
 
@@ -45,13 +46,22 @@ fn cause_alone(byte: u8) -> Option<Cause> {
     }
 }
 
+/// Whether a byte alone is a script, and if not, why.
+fn assert_alone<R: Abort + AllocGlobal>(rt: &R, byte: u8) {
+    let found = cause_of(rt, read(rt.alloc(), &[byte]), 1);
+    assert_eq!(rt; found, cause_alone(byte), "byte {byte}");
+}
+
+/// No text at all is a script without lines.
+fn assert_empty<R: Abort>(rt: &R, script: &Script) -> Result<(), Cause> {
+    assert!(rt; script.lines().is_empty());
+    Ok(())
+}
+
 #[test]
 fn each_byte_alone(rt: HostRuntime) -> Result<(), Fail> {
     for byte in 0..=255u8 {
-        let found = cause_of(&rt, read(rt.alloc(), &[byte]), 1);
-        assert_eq!(rt; found, cause_alone(byte), "byte {byte}");
+        assert_alone(&rt, byte);
     }
-    let script = read(rt.alloc(), b"")?;
-    assert!(rt; script.lines().is_empty());
-    Ok(())
+    with_script(&rt, b"", assert_empty)
 }

@@ -1,7 +1,9 @@
 //! The words of statements.
 
-use ada_script::{Cause, Script, read, words};
+use crate::common::{assert_text, passed, script_of};
+use ada_script::{Cause, Script, words};
 use std::alloc::Global;
+use std::process::Abort;
 use std::test::Fail;
 
 /// Each form of each statement.
@@ -59,25 +61,33 @@ fn spelled(alloc: Global, script: &Script) -> Result<Vec<u8>, Cause> {
     Ok(text)
 }
 
+fn assert_words<R: Abort + AllocGlobal>(
+    rt: &R,
+    script: &Script,
+    wanted: &[u8],
+) -> Result<(), Cause> {
+    let text = spelled(rt.alloc(), script)?;
+    assert_text(rt, &text, wanted);
+    Ok(())
+}
+
+/// The words of a text's statements.
+fn assert_spelled<R: Abort + AllocGlobal>(rt: &R, text: &[u8], wanted: &[u8]) -> Result<(), Fail> {
+    let script = script_of(rt, text)?;
+    passed(assert_words(rt, &script, wanted))
+}
+
 // Where there is memory, each form is read, and its words are found.
 #[test]
 fn reader_of_scripts_gives_up(rt: HostRuntime) -> Result<(), Fail> {
-    let alloc = rt.alloc();
-    let script = read(alloc, STATEMENTS)?;
-    assert_eq!(rt; spelled(alloc, &script)?.as_slice(), STATEMENTS);
-    Ok(())
+    assert_spelled(&rt, STATEMENTS, STATEMENTS)
 }
 
 #[test]
 fn spells_what_spaces_part(rt: HostRuntime) -> Result<(), Fail> {
-    let alloc = rt.alloc();
-    let script = read(
-        alloc,
+    assert_spelled(
+        &rt,
         b"# a comment\n\nmain:   create S under main F -1 3  G\n  tick -5 ",
-    )?;
-    assert_eq!(rt;
-        spelled(alloc, &script)?.as_slice(),
-        b"main: create S under main F -1 3 G\ntick -5\n".as_slice()
-    );
-    Ok(())
+        b"main: create S under main F -1 3 G\ntick -5\n",
+    )
 }
