@@ -1,6 +1,7 @@
 //! What the tests share, each in a function of its own: a test that has it beside all that it owns takes long to prove.
 
 use ada_script::{Cause, Script, read};
+use std::fmt::Debug;
 use std::process::Abort;
 use std::test::Fail;
 
@@ -26,7 +27,12 @@ pub fn with_script<R: AllocGlobal, F: FnOnce(&R, &Script) -> Result<(), Cause>>(
     passed(ask(rt, &script))
 }
 
+/// What was found is the wanted.
+pub fn assert_found<R: Abort, T: PartialEq + Debug>(rt: &R, found: &T, wanted: &T) {
+    assert_eq!(rt; found, wanted);
+}
+
 /// The text is the wanted one.
 pub fn assert_text<R: Abort>(rt: &R, text: &[u8], wanted: &[u8]) {
-    assert_eq!(rt; text, wanted);
+    assert_found(rt, &text, &wanted);
 }

@@ -1,6 +1,6 @@
 //! Texts at the limits of a script, and each byte.
 
-use crate::common::with_script;
+use crate::common::{assert_found, with_script};
 use ada_script::{Cause, Script, ScriptFault, read};
 use std::process::Abort;
 use std::test::Fail;
@@ -8,13 +8,13 @@ use std::test::Fail;
 /// Why a text is no script, which is found in this line.
 fn cause_of(rt: &impl Abort, answer: Result<Script, ScriptFault>, line: u32) -> Option<Cause> {
     let fault = answer.err()?;
-    assert_eq!(rt; fault.line, line);
+    assert_found(rt, &fault.line, &line);
     Some(fault.cause)
 }
 
 /// A text is no script for this cause, which is found in this line; `None` where it is one.
 fn assert_cause<R: Abort + AllocGlobal>(rt: &R, text: &[u8], line: u32, cause: Option<Cause>) {
-    assert_eq!(rt; cause_of(rt, read(rt.alloc(), text), line), cause);
+    assert_found(rt, &cause_of(rt, read(rt.alloc(), text), line), &cause);
 }
 
 /// A line of 201 bytes is too long, and one of 200 isn't.

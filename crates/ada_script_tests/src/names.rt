@@ -1,6 +1,6 @@
 //! What statements ask once their names are bound, and what is printed.
 
-use crate::common::{assert_text, passed, script_of, with_script};
+use crate::common::{assert_found, assert_text, passed, script_of, with_script};
 use ada_events::{Event, Refusal, Request, TaskNo};
 use ada_requests::{call, end};
 use ada_script::{
@@ -58,7 +58,7 @@ fn asked(script: &Script, names: &Names, place: usize) -> Option<Request> {
 }
 
 fn assert_asks(rt: &impl Abort, script: &Script, names: &Names, place: usize, wanted: Request) {
-    assert_eq!(rt; asked(script, names, place), Some(wanted));
+    assert_found(rt, &asked(script, names, place), &Some(wanted));
 }
 
 /// The requests of two lines, once their names are bound.
@@ -92,8 +92,8 @@ fn last_number(lines: &[Line]) -> Option<u32> {
 }
 
 fn assert_numbered<R: Abort>(rt: &R, script: &Script) -> Result<(), Cause> {
-    assert_eq!(rt; script.lines().len(), 8);
-    assert_eq!(rt; last_number(script.lines()), Some(8));
+    assert_found(rt, &script.lines().len(), &8);
+    assert_found(rt, &last_number(script.lines()), &Some(8));
     Ok(())
 }
 
