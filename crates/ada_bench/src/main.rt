@@ -1,6 +1,6 @@
 //! Measures how long the parts of adatask take, each beside a floor that is measured in the same run: the
-//! same bytes read and cut into words, the same events made and kept, and the same text made and written,
-//! by plain loops; the same numbers read from a table; and journals made and dropped.
+//! same bytes read and cut into words, the same requests made, the same events made and kept, and the same
+//! text made and written, by plain loops; the same numbers read from a table; and journals made and dropped.
 #![tactic(auto)]
 
 mod jobs;
