@@ -12,9 +12,11 @@ put_haltable-requires c = c.loop-number.invariant.grows.many ∙ c.requires.many
 
 pub loop-number-preserved : goal.loop-number-preserved
 loop-number-preserved c =
-    puts_more c.args.agenda.now c.loop-number.agenda c.put_haltable.new.agenda (AsHaltable c.args.state.now) c.loop-number.number c.loop-number.invariant c.put_haltable.ensures
+    puts_more c.args.agenda.now c.loop-number.agenda c.put_haltable.new.agenda (AsHaltable c.args.state.now) c.loop-number.number c.loop-number.invariant
+    c.put_haltable.ensures
 
 pub returns : goal.returns
 returns c =
-    puts_all c.args.agenda.now c.loop-number.agenda (AsHaltable c.args.state.now) c.loop-number.number (task_count c.args.state.now) c.loop-number.invariant
+    puts_all c.args.agenda.now c.loop-number.agenda (AsHaltable c.args.state.now) c.loop-number.number (task_count c.args.state.now)
+    c.loop-number.invariant
     (subst (λ n. n ≤ c.loop-number.number) (c.tasks-number-end.ensures.value ∙ c.tables.ensures.stand.many) c.loop-number-test.false)
