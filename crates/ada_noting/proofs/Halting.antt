@@ -1,5 +1,5 @@
 -- Who may be halted by an abort.
-use Rattle.std.proofs.Common.{◌≡◌, ℕ, Bool, true, false, not, ◌&&◌, Some, List, ◌∷◌, sym, refl, ap, ◌∙◌, subst, inl, inr}
+use Rattle.std.proofs.Common.{◌≡◌, ℕ, true, false, not, ◌&&◌, Some, List, ◌∷◌, sym, refl, ap, ◌∙◌, subst, inl, inr}
 use Rattle.std.proofs.lemmas.Bool.{and_from, true≢false, cases_Bool}
 use Rattle.std.proofs.lemmas.Option.{same_Some}
 use Rattle.ada_events.specs.declared.event.Event.{Event}
