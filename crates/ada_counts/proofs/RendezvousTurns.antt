@@ -1,8 +1,8 @@
 -- What the events of a rendezvous change in queues and nests, and whose phase.
-use Rattle.std.proofs.Common.{◌≡◌, ℕ, ◌-◌, Bool, false, not, Option, Some, None, IsSome, List, ◌∷◌, length, refl, sym, ap, ◌∙◌, subst, inl, inr}
+use Rattle.std.proofs.Common.{◌≡◌, ℕ, ◌-◌, Bool, false, not, Option, Some, None, List, ◌∷◌, length, refl, sym, ap, ◌∙◌, subst, inl, inr}
 use Rattle.std.specs.Option.{option_map_or}
 use Rattle.std.specs.List.{Contains}
-use Rattle.std.proofs.lemmas.Bool.{true≢false, false≢true}
+use Rattle.std.proofs.lemmas.Bool.{true≢false}
 use Rattle.std.proofs.lemmas.Option.{none-some, same_Some, slice_get_within, get_or_from_slice_get}
 use Rattle.ada_events.specs.declared.event.Event.{Event}
 use Rattle.ada_events.specs.declared.event.Event.TheVariants as kind
@@ -22,29 +22,13 @@ use Rattle.ada_laws.proofs.Accepting.{is_accepted}
 use Rattle.ada_laws.proofs.Rows.{IsRow, forced-row}
 use Rattle.ada_laws.proofs.Rows.IsRow.{fails}
 use Rattle.ada_tables.specs.Tables.{TableState}
-use Rattle.ada_counts.specs.declared.nests.NestChange.{NestChange}
 use Rattle.ada_counts.specs.declared.nests.NestChange.TheVariants.{Nothing as SameNests, Enters, EndsRendezvous}
-use Rattle.ada_counts.specs.declared.queues.QueueChange.{QueueChange}
 use Rattle.ada_counts.specs.declared.queues.QueueChange.TheVariants.{Nothing as SameQueues, Joins, Leaves}
 use Rattle.ada_counts.specs.Noting.{HaveRoomFor, MakesCall, MakesWait, EndsCall}
-use Rattle.ada_counts.specs.internal.Phasing.{TouchesOnly}
-use Rattle.ada_counts.specs.internal.Renesting.{ChangesNests}
-use Rattle.ada_counts.specs.internal.Requeuing.{ChangesQueues}
 use Rattle.ada_counts.proofs.NestTurns.{nests_kept, nests_of_end, nests_met, accepted_by_callee}
+use Rattle.ada_counts.proofs.Known.{AreKnown, needs_no_room}
 use Rattle.ada_counts.proofs.QueueTurns.{queues_called, queues_kept, queues_ended, queues_met}
 use Rattle.ada_counts.proofs.TouchedTasks.{held_touches, released_touches}
-
--- of an event it is known that it makes no task, what it changes in queues and nests, and whose phase
-pub record AreKnown (event : Event) (before : List Event) (queue_change : QueueChange) (nest_change : NestChange) (touched : TaskNo) : Type 0 where
-  pub makes : creation_in event ≡ None
-  pub queues : ChangesQueues event before queue_change
-  pub nests : ChangesNests event before nest_change
-  pub touches : TouchesOnly event before (Some touched)
-
--- an event that is no call needs no room for one
-pub needs_no_room : (event f : Event) (tables : TableState) → event ≡ f → call_in f ≡ None → HaveRoomFor tables event
-needs_no_room event f tables is calls = λ some.
-    absurd (false≢true (subst (λ (o : Option Call). IsSome o) (ap call_in is ∙ calls) some))
 
 -- a call of an entry comes last there, and holds its task up
 pub call_known : (event : Event) (before : List Event) (by callee : TaskNo) (entry : Entry) → MakesCall event by callee entry → IsLawful (event ∷ before)

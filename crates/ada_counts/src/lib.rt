@@ -3,6 +3,8 @@
 //! function that does nothing.
 #![tactic(auto)]
 
+mod changes;
+pub mod endings;
 pub mod follow;
 pub mod laws;
 mod nests;

@@ -4,7 +4,7 @@ use Rattle.std.specs.Option.{unwrap_or}
 use Rattle.std.specs.Vec.{with_items}
 use Rattle.std.proofs.lemmas.List.{with_items_is}
 use Rattle.ada_events.specs.declared.event.Event.{Event}
-use Rattle.ada_events.specs.declared.event.Event.TheVariants.{Called, Waiting, Ended, Met}
+use Rattle.ada_events.specs.declared.event.Event.TheVariants.{Called, Waiting, Ended, Met, Halted, Failed, Gone}
 use Rattle.ada_events.specs.declared.event.EventTail.TheVariants.{Nothing}
 use Rattle.ada_events.specs.declared.names.Choice.{Choice}
 use Rattle.ada_events.specs.declared.names.Entry.{Entry}
@@ -15,7 +15,7 @@ use Rattle.ada_events.specs.Says.{creation_in, moment_in, call_in, held_in, star
 use Rattle.ada_events.specs.Tasks.{moment}
 use Rattle.ada_forcing.specs.Newly.{IsCallOf}
 use Rattle.ada_counts.specs.Noting.{HaveAllQueues}
-use Rattle.ada_noting.specs.Bounds.{IsDueBound}
+use Rattle.ada_noting.specs.Bounds.{IsDueBound, IsStartBound}
 use Rattle.ada_noting.proofs.Starts.{bound_stays}
 use Rattle.ada_records.specs.declared.record.Record.{Record}
 use Rattle.ada_records.specs.Records.{AreRecords, IsPlainHold}
@@ -37,12 +37,14 @@ same_moment : (event : Event) (before : List Event) → IsQuiet event → moment
 unfolding moment
 same_moment event before quiet = ap (λ now. unwrap_or now (moment before)) quiet.ticks
 
--- an index in which records, tables, agenda and the next due moment follow such an event is one of the longer journal
-pub noted : (index : Index) (event : Event) (before : List Event) (records : List Record) (tables : TableState) (rows : List (List ℕ)) (next : Option ℤ)
-    → IsIndexOf index before → IsLawful (event ∷ before) → IsQuiet event → length records ≡ index.records.len → AreRecords records (event ∷ before)
-    → StandFor tables (event ∷ before) → HaveAllQueues tables (event ∷ before) → IsAgendaOf rows (event ∷ before) → IsDueBound (event ∷ before) next
-    → IsIndexOf (record index { records = with_items index.records records; tables = tables; agenda = rows; next_due = next }) (event ∷ before)
-noted index event before records tables rows next stands lawful quiet long recorded tabled slots agenda due = record {
+-- an index in which records, tables, agenda, the next due moment and the first unstarted task follow such an event is one of the longer journal
+pub noted_from : (index : Index) (event : Event) (before : List Event) (records : List Record) (tables : TableState) (rows : List (List ℕ)) (next : Option ℤ)
+    → (first : ℕ) → IsIndexOf index before → IsLawful (event ∷ before) → IsQuiet event → length records ≡ index.records.len
+    → AreRecords records (event ∷ before) → StandFor tables (event ∷ before) → HaveAllQueues tables (event ∷ before) → IsAgendaOf rows (event ∷ before)
+    → IsDueBound (event ∷ before) next → IsStartBound before first
+    → IsIndexOf (record index { records = with_items index.records records; tables = tables; agenda = rows; next_due = next; unstarted = first })
+    (event ∷ before)
+noted_from index event before records tables rows next first stands lawful quiet long recorded tabled slots agenda due started = record {
   kept = record {
     lawful = lawful;
     recorded = subst (λ (rs : List Record). AreRecords rs (event ∷ before)) (sym (with_items_is index.records records long)) recorded;
@@ -53,8 +55,16 @@ noted index event before records tables rows next stands lawful quiet long recor
   slots = slots;
   agenda = agenda;
   due = due;
-  unstarted = bound_stays event before index.unstarted stands.unstarted;
+  unstarted = bound_stays event before first started;
 }
+
+-- the same where the first unstarted task stays
+pub noted : (index : Index) (event : Event) (before : List Event) (records : List Record) (tables : TableState) (rows : List (List ℕ)) (next : Option ℤ)
+    → IsIndexOf index before → IsLawful (event ∷ before) → IsQuiet event → length records ≡ index.records.len → AreRecords records (event ∷ before)
+    → StandFor tables (event ∷ before) → HaveAllQueues tables (event ∷ before) → IsAgendaOf rows (event ∷ before) → IsDueBound (event ∷ before) next
+    → IsIndexOf (record index { records = with_items index.records records; tables = tables; agenda = rows; next_due = next }) (event ∷ before)
+noted index event before records tables rows next stands lawful quiet long recorded tabled slots agenda due =
+    noted_from index event before records tables rows next index.unstarted stands lawful quiet long recorded tabled slots agenda due stands.unstarted
 
 module _ (event : Event) (by callee : TaskNo) (entry : Entry) (patience : Patience) (due : Option ℤ) (is : event ≡ Called by callee entry patience due) where
   pub call_quiet : IsQuiet event
@@ -104,3 +114,27 @@ module _ (event : Event) (call wait : ℕ) (is : event ≡ Met call wait) where
 
   pub meeting_not_due : due_in event ≡ None
   meeting_not_due = ap due_in is
+
+module _ (event : Event) (task : TaskNo) (is : event ≡ Halted task) where
+  pub halt_quiet : IsQuiet event
+  unfolding creation_in moment_in
+  halt_quiet = record { makes = ap creation_in is; ticks = ap moment_in is }
+
+  pub halt_not_due : due_in event ≡ None
+  halt_not_due = ap due_in is
+
+module _ (event : Event) (call : ℕ) (is : event ≡ Failed call) where
+  pub failure_quiet : IsQuiet event
+  unfolding creation_in moment_in
+  failure_quiet = record { makes = ap creation_in is; ticks = ap moment_in is }
+
+  pub failure_not_due : due_in event ≡ None
+  failure_not_due = ap due_in is
+
+module _ (event : Event) (task : TaskNo) (is : event ≡ Gone task) where
+  pub termination_quiet : IsQuiet event
+  unfolding creation_in moment_in
+  termination_quiet = record { makes = ap creation_in is; ticks = ap moment_in is }
+
+  pub termination_not_due : due_in event ≡ None
+  termination_not_due = ap due_in is

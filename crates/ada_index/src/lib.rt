@@ -3,6 +3,7 @@
 
 mod answering;
 mod beginning;
+mod endings;
 pub mod index;
 mod noting;
 mod rendezvous;

@@ -8,7 +8,7 @@ use Rattle.ada_events.specs.declared.event.Event.TheVariants.{Halted, Cancelled}
 use Rattle.ada_events.specs.declared.names.TaskNo.{TaskNo}
 use Rattle.ada_events.specs.declared.names.Master.{Master}
 use Rattle.ada_events.specs.declared.names.Master.TheVariants.{Block}
-use Rattle.ada_events.specs.Says.{Call, call_in, call_at, completed_in}
+use Rattle.ada_events.specs.Says.{Call, creation_in, call_in, call_at, completed_in}
 use Rattle.ada_events.specs.Masters.{depends_on}
 use Rattle.ada_events.specs.Phases.{is_terminated, has_ended}
 use Rattle.ada_events.specs.Termination.{is_at_open_terminate, is_ready_to_quit, has_empty_queues}
@@ -26,13 +26,13 @@ use Rattle.ada_touching.specs.Kinds.OfHalt.{completes, quits_block, empties}
 use Rattle.ada_touching.specs.Kinds.OfCancellation.{quits as quits_with}
 use Rattle.ada_touching.proofs.Noting.{grows_same, held_there}
 use Rattle.ada_counts.proofs.Owners.{has_contained}
-use Rattle.ada_noting.specs.internal.Keys.{Puts, Both, AsHolder, AsDependent, AsCalleeAt, may_quit}
+use Rattle.ada_noting.specs.internal.Keys.{Puts, Both, AsCompletion, AsHolder, AsDependent, AsCalleeAt, may_quit}
 use Rattle.ada_noting.specs.internal.Keys.AsHolder.{quits}
 use Rattle.ada_noting.specs.internal.Keys.AsDependent.{through}
 use Rattle.ada_noting.specs.internal.Keys.AsCalleeAt.{called}
 use Rattle.ada_noting.proofs.Additions.{noted_giving}
 use Rattle.ada_noting.proofs.Giving.{quitter, quitter_of}
-use Rattle.ada_noting.proofs.Ends.{dependent_held}
+use Rattle.ada_noting.proofs.Ends.{dependent_held, completion_key}
 
 -- the callee of a call
 callee_is : (before : List Event) (at callee : ℕ) (c : Call) → option_map (λ (c : Call). c.callee) (call_at before at) ≡ Some callee → IsCallAt before c at
@@ -98,17 +98,21 @@ cancellation_noted event before old new call lawful agenda is puts =
 
 -- all that was put for a halt
 abbrev pub HaltKeys : List Event → TaskNo → ℕ → Row → ℕ → Type 0
-HaltKeys before task at = Both (Both (OfCompletion before task) (AsHolder before task.0)) (AsCalleeAt before at)
+HaltKeys before task at = Both (Both (AsCompletion before task) (AsHolder before task.0)) (AsCalleeAt before at)
 
 halt_key : (event step : Event) (before : List Event) (task : TaskNo) (at : ℕ) (row : Row) (key : ℕ) → IsLawful before → completed_in event ≡ Some task.0
-    → IsHeldAt before task.0 at → step_at (event ∷ before) row key ≡ Some step → OfHalt event before task row key → HaltKeys before task at row key
-halt_key event step before task at row key lawful done is gives (completes r k of) = inl (inl of)
-halt_key event step before task at row key lawful done is gives (quits_block p among) =
+    → creation_in event ≡ None → IsHeldAt before task.0 at → step_at (event ∷ before) row key ≡ Some step → OfHalt event before task row key
+    → HaltKeys before task at row key
+halt_key event step before task at row key lawful done makes is gives (completes r k of) =
+    inl (inl (completion_key event step before task r k lawful makes gives of))
+halt_key event step before task at row key lawful done makes is gives (quits_block p among) =
     inl (inr (quits (Block p) (has_contained (nest before task.0) p among.0 among.1 among.2) refl))
-halt_key event step before task at row key lawful done is gives (empties p c m suspended stands ready depends) =
+halt_key event step before task at row key lawful done makes is gives (empties p c m suspended stands ready depends) =
     let there = held_there before task.0 at p lawful is suspended in
     elim (quitter_of event step before task m done gives) [
-      | inl own ↦ inl (inl (subst (λ (n : Master). OfCompletion before task (quitting_row n) (quitting_key n)) (sym own) task_quits))
+      | inl own ↦
+          inl (inl (completion_key event step before task (quitting_row m) (quitting_key m) lawful makes gives
+          (subst (λ (n : Master). OfCompletion before task (quitting_row n) (quitting_key n)) (sym own) task_quits)))
       | inr may ↦ inr (quitting_callee event before at c m lawful (subst (IsCallAt before c) there.1 stands) ready depends may)
     ]
 
@@ -116,9 +120,13 @@ halt_completes : (task : TaskNo) → completed_in (Halted task) ≡ Some task.0
 unfolding completed_in
 halt_completes task = refl
 
+halts_alone : (task : TaskNo) → creation_in (Halted task) ≡ None
+unfolding creation_in
+halts_alone task = refl
+
 pub halt_noted : (event : Event) (before : List Event) (old new : List (List ℕ)) (task : TaskNo) (at : ℕ) → IsLawful (event ∷ before) → IsAgendaOf old before
     → event ≡ Halted task → IsHeldAt before task.0 at → Puts old new (HaltKeys before task at) → IsAgendaOf new (event ∷ before)
 halt_noted event before old new task at lawful agenda is held puts =
     noted_giving event before old new (HaltKeys before task at) lawful agenda puts (λ row key step added gives.
-    halt_key (Halted task) step before task at row key lawful.0 (halt_completes task) held
+    halt_key (Halted task) step before task at row key lawful.0 (halt_completes task) (halts_alone task) held
     (subst (λ (e : Event). step_at (e ∷ before) row key ≡ Some step) is gives) (subst (λ (e : Event). Adds before e row key) is added))

@@ -4,22 +4,26 @@ use Rattle.std.specs.Option.{option_map}
 use Rattle.std.proofs.lemmas.Bool.{true≢false, eq-eqb, false_from_ne_true}
 use Rattle.std.proofs.lemmas.Option.{none-some, same_Some}
 use Rattle.ada_events.specs.declared.event.Event.{Event}
-use Rattle.ada_events.specs.declared.event.Event.TheVariants.{Completed, Elaborated, Gone}
+use Rattle.ada_events.specs.declared.event.Event.TheVariants.{Completed, Elaborated, Gone, Quit}
 use Rattle.ada_events.specs.declared.names.TaskNo.{TaskNo}
 use Rattle.ada_events.specs.declared.names.Master.{Master}
 use Rattle.ada_events.specs.declared.names.Master.TheVariants.{Body, Block}
-use Rattle.ada_events.specs.Says.{Creation, gone_in, completed_in}
+use Rattle.ada_events.specs.Forced.{task_no, is_to_quit}
+use Rattle.ada_events.specs.Says.{Creation, creation_in, gone_in, completed_in}
 use Rattle.ada_events.specs.Tasks.{task_count, creation_of}
 use Rattle.ada_events.specs.Masters.{depends_on}
 use Rattle.ada_events.specs.Phases.{is_terminated}
+use Rattle.ada_events.specs.Termination.{all_terminated}
 use Rattle.ada_events.specs.Nests.{nest}
 use Rattle.ada_events.specs.Lawful.{IsLawful}
 use Rattle.ada_laws.specs.Suspension.{IsSuspendedAt}
 use Rattle.ada_laws.proofs.CallLaws.{open_calls_suspend}
 use Rattle.ada_laws.proofs.Suspending.{suspended_exists}
-use Rattle.ada_laws.proofs.Depending.{depends_exists, depends_reaches}
+use Rattle.ada_laws.proofs.Depending.{depends_on-cases, depends_exists, depends_reaches}
+use Rattle.ada_laws.proofs.Growing.{is_terminated-more}
+use Rattle.ada_laws.proofs.Searching.{then_some-some}
 use Rattle.ada_laws.proofs.Reaching.{reaches_known}
-use Rattle.ada_laws.proofs.DependentLaws.{going}
+use Rattle.ada_laws.proofs.DependentLaws.{going, all_terminated_at}
 use Rattle.ada_forcing.specs.Touching.{is_lost}
 use Rattle.ada_forcing.specs.Rows.{step_at}
 use Rattle.ada_forcing.specs.declared.row.Row.{Row}
@@ -31,12 +35,14 @@ use Rattle.ada_touching.specs.Kinds.OfCompletion.{goes as task_goes, quits as bo
 use Rattle.ada_touching.specs.Kinds.OfCompletion.{abandons as task_abandons}
 use Rattle.ada_touching.specs.Kinds.OfTermination.{fails as end_fails, activates as end_activates, goes as end_goes, quits as end_quits, leaves as end_leaves}
 use Rattle.ada_touching.proofs.Acting.{created_exists}
+use Rattle.ada_touching.proofs.Depending.{quits_live}
 use Rattle.ada_touching.proofs.Noting.{grows_same}
+use Rattle.ada_touching.proofs.Refining.{task_step}
 use Rattle.ada_counts.specs.Holders.{IsHeld}
 use Rattle.ada_counts.proofs.LiveHolders.{of_master}
 use Rattle.ada_counts.proofs.Owners.{has_contained}
 use Rattle.ada_rows.proofs.Orphans.{gone_stays}
-use Rattle.ada_noting.specs.internal.Keys.{Puts, Both, OfFirst, AsKey, AsHeld, AsUnstarted, AsCaller, AsLost, AsDependent, AsActivation}
+use Rattle.ada_noting.specs.internal.Keys.{Puts, Both, OfFirst, AsHeld, AsUnstarted, AsCaller, AsLost, AsDependent, AsActivation, AsCompletion}
 use Rattle.ada_noting.specs.internal.Keys.AsKey.{itself}
 use Rattle.ada_noting.specs.internal.Keys.AsHeld.{held}
 use Rattle.ada_noting.specs.internal.Keys.AsUnstarted.{goes}
@@ -90,35 +96,61 @@ caller_key before task p lawful of =
 lost_key : (before : List Event) (task p : ℕ) → IsLawful before → is_lost before task ≡ false → IsOpenCallTo before task p → AsLost before task Failing p
 lost_key before task p lawful was of = holds_so (ap not was) (caller_key before task p lawful of)
 
--- all that was put for a completion
-abbrev pub CompletionKeys : List Event → TaskNo → Row → ℕ → Type 0
-CompletionKeys before task =
-    Both (Both (Both (Both (AsKey Going task.0) (AsKey QuittingBody task.0)) (AsLost before task.0)) (AsActivation before task))
-    (OfFirst (AsUnstarted before) (task_count before))
+-- where dependents of a body quit behind an event that makes no task, some of them lived before it
+depended_before : (event : Event) (before : List Event) (u : ℕ) (m : Master) → creation_in event ≡ None → depends_on (event ∷ before) u m ≡ true
+    → depends_on before u m ≡ true
+depended_before event before u m makes depends =
+    elim (depends_on-cases event before u m depends) [
+      | inl made ↦ absurd (none-some made.creation (sym makes ∙ made.says))
+      | inr older ↦ older
+    ]
 
-completion_key : (before : List Event) (task : TaskNo) (row : Row) (key : ℕ) → IsLawful before → OfCompletion before task row key
-    → CompletionKeys before task row key
-completion_key before task row key lawful task_goes = inl (inl (inl (inl itself)))
-completion_key before task row key lawful body_quits = inl (inl (inl (inr itself)))
-completion_key before task row key lawful (call_fails p was of) = inl (inl (inr (lost_key before task.0 p lawful was of)))
-completion_key before task row key lawful (start_ends p active) = inl (inr (activates p active))
-completion_key before task row key lawful (task_abandons u of) =
+quits_lived : (event : Event) (before : List Event) (m : Master) → creation_in event ≡ None → is_to_quit (event ∷ before) m ≡ true
+    → all_terminated before m ≡ false
+quits_lived event before m makes now =
+    let live = quits_live (event ∷ before) m now in
+    let depended = depended_before event before live.task m makes live.depends in
+    false_from_ne_true (all_terminated before m) (λ all.
+    true≢false (sym (is_terminated-more event before live.task (all_terminated_at before m live.task all depended)) ∙ live.live))
+
+body_lived : (event step : Event) (before : List Event) (task : TaskNo) → creation_in event ≡ None → step_at (event ∷ before) QuittingBody task.0 ≡ Some step
+    → all_terminated before (Body task) ≡ false
+body_lived event step before task makes gives =
+    quits_lived event before (Body (task_no task.0)) makes
+    (then_some-some (is_to_quit (event ∷ before) (Body (task_no task.0))) (Quit (Body (task_no task.0))) step
+    (task_step (event ∷ before) QuittingBody task.0 step refl gives)).0
+
+pub completion_key : (event step : Event) (before : List Event) (task : TaskNo) (row : Row) (key : ℕ) → IsLawful before → creation_in event ≡ None
+    → step_at (event ∷ before) row key ≡ Some step → OfCompletion before task row key → AsCompletion before task row key
+completion_key event step before task row key lawful makes gives task_goes = inl (inl (inl (inl itself)))
+completion_key event step before task row key lawful makes gives body_quits =
+    inl (inl (inl (inr (holds_so (ap not (body_lived event step before task makes gives)) itself))))
+completion_key event step before task row key lawful makes gives (call_fails p was of) = inl (inl (inr (lost_key before task.0 p lawful was of)))
+completion_key event step before task row key lawful makes gives (start_ends p active) = inl (inr (activates p active))
+completion_key event step before task row key lawful makes gives (task_abandons u of) =
     inr (record { task = u; among = created_exists before u of.creation of.made; of = goes of.creation of.made of.never })
 
-pub completion_put : (before : List Event) (old new : List (List ℕ)) (task : TaskNo) → IsLawful before → Puts old new (CompletionKeys before task)
-    → Puts old new (OfCompletion before task)
-completion_put before old new task lawful puts =
-    record { grows = puts.grows; here = λ row key of. puts.here row key (completion_key before task row key lawful of) }
+completes_alone : (task : TaskNo) → creation_in (Completed task) ≡ None
+unfolding creation_in
+completes_alone task = refl
 
 pub completion_noted : (event : Event) (before : List Event) (old new : List (List ℕ)) (task : TaskNo) → IsLawful (event ∷ before) → IsAgendaOf old before
-    → event ≡ Completed task → Puts old new (OfCompletion before task) → IsAgendaOf new (event ∷ before)
+    → event ≡ Completed task → Puts old new (AsCompletion before task) → IsAgendaOf new (event ∷ before)
 completion_noted event before old new task lawful agenda is puts =
-    noted event before old new (OfCompletion before task) lawful agenda puts (λ row key added. subst (λ (e : Event). Adds before e row key) is added)
+    noted_giving event before old new (AsCompletion before task) lawful agenda puts (λ row key step added gives.
+    completion_key (Completed task) step before task row key lawful.0 (completes_alone task)
+    (subst (λ (e : Event). step_at (e ∷ before) row key ≡ Some step) is gives) (subst (λ (e : Event). Adds before e row key) is added))
+
+fails_alone : (task : TaskNo) → creation_in (Elaborated task false) ≡ None
+unfolding creation_in
+fails_alone task = refl
 
 pub failure_noted : (event : Event) (before : List Event) (old new : List (List ℕ)) (task : TaskNo) → IsLawful (event ∷ before) → IsAgendaOf old before
-    → event ≡ Elaborated task false → Puts old new (OfCompletion before task) → IsAgendaOf new (event ∷ before)
+    → event ≡ Elaborated task false → Puts old new (AsCompletion before task) → IsAgendaOf new (event ∷ before)
 failure_noted event before old new task lawful agenda is puts =
-    noted event before old new (OfCompletion before task) lawful agenda puts (λ row key added. subst (λ (e : Event). Adds before e row key) is added)
+    noted_giving event before old new (AsCompletion before task) lawful agenda puts (λ row key step added gives.
+    completion_key (Elaborated task false) step before task row key lawful.0 (fails_alone task)
+    (subst (λ (e : Event). step_at (e ∷ before) row key ≡ Some step) is gives) (subst (λ (e : Event). Adds before e row key) is added))
 
 gone_completes : (event : Event) (task : TaskNo) → event ≡ Gone task → completed_in event ≡ None
 unfolding completed_in

@@ -99,7 +99,7 @@ pub fn note_end(
 }
 
 /// Notes that a call fails (9.5): that its caller is halted may be forced (9.10).
-pub(crate) fn note_failure(agenda: &mut Agenda, state: &State, _event: &Event, call: u32)
+pub fn note_failure(agenda: &mut Agenda, state: &State, _event: &Event, call: u32)
     requires lawful { IsLawful (_event.now ∷ state.now) }
     requires stands { IsAgendaOf agenda.old state.now }
     requires fails { _event.now ≡ FailedEvent call }

@@ -4,18 +4,17 @@ ghost use Rattle.std.specs.Prelude.{◌≡◌, ◌<◌, true, false, ◌∷◌, 
 ghost use Rattle.std.specs.Option.{option_map};
 ghost use Rattle.ada_events.specs.Lawful.{IsLawful};
 ghost use Rattle.ada_events.specs.Says.{Creation, creation_in};
-ghost use Rattle.ada_events.specs.Tasks.{creation_of};
+ghost use Rattle.ada_events.specs.Tasks.{creation_of, task_count};
 ghost use Rattle.ada_events.specs.declared.names.TaskNo.{TaskNo as Number};
 ghost use Rattle.ada_events.specs.declared.event.Event.TheVariants.{Completed as CompletedEvent, Elaborated as ElaboratedEvent, Halted as HaltedEvent};
 ghost use Rattle.ada_events.specs.declared.event.Event.TheVariants.{Gone as GoneEvent, Quit as QuitEvent};
 ghost use Rattle.ada_touching.specs.Keeping.{IsAgendaOf};
-ghost use Rattle.ada_touching.specs.Kinds.{OfCompletion};
 ghost use Rattle.ada_noting.specs.Bounds.{IsStartBound};
-ghost use Rattle.ada_noting.specs.internal.Keys.{Puts, AsActivation, AsCalleeAt};
+ghost use Rattle.ada_noting.specs.internal.Keys.{Puts, AsActivation, AsCompletion};
 
 use crate::calls::put_callee;
 use crate::masters::{put_dependent, put_holder, put_master};
-use crate::passes::{put_held, put_key, put_lost_calls};
+use crate::passes::{put_held, put_key, put_key_if, put_lost_calls};
 use crate::unstarted::{FirstUnstarted, put_all_unstarted};
 use ada_agenda::Agenda;
 use ada_events::{Event, Master, TaskNo};
@@ -57,16 +56,19 @@ fn put_activation(agenda: &mut Agenda, state: &State, task: TaskNo)
     }
 }
 
-// Puts all that the completion of a task may force.
+// Puts all that the completion of a task may force. That dependents of its body quit may be only where some of them
+// live.
 fn put_completion(agenda: &mut Agenda, first: &mut FirstUnstarted, state: &State, task: TaskNo)
     requires lawful { IsLawful state.now }
     requires many { length agenda.old ≡ 11 }
+    requires known { task.0 < task_count state.now }
     requires bound { IsStartBound state.now first.old }
-    ensures put { Puts agenda.old agenda.new (OfCompletion state.now task) }
+    ensures put { Puts agenda.old agenda.new (AsCompletion state.now task) }
     ensures bound { IsStartBound state.now first.new }
 {
     put_key(agenda, Row::Going, task.0 as usize);
-    put_key(agenda, Row::QuittingBody, task.0 as usize);
+    let lives = state.has_live_dependents(task);
+    put_key_if(agenda, Row::QuittingBody, task.0 as usize, lives);
     put_lost_calls(agenda, state, task);
     put_activation(agenda, state, task);
     put_all_unstarted(agenda, first, state);
@@ -112,7 +114,7 @@ pub(crate) fn note_failed_activation(
 
 /// Notes that an abnormal task is halted (9.10): what a completion may force, that dependents of blocks quit that the
 /// task is within, and what the masters may force on which the callee of its call depends, may be forced.
-pub(crate) fn note_halt(
+pub fn note_halt(
     agenda: &mut Agenda,
     first: &mut FirstUnstarted,
     state: &State,
@@ -133,7 +135,7 @@ pub(crate) fn note_halt(
 
 /// Notes that a task terminates by itself (9.4): that calls to it fail, that the activation ends that names it, and
 /// what the masters may force on which it depends, may be forced.
-pub(crate) fn note_termination(agenda: &mut Agenda, state: &State, _event: &Event, task: TaskNo)
+pub fn note_termination(agenda: &mut Agenda, state: &State, _event: &Event, task: TaskNo)
     requires lawful { IsLawful (_event.now ∷ state.now) }
     requires stands { IsAgendaOf agenda.old state.now }
     requires goes { _event.now ≡ GoneEvent task }

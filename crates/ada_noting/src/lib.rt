@@ -3,7 +3,7 @@
 #![tactic(auto)]
 
 pub mod calls;
-mod endings;
+pub mod endings;
 mod kinds;
 mod masters;
 mod moments;

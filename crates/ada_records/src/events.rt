@@ -8,7 +8,7 @@ ghost use Rattle.ada_records.specs.Records.{AreRecords, AreFacts, MakesRoom};
 use crate::record::Record;
 use crate::records::{
     holder_at, note_abort, note_completed, note_created, note_elaborated, note_ended, note_gone,
-    note_hold, note_met, note_quit, note_release, note_start,
+    note_halted, note_hold, note_met, note_quit, note_release, note_start,
 };
 use ada_events::{Event, Journal, TaskNo};
 
@@ -86,7 +86,7 @@ pub fn note(
             note_ending(records.as_mut_slice(), journal, event, *by, *call, *raised)
         }
         Event::Completed { by } => note_completed(records.as_mut_slice(), journal, event, *by),
-        Event::Halted { task } => note_completed(records.as_mut_slice(), journal, event, *task),
+        Event::Halted { task } => note_halted(records.as_mut_slice(), journal, event, *task),
         Event::Aborted { by, tasks } => {
             note_abort(records.as_mut_slice(), journal, event, *by, tasks, touched)
         }

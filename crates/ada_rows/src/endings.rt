@@ -1,6 +1,6 @@
 //! The rows of terminations: what leaves its block, and what terminates together.
 
-ghost use Rattle.std.specs.Prelude.{◌≡◌, ◌<◌, ◌&&◌, ◌||◌, true, Some};
+ghost use Rattle.std.specs.Prelude.{◌≡◌, ◌<◌, ◌&&◌, ◌||◌, not, true, Some};
 ghost use Rattle.std.specs.Bool.{then_some};
 ghost use Rattle.ada_events.specs.Forced as forced;
 ghost use Rattle.ada_events.specs.Lawful.{IsLawful};
@@ -30,6 +30,14 @@ impl<'a> State<'a> {
         ensures { result ≡ ending.all_terminated self.now master }
     {
         self.tables().live_dependents(master) == 0
+    }
+
+    /// Whether a dependent of a task's body isn't terminated (9.4).
+    pub fn has_live_dependents(&self, task: TaskNo) -> bool
+        requires { task.0 < task_count self.now }
+        ensures { result ≡ not (ending.all_terminated self.now (BodyMaster task)) }
+    {
+        !self.are_all_terminated(Master::Body(task))
     }
 
     // Whether the event is a close of a block that is left.

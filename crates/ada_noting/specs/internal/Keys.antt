@@ -15,11 +15,12 @@ use Rattle.ada_events.specs.Masters.{depends_on}
 use Rattle.ada_events.specs.Calls.{is_caller_in_rendezvous}
 use Rattle.ada_events.specs.Phases.{has_start, has_ended, is_completed, is_abnormal, is_terminated}
 use Rattle.ada_events.specs.Nests.{nest}
+use Rattle.ada_events.specs.Termination.{all_terminated}
 use Rattle.ada_laws.specs.Calls.{IsCallAt}
 use Rattle.ada_laws.specs.Suspension.{IsSuspendedAt}
 use Rattle.ada_forcing.specs.Touching.{is_lost}
 use Rattle.ada_forcing.specs.declared.row.Row.{Row}
-use Rattle.ada_forcing.specs.declared.row.Row.TheVariants.{Halting, Failing, Activating, Going, QuittingBlock, Leaving}
+use Rattle.ada_forcing.specs.declared.row.Row.TheVariants.{Halting, Failing, Activating, Going, QuittingBody, QuittingBlock, Leaving}
 use Rattle.ada_tables.specs.Dependents.{holds}
 use Rattle.ada_touching.specs.Keeping.{has_key, Grows}
 use Rattle.ada_touching.specs.Kinds.{quitting_row, quitting_key, due_in, due_row, IsActivationOf}
@@ -131,6 +132,14 @@ pub data AsMaster (journal : List Event) (m : Master) : Row → ℕ → Type 0 w
 -- the start that names a task, at which its maker is suspended (9.3)
 pub data AsActivation (journal : List Event) (task : TaskNo) : Row → ℕ → Type 0 where
   activates : (p : ℕ) → IsActivationOf journal task p → AsActivation journal task Activating p
+
+-- what the completion of a task may force (9.3, 9.4, 9.5): that it goes, that dependents of its body quit, where some of
+-- them live, that calls to it fail, that the activation ends that names it, and that tasks go that were never started
+abbrev pub AsCompletion : List Event → TaskNo → Row → ℕ → Type 0
+AsCompletion journal task =
+    let quits = When (not (all_terminated journal (Body task))) (AsKey QuittingBody task.0) in
+    Both (Both (Both (Both (AsKey Going task.0) quits) (AsLost journal task.0)) (AsActivation journal task))
+    (OfFirst (AsUnstarted journal) (task_count journal))
 
 -- of the callee of the call at a position what its masters may force (9.4, 9.5)
 pub data AsCalleeAt (journal : List Event) (at : ℕ) : Row → ℕ → Type 0 where

@@ -1,5 +1,11 @@
+use Rattle.std.proofs.Common.{inl}
+use Rattle.ada_records.proofs.TaskEnds.{completion_exists}
 use Rattle.ada_noting.proofs.Ends.{completion_noted}
 use Rattle.ada_noting.proofs.endings.note_completion.Goals as goal
+
+pub put_completion-requires-clause-known : goal.put_completion-requires-clause-known
+put_completion-requires-clause-known c =
+    completion_exists c.args._event.now c.args.state.now c.args.task c.requires.lawful (inl c.requires.completes)
 
 pub returns-clause-stands : goal.returns-clause-stands
 returns-clause-stands c =

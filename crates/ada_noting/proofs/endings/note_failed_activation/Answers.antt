@@ -1,5 +1,11 @@
+use Rattle.std.proofs.Common.{false}
+use Rattle.ada_records.proofs.TaskEnds.{elaborator_exists}
 use Rattle.ada_noting.proofs.Ends.{failure_noted}
 use Rattle.ada_noting.proofs.endings.note_failed_activation.Goals as goal
+
+pub put_completion-requires-clause-known : goal.put_completion-requires-clause-known
+put_completion-requires-clause-known c =
+    elaborator_exists c.args._event.now c.args.state.now c.args.task false c.requires.lawful c.requires.raises
 
 pub returns-clause-stands : goal.returns-clause-stands
 returns-clause-stands c =

@@ -4,6 +4,10 @@ use Rattle.ada_noting.proofs.Putting.{both_put}
 use Rattle.ada_noting.proofs.Callees.{halt_noted}
 use Rattle.ada_noting.proofs.endings.note_halt.Goals as goal
 
+pub put_completion-requires-clause-known : goal.put_completion-requires-clause-known
+put_completion-requires-clause-known c =
+    completion_exists c.args._event.now c.args.state.now c.args.task c.requires.lawful (inr c.requires.halts)
+
 pub put_holder-requires-clause-known : goal.put_holder-requires-clause-known
 put_holder-requires-clause-known c =
     completion_exists c.args._event.now c.args.state.now c.args.task c.requires.lawful (inr c.requires.halts)

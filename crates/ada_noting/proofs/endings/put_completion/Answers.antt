@@ -1,13 +1,18 @@
+use Rattle.std.proofs.Common.{subst}
+use Rattle.ada_forcing.specs.declared.row.Row.TheVariants.{QuittingBody}
+use Rattle.ada_noting.specs.internal.Keys.{Puts, When, AsKey}
 use Rattle.ada_noting.proofs.Putting.{both_put}
-use Rattle.ada_noting.proofs.Ends.{completion_put}
 use Rattle.ada_noting.proofs.endings.put_completion.Goals as goal
 
 pub returns-clause-put : goal.returns-clause-put
 returns-clause-put c =
     let old = c.args.agenda.now in
-    completion_put c.args.state.now old c.put_all_unstarted.new.agenda c.args.task c.requires.lawful
-    (both_put old c.put_activation.new.agenda c.put_all_unstarted.new.agenda _ _
+    both_put old c.put_activation.new.agenda c.put_all_unstarted.new.agenda _ _
     (both_put old c.put_lost_calls.new.agenda c.put_activation.new.agenda _ _
-    (both_put old c.put_key-2.new.agenda c.put_lost_calls.new.agenda _ _
-    (both_put old c.put_key.new.agenda c.put_key-2.new.agenda _ _ c.put_key.ensures c.put_key-2.ensures) c.put_lost_calls.ensures)
-    c.put_activation.ensures) c.put_all_unstarted.ensures.put)
+    (both_put old c.put_key_if.new.agenda c.put_lost_calls.new.agenda _ _
+    (both_put old c.put_key.new.agenda c.put_key_if.new.agenda _ _ c.put_key.ensures
+    (subst (λ so. Puts c.put_key.new.agenda c.put_key_if.new.agenda (When so (AsKey QuittingBody c.args.task.0))) c.has_live_dependents-lives.ensures
+    c.put_key_if.ensures))
+    c.put_lost_calls.ensures)
+    c.put_activation.ensures)
+    c.put_all_unstarted.ensures.put

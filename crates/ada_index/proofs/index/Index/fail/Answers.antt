@@ -9,9 +9,9 @@ use Rattle.ada_index.proofs.index.Index.fail.Goals as goal
 pub drop_key-requires-clause-fits : goal.drop_key-requires-clause-fits
 drop_key-requires-clause-fits c =
     failed_fits c.args.journal.now.events c.args.call
-    (subst (λ (j : List Event). IsLawful j) c.append.ensures.events c.append.ensures.stands.kept.lawful)
+    (subst (λ (j : List Event). IsLawful j) c.append_failure.ensures.events c.append_failure.ensures.stands.kept.lawful)
 
 pub drop_key-requires-clause-spent : goal.drop_key-requires-clause-spent
 drop_key-requires-clause-spent c =
-    subst (λ (j : List Event). step_at j Failing c.args.call ≡ None) (sym c.append.ensures.events)
+    subst (λ (j : List Event). step_at j Failing c.args.call ≡ None) (sym c.append_failure.ensures.events)
     (failed_no_more c.args.journal.now.events c.args.call)

@@ -1,5 +1,5 @@
 use Rattle.ada_counts.proofs.Followed.{followed, slots_followed}
-use Rattle.ada_counts.proofs.rendezvous.follow_changes.Goals as goal
+use Rattle.ada_counts.proofs.changes.follow_changes.Goals as goal
 
 pub returns-clause-stand : goal.returns-clause-stand
 returns-clause-stand c =
