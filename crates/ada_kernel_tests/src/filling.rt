@@ -15,14 +15,12 @@ use std::test::Fail;
 /// appends have room.
 const LAST_ACCEPTED: u32 = (MOST_EVENTS - MOST_APPENDED + 1) as u32;
 
-/// A kernel after so many ticks, of which each was accepted.
-fn ticked<R: Abort + AllocGlobal>(rt: &R, ticks: u32) -> Result<Kernel, Fail> {
-    let mut kernel = Kernel::new(rt.alloc())?;
+// So many ticks, of which each is accepted.
+fn all_ticks_fit<R: Abort>(rt: &R, kernel: &mut Kernel, ticks: u32) {
     for tick in 1..=ticks {
         let now = i64::from(tick);
-        assert_accepted(rt, &mut kernel, Request::Tick { now }, tick);
+        assert_accepted(rt, kernel, Request::Tick { now }, tick);
     }
-    Ok(kernel)
 }
 
 // What is refused behind the last tick that had room.
@@ -40,7 +38,8 @@ fn no_more_fits<R: Abort>(rt: &R, kernel: &mut Kernel) {
 #[test]
 fn as_many_ticks_as_there_may_be(rt: HostRuntime) -> Result<(), Fail> {
     assert_eq!(rt; LAST_ACCEPTED, 64_768);
-    let mut kernel = ticked(&rt, LAST_ACCEPTED)?;
+    let mut kernel = Kernel::new(rt.alloc())?;
+    all_ticks_fit(&rt, &mut kernel, LAST_ACCEPTED);
     no_more_fits(&rt, &mut kernel);
     Ok(())
 }
@@ -52,17 +51,15 @@ const BEFORE: u32 = 6;
 /// The events of a rendezvous: a call, a wait, their meeting, and its end.
 const EACH: u32 = 4;
 
-/// A kernel after so many rendezvous between tasks 2 and 1, each at the positions that are due.
-fn after_rendezvous<R: Abort + AllocGlobal>(rt: &R, rounds: u32) -> Result<Kernel, Fail> {
-    let mut kernel = Kernel::new(rt.alloc())?;
-    assert!(rt; make_tasks(&mut kernel, 2));
+// So many rendezvous between tasks 2 and 1, each at the positions that are due.
+fn all_rendezvous_fit<R: Abort>(rt: &R, kernel: &mut Kernel, rounds: u32) {
+    assert!(rt; make_tasks(kernel, 2));
     for round in 0..rounds {
         let behind = round.wrapping_mul(EACH).wrapping_add(BEFORE);
-        assert_accepted(rt, &mut kernel, call(2, 1, 0), behind.wrapping_add(1));
-        assert_accepted(rt, &mut kernel, accept(1, 0), behind.wrapping_add(2));
-        assert_accepted(rt, &mut kernel, end(1, false), behind.wrapping_add(4));
+        assert_accepted(rt, kernel, call(2, 1, 0), behind.wrapping_add(1));
+        assert_accepted(rt, kernel, accept(1, 0), behind.wrapping_add(2));
+        assert_accepted(rt, kernel, end(1, false), behind.wrapping_add(4));
     }
-    Ok(kernel)
 }
 
 // The last call is accepted at position 64,767 and its wait at 64,768; they meet, and don't end.
@@ -88,22 +85,21 @@ fn the_last_meets<R: Abort>(rt: &R, kernel: &mut Kernel) {
 
 #[test]
 fn as_many_rendezvous_as_there_may_be(rt: HostRuntime) -> Result<(), Fail> {
-    let mut kernel = after_rendezvous(&rt, (LAST_ACCEPTED - BEFORE) / EACH)?;
+    let mut kernel = Kernel::new(rt.alloc())?;
+    all_rendezvous_fit(&rt, &mut kernel, (LAST_ACCEPTED - BEFORE) / EACH);
     the_last_meets(&rt, &mut kernel);
     Ok(())
 }
 
-/// A chain of so many rendezvous: main calls task 1, which accepts and calls task 2, and so on to the
+/// Makes a chain of so many rendezvous: main calls task 1, which accepts and calls task 2, and so on to the
 /// last. Before it each task has two events, its making and the end of its activation, and two are of
 /// them all.
-pub fn chained<R: Abort + AllocGlobal>(rt: &R, last: u16) -> Result<Kernel, Fail> {
-    let mut kernel = Kernel::new(rt.alloc())?;
-    assert!(rt; make_tasks(&mut kernel, last));
+pub fn chain<R: Abort>(rt: &R, kernel: &mut Kernel, last: u16) {
+    assert!(rt; make_tasks(kernel, last));
     for callee in 1..=last {
         assert!(rt; kernel.step(call(callee - 1, callee, 0)).is_ok());
         assert!(rt; kernel.step(accept(callee, 0)).is_ok());
     }
-    Ok(kernel)
 }
 
 // Each rendezvous has three events, its call first. Behind the abort of a chain the last task completes at once; then
@@ -164,7 +160,8 @@ fn main_is_left<R: Abort>(rt: &R, board: &Board) {
 
 #[test]
 fn the_longest_chain_of_rendezvous_is_aborted(rt: HostRuntime) -> Result<(), Fail> {
-    let mut kernel = chained(&rt, 255)?;
+    let mut kernel = Kernel::new(rt.alloc())?;
+    chain(&rt, &mut kernel, 255);
     chain_is_aborted(&rt, &mut kernel, 255);
     assert_board(&rt, &kernel, 256, 255, 2043);
     main_is_left(&rt, &kernel.board());

@@ -5,7 +5,7 @@ use crate::asserts::{
     assert_refused, assert_running, assert_slot, assert_terminated,
 };
 use crate::crowd::make_tasks;
-use crate::filling::chained;
+use crate::filling::chain;
 use ada_events::{Event, Family, Outcome, Refusal, Request, TaskNo};
 use ada_kernel::Kernel;
 use ada_requests::{MAIN, SINGLE, abort, accept, call, complete, create, entry};
@@ -177,7 +177,8 @@ fn the_last_aborts_63<R: Abort>(rt: &R, kernel: &mut Kernel) {
 
 #[test]
 fn a_chain_of_rendezvous_is_aborted(rt: HostRuntime) -> Result<(), Fail> {
-    let mut kernel = chained(&rt, 63)?;
+    let mut kernel = Kernel::new(rt.alloc())?;
+    chain(&rt, &mut kernel, 63);
     the_last_aborts_63(&rt, &mut kernel);
     Ok(())
 }

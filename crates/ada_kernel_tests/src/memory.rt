@@ -9,18 +9,16 @@ use std::test::Fail;
 
 const MAIN_TASK: TaskNo = TaskNo(0);
 
-/// A kernel with a server, whom the main program calls within a block: five requests, whose events are at 1, 2, 3
-/// (and the activation's end at 4), 5, 6 and 7 (and their meeting at 8), and the rendezvous' end at 9.
-fn with_rendezvous<R: Abort + AllocGlobal>(rt: &R) -> Result<Kernel, Fail> {
-    let mut kernel = Kernel::new(rt.alloc())?;
-    assert_accepted(rt, &mut kernel, create(0, MAIN, &[SINGLE]), 1);
-    assert_accepted(rt, &mut kernel, activate(0, 1, 1), 2);
-    assert_accepted(rt, &mut kernel, up(1), 3);
-    assert_accepted(rt, &mut kernel, Request::Open { by: MAIN_TASK }, 5);
-    assert_accepted(rt, &mut kernel, call(0, 1, 0), 6);
-    assert_accepted(rt, &mut kernel, accept(1, 0), 7);
-    assert_accepted(rt, &mut kernel, end(1, false), 9);
-    Ok(kernel)
+// A server is called by the main program within a block: five requests, whose events are at 1, 2, 3 (and the
+// activation's end at 4), 5, 6 and 7 (and their meeting at 8), and the rendezvous' end at 9.
+fn a_rendezvous_is_accepted<R: Abort>(rt: &R, kernel: &mut Kernel) {
+    assert_accepted(rt, kernel, create(0, MAIN, &[SINGLE]), 1);
+    assert_accepted(rt, kernel, activate(0, 1, 1), 2);
+    assert_accepted(rt, kernel, up(1), 3);
+    assert_accepted(rt, kernel, Request::Open { by: MAIN_TASK }, 5);
+    assert_accepted(rt, kernel, call(0, 1, 0), 6);
+    assert_accepted(rt, kernel, accept(1, 0), 7);
+    assert_accepted(rt, kernel, end(1, false), 9);
 }
 
 // Each kind of request is accepted: a pause ends at 12, the block is left at 14, the server is halted and gone at 16
@@ -41,7 +39,8 @@ fn the_rest_is_accepted<R: Abort>(rt: &R, kernel: &mut Kernel) {
 
 #[test]
 fn always_out_of_memory(rt: HostRuntime) -> Result<(), Fail> {
-    let mut kernel = with_rendezvous(&rt)?;
+    let mut kernel = Kernel::new(rt.alloc())?;
+    a_rendezvous_is_accepted(&rt, &mut kernel);
     the_rest_is_accepted(&rt, &mut kernel);
     Ok(())
 }

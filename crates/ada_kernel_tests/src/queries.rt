@@ -13,21 +13,18 @@ use ada_requests::{
 use std::process::Abort;
 use std::test::Fail;
 
-/// A kernel with a server, task 1 with two entries, and two clients, tasks 2 and 3, all activated: eight
-/// events.
-fn with_clients<R: Abort + AllocGlobal>(rt: &R) -> Result<Kernel, Fail> {
-    let mut kernel = Kernel::new(rt.alloc())?;
-    assert_accepted(rt, &mut kernel, create(0, MAIN, &[SINGLE, SINGLE]), 1);
-    assert_accepted(rt, &mut kernel, create(0, MAIN, &[]), 2);
-    assert_accepted(rt, &mut kernel, create(0, MAIN, &[]), 3);
-    assert_accepted(rt, &mut kernel, activate(0, 1, 3), 4);
-    assert_accepted(rt, &mut kernel, up(1), 5);
-    assert_accepted(rt, &mut kernel, up(2), 6);
-    assert_outcome(rt, &kernel, 0, Outcome::Held);
-    assert_accepted(rt, &mut kernel, up(3), 7);
-    assert_outcome(rt, &kernel, 0, Outcome::ActivationOk);
-    assert_events(rt, &kernel, 8);
-    Ok(kernel)
+/// Makes a server, task 1 with two entries, and two clients, tasks 2 and 3, and activates all: eight events.
+fn make_clients<R: Abort>(rt: &R, kernel: &mut Kernel) {
+    assert_accepted(rt, kernel, create(0, MAIN, &[SINGLE, SINGLE]), 1);
+    assert_accepted(rt, kernel, create(0, MAIN, &[]), 2);
+    assert_accepted(rt, kernel, create(0, MAIN, &[]), 3);
+    assert_accepted(rt, kernel, activate(0, 1, 3), 4);
+    assert_accepted(rt, kernel, up(1), 5);
+    assert_accepted(rt, kernel, up(2), 6);
+    assert_outcome(rt, kernel, 0, Outcome::Held);
+    assert_accepted(rt, kernel, up(3), 7);
+    assert_outcome(rt, kernel, 0, Outcome::ActivationOk);
+    assert_events(rt, kernel, 8);
 }
 
 // The board of a kernel before its first request.
@@ -62,7 +59,8 @@ fn calls_are_counted<R: Abort>(rt: &R, kernel: &mut Kernel) {
 
 #[test]
 fn boards_follow_the_steps(rt: HostRuntime) -> Result<(), Fail> {
-    let mut kernel = with_clients(&rt)?;
+    let mut kernel = Kernel::new(rt.alloc())?;
+    make_clients(&rt, &mut kernel);
     calls_are_counted(&rt, &mut kernel);
     Ok(())
 }
@@ -80,7 +78,8 @@ fn the_aborted_is_gone<R: Abort>(rt: &R, kernel: &mut Kernel) {
 
 #[test]
 fn boards_follow_an_abort(rt: HostRuntime) -> Result<(), Fail> {
-    let mut kernel = with_clients(&rt)?;
+    let mut kernel = Kernel::new(rt.alloc())?;
+    make_clients(&rt, &mut kernel);
     the_aborted_is_gone(&rt, &mut kernel);
     Ok(())
 }
@@ -105,7 +104,8 @@ fn slots_are_numbered<R: Abort>(rt: &R, kernel: &mut Kernel) {
 
 #[test]
 fn slots_of_families(rt: HostRuntime) -> Result<(), Fail> {
-    let mut kernel = with_clients(&rt)?;
+    let mut kernel = Kernel::new(rt.alloc())?;
+    make_clients(&rt, &mut kernel);
     slots_are_numbered(&rt, &mut kernel);
     Ok(())
 }
@@ -132,7 +132,8 @@ fn an_exception_is_raised<R: Abort>(rt: &R, kernel: &mut Kernel) {
 
 #[test]
 fn outcomes_of_an_exception(rt: HostRuntime) -> Result<(), Fail> {
-    let mut kernel = with_clients(&rt)?;
+    let mut kernel = Kernel::new(rt.alloc())?;
+    make_clients(&rt, &mut kernel);
     an_exception_is_raised(&rt, &mut kernel);
     Ok(())
 }
