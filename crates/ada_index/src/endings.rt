@@ -1,5 +1,5 @@
-//! What the halt of a task, the failure of a call and the termination of a task by itself change in what is kept of their
-//! journal, before they are appended (9.4, 9.5, 9.10). An abort may force hundreds of them.
+//! What the halt of a task, the failure of a call and the termination of a task by itself change in what is kept of
+//! their journal, before they are appended (9.4, 9.5, 9.10). An abort may force hundreds of them.
 
 ghost use Rattle.std.specs.Prelude.{◌≡◌, ◌∷◌};
 ghost use Rattle.ada_events.specs.Lawful.{IsLawful};
@@ -29,13 +29,7 @@ impl Index {
             &self.made,
             self.moment,
         );
-        endings::note_halt(
-            &mut self.agenda,
-            &mut self.unstarted,
-            &state,
-            event,
-            task,
-        );
+        endings::note_halt(&mut self.agenda, &mut self.unstarted, &state, event, task);
         note_halted(self.records.as_mut_slice(), journal, event, task);
         follow_halt(&mut self.tables, &self.records, journal, event, task);
     }

@@ -3,7 +3,7 @@ use Rattle.ada_counts.proofs.endings.follow_failure.Goals as goal
 
 pub follow_changes-requires : goal.follow_changes-requires
 follow_changes-requires c =
-    let known = 
+    let known =
     failure_known c.args.event.now c.args.journal.now.events c.args.call c.args.caller c.callee_at.result c.requires.fails c.requires.caller
     c.callee_at.ensures c.requires.lawful in
     record {
