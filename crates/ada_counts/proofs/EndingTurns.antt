@@ -1,5 +1,5 @@
 -- What a halt, the failure of a call and a termination change in queues and nests, and whose phase.
-use Rattle.std.proofs.Common.{◌≡◌, ℕ, None, List, ◌∷◌, refl, ap, inr}
+use Rattle.std.proofs.Common.{◌≡◌, ℕ, List, ◌∷◌, refl, ap, inr}
 use Rattle.std.specs.Option.{option_map_or}
 use Rattle.ada_events.specs.declared.event.Event.{Event}
 use Rattle.ada_events.specs.declared.event.Event.TheVariants.{Halted, Failed, Gone}

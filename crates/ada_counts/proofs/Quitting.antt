@@ -1,5 +1,5 @@
 -- Whose phase stays where all that depend on a master terminate together: who isn't terminated by that.
-use Rattle.std.proofs.Common.{◌≡◌, ℕ, false, Some, None, List, ◌∷◌, sym, refl, ap, ◌∙◌}
+use Rattle.std.proofs.Common.{◌≡◌, ℕ, false, None, List, ◌∷◌, sym, refl, ap, ◌∙◌}
 use Rattle.std.proofs.lemmas.Bool.{false_from_ne_true, true≢false}
 use Rattle.std.proofs.lemmas.Option.{none-some}
 use Rattle.ada_events.specs.declared.event.Event.{Event}

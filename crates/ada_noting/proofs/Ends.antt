@@ -42,7 +42,7 @@ use Rattle.ada_counts.specs.Holders.{IsHeld}
 use Rattle.ada_counts.proofs.LiveHolders.{of_master}
 use Rattle.ada_counts.proofs.Owners.{has_contained}
 use Rattle.ada_rows.proofs.Orphans.{gone_stays}
-use Rattle.ada_noting.specs.internal.Keys.{Puts, Both, OfFirst, AsHeld, AsUnstarted, AsCaller, AsLost, AsDependent, AsActivation, AsCompletion}
+use Rattle.ada_noting.specs.internal.Keys.{Puts, Both, OfFirst, AsHeld, AsCaller, AsLost, AsDependent, AsActivation, AsCompletion}
 use Rattle.ada_noting.specs.internal.Keys.AsKey.{itself}
 use Rattle.ada_noting.specs.internal.Keys.AsHeld.{held}
 use Rattle.ada_noting.specs.internal.Keys.AsUnstarted.{goes}

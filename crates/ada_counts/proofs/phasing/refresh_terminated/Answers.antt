@@ -1,5 +1,4 @@
-use Rattle.std.proofs.Common.{◌≡◌, ◌<◌, arith}
-use Rattle.ada_events.specs.Tasks.{task_count}
+use Rattle.std.proofs.Common.{arith}
 use Rattle.ada_laws.proofs.Growing.{task_count-same}
 use Rattle.ada_counts.proofs.Quitting.{quit_makes_none, spared_keep_phases}
 use Rattle.ada_counts.proofs.Refreshing.{none_swept, one_swept, one_passed, all_swept}
