@@ -9,6 +9,8 @@ impl Answerer for Index {
 
     ghost stands = { λ index journal. IsIndexOf index journal };
 
+    // Inlined, so that a request whose kind is known there needn't lie in memory.
+    #[inline(always)]
     fn begin(&mut self, journal: &mut Journal, request: &Request) -> Result<(), Refusal> {
         match request {
             Request::Call {

@@ -23,6 +23,7 @@ pub fn make_room(journal: &mut Journal) -> Result<(), Refusal>
 }
 
 // Appends the steps that the journal forces, until it forces none.
+#[inline(never)]
 fn settle<A: Answerer>(answerer: &mut A, journal: &mut Journal)
     requires stands { A.stands answerer.old journal.old.events }
     requires lawful { IsLawful journal.old.events }
@@ -38,6 +39,8 @@ fn settle<A: Answerer>(answerer: &mut A, journal: &mut Journal)
 /// Answers a request: appends its event and the steps that it forces, and gives the event's position; or
 /// refuses it for the first cause that applies, and changes nothing. `OutOfMemory` is answered where a growth
 /// was refused and no other cause applies.
+// Inlined, so that a request whose kind is known there needn't lie in memory.
+#[inline(always)]
 pub fn step<A: Answerer>(
     answerer: &mut A,
     journal: &mut Journal,
