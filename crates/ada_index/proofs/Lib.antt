@@ -5,5 +5,4 @@ pub mod Meetings
 pub mod Requests
 pub mod Spent
 pub mod Steps
-pub mod Taken
 pub mod Taking

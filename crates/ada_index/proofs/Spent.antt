@@ -5,21 +5,21 @@ use Rattle.std.specs.Option.{option_and_then}
 use Rattle.std.proofs.lemmas.Bool.{eq-eqb}
 use Rattle.ada_agenda.specs.Rows.{keeps}
 use Rattle.ada_events.specs.declared.event.Event.{Event}
-use Rattle.ada_events.specs.declared.event.Event.TheVariants.{Halted, Failed, Gone}
+use Rattle.ada_events.specs.declared.event.Event.TheVariants.{Halted, Failed, Gone, Met}
 use Rattle.ada_events.specs.declared.names.TaskNo.{TaskNo}
 use Rattle.ada_events.specs.Calls.{is_pending, is_open_at}
-use Rattle.ada_events.specs.Forced.{task_no, is_to_halt, is_to_fail, is_to_go}
+use Rattle.ada_events.specs.Forced.{task_no, is_to_halt, is_to_fail, is_to_go, met_at}
 use Rattle.ada_events.specs.Lawful.{IsLawful}
 use Rattle.ada_events.specs.Phases.{is_abnormal, is_completed, is_terminated, has_ended, is_released}
-use Rattle.ada_events.specs.Says.{Call, call_in, completed_in, gone_in, released_in}
+use Rattle.ada_events.specs.Says.{Call, Wait, call_in, wait_in, completed_in, gone_in, released_in}
 use Rattle.ada_events.specs.Search.{is_some_and, event_at}
 use Rattle.ada_forcing.specs.declared.row.Row.{Row}
-use Rattle.ada_forcing.specs.declared.row.Row.TheVariants.{Halting, Failing, Going}
+use Rattle.ada_forcing.specs.declared.row.Row.TheVariants.{Halting, Failing, Taking, Going}
 use Rattle.ada_forcing.specs.Rows.{at_event, rank, step_at}
 use Rattle.ada_laws.proofs.LimitLaws.{events_are_few}
 use Rattle.ada_laws.proofs.Searching.{event_at-within}
 use Rattle.ada_records.proofs.Nesting.{and_false}
-use Rattle.ada_records.proofs.Noting.{release_holds}
+use Rattle.ada_records.proofs.Noting.{met_holds, release_holds}
 use Rattle.ada_index.specs.declared.index.Index.{Index}
 use Rattle.ada_index.specs.Indexes.{IsIndexOf}
 use Rattle.ada_index.proofs.Keys.{key_dropped}
@@ -73,6 +73,30 @@ module _ (before : List Event) (call : ℕ) where
   failed_fits lawful =
       let held = (release_holds (Failed call) before call lawful refl).held in
       omega (arith, event_at-within before call held.event held.stands, events_are_few before lawful.0)
+
+module _ (before : List Event) (call wait : ℕ) where
+  -- a wait that took a call is released
+  met_once : (w : Wait) → met_at (Met call wait ∷ before) wait w ≡ None
+  unfolding met_at is_pending is_released released_in
+  met_once w = rw (eq-eqb wait wait refl) refl
+
+  none_met : (w : Option Wait) → option_and_then (met_at (Met call wait ∷ before) wait) w ≡ None
+  none_met None = refl
+  none_met (Some w) = met_once w
+
+  none_taken : (e : Option Event) → option_and_then (at_event (Met call wait ∷ before) Taking wait) e ≡ None
+  none_taken None = refl
+  none_taken (Some e) = none_met (wait_in e)
+
+  pub met_no_more : step_at (Met call wait ∷ before) Taking wait ≡ None
+  unfolding step_at
+  met_no_more = none_taken (event_at (Met call wait ∷ before) wait)
+
+  -- a wait stands at a position that is a key
+  pub met_fits : IsLawful (Met call wait ∷ before) → wait < 69632
+  met_fits lawful =
+      let held = (met_holds (Met call wait) before call wait lawful refl).1.held in
+      omega (arith, event_at-within before wait held.event held.stands, events_are_few before lawful.0)
 
 -- an index stands without a key that gives nothing
 pub stands_without_key : (index : Index) (rows : List (List ℕ)) (journal : List Event) (row : Row) (place key : ℕ) → IsIndexOf index journal

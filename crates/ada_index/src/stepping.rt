@@ -2,14 +2,13 @@
 
 ghost use Rattle.std.specs.Prelude.{◌≡◌, ◌<◌, ◌≤◌, ◌+◌, ◌∷◌, Some, None};
 ghost use Rattle.ada_events.specs.Forced.{forced};
-ghost use Rattle.ada_events.specs.declared.event.Event.TheVariants.{Met as MetEvent, Halted as HaltedEvent, Failed as FailedEvent, Gone as GoneEvent};
 ghost use Rattle.ada_forcing.specs.declared.row.Row.TheVariants as row;
 ghost use Rattle.ada_forcing.specs.Rows.{step_at};
 ghost use Rattle.ada_index.specs.Indexes.{IsIndexOf};
 ghost use Rattle.ada_index.specs.internal.Indexes.{MayTake, Takes, MayTakeAtRank, TakesAtRank};
 
 use crate::Index;
-use ada_events::{Event, Journal, Master, TaskNo};
+use ada_events::{Event, Journal, Master};
 use ada_forcing::Row;
 
 impl Index {
@@ -37,68 +36,6 @@ impl Index {
         self.agenda.remove(row.rank(), key as usize);
     }
 
-    // Notes and appends the beginning of a rendezvous (9.5), which the journal forces. The wait's key goes with it: the
-    // wait is released, and its row gives nothing there any more.
-    #[inline(always)]
-    fn append_meeting(&mut self, journal: &mut Journal, call: u32, wait: u32)
-        requires stands { IsIndexOf self.old journal.old.events }
-        requires forced { forced journal.old.events ≡ Some (MetEvent call wait) }
-        requires room { 0 < journal.old.spare }
-        ensures stands { IsIndexOf self.new journal.new.events }
-        ensures events { journal.new.events ≡ MetEvent call wait ∷ journal.old.events }
-        ensures spare { journal.old.spare ≤ journal.new.spare + 1 }
-    {
-        let step = Event::Met { call, wait };
-        self.note_meeting(journal, &step, call, wait);
-        journal.push_reserved(step);
-        self.agenda.remove(Row::Taking.rank(), wait as usize);
-    }
-
-    // Notes and appends that a task is halted (9.10), which the journal forces.
-    #[inline(always)]
-    fn append_halt(&mut self, journal: &mut Journal, task: TaskNo)
-        requires stands { IsIndexOf self.old journal.old.events }
-        requires forced { forced journal.old.events ≡ Some (HaltedEvent task) }
-        requires room { 0 < journal.old.spare }
-        ensures stands { IsIndexOf self.new journal.new.events }
-        ensures events { journal.new.events ≡ HaltedEvent task ∷ journal.old.events }
-        ensures spare { journal.old.spare ≤ journal.new.spare + 1 }
-    {
-        let step = Event::Halted { task };
-        self.note_halt(journal, &step, task);
-        journal.push_reserved(step);
-    }
-
-    // Notes and appends that a call fails (9.5, 9.10), which the journal forces.
-    #[inline(always)]
-    fn append_failure(&mut self, journal: &mut Journal, call: u32)
-        requires stands { IsIndexOf self.old journal.old.events }
-        requires forced { forced journal.old.events ≡ Some (FailedEvent call) }
-        requires room { 0 < journal.old.spare }
-        ensures stands { IsIndexOf self.new journal.new.events }
-        ensures events { journal.new.events ≡ FailedEvent call ∷ journal.old.events }
-        ensures spare { journal.old.spare ≤ journal.new.spare + 1 }
-    {
-        let step = Event::Failed { call };
-        self.note_failure(journal, &step, call);
-        journal.push_reserved(step);
-    }
-
-    // Notes and appends that a task terminates by itself (9.4), which the journal forces.
-    #[inline(always)]
-    fn append_termination(&mut self, journal: &mut Journal, task: TaskNo)
-        requires stands { IsIndexOf self.old journal.old.events }
-        requires forced { forced journal.old.events ≡ Some (GoneEvent task) }
-        requires room { 0 < journal.old.spare }
-        ensures stands { IsIndexOf self.new journal.new.events }
-        ensures events { journal.new.events ≡ GoneEvent task ∷ journal.old.events }
-        ensures spare { journal.old.spare ≤ journal.new.spare + 1 }
-    {
-        let step = Event::Gone { task };
-        self.note_termination(journal, &step, task);
-        journal.push_reserved(step);
-    }
-
     // Halts the task of that number (9.10), where it is to be halted.
     #[tactic(auto, using(ada_rows::proofs::Strangers::no_halt))]
     fn halt(&mut self, journal: &mut Journal, key: u32) -> bool
@@ -111,7 +48,9 @@ impl Index {
         if !self.state(journal).halts(task) {
             return false;
         }
-        self.append_halt(journal, task);
+        let step = Event::Halted { task };
+        self.note_halt(journal, &step, task);
+        journal.push_reserved(step);
         self.drop_key(journal, Row::Halting, key);
         true
     }
@@ -124,7 +63,9 @@ impl Index {
         if !self.state(journal).fails(call) {
             return false;
         }
-        self.append_failure(journal, call);
+        let step = Event::Failed { call };
+        self.note_failure(journal, &step, call);
+        journal.push_reserved(step);
         self.drop_key(journal, Row::Failing, call);
         true
     }
@@ -137,7 +78,10 @@ impl Index {
         let Some(call) = self.state(journal).takes(wait) else {
             return false;
         };
-        self.append_meeting(journal, call, wait);
+        let step = Event::Met { call, wait };
+        self.note_meeting(journal, &step, call, wait);
+        journal.push_reserved(step);
+        self.drop_key(journal, Row::Taking, wait);
         true
     }
 
@@ -201,7 +145,9 @@ impl Index {
         if !self.state(journal).goes(task) {
             return false;
         }
-        self.append_termination(journal, task);
+        let step = Event::Gone { task };
+        self.note_termination(journal, &step, task);
+        journal.push_reserved(step);
         self.drop_key(journal, Row::Going, key);
         true
     }

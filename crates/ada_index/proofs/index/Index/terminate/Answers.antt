@@ -10,5 +10,5 @@ pub drop_key-requires-clause-spent : goal.drop_key-requires-clause-spent
 drop_key-requires-clause-spent c =
     let before = c.args.journal.now.events in
     let task = c.in-Some.task in
-    subst (λ (j : List Event). step_at j Going c.args.key ≡ None) (sym c.append_termination.ensures.events)
+    subst (λ (j : List Event). step_at j Going c.args.key ≡ None) (sym c.push_reserved.ensures.events)
     (subst (λ (key : ℕ). step_at (Gone task ∷ before) Going key ≡ None) c.in-Some.ensures.some (gone_no_more before task))
