@@ -1,23 +1,27 @@
-use Rattle.std.proofs.Common.{arith, ◌∷◌, subst}
+use Rattle.std.proofs.Common.{arith, ◌∷◌, refl, subst}
+use Rattle.ada_events.specs.Says.{creation_in, moment_in, held_in, started_in}
 use Rattle.ada_laws.proofs.LimitLaws.{events_are_few}
 use Rattle.ada_noting.proofs.Bounds.{bound_kept}
+use Rattle.ada_records.proofs.EventKinds.{holds_of}
 use Rattle.ada_touching.specs.Keeping.{IsAgendaOf}
-use Rattle.ada_index.proofs.Meetings.{wait_quiet, wait_holds, wait_not_due, noted}
+use Rattle.ada_index.proofs.Quiet.{quiet_as, not_due_as, noted}
 use Rattle.ada_index.proofs.index.Index.note_accept.Goals as goal
 
 pub note_hold-requires-clause-holds : goal.note_hold-requires-clause-holds
-note_hold-requires-clause-holds c = wait_holds c.args.event.now c.args.by c.args.pick _ c.requires.accepts
+unfolding held_in started_in
+note_hold-requires-clause-holds c = holds_of c.args.event.now _ c.args.by.0 c.requires.accepts refl refl
 
 pub note_hold-requires-clause-room : goal.note_hold-requires-clause-room
 note_hold-requires-clause-room c = omega (arith, events_are_few c.args.journal.now.events c.requires.lawful.0)
 
 pub returns : goal.returns
+unfolding creation_in moment_in
 returns c =
     let event = c.args.event.now in
     let before = c.args.journal.now.events in
     noted c.args.self.now event before c.note_hold.new.records c.follow_accept.new.tables c.note_accept.new.agenda c.args.self.now.next_due
-    c.requires.stands c.requires.lawful (wait_quiet event c.args.by c.args.pick _ c.requires.accepts)
+    c.requires.stands c.requires.lawful (quiet_as event _ c.requires.accepts refl refl)
     (omega (arith, c.note_hold.auto.records, c.as_mut_slice.ensures.len)) c.note_hold.ensures c.follow_accept.ensures.stand c.follow_accept.ensures.slots
     (subst (λ journal. IsAgendaOf c.note_accept.new.agenda (event ∷ journal)) c.new-state.ensures c.note_accept.ensures)
     (bound_kept event before c.args.self.now.next_due c.requires.lawful c.requires.stands.due
-    (wait_not_due event c.args.by c.args.pick _ c.requires.accepts))
+    (not_due_as event _ c.requires.accepts refl))

@@ -1,9 +1,9 @@
-use Rattle.std.proofs.Common.{arith, ◌∷◌, ap, subst}
-use Rattle.ada_events.specs.Says.{released_in}
+use Rattle.std.proofs.Common.{arith, ◌∷◌, ap, refl, subst}
+use Rattle.ada_events.specs.Says.{creation_in, moment_in, released_in}
 use Rattle.ada_noting.proofs.Bounds.{bound_kept}
 use Rattle.ada_records.proofs.Noting.{release_holds}
 use Rattle.ada_touching.specs.Keeping.{IsAgendaOf}
-use Rattle.ada_index.proofs.Meetings.{end_quiet, end_not_due, noted}
+use Rattle.ada_index.proofs.Quiet.{quiet_as, not_due_as, noted}
 use Rattle.ada_index.proofs.index.Index.note_end.Goals as goal
 
 pub holder_at-caller-requires : goal.holder_at-caller-requires
@@ -11,12 +11,13 @@ unfolding released_in
 holder_at-caller-requires c = release_holds c.args.event.now c.args.journal.now.events _ c.requires.lawful (ap released_in c.requires.ends)
 
 pub returns : goal.returns
+unfolding creation_in moment_in
 returns c =
     let event = c.args.event.now in
     let before = c.args.journal.now.events in
     noted c.args.self.now event before c.note_ended.new.records c.follow_end.new.tables c.note_end.new.agenda c.args.self.now.next_due
-    c.requires.stands c.requires.lawful (end_quiet event c.args.by c.args.call c.args.raised c.requires.ends)
+    c.requires.stands c.requires.lawful (quiet_as event _ c.requires.ends refl refl)
     (omega (arith, c.note_ended.auto.records, c.as_mut_slice.ensures.len)) c.note_ended.ensures c.follow_end.ensures.stand c.follow_end.ensures.slots
     (subst (λ journal. IsAgendaOf c.note_end.new.agenda (event ∷ journal)) c.new-state.ensures c.note_end.ensures)
     (bound_kept event before c.args.self.now.next_due c.requires.lawful c.requires.stands.due
-    (end_not_due event c.args.by c.args.call c.args.raised c.requires.ends))
+    (not_due_as event _ c.requires.ends refl))

@@ -1,16 +1,18 @@
-use Rattle.std.proofs.Common.{arith, ◌∷◌, subst}
+use Rattle.std.proofs.Common.{arith, ◌∷◌, refl, subst}
+use Rattle.ada_events.specs.Says.{creation_in, moment_in}
 use Rattle.ada_noting.proofs.Bounds.{bound_kept}
 use Rattle.ada_touching.specs.Keeping.{IsAgendaOf}
-use Rattle.ada_index.proofs.Meetings.{termination_quiet, termination_not_due, noted}
+use Rattle.ada_index.proofs.Quiet.{quiet_as, not_due_as, noted}
 use Rattle.ada_index.proofs.index.Index.note_termination.Goals as goal
 
 pub returns : goal.returns
+unfolding creation_in moment_in
 returns c =
     let event = c.args.event.now in
     let before = c.args.journal.now.events in
     noted c.args.self.now event before c.note_gone.new.records c.follow_termination.new.tables c.note_termination.new.agenda c.args.self.now.next_due
-    c.requires.stands c.requires.lawful (termination_quiet event c.args.task c.requires.goes)
+    c.requires.stands c.requires.lawful (quiet_as event _ c.requires.goes refl refl)
     (omega (arith, c.note_gone.auto.records, c.as_mut_slice.ensures.len)) c.note_gone.ensures c.follow_termination.ensures.stand
     c.follow_termination.ensures.slots
     (subst (λ journal. IsAgendaOf c.note_termination.new.agenda (event ∷ journal)) c.new-state.ensures c.note_termination.ensures)
-    (bound_kept event before c.args.self.now.next_due c.requires.lawful c.requires.stands.due (termination_not_due event c.args.task c.requires.goes))
+    (bound_kept event before c.args.self.now.next_due c.requires.lawful c.requires.stands.due (not_due_as event _ c.requires.goes refl))
