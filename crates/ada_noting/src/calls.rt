@@ -99,13 +99,13 @@ pub fn note_end(
 }
 
 /// Notes that a call fails (9.5): that its caller is halted may be forced (9.10).
-pub fn note_failure(agenda: &mut Agenda, state: &State, _event: &Event, call: u32)
+pub fn note_failure(agenda: &mut Agenda, state: &State, _event: &Event, failed: u32)
     requires lawful { IsLawful (_event.now ∷ state.now) }
     requires stands { IsAgendaOf agenda.old state.now }
-    requires fails { _event.now ≡ FailedEvent call }
+    requires fails { _event.now ≡ FailedEvent failed }
     ensures { IsAgendaOf agenda.new (_event.now ∷ state.now) }
 {
-    put_caller(agenda, state, call);
+    put_caller(agenda, state, failed);
 }
 
 // Whether a wait has an open terminate alternative (9.7.1).
