@@ -11,54 +11,44 @@ use Rattle.ada_records.proofs.TaskEnds.{completion_exists}
 use Rattle.ada_tables.specs.Tables.{TableState}
 use Rattle.ada_counts.specs.declared.nests.NestChange.TheVariants.{Nothing as SameNests, EndsRendezvous}
 use Rattle.ada_counts.specs.declared.queues.QueueChange.TheVariants.{Nothing as SameQueues, Leaves}
-use Rattle.ada_counts.specs.Noting.{HaveRoomFor}
-use Rattle.ada_counts.proofs.Known.{AreKnown, needs_no_room}
+use Rattle.ada_counts.specs.internal.Known.{AreKnown}
 use Rattle.ada_counts.proofs.NestTurns.{nests_kept, nests_of_failure, callee_of}
 use Rattle.ada_counts.proofs.QueueTurns.{queues_kept, queues_ended, queues_halted}
+use Rattle.ada_counts.proofs.Room.{needs_no_room}
 use Rattle.ada_counts.proofs.TouchedTasks.{completed_touches, released_touches, gone_touches}
 
-module _ (event : Event) (before : List Event) (task : TaskNo) where
+module _ (event : Event) (before : List Event) (tables : TableState) (task : TaskNo) where
   -- the halt of a task takes its call out of the queue, and completes it
-  pub halt_known : event ≡ Halted task → IsLawful (event ∷ before) → AreKnown event before (Leaves task) SameNests task
-  unfolding creation_in opening_in meeting_in released_in completed_in
+  pub halt_known : event ≡ Halted task → IsLawful (event ∷ before) → AreKnown event before tables (Leaves task) SameNests task
+  unfolding creation_in opening_in call_in meeting_in released_in completed_in
   halt_known is lawful = record {
     makes = ap creation_in is;
+    room = needs_no_room event _ tables is refl;
     queues = queues_halted event before task is lawful;
     nests = nests_kept event _ before is refl refl refl lawful;
     touches = completed_touches event _ before task is refl (completion_exists event before task lawful (inr is)) lawful;
   }
 
-  pub halt_needs_no_room : (tables : TableState) → event ≡ Halted task → HaveRoomFor tables event
-  unfolding call_in
-  halt_needs_no_room tables is = needs_no_room event _ tables is refl
-
   -- a termination changes no queue and no nest
-  pub termination_known : event ≡ Gone task → IsLawful (event ∷ before) → AreKnown event before SameQueues SameNests task
+  pub termination_known : event ≡ Gone task → IsLawful (event ∷ before) → AreKnown event before tables SameQueues SameNests task
   unfolding creation_in opening_in call_in meeting_in released_in completed_in
   termination_known is lawful = record {
     makes = ap creation_in is;
+    room = needs_no_room event _ tables is refl;
     queues = queues_kept event _ before is refl refl refl refl lawful;
     nests = nests_kept event _ before is refl refl refl lawful;
     touches = gone_touches event before task is lawful;
   }
 
-  pub termination_needs_no_room : (tables : TableState) → event ≡ Gone task → HaveRoomFor tables event
-  unfolding call_in
-  termination_needs_no_room tables is = needs_no_room event _ tables is refl
-
-module _ (event : Event) (before : List Event) (call : ℕ) where
-  -- the failure of a call takes it out of its queue and out of the nest of the task called, and lets its caller go on
-  pub failure_known : (caller callee : TaskNo) → event ≡ Failed call → IsSuspendedAt before caller.0 call
-      → callee.0 ≡ option_map_or (λ (c : Call). c.callee) (call_at before call) 0 → IsLawful (event ∷ before)
-      → AreKnown event before (Leaves caller) (EndsRendezvous callee call) caller
-  unfolding creation_in call_in meeting_in released_in
-  failure_known caller callee is held called lawful = record {
-    makes = ap creation_in is;
-    queues = queues_ended event _ before caller call is refl refl refl held lawful;
-    nests = nests_of_failure event before callee call is (callee_of before call callee.0 called) lawful;
-    touches = released_touches event _ before caller call is refl lawful held;
-  }
-
-  pub failure_needs_no_room : (tables : TableState) → event ≡ Failed call → HaveRoomFor tables event
-  unfolding call_in
-  failure_needs_no_room tables is = needs_no_room event _ tables is refl
+-- the failure of a call takes it out of its queue and out of the nest of the task called, and lets its caller go on
+pub failure_known : (event : Event) (before : List Event) (tables : TableState) (call : ℕ) (caller callee : TaskNo) → event ≡ Failed call
+    → IsSuspendedAt before caller.0 call → callee.0 ≡ option_map_or (λ (c : Call). c.callee) (call_at before call) 0 → IsLawful (event ∷ before)
+    → AreKnown event before tables (Leaves caller) (EndsRendezvous callee call) caller
+unfolding creation_in call_in meeting_in released_in
+failure_known event before tables call caller callee is held called lawful = record {
+  makes = ap creation_in is;
+  room = needs_no_room event _ tables is refl;
+  queues = queues_ended event _ before caller call is refl refl refl held lawful;
+  nests = nests_of_failure event before callee call is (callee_of before call callee.0 called) lawful;
+  touches = released_touches event _ before caller call is refl lawful held;
+}

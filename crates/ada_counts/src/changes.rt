@@ -1,13 +1,10 @@
 //! Tables that follow an event of which it is known what it changes.
-ghost use Rattle.std.specs.Prelude.{◌≡◌, ◌∷◌, Some, None};
+ghost use Rattle.std.specs.Prelude.{◌∷◌};
 ghost use Rattle.ada_events.specs.Lawful.{IsLawful};
-ghost use Rattle.ada_events.specs.Says.{creation_in};
 ghost use Rattle.ada_tables.specs.Standing.{StandFor};
 ghost use Rattle.ada_records.specs.Records.{AreRecords};
-ghost use Rattle.ada_counts.specs.Noting.{HaveAllQueues, HaveRoomFor};
-ghost use Rattle.ada_counts.specs.internal.Phasing.{TouchesOnly};
-ghost use Rattle.ada_counts.specs.internal.Renesting.{ChangesNests};
-ghost use Rattle.ada_counts.specs.internal.Requeuing.{ChangesQueues};
+ghost use Rattle.ada_counts.specs.Noting.{HaveAllQueues};
+ghost use Rattle.ada_counts.specs.internal.Known.{AreKnown};
 
 use crate::nests::{NestChange, change_nests};
 use crate::phasing::refresh_touched;
@@ -28,14 +25,10 @@ pub(crate) fn follow_changes(
     touched: TaskNo,
 )
     requires lawful { IsLawful (event.now ∷ journal.now.events) }
-    requires makes { creation_in event.now ≡ None }
     requires stand { StandFor tables.old journal.now.events }
     requires slots { HaveAllQueues tables.old journal.now.events }
     requires records { AreRecords records.now (event.now ∷ journal.now.events) }
-    requires room { HaveRoomFor tables.old event.now }
-    requires queues { ChangesQueues event.now journal.now.events queues }
-    requires nests { ChangesNests event.now journal.now.events nests }
-    requires touches { TouchesOnly event.now journal.now.events (Some touched) }
+    requires known { AreKnown event.now journal.now.events tables.old queues nests touched }
     ensures stand { StandFor tables.new (event.now ∷ journal.now.events) }
     ensures slots { HaveAllQueues tables.new (event.now ∷ journal.now.events) }
 {

@@ -1,17 +1,6 @@
-use Rattle.ada_counts.proofs.EndingTurns.{termination_known, termination_needs_no_room}
+use Rattle.ada_counts.proofs.EndingTurns.{termination_known}
 use Rattle.ada_counts.proofs.endings.follow_termination.Goals as goal
 
-pub follow_changes-requires : goal.follow_changes-requires
-follow_changes-requires c =
-    let known = termination_known c.args.event.now c.args.journal.now.events c.args.task c.requires.goes c.requires.lawful in
-    record {
-      lawful = c.requires.lawful;
-      makes = known.makes;
-      stand = c.requires.stand;
-      slots = c.requires.slots;
-      records = c.requires.records;
-      room = termination_needs_no_room c.args.event.now c.args.journal.now.events c.args.task c.args.tables.now c.requires.goes;
-      queues = known.queues;
-      nests = known.nests;
-      touches = known.touches;
-    }
+pub follow_changes-requires-clause-known : goal.follow_changes-requires-clause-known
+follow_changes-requires-clause-known c =
+    termination_known c.args.event.now c.args.journal.now.events c.args.tables.now c.args.task c.requires.goes c.requires.lawful
