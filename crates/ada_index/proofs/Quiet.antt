@@ -17,6 +17,7 @@ use Rattle.ada_tables.specs.Standing.{StandFor}
 use Rattle.ada_touching.specs.Keeping.{IsAgendaOf}
 use Rattle.ada_touching.specs.Kinds.{due_in}
 use Rattle.ada_index.specs.declared.index.Index.{Index}
+use Rattle.ada_index.specs.declared.index.Kept.{Kept}
 use Rattle.ada_index.specs.Indexes.{IsIndexOf}
 use Rattle.ada_index.proofs.Creations.{made_same}
 
@@ -33,23 +34,26 @@ quiet_as event f is makes ticks = record { makes = ap creation_in is ∙ makes; 
 pub not_due_as : (event f : Event) → event ≡ f → due_in f ≡ None → due_in event ≡ None
 not_due_as event f is due = ap due_in is ∙ due
 
+-- what is kept with other records and tables
+abbrev pub with_kept : Kept → List Record → TableState → Kept
+with_kept kept records tables = record kept { records = with_items kept.records records; tables = tables }
+
 same_moment : (event : Event) (before : List Event) → IsQuiet event → moment (event ∷ before) ≡ moment before
 unfolding moment
 same_moment event before quiet = ap (λ now. unwrap_or now (moment before)) quiet.ticks
 
 -- an index in which records, tables, agenda, the next due moment and the first unstarted task follow such an event is one of the longer journal
 pub noted_from : (index : Index) (event : Event) (before : List Event) (records : List Record) (tables : TableState) (rows : List (List ℕ)) (next : Option ℤ)
-    → (first : ℕ) → IsIndexOf index before → IsLawful (event ∷ before) → IsQuiet event → length records ≡ index.records.len
+    → (first : ℕ) → IsIndexOf index before → IsLawful (event ∷ before) → IsQuiet event → length records ≡ index.kept.records.len
     → AreRecords records (event ∷ before) → StandFor tables (event ∷ before) → HaveAllQueues tables (event ∷ before) → IsAgendaOf rows (event ∷ before)
     → IsDueBound (event ∷ before) next → IsStartBound before first
-    → IsIndexOf (record index { records = with_items index.records records; tables = tables; agenda = rows; next_due = next; unstarted = first })
-    (event ∷ before)
+    → IsIndexOf (record index { kept = with_kept index.kept records tables; agenda = rows; next_due = next; unstarted = first }) (event ∷ before)
 noted_from index event before records tables rows next first stands lawful quiet long recorded tabled slots agenda due started = record {
   kept = record {
     lawful = lawful;
-    recorded = subst (λ (rs : List Record). AreRecords rs (event ∷ before)) (sym (with_items_is index.records records long)) recorded;
+    recorded = subst (λ (rs : List Record). AreRecords rs (event ∷ before)) (sym (with_items_is index.kept.records records long)) recorded;
     tabled = tabled;
-    created = made_same index.made.items event before stands.kept.created quiet.makes;
+    created = made_same index.kept.made.items event before stands.kept.created quiet.makes;
     timed = stands.kept.timed ∙ sym (same_moment event before quiet);
   };
   slots = slots;
@@ -60,8 +64,8 @@ noted_from index event before records tables rows next first stands lawful quiet
 
 -- the same where the first unstarted task stays
 pub noted : (index : Index) (event : Event) (before : List Event) (records : List Record) (tables : TableState) (rows : List (List ℕ)) (next : Option ℤ)
-    → IsIndexOf index before → IsLawful (event ∷ before) → IsQuiet event → length records ≡ index.records.len → AreRecords records (event ∷ before)
+    → IsIndexOf index before → IsLawful (event ∷ before) → IsQuiet event → length records ≡ index.kept.records.len → AreRecords records (event ∷ before)
     → StandFor tables (event ∷ before) → HaveAllQueues tables (event ∷ before) → IsAgendaOf rows (event ∷ before) → IsDueBound (event ∷ before) next
-    → IsIndexOf (record index { records = with_items index.records records; tables = tables; agenda = rows; next_due = next }) (event ∷ before)
+    → IsIndexOf (record index { kept = with_kept index.kept records tables; agenda = rows; next_due = next }) (event ∷ before)
 noted index event before records tables rows next stands lawful quiet long recorded tabled slots agenda due =
     noted_from index event before records tables rows next index.unstarted stands lawful quiet long recorded tabled slots agenda due stands.unstarted

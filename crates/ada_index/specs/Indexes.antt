@@ -11,8 +11,8 @@ use Rattle.ada_index.specs.declared.index.Index.{Index}
 -- creations, moment, an agenda that misses no step, a bound of the moments for which tasks are suspended, and one of
 -- the tasks that were started
 pub record IsIndexOf (index : Index) (journal : List Event) : Type 0 where
-  pub kept : IsKept journal index.records.items index.tables index.made.items index.moment
-  pub slots : HaveAllQueues index.tables journal
+  pub kept : IsKept journal index.kept.records.items index.kept.tables index.kept.made.items index.kept.moment
+  pub slots : HaveAllQueues index.kept.tables journal
   pub agenda : IsAgendaOf index.agenda journal
   pub due : IsDueBound journal index.next_due
   pub unstarted : IsStartBound journal index.unstarted

@@ -63,7 +63,7 @@ impl Index {
             return Err(cause);
         }
         make_room(journal)?;
-        self.tables.reserve_call()?;
+        self.kept.tables.reserve_call()?;
         let due = call_due(self.state(journal).moment(), patience);
         let event = Event::Called {
             by,

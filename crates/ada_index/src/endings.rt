@@ -11,7 +11,6 @@ use ada_counts::endings::{follow_failure, follow_halt, follow_termination};
 use ada_events::{Event, Journal, TaskNo};
 use ada_noting::{calls, endings};
 use ada_records::records::{holder_at, note_gone, note_halted, note_released};
-use ada_rows::State;
 
 impl Index {
     // Notes that a task is halted.
@@ -22,16 +21,11 @@ impl Index {
         requires halts { event.now ≡ HaltedEvent task }
         ensures { IsIndexOf self.new (event.now ∷ journal.now.events) }
     {
-        let state = State::new(
-            journal,
-            &self.records,
-            &self.tables,
-            &self.made,
-            self.moment,
-        );
+        let kept = &mut self.kept;
+        let state = kept.state(journal);
         endings::note_halt(&mut self.agenda, &mut self.unstarted, &state, event, task);
-        note_halted(self.records.as_mut_slice(), journal, event, task);
-        follow_halt(&mut self.tables, &self.records, journal, event, task);
+        note_halted(kept.records.as_mut_slice(), journal, event, task);
+        follow_halt(&mut kept.tables, &kept.records, journal, event, task);
     }
 
     // Notes that a call fails.
@@ -43,18 +37,13 @@ impl Index {
         ensures { IsIndexOf self.new (event.now ∷ journal.now.events) }
     {
         let caller = holder_at(journal, call);
-        let state = State::new(
-            journal,
-            &self.records,
-            &self.tables,
-            &self.made,
-            self.moment,
-        );
+        let kept = &mut self.kept;
+        let state = kept.state(journal);
         calls::note_failure(&mut self.agenda, &state, event, call);
-        note_released(self.records.as_mut_slice(), journal, event, caller, call);
+        note_released(kept.records.as_mut_slice(), journal, event, caller, call);
         follow_failure(
-            &mut self.tables,
-            &self.records,
+            &mut kept.tables,
+            &kept.records,
             journal,
             event,
             call,
@@ -70,15 +59,10 @@ impl Index {
         requires goes { event.now ≡ GoneEvent task }
         ensures { IsIndexOf self.new (event.now ∷ journal.now.events) }
     {
-        let state = State::new(
-            journal,
-            &self.records,
-            &self.tables,
-            &self.made,
-            self.moment,
-        );
+        let kept = &mut self.kept;
+        let state = kept.state(journal);
         endings::note_termination(&mut self.agenda, &state, event, task);
-        note_gone(self.records.as_mut_slice(), journal, event, task);
-        follow_termination(&mut self.tables, &self.records, journal, event, task);
+        note_gone(kept.records.as_mut_slice(), journal, event, task);
+        follow_termination(&mut kept.tables, &kept.records, journal, event, task);
     }
 }

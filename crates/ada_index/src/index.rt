@@ -2,6 +2,7 @@
 
 ghost use Rattle.std.specs.Prelude.{◌≡◌, [], IfOk, IfErr};
 ghost use Rattle.ada_index.specs.Indexes.{IsIndexOf};
+ghost use Rattle.ada_rows.specs.States.{IsKept};
 
 use ada_agenda::Agenda;
 use ada_events::{Journal, Refusal};
@@ -14,15 +15,39 @@ use std::alloc::Global;
 /// How many rows the forced steps have.
 const ROWS: usize = 11;
 
-/// What is kept of a journal beside the journal: a record of each task, the tables, the positions of the creations
-/// of all tasks, the moment in milliseconds, the agenda of where a step may be forced, the next moment for which a task
-/// is suspended, and the first task that may not be started.
+/// What a journal's state is told by: a record of each task, the tables, the positions of the creations of all tasks,
+/// and the moment in milliseconds.
 #[derive(Drop)]
-pub struct Index {
+pub(crate) struct Kept {
     pub(crate) records: Vec<Record>,
     pub(crate) tables: Tables,
     pub(crate) made: Vec<u32>,
     pub(crate) moment: i64,
+}
+
+impl Kept {
+    /// The journal with it.
+    #[inline(always)]
+    pub(crate) fn state<'a>(&'a self, journal: &'a Journal) -> State<'a>
+        requires { IsKept journal.now.events
+            self.now.records.items self.now.tables self.now.made.items self.now.moment }
+        ensures { result ≡ journal.now.events }
+    {
+        State::new(
+            journal,
+            &self.records,
+            &self.tables,
+            &self.made,
+            self.moment,
+        )
+    }
+}
+
+/// What is kept of a journal beside the journal: what its state is told by, the agenda of where a step may be forced,
+/// the next moment for which a task is suspended, and the first task that may not be started.
+#[derive(Drop)]
+pub struct Index {
+    pub(crate) kept: Kept,
     pub(crate) agenda: Agenda,
     pub(crate) next_due: NextDue,
     pub(crate) unstarted: FirstUnstarted,
@@ -44,11 +69,14 @@ impl Index {
         let agenda = Agenda::new(alloc, ROWS)?;
         let next_due = NextDue::new();
         let unstarted = FirstUnstarted::new();
-        Ok(Index {
+        let kept = Kept {
             records,
             tables,
             made,
             moment: 0,
+        };
+        Ok(Index {
+            kept,
             agenda,
             next_due,
             unstarted,
@@ -60,12 +88,6 @@ impl Index {
         requires { IsIndexOf self.now journal.now.events }
         ensures { result ≡ journal.now.events }
     {
-        State::new(
-            journal,
-            &self.records,
-            &self.tables,
-            &self.made,
-            self.moment,
-        )
+        self.kept.state(journal)
     }
 }

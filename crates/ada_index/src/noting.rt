@@ -15,7 +15,6 @@ use ada_facts::{choice_of, touched_by};
 use ada_noting::note as note_keys;
 use ada_records::events::note as note_records;
 use ada_records::records::note_created;
-use ada_rows::State;
 use ada_touching::keeping::note_creation as note_new_task;
 
 /// The moment after an event, in milliseconds (9.6).
@@ -38,7 +37,7 @@ impl Index {
         requires lawful { IsLawful (event.now ∷ journal.now.events) }
         requires stands { IsIndexOf self.old journal.now.events }
         requires makes { creation_in event.now ≡ None }
-        requires room { HaveRoomFor self.old.tables event.now }
+        requires room { HaveRoomFor self.old.kept.tables event.now }
         requires many { touches_many event.now ≡ true }
         ensures { IsIndexOf self.new (event.now ∷ journal.now.events) }
     {
@@ -51,7 +50,7 @@ impl Index {
         requires lawful { IsLawful (event.now ∷ journal.now.events) }
         requires stands { IsIndexOf self.old journal.now.events }
         requires makes { creation_in event.now ≡ None }
-        requires room { HaveRoomFor self.old.tables event.now }
+        requires room { HaveRoomFor self.old.kept.tables event.now }
         ensures { IsIndexOf self.new (event.now ∷ journal.now.events) }
     {
         match event {
@@ -70,17 +69,12 @@ impl Index {
         requires lawful { IsLawful (event.now ∷ journal.now.events) }
         requires stands { IsIndexOf self.old journal.now.events }
         requires makes { creation_in event.now ≡ None }
-        requires room { HaveRoomFor self.old.tables event.now }
+        requires room { HaveRoomFor self.old.kept.tables event.now }
         requires facts { AreFacts journal.now.events event.now choice touched.now }
         ensures { IsIndexOf self.new (event.now ∷ journal.now.events) }
     {
-        let state = State::new(
-            journal,
-            &self.records,
-            &self.tables,
-            &self.made,
-            self.moment,
-        );
+        let kept = &mut self.kept;
+        let state = kept.state(journal);
         note_keys(
             &mut self.agenda,
             &mut self.next_due,
@@ -88,9 +82,9 @@ impl Index {
             &state,
             event,
         );
-        note_records(&mut self.records, journal, event, choice, touched);
-        follow(&mut self.tables, &self.records, journal, event);
-        self.moment = moment_after(self.moment, journal, event);
+        note_records(&mut kept.records, journal, event, choice, touched);
+        follow(&mut kept.tables, &kept.records, journal, event);
+        kept.moment = moment_after(kept.moment, journal, event);
     }
 
     // Notes an event that makes a task. Fails with `OutOfMemory` alone, and then changes nothing.
@@ -108,12 +102,12 @@ impl Index {
         ensures err { IfErr result (λ cause. cause ≡ Refusal.OutOfMemory) }
         ensures unchanged { OnErr result (IsIndexOf self.new journal.now.events) }
     {
-        let tasks = usize::from(self.tables.tasks());
-        self.records.reserve(1)?;
-        self.made.reserve(1)?;
-        follow_creation(&mut self.tables, journal, event, master, families)?;
-        note_created(&mut self.records, journal, event);
-        self.made.push_reserved(journal.len() + 1);
+        let tasks = usize::from(self.kept.tables.tasks());
+        self.kept.records.reserve(1)?;
+        self.kept.made.reserve(1)?;
+        follow_creation(&mut self.kept.tables, journal, event, master, families)?;
+        note_created(&mut self.kept.records, journal, event);
+        self.kept.made.push_reserved(journal.len() + 1);
         note_new_task(&mut self.agenda, journal, event, tasks);
         Ok(())
     }
@@ -134,7 +128,7 @@ impl Index {
                 ..
             } => self.note_creation(journal, event, *master, families)?,
             Event::Called { .. } => {
-                self.tables.reserve_call()?;
+                self.kept.tables.reserve_call()?;
                 self.note_in_room(journal, event);
             }
             _ => self.note_in_room(journal, event),

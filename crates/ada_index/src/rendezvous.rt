@@ -13,7 +13,6 @@ use ada_counts::rendezvous::{follow_accept, follow_call, follow_end, follow_meet
 use ada_events::{Entry, Event, Journal, Patience, TaskNo};
 use ada_noting::calls;
 use ada_records::records::{holder_at, note_ended, note_hold, note_met};
-use ada_rows::State;
 
 impl Index {
     // Notes a call, for which there is room.
@@ -31,22 +30,17 @@ impl Index {
         requires lawful { IsLawful (event.now ∷ journal.now.events) }
         requires stands { IsIndexOf self.old journal.now.events }
         requires calls { event.now ≡ CalledEvent by callee entry _patience due }
-        requires room { 0 < self.old.tables.spare }
+        requires room { 0 < self.old.kept.tables.spare }
         ensures { IsIndexOf self.new (event.now ∷ journal.now.events) }
     {
-        let state = State::new(
-            journal,
-            &self.records,
-            &self.tables,
-            &self.made,
-            self.moment,
-        );
+        let kept = &mut self.kept;
+        let state = kept.state(journal);
         calls::note_call(&mut self.agenda, &state, event, callee);
         self.next_due = self.next_due.with(due);
-        note_hold(self.records.as_mut_slice(), journal, event, by);
+        note_hold(kept.records.as_mut_slice(), journal, event, by);
         follow_call(
-            &mut self.tables,
-            &self.records,
+            &mut kept.tables,
+            &kept.records,
             journal,
             event,
             by,
@@ -71,16 +65,11 @@ impl Index {
             (record { guard = true; entry = entry } ∷ []) Nothing }
         ensures { IsIndexOf self.new (event.now ∷ journal.now.events) }
     {
-        let state = State::new(
-            journal,
-            &self.records,
-            &self.tables,
-            &self.made,
-            self.moment,
-        );
+        let kept = &mut self.kept;
+        let state = kept.state(journal);
         calls::note_accept(&mut self.agenda, &state, event, by, pick, entry);
-        note_hold(self.records.as_mut_slice(), journal, event, by);
-        follow_accept(&mut self.tables, &self.records, journal, event, by);
+        note_hold(kept.records.as_mut_slice(), journal, event, by);
+        follow_accept(&mut kept.tables, &kept.records, journal, event, by);
     }
 
     // Notes the end of a rendezvous, by an exception where `raised` is true (11.5).
@@ -99,16 +88,11 @@ impl Index {
         ensures { IsIndexOf self.new (event.now ∷ journal.now.events) }
     {
         let caller = holder_at(journal, call);
-        let state = State::new(
-            journal,
-            &self.records,
-            &self.tables,
-            &self.made,
-            self.moment,
-        );
+        let kept = &mut self.kept;
+        let state = kept.state(journal);
         calls::note_end(&mut self.agenda, &state, event, by, call, raised);
         note_ended(
-            self.records.as_mut_slice(),
+            kept.records.as_mut_slice(),
             journal,
             event,
             by,
@@ -117,8 +101,8 @@ impl Index {
             raised,
         );
         follow_end(
-            &mut self.tables,
-            &self.records,
+            &mut kept.tables,
+            &kept.records,
             journal,
             event,
             by,
@@ -139,7 +123,7 @@ impl Index {
         let acceptor = holder_at(journal, wait);
         let choice = self.state(journal).choice_met(wait);
         note_met(
-            self.records.as_mut_slice(),
+            self.kept.records.as_mut_slice(),
             journal,
             event,
             caller,
@@ -149,8 +133,8 @@ impl Index {
             choice,
         );
         follow_meeting(
-            &mut self.tables,
-            &self.records,
+            &mut self.kept.tables,
+            &self.kept.records,
             journal,
             event,
             call,

@@ -13,5 +13,5 @@ note_in_room-requires-in_default c = record {
   lawful = c.requires.lawful;
   stands = c.requires.stands;
   makes = makes_none c.args.event.now c.in_default.not-Created;
-  room = needs_no_room c.args.self.now.tables c.args.event.now c.in_default.not-Called;
+  room = needs_no_room c.args.self.now.kept.tables c.args.event.now c.in_default.not-Called;
 }

@@ -22,6 +22,6 @@ returns c =
     noted c.args.self.now event before c.note_hold.new.records c.follow_accept.new.tables c.note_accept.new.agenda c.args.self.now.next_due
     c.requires.stands c.requires.lawful (quiet_as event _ c.requires.accepts refl refl)
     (omega (arith, c.note_hold.auto.records, c.as_mut_slice.ensures.len)) c.note_hold.ensures c.follow_accept.ensures.stand c.follow_accept.ensures.slots
-    (subst (λ journal. IsAgendaOf c.note_accept.new.agenda (event ∷ journal)) c.new-state.ensures c.note_accept.ensures)
+    (subst (λ journal. IsAgendaOf c.note_accept.new.agenda (event ∷ journal)) c.state-state.ensures c.note_accept.ensures)
     (bound_kept event before c.args.self.now.next_due c.requires.lawful c.requires.stands.due
     (not_due_as event _ c.requires.accepts refl))

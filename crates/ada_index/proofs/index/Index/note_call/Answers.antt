@@ -29,7 +29,7 @@ returns c =
     noted c.args.self.now event before c.note_hold.new.records c.follow_call.new.tables c.note_call.new.agenda _ c.requires.stands c.requires.lawful
     (quiet_as event _ c.requires.calls refl refl)
     (omega (arith, c.note_hold.auto.records, c.as_mut_slice.ensures.len)) c.note_hold.ensures c.follow_call.ensures.stand c.follow_call.ensures.slots
-    (subst (λ journal. IsAgendaOf c.note_call.new.agenda (event ∷ journal)) c.new-state.ensures c.note_call.ensures)
+    (subst (λ journal. IsAgendaOf c.note_call.new.agenda (event ∷ journal)) c.state-state.ensures c.note_call.ensures)
     (subst (IsDueBound (event ∷ before))
     (ap (earlier c.args.self.now.next_due) (ap due_in c.requires.calls) ∙ sym c.with-self.ensures)
     (bound_noted event before c.args.self.now.next_due c.requires.lawful c.requires.stands.due))

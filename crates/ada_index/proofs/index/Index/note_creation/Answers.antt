@@ -26,8 +26,8 @@ returns-clause-ok c =
         created =
             subst (λ made. AreMade made (c.args.event.now ∷ c.args.journal.now.events))
             (sym (c.push_reserved.ensures.items ∙ ap (λ made. made ++ (c.len.result + 1) ∷ []) c.in_ok-reserve-2.ensures.items))
-            (made_more c.args.self.now.made.items c.args.event.now c.args.journal.now.events creation (c.len.result + 1) c.requires.stands.kept.created makes
-            (ap (λ n. n + 1) c.len.ensures));
+            (made_more c.args.self.now.kept.made.items c.args.event.now c.args.journal.now.events creation (c.len.result + 1) c.requires.stands.kept.created
+            makes (ap (λ n. n + 1) c.len.ensures));
         timed = c.requires.stands.kept.timed ∙ sym (moment_kept c.args.event.now c.args.journal.now.events c.args.master c.args.families.now c.requires.makes);
       };
       slots = c.in_ok-follow_creation.ensures.slots;

@@ -18,6 +18,6 @@ returns c =
     noted c.args.self.now event before c.note_ended.new.records c.follow_end.new.tables c.note_end.new.agenda c.args.self.now.next_due
     c.requires.stands c.requires.lawful (quiet_as event _ c.requires.ends refl refl)
     (omega (arith, c.note_ended.auto.records, c.as_mut_slice.ensures.len)) c.note_ended.ensures c.follow_end.ensures.stand c.follow_end.ensures.slots
-    (subst (λ journal. IsAgendaOf c.note_end.new.agenda (event ∷ journal)) c.new-state.ensures c.note_end.ensures)
+    (subst (λ journal. IsAgendaOf c.note_end.new.agenda (event ∷ journal)) c.state-state.ensures c.note_end.ensures)
     (bound_kept event before c.args.self.now.next_due c.requires.lawful c.requires.stands.due
     (not_due_as event _ c.requires.ends refl))

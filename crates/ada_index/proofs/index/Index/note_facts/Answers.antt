@@ -15,11 +15,11 @@ returns c = record {
     lawful = c.requires.lawful;
     recorded = c.note-2.ensures;
     tabled = c.follow.ensures.stand;
-    created = made_same c.args.self.now.made.items c.args.event.now c.args.journal.now.events c.requires.stands.kept.created c.requires.makes;
-    timed = to_z-of_z w64 c.moment_after-self.result (record { sfits = c.moment_after-self.type_inv }) ∙ c.moment_after-self.ensures;
+    created = made_same c.args.self.now.kept.made.items c.args.event.now c.args.journal.now.events c.requires.stands.kept.created c.requires.makes;
+    timed = to_z-of_z w64 c.moment_after-kept.result (record { sfits = c.moment_after-kept.type_inv }) ∙ c.moment_after-kept.ensures;
   };
   slots = c.follow.ensures.slots;
-  agenda = subst (λ journal. IsAgendaOf c.note.new.agenda (c.args.event.now ∷ journal)) c.new-state.ensures c.note.ensures.stands;
-  due = subst (λ journal. IsDueBound (c.args.event.now ∷ journal) c.note.new.next) c.new-state.ensures c.note.ensures.due;
-  unstarted = subst (λ journal. IsStartBound (c.args.event.now ∷ journal) c.note.new.first) c.new-state.ensures c.note.ensures.started;
+  agenda = subst (λ journal. IsAgendaOf c.note.new.agenda (c.args.event.now ∷ journal)) c.state-state.ensures c.note.ensures.stands;
+  due = subst (λ journal. IsDueBound (c.args.event.now ∷ journal) c.note.new.next) c.state-state.ensures c.note.ensures.due;
+  unstarted = subst (λ journal. IsStartBound (c.args.event.now ∷ journal) c.note.new.first) c.state-state.ensures c.note.ensures.started;
 }

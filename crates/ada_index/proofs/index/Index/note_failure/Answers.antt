@@ -25,5 +25,5 @@ returns c =
     c.requires.stands c.requires.lawful (quiet_as event _ c.requires.fails refl refl)
     (omega (arith, c.note_released.auto.records, c.as_mut_slice.ensures.len)) c.note_released.ensures c.follow_failure.ensures.stand
     c.follow_failure.ensures.slots
-    (subst (λ journal. IsAgendaOf c.note_failure.new.agenda (event ∷ journal)) c.new-state.ensures c.note_failure.ensures)
+    (subst (λ journal. IsAgendaOf c.note_failure.new.agenda (event ∷ journal)) c.state-state.ensures c.note_failure.ensures)
     (bound_kept event before c.args.self.now.next_due c.requires.lawful c.requires.stands.due (not_due_as event _ c.requires.fails refl))

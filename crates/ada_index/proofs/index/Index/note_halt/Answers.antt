@@ -14,6 +14,6 @@ returns c =
     noted_from c.args.self.now event before c.note_halted.new.records c.follow_halt.new.tables c.note_halt.new.agenda c.args.self.now.next_due
     c.note_halt.new.first c.requires.stands c.requires.lawful (quiet_as event _ c.requires.halts refl refl)
     (omega (arith, c.note_halted.auto.records, c.as_mut_slice.ensures.len)) c.note_halted.ensures c.follow_halt.ensures.stand c.follow_halt.ensures.slots
-    (subst (λ journal. IsAgendaOf c.note_halt.new.agenda (event ∷ journal)) c.new-state.ensures c.note_halt.ensures.stands)
+    (subst (λ journal. IsAgendaOf c.note_halt.new.agenda (event ∷ journal)) c.state-state.ensures c.note_halt.ensures.stands)
     (bound_kept event before c.args.self.now.next_due c.requires.lawful c.requires.stands.due (not_due_as event _ c.requires.halts refl))
-    (subst (λ journal. IsStartBound journal c.note_halt.new.first) c.new-state.ensures c.note_halt.ensures.bound)
+    (subst (λ journal. IsStartBound journal c.note_halt.new.first) c.state-state.ensures c.note_halt.ensures.bound)

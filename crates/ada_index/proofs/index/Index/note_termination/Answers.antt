@@ -14,5 +14,5 @@ returns c =
     c.requires.stands c.requires.lawful (quiet_as event _ c.requires.goes refl refl)
     (omega (arith, c.note_gone.auto.records, c.as_mut_slice.ensures.len)) c.note_gone.ensures c.follow_termination.ensures.stand
     c.follow_termination.ensures.slots
-    (subst (λ journal. IsAgendaOf c.note_termination.new.agenda (event ∷ journal)) c.new-state.ensures c.note_termination.ensures)
+    (subst (λ journal. IsAgendaOf c.note_termination.new.agenda (event ∷ journal)) c.state-state.ensures c.note_termination.ensures)
     (bound_kept event before c.args.self.now.next_due c.requires.lawful c.requires.stands.due (not_due_as event _ c.requires.goes refl))
