@@ -2,6 +2,7 @@
 #![tactic(auto)]
 
 pub mod fault;
+mod hints;
 pub mod meaning;
 pub mod name;
 pub mod names;

@@ -5,6 +5,7 @@ ghost use Rattle.ada_statements.specs.Binding.{place_of as found_place};
 ghost use Rattle.ada_statements.specs.internal.Places.{kept, AreKept, IsNoted};
 ghost use Rattle.ada_events.specs.declared.limits.TheConstants.{MOST_FAMILIES};
 
+use crate::hints::Hints;
 use crate::meaning::{Binding, Bound};
 use crate::places::Places;
 use crate::{Cause, Declaration, EntryName, EntryNames, Made, Meaning, Name, Statement};
@@ -18,6 +19,8 @@ use std::marker::Model;
 #[derive(Drop)]
 pub struct Names {
     table: IndexMap<Name, Meaning>,
+    /// Where a name is looked for first, so that mostly no hash is reckoned.
+    hints: Hints,
     /// Where the bound names stand in the table, if that is kept.
     places: Option<Places>,
 }
@@ -57,6 +60,7 @@ impl Names {
         table.insert(Name::from_bytes(b"main"), main)?;
         Ok(Names {
             table,
+            hints: Hints::new(),
             places: None,
         })
     }
@@ -69,6 +73,7 @@ impl Names {
         let alloc = *self.table.allocator();
         let mut names = Names {
             table: IndexMap::with_capacity(alloc, self.table.len())?,
+            hints: Hints::new(),
             places: None,
         };
         for place in 0..self.table.len() {
@@ -84,7 +89,35 @@ impl Names {
     pub fn meaning(&self, name: &[u8]) -> Option<&Meaning>
         ensures { option_copied result ≡ meaning_of self.now name.now }
     {
+        match self.hinted(name) {
+            Some(meaning) => Some(meaning),
+            None => self.looked_up(name),
+        }
+    }
+
+    /// The same, looked up by its hash.
+    #[inline(never)]
+    fn looked_up(&self, name: &[u8]) -> Option<&Meaning>
+        ensures { option_copied result ≡ meaning_of self.now name.now }
+    {
         self.table.get(name)
+    }
+
+    /// What a name of these bytes stands for, if it stands where it is looked for first.
+    #[inline(always)]
+    fn hinted(&self, name: &[u8]) -> Option<&Meaning>
+        ensures { IfSome result (λ meaning. meaning_of self.now name.now ≡ Some meaning.now) }
+    {
+        let place = self.hints.place(name);
+        if place >= self.table.len() {
+            return None;
+        }
+        let (found, meaning) = self.table.get_index(place)?;
+        if found.as_bytes() == name {
+            Some(meaning)
+        } else {
+            None
+        }
     }
 
     /// Whether a name of these bytes is declared.
@@ -162,6 +195,8 @@ impl Names {
     }
 
     /// The first name that is bound so, and what it stands for.
+    // Inlined, so that what is asked for needn't lie in memory.
+    #[inline(always)]
     pub fn bound_to(&self, bound: Bound) -> Option<(&Name, &Meaning)>
         ensures { option_map (λ p. (p.0.now, p.1.now)) result ≡ bound_to self.now bound }
     {
@@ -290,7 +325,9 @@ impl Names {
         ensures memory { IsOkUnless result Cause.OutOfMemory }
     {
         self.places = None;
+        let place = self.table.len();
         self.table.insert(name.copy(), meaning)?;
+        self.hints.note(name.as_bytes(), place);
         Ok(())
     }
 }

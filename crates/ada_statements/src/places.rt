@@ -38,6 +38,7 @@ impl Places {
     }
 
     /// The place of the name that is bound so.
+    #[inline(always)]
     pub(crate) fn get(&self, bound: Bound) -> Option<u16>
         ensures { result ≡ kept self.now bound }
     {
