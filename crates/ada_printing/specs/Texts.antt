@@ -19,7 +19,6 @@ use Rattle.ada_events.specs.declared.event.Event.TheVariants as events
 use Rattle.ada_events.specs.declared.refusal.Refusal.{Refusal}
 use Rattle.ada_events.specs.declared.refusal.Refusal.TheVariants as refusals
 use Rattle.ada_statements.specs.declared.meaning.Meaning.{Meaning}
-use Rattle.ada_statements.specs.declared.meaning.Bound.{Bound}
 use Rattle.ada_statements.specs.declared.meaning.Bound.TheVariants as bounds
 use Rattle.ada_printing.specs.declared.value.Value.{Value}
 use Rattle.ada_printing.specs.declared.value.Value.TheVariants.{Truth, Number}

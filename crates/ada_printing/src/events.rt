@@ -9,8 +9,8 @@ ghost use Rattle.ada_printing.specs.Texts.{call_verb as verb_text};
 ghost use Rattle.ada_events.specs.declared.event.Event.TheVariants as events;
 
 use crate::parts::{
-    put, put_block, put_choices, put_entry, put_families, put_integer, put_made, put_master,
-    put_number, put_tail, put_task, put_tasks, put_until, put_way,
+    put, put_block, put_byte, put_choices, put_entry, put_families, put_integer, put_made,
+    put_master, put_number, put_tail, put_task, put_tasks, put_until, put_way,
 };
 use ada_events::{
     ChoiceList, Entry, Event, EventTail, FamilyList, Master, Patience, TaskList, TaskNo, Way,
@@ -82,7 +82,7 @@ fn put_called(
     put_task(out, by, names)?;
     put(out, call_verb(patience))?;
     put_task(out, callee, names)?;
-    put(out, b".")?;
+    put_byte(out, b'.')?;
     put_entry(out, callee, entry, names)?;
     put_until(out, due)
 }
@@ -221,7 +221,7 @@ fn put_met(out: &mut Vec<u8>, call: u32, wait: u32) -> Result<(), AllocError>
 {
     put(out, b"met ")?;
     put_number(out, call)?;
-    put(out, b" ")?;
+    put_byte(out, b' ')?;
     put_number(out, wait)
 }
 

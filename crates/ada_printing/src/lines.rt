@@ -6,7 +6,7 @@ ghost use Rattle.ada_printing.specs.Texts.{event_line, refusal_text, refusal_nam
 
 use crate::Value;
 use crate::events::put_event;
-use crate::parts::{put, put_number};
+use crate::parts::{put, put_byte, put_number};
 use ada_events::{Event, Refusal};
 use ada_statements::{Cause, Names};
 use std::alloc::AllocError;
@@ -47,9 +47,9 @@ fn put_event_line(
     ensures starts { KeepsStarts out.old.items out.new.items }
 {
     put_number(out, at)?;
-    put(out, b" ")?;
+    put_byte(out, b' ')?;
     put_event(out, at, event, names)?;
-    put(out, b"\n")
+    put_byte(out, b'\n')
 }
 
 /// Appends the line that a refused line of a script prints. An `Err`, which is `OutOfMemory`, leaves
@@ -72,7 +72,7 @@ fn put_refusal(out: &mut Vec<u8>, line: u32, refusal: Refusal) -> Result<(), All
     put_number(out, line)?;
     put(out, b": ")?;
     put(out, name_of(refusal))?;
-    put(out, b"\n")
+    put_byte(out, b'\n')
 }
 
 /// The name of a refusal.
@@ -126,7 +126,7 @@ fn put_shown(out: &mut Vec<u8>, line: u32, value: Value) -> Result<(), AllocErro
     put_number(out, line)?;
     put(out, b": ")?;
     put_value(out, value)?;
-    put(out, b"\n")
+    put_byte(out, b'\n')
 }
 
 fn put_value(out: &mut Vec<u8>, value: Value) -> Result<(), AllocError>

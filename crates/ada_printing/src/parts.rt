@@ -1,6 +1,6 @@
 //! Printing the parts of events.
 
-ghost use Rattle.std.specs.Prelude.{◌≡◌, ◌++◌, OnOk, decimal};
+ghost use Rattle.std.specs.Prelude.{◌≡◌, ◌++◌, ◌∷◌, [], OnOk, decimal};
 ghost use Rattle.std.specs.Fmt.{signed_decimal};
 ghost use Rattle.std.specs.List.{flat_map};
 ghost use Rattle.ada_printing.specs.internal.Appending.{KeepsStarts};
@@ -20,6 +20,15 @@ pub fn put(out: &mut Vec<u8>, bytes: &[u8]) -> Result<(), AllocError>
     ensures starts { KeepsStarts out.old.items out.new.items }
 {
     out.extend_from_slice(bytes)
+}
+
+/// Appends a byte.
+pub fn put_byte(out: &mut Vec<u8>, byte: u8) -> Result<(), AllocError>
+    ensures text { OnOk result (out.new.items ≡ out.old.items ++ byte ∷ []) }
+    ensures starts { KeepsStarts out.old.items out.new.items }
+{
+    out.push(byte)?;
+    Ok(())
 }
 
 /// Appends a number in decimal.
@@ -115,9 +124,9 @@ pub fn put_entry(
     ensures starts { KeepsStarts out.old.items out.new.items }
 {
     put_family(out, entry.family, names.families(Bound::Task(task)))?;
-    put(out, b"(")?;
+    put_byte(out, b'(')?;
     put_integer(out, i64::from(entry.index))?;
-    put(out, b")")
+    put_byte(out, b')')
 }
 
 /// Appends a task behind a space.
@@ -125,7 +134,7 @@ fn put_listed(out: &mut Vec<u8>, task: TaskNo, names: &Names) -> Result<(), Allo
     ensures text { OnOk result (out.new.items ≡ out.old.items ++ listed_text names.now task) }
     ensures starts { KeepsStarts out.old.items out.new.items }
 {
-    put(out, b" ")?;
+    put_byte(out, b' ')?;
     put_task(out, task, names)
 }
 
@@ -146,11 +155,11 @@ fn put_range(out: &mut Vec<u8>, family: Family) -> Result<(), AllocError>
     ensures text { OnOk result (out.new.items ≡ out.old.items ++ range_text family) }
     ensures starts { KeepsStarts out.old.items out.new.items }
 {
-    put(out, b"(")?;
+    put_byte(out, b'(')?;
     put_integer(out, i64::from(family.low))?;
     put(out, b"..")?;
     put_integer(out, i64::from(family.high))?;
-    put(out, b")")
+    put_byte(out, b')')
 }
 
 /// Appends a family with its bounds.
@@ -164,7 +173,7 @@ fn put_bounds(
         ++ family_bounds_text families.now place family) }
     ensures starts { KeepsStarts out.old.items out.new.items }
 {
-    put(out, b" ")?;
+    put_byte(out, b' ')?;
     put_family(out, place, families)?;
     put_range(out, family)
 }
