@@ -177,6 +177,7 @@ pub fn read_name(words: &mut Words) -> Result<Name, Fault>
 }
 
 /// Takes a word that is the name of a declared task.
+#[inline(always)]
 #[tactic(auto, unfolding(crate::specs::internal::Reading::task_name_at))]
 pub fn read_task_word<'a>(names: &Names, words: &mut Words<'a>) -> Result<&'a [u8], Fault>
     ensures word { GivesWord result words.new (task_name_at names.now words.old) }

@@ -24,8 +24,8 @@ verb_word verbs.Show = codes "show"
 
 abbrev pub all_verbs : List Verb
 all_verbs =
-    verbs.Open ∷ verbs.Create ∷ verbs.Activate ∷ verbs.Up ∷ verbs.Fail ∷ verbs.Call ∷ verbs.Try ∷ verbs.Accept ∷ verbs.Select ∷ verbs.End ∷ verbs.Raise
-    ∷ verbs.Close ∷ verbs.Delay ∷ verbs.Complete ∷ verbs.Abort ∷ verbs.Show ∷ []
+    verbs.Call ∷ verbs.Accept ∷ verbs.End ∷ verbs.Select ∷ verbs.Delay ∷ verbs.Show ∷ verbs.Up ∷ verbs.Create ∷ verbs.Activate ∷ verbs.Try ∷ verbs.Complete
+    ∷ verbs.Abort ∷ verbs.Open ∷ verbs.Close ∷ verbs.Fail ∷ verbs.Raise ∷ []
 
 unfoldable pub verb_of : List ℕ → Option Verb
 verb_of word = find (λ verb. bytes_eq (verb_word verb) word) all_verbs

@@ -24,23 +24,24 @@ pub enum Verb {
     Show,
 }
 
+// The commonest first: a word is compared with one after another.
 const VERBS: [Verb; 16] = [
-    Verb::Open,
+    Verb::Call,
+    Verb::Accept,
+    Verb::End,
+    Verb::Select,
+    Verb::Delay,
+    Verb::Show,
+    Verb::Up,
     Verb::Create,
     Verb::Activate,
-    Verb::Up,
-    Verb::Fail,
-    Verb::Call,
     Verb::Try,
-    Verb::Accept,
-    Verb::Select,
-    Verb::End,
-    Verb::Raise,
-    Verb::Close,
-    Verb::Delay,
     Verb::Complete,
     Verb::Abort,
-    Verb::Show,
+    Verb::Open,
+    Verb::Close,
+    Verb::Fail,
+    Verb::Raise,
 ];
 
 /// The word of a verb.
@@ -72,10 +73,5 @@ pub fn word_of(verb: Verb) -> &'static [u8]
 pub fn verb_of(word: &[u8]) -> Option<Verb>
     ensures { result ≡ found_verb word.now }
 {
-    for verb in VERBS {
-        if word_of(verb) == word {
-            return Some(verb);
-        }
-    }
-    None
+    VERBS.iter().copied().find(|verb| word_of(*verb) == word)
 }
