@@ -3,3 +3,4 @@ pub mod Input
 pub mod Play
 pub mod Ends
 pub mod Replay
+pub mod internal

@@ -1,6 +1,7 @@
 //! Playing scripts of requests on a kernel.
 #![tactic(auto)]
 
+mod asking;
 pub mod fault;
 pub mod input;
 pub mod laws;

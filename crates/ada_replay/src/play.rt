@@ -1,17 +1,20 @@
 //! Playing the lines of a script on a kernel.
-ghost use Rattle.std.specs.Prelude.{◌≡◌, ℕ, ◌<◌, ◌≤◌, ◌^◌, ◌++◌, List, length, reverse, IfErr, OnOk};
+ghost use Rattle.std.specs.Prelude.{◌≡◌, ℕ, ◌<◌, ◌≤◌, ◌^◌, ◌++◌, List, length, reverse, false, Some, IfErr, OnOk};
 ghost use Rattle.ada_events.specs.Lawful.{IsLawful, IsSettled};
 ghost use Rattle.ada_replay.specs.Play.{group_text, SaysRequest, SaysShown, SaysLine, Plays};
 ghost use Rattle.ada_replay.specs.Ends.{state, IsShortage, IsWritten, IsCutShort};
 ghost use Rattle.ada_printing.specs.Texts.{refusal_text, shown_text};
 ghost use Rattle.ada_events.specs.Tasks.{task_count};
+ghost use Rattle.ada_events.specs.declared.request.Request.{Request as RequestValue};
+ghost use Rattle.ada_statements.specs.Binding.{is_show, request_of};
 
 use crate::RunFault;
+use crate::asking::ask_kernel;
 use crate::output::{write_output, write_piece};
 use crate::shows::shown;
-use ada_events::{Event, Refusal, Request, TaskNo};
+use ada_events::{Event, Refusal, TaskNo};
 use ada_kernel::Kernel;
-use ada_script::{Line, Names, Value, asked, write_event, write_refusal, write_shown};
+use ada_script::{Line, Names, Value, write_event, write_refusal, write_shown};
 use std::alloc::Global;
 use std::io::Write;
 
@@ -70,10 +73,11 @@ fn say_request(
     kernel: &mut Kernel,
     names: &mut Names,
     line: &Line,
-    request: Request,
     text: &mut Vec<u8>,
 ) -> Result<(), RunFault>
+    requires { is_show line.now.statement ≡ false }
     ensures ok { OnOk result ((said : List ℕ) × (text.new.items ≡ text.old.items ++ said)
+        × (request : RequestValue) × (Some request ≡ request_of names.old line.now.statement)
         × SaysRequest line.now (state kernel.old names.old) said
         (state kernel.new names.new) request) }
     ensures err { IfErr result (λ fault. (fault ≡ RunFault.Memory)
@@ -81,7 +85,7 @@ fn say_request(
 {
     let from = kernel.journal().len();
     let made = next_task(kernel);
-    match kernel.step(request) {
+    match ask_kernel(kernel, &line.statement, names) {
         Ok(at) => {
             names.bind(&line.statement, at, made);
             print_events(kernel.journal().as_slice(), names, from, text)
@@ -126,7 +130,7 @@ fn say(
     if line.statement.is_show() {
         say_shown(kernel, names, line, text)
     } else {
-        say_request(kernel, names, line, asked(&line.statement, names), text)
+        say_request(kernel, names, line, text)
     }
 }
 

@@ -9,8 +9,8 @@ pub mod script;
 pub use ada_printing::{Value, write_event, write_refusal, write_shown};
 pub use ada_spelling::{Word, words};
 pub use ada_statements::{
-    Alternative, Cause, Declaration, EntryName, EntryNames, Made, Meaning, Name, Names,
-    ScriptFault, Statement, asked, request,
+    Addressee, Alternative, Cause, Declaration, EntryName, EntryNames, Made, Meaning, Name, Names,
+    ScriptFault, Statement, ask, asked, request,
 };
 pub use reading::read;
 pub use script::{Line, Script};

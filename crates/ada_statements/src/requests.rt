@@ -1,6 +1,7 @@
 //! The requests that statements make.
 
 ghost use Rattle.std.specs.Prelude.{◌≡◌, false, Some, map};
+ghost use Rattle.ada_events.specs.declared.request.Request.{Request as RequestValue};
 ghost use Rattle.ada_events.specs.declared.request.Request.TheVariants as requests;
 ghost use Rattle.ada_statements.specs.Binding.{task_of, master_of, family_of, choice_of, accepted, is_show, request_of};
 
@@ -56,148 +57,221 @@ fn copy_of(tail: &Tail) -> Tail
     }
 }
 
-/// The wait for a call of one entry.
+/// Whom requests are made of.
+pub trait Addressee {
+    ghost use Rattle.ada_events.specs.declared.request.Request.{Request as RequestOf};
+
+    /// What it answers to a request.
+    type Answer;
+
+    /// Whether it may answer a request so, and what it is then.
+    ghost answers: { Self → RequestOf → Self.Answer → Self → Type 0 };
+
+    /// Takes a request, and answers it.
+    fn take(&mut self, request: Request) -> Self::Answer
+        ensures { answers self.old request result self.new };
+}
+
+/// Makes the wait for a call of one entry.
 #[inline(never)]
-fn accept_of(by: &Name, entry: &EntryName, names: &Names) -> Request
-    ensures { result ≡ accepted names.now by.now entry.now }
+fn ask_accept<A: Addressee>(
+    by: &Name,
+    entry: &EntryName,
+    names: &Names,
+    addressee: &mut A,
+) -> A::Answer
+    ensures { A.answers addressee.old (accepted names.now by.now entry.now) result addressee.new }
 {
     let mut choices = Bounded::new();
     choices.push(Choice {
         guard: true,
         entry: names.entry(by, entry),
     });
-    Request::Wait {
+    addressee.take(Request::Wait {
         by: names.task(by),
         choices,
         tail: Tail::Nothing,
         pick: 0,
-    }
+    })
 }
 
-/// The creation of a task.
+/// Makes the creation of a task.
 #[inline(never)]
-fn create_of(by: &Name, under: &Name, families: &Declarations, names: &Names) -> Request
-    ensures { result ≡ requests.Create (task_of names.now by.now) (master_of names.now under.now)
-        (map family_of families.now) }
+fn ask_create<A: Addressee>(
+    by: &Name,
+    under: &Name,
+    families: &Declarations,
+    names: &Names,
+    addressee: &mut A,
+) -> A::Answer
+    ensures { A.answers addressee.old
+        (requests.Create (task_of names.now by.now) (master_of names.now under.now)
+        (map family_of families.now)) result addressee.new }
 {
-    Request::Create {
+    addressee.take(Request::Create {
         by: names.task(by),
         master: names.master(under),
         families: families_of(families),
-    }
+    })
 }
 
-/// The activation of tasks.
+/// Makes the activation of tasks.
 #[inline(never)]
-fn activate_of(by: &Name, tasks: &TaskNames, names: &Names) -> Request
-    ensures { result ≡ requests.Activate (task_of names.now by.now)
-        (map (task_of names.now) tasks.now) }
+fn ask_activate<A: Addressee>(
+    by: &Name,
+    tasks: &TaskNames,
+    names: &Names,
+    addressee: &mut A,
+) -> A::Answer
+    ensures { A.answers addressee.old
+        (requests.Activate (task_of names.now by.now) (map (task_of names.now) tasks.now)) result
+        addressee.new }
 {
-    Request::Activate {
+    addressee.take(Request::Activate {
         by: names.task(by),
         tasks: tasks_of(tasks, names),
-    }
+    })
 }
 
-/// The wait of a selective wait.
+/// Makes the wait of a selective wait.
 #[inline(never)]
-fn select_of(by: &Name, pick: u32, choices: &Alternatives, tail: &Tail, names: &Names) -> Request
-    ensures { result ≡ requests.Wait (task_of names.now by.now)
-        (map (choice_of names.now by.now) choices.now) tail.now pick }
+fn ask_select<A: Addressee>(
+    by: &Name,
+    pick: u32,
+    choices: &Alternatives,
+    tail: &Tail,
+    names: &Names,
+    addressee: &mut A,
+) -> A::Answer
+    ensures { A.answers addressee.old
+        (requests.Wait (task_of names.now by.now) (map (choice_of names.now by.now) choices.now)
+        tail.now pick) result addressee.new }
 {
-    Request::Wait {
+    addressee.take(Request::Wait {
         by: names.task(by),
         choices: choices_of(choices, by, names),
         tail: copy_of(tail),
         pick,
-    }
+    })
 }
 
-/// The abort of tasks.
+/// Makes the abort of tasks.
 #[inline(never)]
-fn abort_of(by: &Name, tasks: &TaskNames, names: &Names) -> Request
-    ensures { result ≡ requests.Abort (task_of names.now by.now)
-        (map (task_of names.now) tasks.now) }
+fn ask_abort<A: Addressee>(
+    by: &Name,
+    tasks: &TaskNames,
+    names: &Names,
+    addressee: &mut A,
+) -> A::Answer
+    ensures { A.answers addressee.old
+        (requests.Abort (task_of names.now by.now) (map (task_of names.now) tasks.now)) result
+        addressee.new }
 {
-    Request::Abort {
+    addressee.take(Request::Abort {
         by: names.task(by),
         tasks: tasks_of(tasks, names),
-    }
+    })
 }
 
-/// What a statement that shows no attribute asks of the kernel, under these names: its `request`.
-// Requests with lists are made in functions of their own, so that no other waits for room for a list.
-pub fn asked(statement: &Statement, names: &Names) -> Request
+/// Makes the request of a statement that shows no attribute, under these names: its `request`.
+// Each request is given away where its kind is known, so that one without a list needn't lie in memory. Those with
+// lists are made in functions of their own, so that no other waits for room for a list.
+#[inline(always)]
+pub fn ask<A: Addressee>(statement: &Statement, names: &Names, addressee: &mut A) -> A::Answer
     requires { is_show statement.now ≡ false }
-    ensures { Some result ≡ request_of names.now statement.now }
+    ensures { (request : RequestValue) × (Some request ≡ request_of names.now statement.now)
+        × A.answers addressee.old request result addressee.new }
 {
     match statement {
-        Statement::Tick { now } => Request::Tick { now: *now },
-        Statement::Open { by, .. } => Request::Open { by: names.task(by) },
+        Statement::Tick { now } => addressee.take(Request::Tick { now: *now }),
+        Statement::Open { by, .. } => addressee.take(Request::Open { by: names.task(by) }),
         Statement::Create {
             by,
             under,
             families,
             ..
-        } => create_of(by, under, families, names),
-        Statement::Activate { by, tasks } => activate_of(by, tasks, names),
-        Statement::Up { by } => Request::Elaborated {
+        } => ask_create(by, under, families, names, addressee),
+        Statement::Activate { by, tasks } => ask_activate(by, tasks, names, addressee),
+        Statement::Up { by } => addressee.take(Request::Elaborated {
             by: names.task(by),
             ok: true,
-        },
-        Statement::Fail { by } => Request::Elaborated {
+        }),
+        Statement::Fail { by } => addressee.take(Request::Elaborated {
             by: names.task(by),
             ok: false,
-        },
-        Statement::Call { by, callee, entry } => Request::Call {
+        }),
+        Statement::Call { by, callee, entry } => addressee.take(Request::Call {
             by: names.task(by),
             callee: names.task(callee),
             entry: names.entry(callee, entry),
             patience: Patience::Simple,
-        },
+        }),
         Statement::CallWithin {
             by,
             callee,
             entry,
             duration,
-        } => Request::Call {
+        } => addressee.take(Request::Call {
             by: names.task(by),
             callee: names.task(callee),
             entry: names.entry(callee, entry),
             patience: Patience::Timed(*duration),
-        },
-        Statement::Try { by, callee, entry } => Request::Call {
+        }),
+        Statement::Try { by, callee, entry } => addressee.take(Request::Call {
             by: names.task(by),
             callee: names.task(callee),
             entry: names.entry(callee, entry),
             patience: Patience::Conditional,
-        },
-        Statement::Accept { by, entry } => accept_of(by, entry, names),
+        }),
+        Statement::Accept { by, entry } => ask_accept(by, entry, names, addressee),
         Statement::Select {
             by,
             pick,
             choices,
             tail,
-        } => select_of(by, *pick, choices, tail.get(), names),
-        Statement::End { by } => Request::End {
+        } => ask_select(by, *pick, choices, tail.get(), names, addressee),
+        Statement::End { by } => addressee.take(Request::End {
             by: names.task(by),
             raised: false,
-        },
-        Statement::Raise { by } => Request::End {
+        }),
+        Statement::Raise { by } => addressee.take(Request::End {
             by: names.task(by),
             raised: true,
-        },
-        Statement::Close { by } => Request::Close { by: names.task(by) },
-        Statement::Delay { by, duration } => Request::Delay {
+        }),
+        Statement::Close { by } => addressee.take(Request::Close { by: names.task(by) }),
+        Statement::Delay { by, duration } => addressee.take(Request::Delay {
             by: names.task(by),
             duration: *duration,
-        },
-        Statement::Complete { by } => Request::Complete { by: names.task(by) },
-        Statement::Abort { by, tasks } => abort_of(by, tasks, names),
+        }),
+        Statement::Complete { by } => addressee.take(Request::Complete { by: names.task(by) }),
+        Statement::Abort { by, tasks } => ask_abort(by, tasks, names, addressee),
         Statement::ShowCallable { .. }
         | Statement::ShowTerminated { .. }
         | Statement::ShowCount { .. } => unreachable!(),
     }
+}
+
+/// Whoever gives back the request that is made.
+#[derive(Drop)]
+struct Giver;
+
+impl Addressee for Giver {
+    type Answer = Request;
+
+    ghost answers = { λ before request answer after. answer ≡ request };
+
+    #[inline(always)]
+    fn take(&mut self, request: Request) -> Request {
+        request
+    }
+}
+
+/// What a statement that shows no attribute asks of the kernel, under these names: its `request`.
+pub fn asked(statement: &Statement, names: &Names) -> Request
+    requires { is_show statement.now ≡ false }
+    ensures { Some result ≡ request_of names.now statement.now }
+{
+    ask(statement, names, &mut Giver)
 }
 
 /// What a statement asks of the kernel, under these names. A name that isn't bound stands for task

@@ -12,5 +12,5 @@ print_events-requires-clause-behind c =
       ap length c.journal-in-Ok.ensures.events,
       ap length c.as_slice.ensures.value,
       length-reverse c.as_slice.result.now,
-      accepted_grows c.args.kernel.now c.args.request c.in-Ok.at c.step.new.self c.in-Ok.ensures.ok,
+      accepted_grows c.args.kernel.now c.in-Ok.ensures.0 c.in-Ok.at _ c.in-Ok.ensures.2.0,
     )
