@@ -1,7 +1,7 @@
 //! Where a name is looked for before it is looked up.
 
-/// Places in a table of names, each by two bytes of its name: where a name stands, if no later one has the
-/// same two. Whoever asks looks whether it is so.
+/// Places in a table of names, each by a byte that its name's last two are mixed to: where a name stands, if no
+/// later one comes to the same byte. Whoever asks looks whether it is so.
 #[derive(Drop)]
 pub(crate) struct Hints {
     places: [u16; 256],
@@ -26,7 +26,7 @@ impl Hints {
     }
 }
 
-/// The last two bytes in one: names that a script numbers differ there.
+/// The last two bytes mixed to one, in which names with other digits at their ends differ.
 fn mixed(name: &[u8]) -> u8 {
     match name {
         [.., before, last] => before.wrapping_shl(4) ^ *last,
