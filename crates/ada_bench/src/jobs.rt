@@ -2,11 +2,10 @@
 
 use crate::sink::Sink;
 use ada_events::{Event, Patience, Request, TaskNo};
-use ada_floors::{Tokens, push_events, read_text, write_text};
 use ada_kernel::Kernel;
 use ada_replay::replay;
 use ada_script::read;
-use ada_timing::Job;
+use ada_timing::{Job, Tokens, push_events, read_text, write_text};
 use std::time::{Duration, Instant};
 
 /// The replay of a script, from its bytes to the text that is written.

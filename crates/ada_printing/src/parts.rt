@@ -50,6 +50,7 @@ pub fn put_integer(out: &mut Vec<u8>, number: i64) -> Result<(), AllocError>
 }
 
 /// Appends what stands for a name where there is none: a sign and a number.
+#[inline(never)]
 fn put_unnamed(out: &mut Vec<u8>, sign: &[u8], number: u32) -> Result<(), AllocError>
     ensures text { OnOk result (out.new.items ≡ out.old.items ++ (sign.now ++ decimal number)) }
     ensures starts { KeepsStarts out.old.items out.new.items }
@@ -59,6 +60,7 @@ fn put_unnamed(out: &mut Vec<u8>, sign: &[u8], number: u32) -> Result<(), AllocE
 }
 
 /// Appends the name of a task.
+#[inline(always)]
 pub fn put_task(out: &mut Vec<u8>, task: TaskNo, names: &Names) -> Result<(), AllocError>
     ensures text { OnOk result (out.new.items ≡ out.old.items ++ task_text names.now task) }
     ensures starts { KeepsStarts out.old.items out.new.items }

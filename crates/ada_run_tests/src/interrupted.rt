@@ -1,8 +1,8 @@
 //! Replays and runs over readers of which a read is interrupted. They end there: no read is tried again.
 
-use ada_replay_tests::rendezvous::{PRINTED, SCRIPT};
-use ada_replay_tests::streams::{Interrupted, Pieces};
 use ada_run::{Ending, InTurn, RunFault, replay, run, status_of};
+use ada_script_tests::rendezvous::{PRINTED, SCRIPT};
+use ada_script_tests::streams::{Interrupted, Pieces};
 use std::process::Abort;
 use std::test::Fail;
 

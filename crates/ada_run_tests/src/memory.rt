@@ -1,7 +1,7 @@
 //! Replays and runs where there is memory, and each read and write succeeds.
 
-use ada_replay_tests::rendezvous::{PRINTED, SCRIPT};
 use ada_run::{Ending, Free, InTurn, replay, run};
+use ada_script_tests::rendezvous::{PRINTED, SCRIPT};
 use std::process::Abort;
 use std::sync::Wait;
 use std::test::Fail;

@@ -3,17 +3,30 @@
 ghost use Rattle.std.specs.Prelude.{◌≡◌, ◌↔◌, ◌≤◌, ◌++◌, ◌⊎◌, List, IsTrue, OnOk, IfOk, IfErr};
 ghost use Rattle.ada_statements.specs.Text.{words_in};
 ghost use Rattle.ada_script.specs.Script.{IsPrintable, IsPlain, IsUnplain, is_skipped as skipped, scope_of, AddsLine, IsScript, IsFault, IsFirstFault};
+ghost use Rattle.ada_script.specs.internal.Printable.{printable};
 ghost use Rattle.ada_script.specs.declared.script.Line.{Line};
 
 use crate::{Cause, Line, Names, Script, ScriptFault, Statement};
 use ada_reading::{Lines, Words, read_statement};
 use std::alloc::Global;
 
+/// Whether a byte is in 32 to 126.
+fn is_printable_byte(byte: u8) -> bool
+    ensures { result ≡ printable byte }
+{
+    32 <= byte && byte <= 126
+}
+
 /// Whether each byte is in 32 to 126.
+// Each is looked at, with no way out before the last, so that many are looked at at once.
 fn is_printable(line: &[u8]) -> bool
     ensures { IsTrue result ↔ IsPrintable line.now }
 {
-    line.iter().all(|b| 32 <= *b && *b <= 126)
+    let mut are = true;
+    for byte in line {
+        are &= is_printable_byte(*byte);
+    }
+    are
 }
 
 /// Checks the number of a line, its length and its bytes, in this order.

@@ -86,6 +86,7 @@ impl Names {
     }
 
     /// What a name of these bytes stands for, if it is declared.
+    #[inline(always)]
     pub fn meaning(&self, name: &[u8]) -> Option<&Meaning>
         ensures { option_copied result ≡ meaning_of self.now name.now }
     {

@@ -1,8 +1,14 @@
-//! How long some work takes beside its floor, and the table that says so: what the benchmarks share.
+//! How long some work takes beside its floor, and the table that says so; and what the floors of the runs of scripts
+//! and kernels are made of: the same bytes read and cut into words, the same events made and kept, and the same text
+//! made and written.
 #![tactic(auto)]
 
+mod events;
 pub mod report;
+mod text;
 pub mod turns;
 
+pub use events::push_events;
 pub use report::{print_head, print_memory, print_row};
+pub use text::{Tokens, read_text, write_text};
 pub use turns::{Job, Turns, measure};

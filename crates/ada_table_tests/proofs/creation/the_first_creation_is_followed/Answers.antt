@@ -1,8 +1,8 @@
 use Rattle.std.proofs.Common.{ap, sym, ◌∙◌, List, length}
 use Rattle.ada_events.specs.Limits.{slot_count}
 use Rattle.ada_queues.specs.Queues.{QueuedCall}
-use Rattle.ada_counts_tests.proofs.First.{first_lawful}
-use Rattle.ada_counts_tests.proofs.creation.the_first_creation_is_followed.Goals as goal
+use Rattle.ada_table_tests.proofs.First.{first_lawful}
+use Rattle.ada_table_tests.proofs.creation.the_first_creation_is_followed.Goals as goal
 
 pub follow_creation-followed-requires-clause-lawful : goal.follow_creation-followed-requires-clause-lawful
 follow_creation-followed-requires-clause-lawful g c =
