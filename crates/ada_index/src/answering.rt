@@ -35,6 +35,11 @@ impl Answerer for Index {
         }
     }
 
+    #[inline(always)]
+    fn may_force(&mut self, _journal: &Journal) -> bool {
+        self.agenda.first().is_some()
+    }
+
     fn advance(&mut self, journal: &mut Journal) -> bool {
         while let Some((rank, key)) = self.agenda.first() {
             if self.take_first(journal, rank, key) {

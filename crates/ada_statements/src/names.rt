@@ -129,6 +129,7 @@ impl Names {
     }
 
     /// Whether a name of these bytes is a task's.
+    #[inline(always)]
     pub fn is_task(&self, name: &[u8]) -> bool
         ensures { result ≡ is_task self.now name.now }
     {
@@ -146,6 +147,7 @@ impl Names {
     }
 
     /// The task that a name is bound to, or number 65,535, which no task has.
+    #[inline(always)]
     pub fn task(&self, name: &Name) -> TaskNo
         ensures { result ≡ task_of self.now name.now }
     {
