@@ -3,6 +3,8 @@
 #![tactic(auto)]
 
 #[cfg(test)]
+mod agenda;
+#[cfg(test)]
 mod chains;
 #[cfg(test)]
 mod checked_tables;
@@ -14,7 +16,5 @@ mod memory;
 mod names;
 #[cfg(test)]
 mod nests;
-#[cfg(test)]
-mod order;
 #[cfg(test)]
 mod queues;

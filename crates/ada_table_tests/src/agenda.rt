@@ -1,4 +1,4 @@
-//! What comes first.
+//! What comes first in an agenda.
 
 use ada_agenda::{Agenda, Numbers};
 use std::test::Fail;
