@@ -3,12 +3,10 @@
 //! made and written.
 #![tactic(auto)]
 
-mod events;
+mod floors;
 pub mod report;
-mod text;
 pub mod turns;
 
-pub use events::push_events;
+pub use floors::{Tokens, push_events, read_text, write_text};
 pub use report::{print_head, print_memory, print_row};
-pub use text::{Tokens, read_text, write_text};
 pub use turns::{Job, Turns, measure};
