@@ -7,7 +7,7 @@ ghost use Rattle.ada_reading.specs.internal.Reading.{Gives, GivesInMemory, tasks
 
 use crate::cursor::Words;
 use crate::fault::Fault;
-use crate::parts::{read_bounds, read_name, read_task_word};
+use crate::parts::{read_bounds, read_declared_task, read_name};
 use ada_statements::{Declaration, Declarations, Name, Names, TaskNames};
 use std::alloc::Global;
 
@@ -20,8 +20,8 @@ pub fn read_tasks(alloc: Global, names: &Names, words: &mut Words) -> Result<Tas
         if tasks.is_full() {
             return Err(Fault::BadStatement);
         }
-        let task = read_task_word(names, words)?;
-        tasks.push(Name::from_bytes(task))?;
+        let task = read_declared_task(names, words)?;
+        tasks.push(task.copy())?;
     }
     Ok(tasks)
 }

@@ -176,27 +176,22 @@ pub fn read_name(words: &mut Words) -> Result<Name, Fault>
     Ok(Name::from_bytes(name))
 }
 
-/// Takes a word that is the name of a declared task.
+/// Takes the name of a declared task, and finds it as it was declared.
 #[inline(always)]
 #[tactic(auto, unfolding(crate::specs::internal::Reading::task_name_at))]
-pub fn read_task_word<'a>(names: &Names, words: &mut Words<'a>) -> Result<&'a [u8], Fault>
-    ensures word { GivesWord result words.new (task_name_at names.now words.old) }
-    ensures short { IfOk result (λ word. length word.now ≤ 16) }
+pub fn read_declared_task<'n>(names: &'n Names, words: &mut Words) -> Result<&'n Name, Fault>
+    ensures { GivesWord result words.new (task_name_at names.now words.old) }
 {
     let name = read_name_word(words)?;
-    if names.is_task(name) {
-        Ok(name)
-    } else {
-        Err(Fault::UnknownName)
-    }
+    names.task_name(name).ok_or(Fault::UnknownName)
 }
 
 /// Takes the name of a declared task.
 pub fn read_task(names: &Names, words: &mut Words) -> Result<Name, Fault>
     ensures { Gives result words.new (task_name_at names.now words.old) }
 {
-    let name = read_task_word(names, words)?;
-    Ok(Name::from_bytes(name))
+    let name = read_declared_task(names, words)?;
+    Ok(name.copy())
 }
 
 /// Takes the name of a task or a block that is declared.

@@ -270,11 +270,10 @@ fn speaker(names: &Names, word: &[u8]) -> Result<Name, Fault>
     if !is_name(name) {
         return Err(Fault::BadStatement);
     }
-    if names.is_task(name) {
-        Ok(Name::from_bytes(name))
-    } else {
-        Err(Fault::UnknownName)
-    }
+    let Some(task) = names.task_name(name) else {
+        return Err(Fault::UnknownName);
+    };
+    Ok(task.copy())
 }
 
 /// Takes the statement of the speaker that the line's first word names.

@@ -1,12 +1,22 @@
 -- What a name stands for is found by its bytes, and changed there.
-use Rattle.std.proofs.Common.{◌≡◌, ℕ, suc, ◌+◌, ◌<◌, ◌≤◌, Bool, true, false, cond, List, [], ◌∷◌, length, get_or, drop, add-one, Some, None, refl, sym, ap, ◌∙◌}
-use Rattle.std.specs.Map.{lookup, set_value}
+use Rattle.std.proofs.Common.{◌≡◌, ℕ, suc, ◌+◌, ◌<◌, ◌≤◌, Bool, true, false, cond, List, [], ◌∷◌, length, get_or, drop, add-one, Some, None}
+use Rattle.std.proofs.Common.{Option, IfSome, refl, sym, ap, ◌∙◌}
+use Rattle.std.specs.Cmp.Lexicographic.{bytes_decides}
+use Rattle.std.specs.Map.{lookup, lookup_key, set_value}
+use Rattle.std.specs.Option.{option_map}
 use Rattle.std.specs.Str.{bytes_eq}
 use Rattle.std.proofs.Math.Seq.{drop-cons}
 use Rattle.std.proofs.Math.ListN.{drop_of_length-le}
+use Rattle.std.proofs.lemmas.Map.Made.{lookup_key_same}
 use Rattle.ada_statements.specs.declared.meaning.Meaning.{Meaning}
 use Rattle.ada_statements.specs.Scope.{Scope}
 use Rattle.ada_statements.specs.Binding.{with_meaning, place_from}
+
+-- the name that is found by some bytes is these bytes
+pub found_by_its_bytes : {X : Type 0} (name : List ℕ) (names : Scope) (bytes : X → List ℕ) (found : Option X)
+    → option_map bytes found ≡ lookup_key (bytes_eq name) names → IfSome found (λ entry. bytes entry ≡ name)
+found_by_its_bytes name names bytes None e = tt
+found_by_its_bytes name names bytes (Some entry) e = sym (lookup_key_same bytes_decides name names (bytes entry) (sym e))
 
 -- a new value in the place of the old one
 pub set_value-changed : (name : List ℕ) (names : Scope) (change : Meaning → Meaning) (old : Meaning) → lookup (bytes_eq name) names ≡ Some old

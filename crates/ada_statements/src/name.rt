@@ -1,29 +1,36 @@
 //! The names of a script.
 
 ghost use Rattle.std.specs.Prelude.{◌≡◌, ◌≤◌, length, []};
+ghost use Rattle.std.specs.Cmp.{partial_equiv_from_equiv};
 ghost use Rattle.std.specs.Cmp.Lexicographic.{bytes_decides, nat_list_eq_equiv};
+ghost use Rattle.std.specs.Cmp.Rules.{hashing};
 ghost use Rattle.std.specs.Hash as fed;
 ghost use Rattle.std.specs.Str.{bytes_eq};
-ghost use Rattle.std.proofs.Common.{ap};
+ghost use Rattle.std.proofs.Common.{ap, rules};
 
-use arrayvec::ArrayVec;
 use indexmap::Equivalent;
+use std::fmt;
+use std::hash::{Hash, Hasher};
 use std::marker::Model;
 
 /// The name of a task, a block or an entry: at most 16 bytes. Contracts see it as its bytes.
-#[derive(Debug, Drop, Default, PartialEq, Eq, Hash)]
+// Plain bytes, so that a name is copied as one piece, by no loop over what it has.
+#[derive(Drop, Default)]
 pub struct Name {
-    bytes: ArrayVec<u8, 16>,
+    /// The name, and behind it whatever.
+    bytes: [u8; 16],
+    /// How many of the bytes are the name's.
+    length: u8,
 }
 
 impl Model for Name {
-    ghost use Rattle.std.specs.Prelude.{List, ℕ};
+    ghost use Rattle.std.specs.Prelude.{◌≤◌, List, ℕ, take};
 
     ghost Value = { List ℕ };
 
-    ghost view = { λ n. n.bytes.items };
+    ghost view = { λ n. take n.length n.bytes };
 
-    ghost inverse = { λ xs. record { bytes = record { items = xs } } };
+    ghost invariant = { λ n. n.length ≤ 16 };
 }
 
 impl Name {
@@ -32,26 +39,62 @@ impl Name {
         requires { length bytes.now ≤ 16 }
         ensures { result ≡ bytes.now }
     {
-        let mut name = ArrayVec::new();
-        for byte in bytes {
-            name.push(*byte);
+        let mut all = [0; 16];
+        all[..bytes.len()].copy_from_slice(bytes);
+        Name {
+            bytes: all,
+            length: bytes.len() as u8,
         }
-        Name { bytes: name }
     }
 
     /// The bytes of the name, at most 16.
+    #[inline(always)]
     pub fn as_bytes(&self) -> &[u8]
         ensures value { result.now ≡ self.now }
         ensures fits { length result.now ≤ 16 }
     {
-        self.bytes.as_slice()
+        &self.bytes[..usize::from(self.length)]
     }
 
     /// Another name of the same bytes.
+    #[inline(always)]
     pub fn copy(&self) -> Self
         ensures { result ≡ self.now }
     {
-        Name::from_bytes(self.as_bytes())
+        Name {
+            bytes: self.bytes,
+            length: self.length,
+        }
+    }
+}
+
+impl PartialEq for Name {
+    ghost eq = { bytes_eq };
+
+    ghost laws = { partial_equiv_from_equiv nat_list_eq_equiv };
+
+    fn eq(&self, other: &Name) -> bool {
+        self.as_bytes() == other.as_bytes()
+    }
+}
+
+impl Eq for Name {
+    ghost laws = { nat_list_eq_equiv };
+}
+
+impl Hash for Name {
+    ghost hash_input = { fed.slice fed.u8 };
+
+    ghost respects_eq = { Prim.search (hashing, rules) };
+
+    fn hash<H: Hasher>(&self, state: &mut H) {
+        self.as_bytes().hash(state);
+    }
+}
+
+impl fmt::Debug for Name {
+    fn fmt<W: fmt::Write>(&self, f: &mut fmt::Formatter<W>) -> fmt::Result {
+        f.debug_tuple("Name").field(&self.as_bytes()).finish()
     }
 }
 

@@ -1,6 +1,7 @@
 //! The names of a script, and what they are bound to.
 
-ghost use Rattle.std.specs.Prelude.{◌≡◌, ◌≤◌, None, Some, Ok, Err, length, map, option_map, IfOk, IfSome, OnOk, OnErr, IsOkUnless, option_copied};
+ghost use Rattle.std.specs.Prelude.{◌≡◌, ◌≤◌, None, Some, Ok, Err, length, map, option_map, IfOk, IfSome, OnOk, OnErr, IsOkUnless};
+ghost use Rattle.std.specs.Prelude.{option_copied, if◌then◌else◌};
 ghost use Rattle.ada_statements.specs.Binding.{place_of as found_place};
 ghost use Rattle.ada_statements.specs.internal.Places.{kept, AreKept, IsNoted};
 ghost use Rattle.ada_events.specs.declared.limits.TheConstants.{MOST_FAMILIES};
@@ -90,24 +91,38 @@ impl Names {
     pub fn meaning(&self, name: &[u8]) -> Option<&Meaning>
         ensures { option_copied result ≡ meaning_of self.now name.now }
     {
+        match self.declared(name) {
+            Some((_, meaning)) => Some(meaning),
+            None => None,
+        }
+    }
+
+    /// The name of these bytes as it was declared, with what it stands for, if it is declared.
+    #[inline(always)]
+    fn declared(&self, name: &[u8]) -> Option<(&Name, &Meaning)>
+        ensures name { IfSome result (λ entry. entry.0.now ≡ name.now) }
+        ensures meaning { option_map (λ p. p.1.now) result ≡ meaning_of self.now name.now }
+    {
         match self.hinted(name) {
-            Some(meaning) => Some(meaning),
+            Some(entry) => Some(entry),
             None => self.looked_up(name),
         }
     }
 
     /// The same, looked up by its hash.
     #[inline(never)]
-    fn looked_up(&self, name: &[u8]) -> Option<&Meaning>
-        ensures { option_copied result ≡ meaning_of self.now name.now }
+    fn looked_up(&self, name: &[u8]) -> Option<(&Name, &Meaning)>
+        ensures name { IfSome result (λ entry. entry.0.now ≡ name.now) }
+        ensures meaning { option_map (λ p. p.1.now) result ≡ meaning_of self.now name.now }
     {
-        self.table.get(name)
+        self.table.get_key_value(name)
     }
 
-    /// What a name of these bytes stands for, if it stands where it is looked for first.
+    /// The same, if it stands where it is looked for first.
     #[inline(always)]
-    fn hinted(&self, name: &[u8]) -> Option<&Meaning>
-        ensures { IfSome result (λ meaning. meaning_of self.now name.now ≡ Some meaning.now) }
+    fn hinted(&self, name: &[u8]) -> Option<(&Name, &Meaning)>
+        ensures name { IfSome result (λ entry. entry.0.now ≡ name.now) }
+        ensures meaning { IfSome result (λ p. meaning_of self.now name.now ≡ Some p.1.now) }
     {
         let place = self.hints.place(name);
         if place >= self.table.len() {
@@ -115,7 +130,7 @@ impl Names {
         }
         let (found, meaning) = self.table.get_index(place)?;
         if found.as_bytes() == name {
-            Some(meaning)
+            Some((found, meaning))
         } else {
             None
         }
@@ -128,12 +143,17 @@ impl Names {
         self.meaning(name).is_some()
     }
 
-    /// Whether a name of these bytes is a task's.
+    /// The name of these bytes as it was declared, if it is a task's. Copying it is cheaper than making
+    /// a name of the bytes.
     #[inline(always)]
-    pub fn is_task(&self, name: &[u8]) -> bool
-        ensures { result ≡ is_task self.now name.now }
+    pub fn task_name(&self, name: &[u8]) -> Option<&Name>
+        ensures { option_copied result
+            ≡ (if is_task self.now name.now then Some name.now else None) }
     {
-        matches!(self.meaning(name), Some(Meaning::Task { .. }))
+        match self.declared(name) {
+            Some((declared, Meaning::Task { .. })) => Some(declared),
+            _ => None,
+        }
     }
 
     /// Whether the task of this name has an entry of that name.

@@ -16,15 +16,15 @@ returns-in_err-task c =
     let room = room_left _ 256 c.loop-tasks.invariant.fits (sym c.is_full.ensures.value ∙ c.if-is_full.false) in
     rw (p.1, p.2) (inr (sym c.loop-tasks.invariant.reads
     ∙ repeat_fails (λ before rest. task_name_at c.args.names.now rest) 256 c.loop-tasks.tasks c.loop-tasks.words c.in_err-task.field-0.0
-    (sym c.is_over.ensures ∙ c.loop-tasks-test.true) room c.in_err-task.ensures.word))
+    (sym c.is_over.ensures ∙ c.loop-tasks-test.true) room c.in_err-task.ensures))
 
 pub loop-tasks-preserved : goal.loop-tasks-preserved
 loop-tasks-preserved c =
     let room = room_left _ 256 c.loop-tasks.invariant.fits (sym c.is_full.ensures.value ∙ c.if-is_full.false) in
-    rw (c.in_ok-push.ensures.ok, c.from_bytes.ensures) record {
+    rw (c.in_ok-push.ensures.ok, c.copy.ensures) record {
       fits = omega (arith, length-append c.loop-tasks.tasks (c.in_ok-task.task.now ∷ []));
       reads = sym (repeat_step (λ before rest. task_name_at c.args.names.now rest) 256 c.loop-tasks.tasks c.loop-tasks.words c.in_ok-task.task.now
-          c.read_task_word.new.words (sym c.is_over.ensures ∙ c.loop-tasks-test.true) room c.in_ok-task.ensures.word) ∙ c.loop-tasks.invariant.reads;
+          c.read_declared_task.new.words (sym c.is_over.ensures ∙ c.loop-tasks-test.true) room c.in_ok-task.ensures) ∙ c.loop-tasks.invariant.reads;
     }
 
 pub returns : goal.returns
