@@ -1,14 +1,14 @@
 -- What the end of a task adds to an agenda.
 use Rattle.std.proofs.Common.{◌≡◌, ℕ, true, false, not, List, Some, None, ◌∷◌, sym, refl, ap, ◌∙◌, subst, inl, inr}
 use Rattle.std.specs.Option.{option_map}
-use Rattle.std.proofs.lemmas.Bool.{true≢false, eq-eqb, false_from_ne_true}
+use Rattle.std.proofs.lemmas.Bool.{true≢false, eq-eqb, false_from_ne_true, both_ways}
 use Rattle.std.proofs.lemmas.Option.{none-some, same_Some}
 use Rattle.ada_events.specs.declared.event.Event.{Event}
 use Rattle.ada_events.specs.declared.event.Event.TheVariants.{Completed, Elaborated, Gone, Quit}
 use Rattle.ada_events.specs.declared.names.TaskNo.{TaskNo}
 use Rattle.ada_events.specs.declared.names.Master.{Master}
 use Rattle.ada_events.specs.declared.names.Master.TheVariants.{Body, Block}
-use Rattle.ada_events.specs.Forced.{task_no, is_to_quit}
+use Rattle.ada_events.specs.Forced.{task_no, is_to_quit, is_done_activating}
 use Rattle.ada_events.specs.Says.{Creation, creation_in, gone_in, completed_in}
 use Rattle.ada_events.specs.Tasks.{task_count, creation_of}
 use Rattle.ada_events.specs.Masters.{depends_on}
@@ -86,6 +86,15 @@ no_activation_key before new task row key none (activates p active) =
 pub no_activation : (before : List Event) (old : List (List ℕ)) (task : TaskNo)
     → option_map (λ (c : Creation). c.by) (creation_of before task.0) ≡ None → Puts old old (AsActivation before task)
 no_activation before old task none = record { grows = grows_same old; here = λ row key of. no_activation_key before old task row key none of }
+
+-- no start waits for who is done
+waits_no_more : (before : List Event) (new : List (List ℕ)) (task : TaskNo) (row : Row) (key : ℕ) → is_done_activating before task ≡ true
+    → AsActivation before task row key → has_key new row key ≡ true
+waits_no_more before new task row key done (activates p active) = absurd (both_ways (is_done_activating before task) active.undone done)
+
+pub done_before : (before : List Event) (old : List (List ℕ)) (task : TaskNo) → is_done_activating before task ≡ true
+    → Puts old old (AsActivation before task)
+done_before before old task done = record { grows = grows_same old; here = λ row key of. waits_no_more before old task row key done of }
 
 -- an open call to a task, at its caller
 caller_key : (before : List Event) (task p : ℕ) → IsLawful before → IsOpenCallTo before task p → OfFirst (AsCaller before task) (task_count before) Failing p

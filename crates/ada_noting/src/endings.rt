@@ -45,7 +45,8 @@ fn maker(state: &State, task: TaskNo) -> Option<TaskNo>
 }
 
 // Puts the start that names a task, at which its maker is suspended, into the row of activations that end.
-fn put_activation(agenda: &mut Agenda, state: &State, task: TaskNo)
+#[inline(never)]
+fn put_start(agenda: &mut Agenda, state: &State, task: TaskNo)
     requires lawful { IsLawful state.now }
     requires many { length agenda.old ≡ 11 }
     ensures { Puts agenda.old agenda.new (AsActivation state.now task) }
@@ -53,6 +54,18 @@ fn put_activation(agenda: &mut Agenda, state: &State, task: TaskNo)
     match maker(state, task) {
         Some(by) => put_held(agenda, state, Row::Activating, by),
         None => (),
+    }
+}
+
+// The same, unless the start no longer waits for the task.
+#[inline(always)]
+fn put_activation(agenda: &mut Agenda, state: &State, task: TaskNo)
+    requires lawful { IsLawful state.now }
+    requires many { length agenda.old ≡ 11 }
+    ensures { Puts agenda.old agenda.new (AsActivation state.now task) }
+{
+    if !state.is_done_activating(task) {
+        put_start(agenda, state, task);
     }
 }
 

@@ -18,7 +18,7 @@ use ada_rows::State;
 use ada_touching::keeping::own_key;
 
 /// Notes an event that can newly force nothing: an opening, the beginning of a rendezvous, the passing of a wait, the
-/// end of a delay or of an activation, or the leaving of a block (9.3 to 9.7).
+/// end of a delay, or the leaving of a block (9.4 to 9.7).
 #[tactic(auto, using(crate::proofs::Additions::nothing_noted))]
 pub(crate) fn note_nothing(_agenda: &mut Agenda, _state: &State, _event: &Event)
     requires lawful { IsLawful (_event.now ∷ _state.now) }
@@ -26,6 +26,25 @@ pub(crate) fn note_nothing(_agenda: &mut Agenda, _state: &State, _event: &Event)
     requires nothing { adds_nothing _event.now ≡ true }
     ensures { IsAgendaOf _agenda.new (_event.now ∷ _state.now) }
 {}
+
+/// Notes that an activation ends (9.3), which can newly force nothing, and goes past the tasks that were started, so
+/// that nothing that comes later has to.
+pub(crate) fn note_activation(
+    agenda: &mut Agenda,
+    first: &mut FirstUnstarted,
+    state: &State,
+    event: &Event,
+)
+    requires lawful { IsLawful (event.now ∷ state.now) }
+    requires stands { IsAgendaOf agenda.old state.now }
+    requires bound { IsStartBound state.now first.old }
+    requires nothing { adds_nothing event.now ≡ true }
+    ensures stands { IsAgendaOf agenda.new (event.now ∷ state.now) }
+    ensures bound { IsStartBound state.now first.new }
+{
+    first.advance(state);
+    note_nothing(agenda, state, event);
+}
 
 /// Notes that a task closes a block (9.4): that it leaves the block, that the block's dependents quit, and that tasks
 /// go that were never started, may be forced.

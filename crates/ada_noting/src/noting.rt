@@ -10,7 +10,7 @@ use crate::endings::{
     note_completion, note_elaboration, note_failed_activation, note_halt, note_quit,
     note_termination,
 };
-use crate::kinds::{note_abort, note_close, note_nothing};
+use crate::kinds::{note_abort, note_activation, note_close, note_nothing};
 use crate::moments::note_tick;
 use crate::next_due::{NextDue, next_after_event};
 use crate::unstarted::FirstUnstarted;
@@ -69,7 +69,7 @@ fn note_keys(
         Event::Met { .. } => note_nothing(agenda, state, event),
         Event::Passed { .. } => note_nothing(agenda, state, event),
         Event::Woken { .. } => note_nothing(agenda, state, event),
-        Event::Activated { .. } => note_nothing(agenda, state, event),
+        Event::Activated { .. } => note_activation(agenda, first, state, event),
         Event::Left { .. } => note_nothing(agenda, state, event),
     }
 }

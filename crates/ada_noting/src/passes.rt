@@ -156,6 +156,7 @@ fn put_caller(agenda: &mut Agenda, state: &State, callee: TaskNo, task: TaskNo)
 }
 
 // Puts the calls to a task at which tasks are suspended into the row of those that fail.
+#[inline(never)]
 fn put_all_callers(agenda: &mut Agenda, state: &State, callee: TaskNo)
     requires lawful { IsLawful state.now }
     requires many { length agenda.old ≡ 11 }
@@ -169,6 +170,7 @@ fn put_all_callers(agenda: &mut Agenda, state: &State, callee: TaskNo)
 
 /// Puts the calls to a task into the row of those that fail, unless they failed already, since the task has ended or is
 /// abnormal.
+#[inline(always)]
 #[tactic(auto, using(crate::proofs::Putting::so_put, crate::proofs::Putting::not_put))]
 pub(crate) fn put_lost_calls(agenda: &mut Agenda, state: &State, callee: TaskNo)
     requires lawful { IsLawful state.now }

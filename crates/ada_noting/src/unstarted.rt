@@ -45,8 +45,8 @@ impl FirstUnstarted {
         self.0
     }
 
-    // Goes past the tasks that were started since.
-    fn advance(&mut self, state: &State)
+    /// Goes past the tasks that were started since.
+    pub(crate) fn advance(&mut self, state: &State)
         requires lawful { IsLawful state.now }
         requires bound { IsStartBound state.now self.old }
         ensures { IsStartBound state.now self.new }

@@ -51,9 +51,9 @@ impl<'a> State<'a> {
         }
     }
 
-    // Whether the task has ended its activation, or has ended.
+    /// Whether the task has ended its activation (9.3), or has ended: who activates it no longer waits for it.
     #[tactic(auto, using(crate::proofs::Deciding::done_told))]
-    fn is_done_activating(&self, task: TaskNo) -> bool
+    pub fn is_done_activating(&self, task: TaskNo) -> bool
         ensures { result ≡ is_done_activating self.now task }
     {
         is_done_by(&self.record(task))

@@ -243,11 +243,12 @@ takes_suspended event step before wait p task at by gives =
     let same : w.by ≡ task = ap (λ (w : Wait). w.by) (same_Some w wait (sym says ∙ at.says)) ∙ by in
     suspended_since event before p task at.event at.stands (held_in-wait at.event w says ∙ ap Some same) (rw same at pending))
 
--- a start whose tasks are done is one at which their maker was suspended
+-- a start whose tasks are done is one at which their maker was suspended, and which waited for who wasn't done
 activates_maker : (event step : Event) (before : List Event) (p : ℕ) (e : Event) (start : Start) (t : TaskNo) → IsLawful before → event_at before p ≡ Some e
-    → start_in e ≡ Some start → Contains start.tasks t → at_event (event ∷ before) Activating p e ≡ Some step → IsActivationOf before t p
+    → start_in e ≡ Some start → Contains start.tasks t → is_done_activating before t ≡ false → at_event (event ∷ before) Activating p e ≡ Some step
+    → IsActivationOf before t p
 unfolding activated_at
-activates_maker event step before p e start t lawful at says named gives =
+activates_maker event step before p e start t lawful at says named was gives =
     let by = starters_made before p e start t lawful at says named in
     option_and_then_some (activated_at (event ∷ before) p) (start_in e) step gives (λ s is given.
     let both =
@@ -261,6 +262,7 @@ activates_maker event step before p e start t lawful at says named gives =
       start = start;
       stands = record { event = e; stands = at; says = says };
       named = named;
+      undone = was;
     })
 
 -- a close at which a block is left is one at which its task was suspended
@@ -387,7 +389,8 @@ refined event before row key step lawful gives (calls p wait at of) =
     (takes_suspended event step before wait p of.call.callee at (sym of.of) (older_step event step before Taking p at.event refl at.stands gives)))
 refined event before row key step lawful gives (moves same p by some) = ticked event step before row p (moment_in event) lawful by refl some gives
 refined event before row key step lawful gives (elaborates p e start t at says among was now) =
-    inr (done t p (activates_maker event step before p e start t lawful.0 at says among (older_step event step before Activating p e refl at gives)) was now)
+    let starts = older_step event step before Activating p e refl at gives in
+    inr (done t p (activates_maker event step before p e start t lawful.0 at says among was starts) was now)
 refined event before row key step lawful gives (completes u says) = inr (completed u says)
 refined event before row key step lawful gives (abandons u was now) =
     elim (abandoned_newly event before u was now) [

@@ -21,7 +21,7 @@ use Rattle.ada_events.specs.Phases.{has_start, is_terminated, is_abnormal}
 use Rattle.ada_events.specs.Calls.{queue}
 use Rattle.ada_events.specs.Nests.{nest}
 use Rattle.ada_events.specs.Waits.{least_due, is_due, way_of}
-use Rattle.ada_events.specs.Forced.{is_conditional}
+use Rattle.ada_events.specs.Forced.{is_conditional, is_done_activating}
 use Rattle.ada_events.specs.Termination.{is_open_terminate, is_ready_to_quit}
 use Rattle.ada_laws.specs.Calls.{IsCallAt, IsOpenCallAt}
 use Rattle.ada_laws.specs.Suspension.{IsSuspendedAt}
@@ -55,7 +55,7 @@ pub record IsCloseAt (journal : List Event) (closing : Closing) (position : ℕ)
   pub stands : event_at journal position ≡ Some event
   pub says : closing_in event ≡ Some closing
 
--- the task's maker is suspended at a start that names the task
+-- the task's maker is suspended at a start that names the task, of which that waits (9.3)
 pub record IsActivationOf (journal : List Event) (task : TaskNo) (position : ℕ) : Type 0 where
   pub creation : Creation
   pub made : creation_of journal task.0 ≡ Some creation
@@ -63,6 +63,7 @@ pub record IsActivationOf (journal : List Event) (task : TaskNo) (position : ℕ
   pub start : Start
   pub stands : IsStartAt journal start position
   pub named : Contains start.tasks task
+  pub undone : is_done_activating journal task ≡ false
 
 -- the task was made by that one, and was never started
 pub record IsUnstartedBy (journal : List Event) (task maker : ℕ) : Type 0 where
