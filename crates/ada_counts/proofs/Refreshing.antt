@@ -1,7 +1,7 @@
 -- Tables in which tasks got the phases that they have after one more event.
-use Rattle.std.proofs.Common.{◌≡◌, ◌≢◌, ℕ, ◌+◌, ◌<◌, ◌≤◌, Bool, true, false, cond, ◌||◌, eqb, ltb, Some, None, List, [], ◌∷◌, length, take, get_or, refl, sym}
+use Rattle.std.proofs.Common.{◌≡◌, ◌≢◌, ℕ, ◌+◌, ◌<◌, ◌≤◌, Bool, true, false, cond, ◌||◌, eqb, Some, None, List, ◌∷◌, length, take, get_or, refl, sym}
 use Rattle.std.proofs.Common.{ap, ◌∙◌, subst, arith, inl, inr}
-use Rattle.std.proofs.lemmas.Bool.{cases_eq, cases_lt, eq-eqb, ne_eqb, lt-ltb, le-ltb, or_parts, true≢false}
+use Rattle.std.proofs.lemmas.Bool.{cases_eq, eq-eqb, ne_eqb, or_parts, true≢false}
 use Rattle.std.proofs.lemmas.List.{length-set, get_or-set_same, get_or-set_other, take_all}
 use Rattle.std.proofs.lemmas.List.Folds.{list_any_more}
 use Rattle.ada_events.specs.declared.event.Event.{Event}
@@ -29,7 +29,7 @@ use Rattle.ada_counts.proofs.Telling.{records_tell_phases}
 use Rattle.ada_counts.proofs.TouchedTasks.{start_touches}
 
 -- who is terminated stays in that phase
-ended_phase : (event : Event) (before : List Event) (task : ℕ) → is_terminated before task ≡ true → phase_of (event ∷ before) task ≡ phase_of before task
+pub ended_phase : (event : Event) (before : List Event) (task : ℕ) → is_terminated before task ≡ true → phase_of (event ∷ before) task ≡ phase_of before task
 ended_phase event before task ended = rw (is_terminated-more event before task ended, ended) refl
 
 -- whose phase is as it was after the event needn't be done
@@ -134,63 +134,6 @@ kept_more task kept first old new was is =
     ∙ ap (λ (s : TableState). record s { tasks = (refreshed task kept old).tasks }) was
     ∙ ap (λ (s : TableState). record first { tasks = s.tasks }) (sym is)
 
--- of a sweep over all tasks, the first so many are done
-abbrev pub AreSwept : Event → List Event → TableState → TableState → ℕ → Type 0
-AreSwept event before first now many =
-    AreBetween event before (λ t. ltb t many) now.tasks × (now ≡ record first { tasks = now.tasks })
-
-pub none_swept : (event : Event) (before : List Event) (first : TableState) → AreRenested event before first.tasks → AreSwept event before first first 0
-none_swept event before first nests =
-    (between_same event before (λ _. false) (λ t. ltb t 0) first.tasks (λ t below. sym (le-ltb t 0 (omega arith))) nests, refl)
-
-below_more : (t many : ℕ) → (eqb t many || ltb t many) ≡ ltb t (many + 1)
-below_more t many =
-    elim (cases_eq t many) [
-      | inl same ↦ rw (eq-eqb t many same) (sym (lt-ltb t (many + 1) (omega (arith, same))))
-      | inr differs ↦
-          rw (ne_eqb t many differs)
-          (elim (cases_lt t many) [
-            | inl less ↦ lt-ltb t many less ∙ sym (lt-ltb t (many + 1) (omega arith))
-            | inr more ↦ le-ltb t many more ∙ sym (le-ltb t (many + 1) (omega (arith, more, differs)))
-          ])
-    ]
-
-pub one_swept : (event : Event) (before : List Event) (first old new : TableState) (many : ℕ) (kept : Record) → AreSwept event before first old many
-    → many < task_count before → IsRecordOf (event ∷ before) many kept → new ≡ refreshed many kept old → AreSwept event before first new (many + 1)
-one_swept event before first old new many kept swept known right is = (
-  subst (λ (s : TableState). AreBetween event before (λ t. ltb t (many + 1)) s.tasks) (sym is)
-      (between_same event before (λ t. eqb t many || ltb t many) (λ t. ltb t (many + 1)) (refreshed many kept old).tasks (λ t below. below_more t many)
-      (refreshed_more event before (λ t. ltb t many) old many kept swept.0 known right)),
-  kept_more many kept first old new swept.1 is,
-)
-
-pub one_passed : (event : Event) (before : List Event) (first old : TableState) (many : ℕ) → AreSwept event before first old many
-    → phase_of (event ∷ before) many ≡ phase_of before many → AreSwept event before first old (many + 1)
-one_passed event before first old many swept same = (
-  record {
-    many = swept.0.many;
-    facts = λ other below.
-        elim (cases_eq other many) [
-          | inl is ↦
-              subst (λ (n : ℕ). task_at old.tasks n ≡ facts_between event before (ltb n (many + 1)) n) (sym is)
-              (swept.0.facts many (subst (λ (n : ℕ). n < task_count before) is below)
-              ∙ done_anyway event before many (ltb many many) (λ _. same)
-              ∙ ap (λ (b : Bool). facts_between event before b many) (sym (lt-ltb many (many + 1) (omega arith))))
-          | inr differs ↦
-              swept.0.facts other below
-              ∙ ap (λ (b : Bool). facts_between event before b other)
-              (sym (ap (λ (b : Bool). b || ltb other many) (ne_eqb other many differs)) ∙ below_more other many)
-        ];
-  },
-  swept.1,
-)
-
-pub all_swept : (event : Event) (before : List Event) (first now : TableState) (many : ℕ) → creation_in event ≡ None → task_count before ≤ many
-    → AreSwept event before first now many → HoldFacts now.tasks (event ∷ before)
-all_swept event before first now many makes whole swept =
-    all_done event before (λ t. ltb t many) now.tasks makes
-    (λ t below undone. absurd (true≢false (sym (lt-ltb t many (omega (arith, whole, below))) ∙ undone))) swept.0
-
 -- where one phase changes at most
 pub one_refreshed : (event : Event) (before : List Event) (old new : TableState) (task : TaskNo) (kept : Record) → creation_in event ≡ None
     → TouchesOnly event before (Some task) → AreRenested event before old.tasks → IsRecordOf (event ∷ before) task.0 kept → new ≡ refreshed task.0 kept old
@@ -201,15 +144,10 @@ one_refreshed event before old new task kept makes touches nests right is =
     (λ t below undone. touches.1 t (λ same. true≢false (sym (ap (λ (b : Bool). b || false) (eq-eqb t task.0 same)) ∙ undone)))
     (refreshed_more event before (λ _. false) old task.0 kept nests touches.0 right))
 
--- of the tasks that a start names, the first so many are done
+-- of the tasks of a list, the first so many are done
 abbrev pub AreNamed : Event → List Event → List TaskNo → TableState → TableState → ℕ → Type 0
 AreNamed event before tasks first now many =
     AreBetween event before (λ t. lists_task t (take many tasks)) now.tasks × (now ≡ record first { tasks = now.tasks })
-
-pub none_named : (event : Event) (before : List Event) (tasks : List TaskNo) (first : TableState) → AreRenested event before first.tasks
-    → AreNamed event before tasks first first 0
-none_named event before [] first nests = (nests, refl)
-none_named event before (t ∷ rest) first nests = (nests, refl)
 
 pub eqb_swap : (a b : ℕ) → eqb a b ≡ eqb b a
 eqb_swap a b =

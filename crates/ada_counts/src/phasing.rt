@@ -1,8 +1,9 @@
 //! Whose phase an event changes, and tables in which these phases follow.
-ghost use Rattle.std.specs.Prelude.{◌≡◌, ◌<◌, ◌∷◌, None, length};
+ghost use Rattle.std.specs.Prelude.{◌≡◌, ◌<◌, ◌∷◌, None, true, length};
 ghost use Rattle.ada_events.specs.Lawful.{IsLawful};
 ghost use Rattle.ada_events.specs.Says.{creation_in};
-ghost use Rattle.ada_records.specs.Records.{AreRecords, record_at};
+ghost use Rattle.ada_events.specs.Masters.{depends_on};
+ghost use Rattle.ada_records.specs.Records.{AreRecords, ListsLive, is_touched, record_at, touches_many};
 ghost use Rattle.ada_counts.specs.Facing.{HoldFacts};
 ghost use Rattle.ada_counts.specs.internal.Phasing.{TouchesFew, TouchesOnly, AreRenested, refreshed};
 ghost use Rattle.ada_events.specs.declared.event.Event.TheVariants.{Started as StartedEvent, Quit as QuitEvent};
@@ -117,37 +118,41 @@ fn refresh_started(
 }
 
 // Gives those that terminate together the phase that their records tell; nobody else's changes.
-fn refresh_terminated(
+fn refresh_dependents(
     tables: &mut Tables,
     records: &[Record],
     _journal: &Journal,
     _event: &Event,
     _master: Master,
+    dependents: &[TaskNo],
 )
     requires lawful { IsLawful (_event.now ∷ _journal.now.events) }
     requires quits { _event.now ≡ QuitEvent _master }
+    requires depend { ListsLive _journal.now.events dependents.now (λ u.
+        depends_on _journal.now.events u _master) }
     requires records { AreRecords records.now (_event.now ∷ _journal.now.events) }
     requires nests { AreRenested _event.now _journal.now.events tables.old.tasks }
     ensures phases { HoldFacts tables.new.tasks (_event.now ∷ _journal.now.events) }
     ensures kept { tables.new ≡ record tables.old { tasks = tables.new.tasks } }
 {
-    for task in 0..tables.tasks() {
-        if records[task as usize].stage.terminated {
-            refresh(tables, TaskNo(task), &records[task as usize]);
-        }
+    for i in 0..dependents.len() {
+        refresh(tables, dependents[i], &records[dependents[i].0 as usize]);
     }
 }
 
 /// Gives the phases that an event changes to the tasks of tables in which their nests are changed. The records are
-/// those after the event, which makes no task.
+/// those after the event, which makes no task; the list has whom it touches, where it touches many.
 pub(crate) fn follow_phases(
     tables: &mut Tables,
     records: &[Record],
     journal: &Journal,
     event: &Event,
+    touched: &[TaskNo],
 )
     requires lawful { IsLawful (event.now ∷ journal.now.events) }
     requires makes { creation_in event.now ≡ None }
+    requires lists { touches_many event.now ≡ true
+        → ListsLive journal.now.events touched.now (is_touched journal.now.events event.now) }
     requires records { AreRecords records.now (event.now ∷ journal.now.events) }
     requires nests { AreRenested event.now journal.now.events tables.old.tasks }
     ensures phases { HoldFacts tables.new.tasks (event.now ∷ journal.now.events) }
@@ -157,7 +162,9 @@ pub(crate) fn follow_phases(
         Event::Started { by, tasks } => {
             refresh_started(tables, records, journal, event, *by, tasks)
         }
-        Event::Quit { master } => refresh_terminated(tables, records, journal, event, *master),
+        Event::Quit { master } => {
+            refresh_dependents(tables, records, journal, event, *master, touched)
+        }
         _ => refresh_one(tables, records, journal, event),
     }
 }

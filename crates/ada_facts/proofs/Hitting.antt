@@ -1,5 +1,8 @@
 -- Whom an abort hits, from task to task outwards.
-use Rattle.std.proofs.Common.{◌≡◌, ℕ, ◌<◌, Bool, true, false, ◌||◌, Some, None, List, [], ◌∷◌, length, get_or, refl, sym, ap, ◌∙◌, subst, arith}
+use Rattle.std.proofs.Common.{◌≡◌, ℕ, ◌<◌, Bool, true, false, ◌||◌, Some, None, List, [], ◌∷◌, ◌++◌, length, get_or, refl, sym, ap, ◌∙◌, subst, arith, inl, inr}
+use Rattle.std.proofs.lemmas.Bool.{cases_lt}
+use Rattle.std.proofs.lemmas.List.{get_or_append_left, length-append}
+use Rattle.std.proofs.Math.Seq.{get_or-append_seam}
 use Rattle.std.specs.Prelude.{◌==◌}
 use Rattle.std.specs.List.{list_any}
 use Rattle.std.specs.Option.{option_map, option_and_then}
@@ -15,13 +18,13 @@ use Rattle.ada_events.specs.Nests.{nest}
 use Rattle.ada_events.specs.Lawful.{IsLawful}
 use Rattle.ada_laws.proofs.Searching.{option_map-some}
 use Rattle.ada_laws.proofs.Parents.{tasks_depend_by_parents}
-use Rattle.ada_records.specs.Records.{TellsOfLive, is_hit}
+use Rattle.ada_records.specs.Records.{is_hit}
 use Rattle.ada_counts.specs.Holders.{IsHeld}
 use Rattle.ada_tables.specs.Dependents.{holds}
 use Rattle.ada_counts.proofs.Enclosing.{reaches_held}
 use Rattle.ada_counts.proofs.LiveHolders.{masters_are_held}
 use Rattle.ada_counts.proofs.Owners.{block_in_nest}
-use Rattle.ada_facts.specs.internal.Hitting.{hits_bodies}
+use Rattle.ada_facts.specs.internal.Hitting.{TellsOfLive, hits_bodies}
 
 any_same : (one other : TaskNo → Bool) (tasks : List TaskNo) → ((t : TaskNo) → one t ≡ other t) → list_any one tasks ≡ list_any other tasks
 any_same one other [] same = refl
@@ -88,3 +91,17 @@ pub opened_by : (journal : List Event) (task p : ℕ) → holds task (nest journ
 opened_by journal task p within =
     let own = (block_in_nest journal task p within).0 in
     ap (option_map (λ (o : Opening). o.by)) (ap (option_and_then opening_in) own.stands ∙ own.says) ∙ ap Some own.by
+
+-- one more flag
+pub flags_more : (journal : List Event) (flags : List Bool) (test : ℕ → Bool) (many : ℕ) (flag : Bool) → length flags ≡ many → TellsOfLive journal flags test
+    → (is_terminated journal many ≡ false → flag ≡ test many) → TellsOfLive journal (flags ++ flag ∷ []) test
+flags_more journal flags test many flag long told says task below live =
+    elim (cases_lt task (length flags)) [
+      | inl old ↦ get_or_append_left flags (flag ∷ []) false task old ∙ told task old live
+      | inr last ↦
+          let at : task ≡ length flags = omega (arith, last, below, length-append flags (flag ∷ [])) in
+          ap (λ n. get_or (flags ++ flag ∷ []) n false) at
+          ∙ get_or-append_seam flags flag [] false
+          ∙ says (subst (λ n. is_terminated journal n ≡ false) (at ∙ long) live)
+          ∙ ap test (sym (at ∙ long))
+    ]

@@ -1,3 +1,4 @@
 pub mod Flagging
 pub mod Hitting
+pub mod Listing
 pub mod Quitting

@@ -5,4 +5,3 @@ mod facts;
 mod touched;
 
 pub use facts::{choice_of, touched_by};
-pub use touched::Flags;

@@ -1,4 +1,4 @@
-//! Whom the quitting of a master's dependents and an abort touch: a flag for each task.
+//! Whom the quitting of a master's dependents and an abort touch.
 
 ghost use Rattle.std.specs.Prelude.{◌≡◌, ℕ, ◌<◌, false, true, length, slice_index_or};
 ghost use Rattle.ada_events.specs.declared.limits.TheConstants.{MOST_TASKS};
@@ -9,14 +9,14 @@ ghost use Rattle.ada_events.specs.Phases.{is_terminated};
 ghost use Rattle.ada_events.specs.Tasks.{task_count};
 ghost use Rattle.ada_tables.specs.Dependents.{holds};
 ghost use Rattle.ada_records.specs.Records as records;
-ghost use Rattle.ada_facts.specs.internal.Hitting.{AreNamed, hits_bodies};
+ghost use Rattle.ada_facts.specs.internal.Hitting.{AreNamed, TellsOfLive, hits_bodies};
 
 use ada_events::limits::MOST_TASKS;
-use ada_events::{Bounded, Master, TaskNo};
+use ada_events::{Bounded, Master, TaskNo, Tasks};
 use ada_rows::State;
 
-/// A flag for each task.
-pub type Flags = Bounded<bool, MOST_TASKS>;
+// A flag for each task.
+type Flags = Bounded<bool, MOST_TASKS>;
 
 // Whether a task that isn't terminated depends on a master whose dependents terminate together (9.4): who isn't at an
 // open terminate alternative doesn't.
@@ -27,27 +27,28 @@ fn is_dependent(state: &State, task: TaskNo, master: Master) -> bool
         → result ≡ masters.depends_on state.now task.0 master }
 {
     let kept = state.record(task);
-    if kept.stage.terminated {
+    if !kept.doing.quittable {
         return false;
     }
-    if !kept.doing.quittable {
+    if kept.stage.terminated {
         return false;
     }
     state.tables().depends_on(task, master)
 }
 
 /// Who depends on a master whose dependents terminate together (9.4).
-pub(crate) fn dependents(state: &State, master: Master) -> Flags
+pub(crate) fn dependents(state: &State, master: Master) -> Tasks
     requires { is_to_quit state.now master ≡ true }
-    ensures all { length result ≡ task_count state.now }
-    ensures tells { records.TellsOfLive state.now result
+    ensures { records.ListsLive state.now result
         (λ task. masters.depends_on state.now task master) }
 {
-    let mut flags = Flags::new();
+    let mut dependents = Tasks::new();
     for number in 0..state.tables().tasks() {
-        flags.push(is_dependent(state, TaskNo(number), master));
+        if is_dependent(state, TaskNo(number), master) {
+            dependents.push(TaskNo(number));
+        }
     }
-    flags
+    dependents
 }
 
 // Which tasks a list names.
@@ -90,7 +91,7 @@ fn flag_of_holder(state: &State, master: Master, flags: &[bool]) -> bool
 fn hits_holder(state: &State, task: TaskNo, _tasks: &[TaskNo], hit: &[bool]) -> bool
     requires known { task.0 < task_count state.now }
     requires before { length hit.now ≡ task.0 }
-    requires tells { records.TellsOfLive state.now hit.now (records.is_hit state.now _tasks.now) }
+    requires tells { TellsOfLive state.now hit.now (records.is_hit state.now _tasks.now) }
     ensures { is_terminated state.now task.0 ≡ false
         → result ≡ hits_bodies state.now _tasks.now task.0 }
 {
@@ -107,7 +108,7 @@ fn is_hit(state: &State, task: TaskNo, _tasks: &[TaskNo], named: &[bool], hit: &
     requires few { task.0 < MOST_TASKS }
     requires named { AreNamed named.now _tasks.now }
     requires before { length hit.now ≡ task.0 }
-    requires tells { records.TellsOfLive state.now hit.now (records.is_hit state.now _tasks.now) }
+    requires tells { TellsOfLive state.now hit.now (records.is_hit state.now _tasks.now) }
     ensures { is_terminated state.now task.0 ≡ false
         → result ≡ records.is_hit state.now _tasks.now task.0 }
 {
@@ -116,15 +117,18 @@ fn is_hit(state: &State, task: TaskNo, _tasks: &[TaskNo], named: &[bool], hit: &
 
 /// Whom an abort of these tasks hits (9.10). The task that holds what another was made under was made before that, so
 /// the tasks are gone through by their numbers.
-pub(crate) fn hit(state: &State, tasks: &[TaskNo]) -> Flags
-    ensures all { length result ≡ task_count state.now }
-    ensures tells { records.TellsOfLive state.now result (records.is_hit state.now tasks.now) }
+pub(crate) fn hit(state: &State, tasks: &[TaskNo]) -> Tasks
+    ensures { records.ListsLive state.now result (records.is_hit state.now tasks.now) }
 {
     let named = named(tasks);
     let mut flags = Flags::new();
+    let mut hit = Tasks::new();
     for number in 0..state.tables().tasks() {
-        let hit = is_hit(state, TaskNo(number), tasks, &named, flags.as_slice());
-        flags.push(hit);
+        let hits = is_hit(state, TaskNo(number), tasks, &named, flags.as_slice());
+        flags.push(hits);
+        if hits {
+            hit.push(TaskNo(number));
+        }
     }
-    flags
+    hit
 }

@@ -10,7 +10,7 @@ ghost use Rattle.ada_records.specs.Records.{AreFacts, touches_many};
 
 use crate::Index;
 use ada_counts::follow::{follow, follow_creation};
-use ada_events::{Event, FamilyList, Journal, Master, Refusal};
+use ada_events::{Event, FamilyList, Journal, Master, Refusal, TaskNo};
 use ada_facts::{choice_of, touched_by};
 use ada_noting::note as note_keys;
 use ada_records::events::note as note_records;
@@ -31,7 +31,7 @@ fn moment_after(moment: i64, _journal: &Journal, event: &Event) -> i64
 
 impl Index {
     // Notes an event that may touch many tasks: dependents that terminate together (9.4), or an abort (9.10). It keeps
-    // a flag for each task, for which no other event makes room.
+    // a list of them, for which no other event makes room.
     #[inline(never)]
     fn note_many(&mut self, journal: &Journal, event: &Event)
         requires lawful { IsLawful (event.now ∷ journal.now.events) }
@@ -65,7 +65,7 @@ impl Index {
     }
 
     // Notes the same with what is to be known of the event beside what it says.
-    fn note_facts(&mut self, journal: &Journal, event: &Event, choice: u8, touched: &[bool])
+    fn note_facts(&mut self, journal: &Journal, event: &Event, choice: u8, touched: &[TaskNo])
         requires lawful { IsLawful (event.now ∷ journal.now.events) }
         requires stands { IsIndexOf self.old journal.now.events }
         requires makes { creation_in event.now ≡ None }
@@ -83,7 +83,7 @@ impl Index {
             event,
         );
         note_records(&mut kept.records, journal, event, choice, touched);
-        follow(&mut kept.tables, &kept.records, journal, event);
+        follow(&mut kept.tables, &kept.records, journal, event, touched);
         kept.moment = moment_after(kept.moment, journal, event);
     }
 

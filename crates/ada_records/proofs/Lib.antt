@@ -5,6 +5,7 @@ pub mod QueueKinds
 pub mod Queues
 pub mod Saying
 pub mod Releasing
+pub mod Changing
 pub mod Sweeping
 pub mod Unnesting
 pub mod Within

@@ -1,9 +1,8 @@
 -- What the start of an activation changes in the records.
-use Rattle.std.proofs.Common.{◌≡◌, ◌≢◌, ℕ, suc, ◌+◌, ◌<◌, ◌≤◌, Bool, true, false, not, ◌||◌, eqb, List, ◌∷◌, length, get_or, set, take, sym, refl, ap, ◌∙◌}
+use Rattle.std.proofs.Common.{◌≡◌, ◌≢◌, ℕ, suc, ◌+◌, ◌<◌, ◌≤◌, Bool, true, false, not, ◌||◌, List, ◌∷◌, length, get_or, set, sym, refl, ap, ◌∙◌}
 use Rattle.std.proofs.Common.{subst, arith, inl, inr}
-use Rattle.std.proofs.lemmas.Bool.{cases_eq, eq-eqb, ne_eqb}
+use Rattle.std.proofs.lemmas.Bool.{cases_eq, ne_eqb}
 use Rattle.std.proofs.lemmas.List.{length-set, get_or-set_same, get_or-set_other, take_all}
-use Rattle.std.proofs.lemmas.List.Folds.{list_any_more}
 use Rattle.ada_events.specs.declared.event.Event.{Event}
 use Rattle.ada_events.specs.declared.event.Event.TheVariants.{Started}
 use Rattle.ada_events.specs.declared.names.TaskNo.{TaskNo}
@@ -18,7 +17,7 @@ use Rattle.ada_laws.proofs.Growing.{task_count-same}
 use Rattle.ada_records.specs.declared.record.Doing.{Doing}
 use Rattle.ada_records.specs.declared.record.Record.{Record}
 use Rattle.ada_records.specs.Records.{no_record, record_at, IsDoingOf, IsStageOf, IsRecordOf, AreRecords}
-use Rattle.ada_records.specs.internal.Records.{start_record, HaveStarted}
+use Rattle.ada_records.specs.internal.Records.{start_record, HaveChanged}
 use Rattle.ada_records.proofs.Doings.{doing_held, doing_same}
 use Rattle.ada_records.proofs.Existing.{started_at_exists}
 use Rattle.ada_records.proofs.Holding.{holder_ran}
@@ -52,10 +51,10 @@ abbrev pub with_starter : List Event → List Record → ℕ → List Record
 with_starter before records by = set records by (record (record_at records by) { doing = starting before })
 
 -- after the first so many tasks were named
-pub named_none : (first : List Record) (tasks : List TaskNo) → HaveStarted first first tasks 0
+pub named_none : (first : List Record) (tasks : List TaskNo) → HaveChanged start_record first first tasks 0
 named_none first tasks = record { same = refl; each = λ task below. refl }
 
-start_twice : (before : Bool) (r : Record) → start_record true (start_record before r) ≡ start_record true r
+pub start_twice : (before : Bool) (r : Record) → start_record true (start_record before r) ≡ start_record true r
 start_twice true r = twice (not (r.stage.completed || r.stage.terminated)) r.stage.started
   where
     twice : (a b : Bool) → record r { stage = record r.stage { named = true; started = (a || (a || b)) } }
@@ -63,36 +62,6 @@ start_twice true r = twice (not (r.stage.completed || r.stage.terminated)) r.sta
     twice true b = refl
     twice false b = refl
 start_twice false r = refl
-
-pub named_more : (first now : List Record) (tasks : List TaskNo) (i : ℕ) (d : TaskNo) (new : Record) → HaveStarted first now tasks i → i < length tasks
-    → (get_or tasks i d).0 < length first → new ≡ start_record true (record_at now (get_or tasks i d).0)
-    → HaveStarted first (set now (get_or tasks i d).0 new) tasks (i + 1)
-named_more first now tasks i d new so_far below known is = record {
-  same = length-set now (get_or tasks i d).0 new ∙ so_far.same;
-  each = λ task exists.
-      let u = (get_or tasks i d).0 in
-      let more : lists_task task (take (i + 1) tasks)
-      ≡ (lists_task task (take i tasks) || eqb u task) = list_any_more (λ (t : TaskNo). eqb t.0 task) tasks i d below in
-      elim (cases_eq task u) [
-        | inl same ↦
-            rw (more, eq-eqb u task (sym same), or_true (lists_task task (take i tasks)))
-            (subst (λ (n : ℕ). record_at (set now u new) n ≡ start_record true (record_at first n)) (sym same)
-            (get_or-set_same now u new no_record (omega (arith, known, so_far.same)) ∙ is
-            ∙ ap (λ (r : Record). start_record true r) (so_far.each u known)
-            ∙ start_twice (lists_task u (take i tasks)) (record_at first u)))
-        | inr differs ↦
-            rw (more, ne_eqb u task (λ same. differs (sym same)), or_false (lists_task task (take i tasks)))
-            (get_or-set_other now u task new no_record differs ∙ so_far.each task exists)
-      ];
-}
-  where
-    or_true : (b : Bool) → (b || true) ≡ true
-    or_true true = refl
-    or_true false = refl
-
-    or_false : (b : Bool) → (b || false) ≡ b
-    or_false true = refl
-    or_false false = refl
 
 -- the tasks exist that are named
 pub named_exists : (event : Event) (before : List Event) (by : TaskNo) (tasks : List TaskNo) (k : ℕ) (d : TaskNo) → IsLawful (event ∷ before)
@@ -148,7 +117,7 @@ started_record before records by tasks task lawful old has_by known =
     ]
 
 started_records : (before : List Event) (records now : List Record) (by : TaskNo) (tasks : List TaskNo) → IsLawful (Started by tasks ∷ before)
-    → AreRecords records before → by.0 < length records → HaveStarted (with_starter before records by.0) now tasks (length tasks)
+    → AreRecords records before → by.0 < length records → HaveChanged start_record (with_starter before records by.0) now tasks (length tasks)
     → AreRecords now (Started by tasks ∷ before)
 unfolding creation_in
 started_records before records now by tasks lawful old has_by all =
@@ -165,13 +134,13 @@ started_records before records now by tasks lawful old has_by all =
 -- the records after a start
 pub records_started : (event : Event) (before : List Event) (records now : List Record) (doing : Doing) (by : TaskNo) (tasks named : List TaskNo) (i : ℕ)
     → IsLawful (event ∷ before) → AreRecords records before → event ≡ Started by tasks → named ≡ tasks → doing ≡ starting before
-    → HaveStarted (set records by.0 (record (record_at records by.0) { doing = doing })) now named i → length named ≤ i → i ≤ length named
+    → HaveChanged start_record (set records by.0 (record (record_at records by.0) { doing = doing })) now named i → length named ≤ i → i ≤ length named
     → AreRecords now (event ∷ before)
 records_started event before records now doing by tasks named i lawful old starts same is so_far above below =
     let all : i ≡ length named = omega (arith, above, below) in
     subst (λ (e : Event). AreRecords now (e ∷ before)) (sym starts)
     (started_records before records now by tasks (subst (λ (e : Event). IsLawful (e ∷ before)) starts lawful) old
     (omega (arith, starter_exists event before by tasks lawful starts, old.many))
-    (subst (λ (ts : List TaskNo). HaveStarted (with_starter before records by.0) now ts (length ts)) same
-    (subst (λ (k : Doing). HaveStarted (set records by.0 (record (record_at records by.0) { doing = k })) now named (length named)) is
-    (subst (λ (n : ℕ). HaveStarted (set records by.0 (record (record_at records by.0) { doing = doing })) now named n) all so_far))))
+    (subst (λ (ts : List TaskNo). HaveChanged start_record (with_starter before records by.0) now ts (length ts)) same
+    (subst (λ (k : Doing). HaveChanged start_record (set records by.0 (record (record_at records by.0) { doing = k })) now named (length named)) is
+    (subst (λ (n : ℕ). HaveChanged start_record (set records by.0 (record (record_at records by.0) { doing = doing })) now named n) all so_far))))

@@ -1,8 +1,6 @@
 -- What one more event changes in the records where it may change those of all tasks.
-use Rattle.std.proofs.Common.{◌≡◌, ℕ, ◌+◌, ◌≤◌, ◌<◌, Bool, true, false, not, ◌&&◌, ◌||◌, None, List, ◌∷◌, length, set, sym, refl, ap, subst, ◌∙◌, arith, inl}
-use Rattle.std.proofs.Common.{inr}
-use Rattle.std.proofs.lemmas.Bool.{cases_eq, lt-ltb, true≢false}
-use Rattle.std.proofs.lemmas.List.{length-set, get_or-set_same, get_or-set_other}
+use Rattle.std.proofs.Common.{◌≡◌, ℕ, ◌≤◌, ◌<◌, Bool, true, false, not, ◌&&◌, ◌||◌, None, List, ◌∷◌, length, sym, refl, ap, subst, ◌∙◌, arith}
+use Rattle.std.proofs.lemmas.Bool.{lt-ltb, true≢false}
 use Rattle.ada_events.specs.declared.event.Event.{Event}
 use Rattle.ada_events.specs.declared.event.Event.TheVariants as event
 use Rattle.ada_events.specs.declared.names.TaskNo.{TaskNo}
@@ -11,14 +9,15 @@ use Rattle.ada_events.specs.Says.{held_in, released_in, completed_in, gone_in, q
 use Rattle.ada_events.specs.Says.{creation_in}
 use Rattle.ada_events.specs.Tasks.{task_count}
 use Rattle.ada_events.specs.Masters.{depends_on}
-use Rattle.ada_events.specs.Phases.{has_ended, is_terminated}
+use Rattle.ada_events.specs.Phases.{has_ended, is_terminated, lists_task}
 use Rattle.ada_events.specs.Termination.{is_at_open_terminate}
 use Rattle.ada_events.specs.Outcomes.{raised_in}
 use Rattle.ada_events.specs.Lawful.{IsLawful}
-use Rattle.ada_laws.proofs.Growing.{task_count-same, has_ended-terminated}
+use Rattle.ada_laws.proofs.Growing.{has_ended-terminated}
 use Rattle.ada_records.specs.declared.record.Record.{Record}
-use Rattle.ada_records.specs.Records.{no_record, record_at, IsDoingOf, IsStageOf, IsRecordOf, AreRecords, is_hit}
-use Rattle.ada_records.specs.internal.Records.{quit_record, abort_record, AreUpTo}
+use Rattle.ada_records.specs.Records.{record_at, IsDoingOf, IsStageOf, IsRecordOf, AreRecords, ListsLive, is_hit}
+use Rattle.ada_records.specs.internal.Records.{quit_record, quit_live_record, abort_record, HaveChanged}
+use Rattle.ada_records.proofs.Changing.{IsOnce, all_changed}
 use Rattle.ada_records.proofs.Doings.{doing_same, doing_ended}
 use Rattle.ada_records.proofs.Noting.{untouched}
 use Rattle.ada_records.proofs.Stages.{stage_more}
@@ -70,15 +69,35 @@ kept_terminated before m task was true ended old new = record { doing = doing; s
       terminated = old.stage.terminated ∙ ended ∙ new.stage.terminated;
     }
 
+-- one of a task that was terminated already
+stays_ended : (before : List Event) (m : Master) (task : ℕ) (was : Record) → IsLawful (event.Quit m ∷ before) → was.stage.terminated ≡ true
+    → IsRecordOf before task was → IsRecordOf (event.Quit m ∷ before) task was
+stays_ended before m task was lawful says old =
+    kept_terminated before m task was (depends_on before task m) (sym old.stage.terminated ∙ says) old
+    (quit_record_of before m task was (depends_on before task m) lawful refl old)
+
 -- one record after all that depend on a master terminated together, by a flag that is right unless the task is terminated
 quit_flagged : (before : List Event) (m : Master) (task : ℕ) (was : Record) (flag ended : Bool) → IsLawful (event.Quit m ∷ before)
     → was.stage.terminated ≡ ended → (is_terminated before task ≡ false → flag ≡ depends_on before task m) → IsRecordOf before task was
-    → IsRecordOf (event.Quit m ∷ before) task (quit_record (not ended && flag) was)
-quit_flagged before m task was flag true lawful says tells old =
-    kept_terminated before m task was (depends_on before task m) (sym old.stage.terminated ∙ says) old
-    (quit_record_of before m task was (depends_on before task m) lawful refl old)
-quit_flagged before m task was flag false lawful says tells old =
-    quit_record_of before m task was flag lawful (sym (tells (sym old.stage.terminated ∙ says))) old
+    → IsRecordOf (event.Quit m ∷ before) task (quit_live_record flag was)
+quit_flagged before m task was true true lawful says tells old =
+    subst (λ (b : Bool). IsRecordOf (event.Quit m ∷ before) task (quit_record (not b) was)) (sym says) (stays_ended before m task was lawful says old)
+quit_flagged before m task was true false lawful says tells old =
+    subst (λ (b : Bool). IsRecordOf (event.Quit m ∷ before) task (quit_record (not b) was)) (sym says)
+    (quit_record_of before m task was true lawful (sym (tells (sym old.stage.terminated ∙ says))) old)
+quit_flagged before m task was false true lawful says tells old = stays_ended before m task was lawful says old
+quit_flagged before m task was false false lawful says tells old =
+    quit_record_of before m task was false lawful (sym (tells (sym old.stage.terminated ∙ says))) old
+
+pub quit_once : IsOnce quit_live_record
+quit_once true r = by_end r.stage.terminated refl
+  where
+    by_end : (ended : Bool) → r.stage.terminated ≡ ended → quit_live_record true (quit_live_record true r) ≡ quit_live_record true r
+    by_end true says = ap (quit_live_record true) (ap (λ (b : Bool). quit_record (not b) r) says)
+    by_end false says =
+        let quit : quit_live_record true r ≡ quit_record true r = ap (λ (b : Bool). quit_record (not b) r) says in
+        ap (quit_live_record true) quit ∙ sym quit
+quit_once false r = refl
 
 and_within : (a b c : Bool) → (a && true && b || c) ≡ (a && b || c)
 and_within true b c = refl
@@ -110,85 +129,42 @@ abort_flagged : (before : List Event) (tasks : List TaskNo) (task : ℕ) (was : 
 abort_flagged before tasks task was flag true says tells old = hit_or_not was flag (is_hit before tasks task) says
 abort_flagged before tasks task was flag false says tells old = ap (λ h. abort_record h was) (tells (sym old.stage.terminated ∙ says))
 
--- one more record is brought up to date
-pub up_to_more : (event : Event) (before : List Event) (old new : List Record) (i : ℕ) (now : Record) → AreUpTo event before old new i → i < length old
-    → IsRecordOf (event ∷ before) i now → AreUpTo event before old (set new i now) (i + 1)
-up_to_more event before old new i now so_far below right = record {
-  same = length-set new i now ∙ so_far.same;
-  done = λ task less exists.
-      elim (cases_eq task i) [
-        | inl same ↦ subst (λ (n : ℕ). IsRecordOf (event ∷ before) n (record_at (set new i now) n)) (sym same)
-            (rw (get_or-set_same new i now no_record (omega (arith, so_far.same))) right)
-        | inr differs ↦ rw (get_or-set_other new i task now no_record differs) (so_far.done task (omega arith) exists)
-      ];
-  rest = λ task above. get_or-set_other new i task now no_record (λ same. omega arith) ∙ so_far.rest task (omega arith);
-}
-
-pub up_to_none : (event : Event) (before : List Event) (old : List Record) → AreUpTo event before old old 0
-up_to_none event before old = record { same = refl; done = λ task less exists. absurd (omega arith); rest = λ task above. refl }
-
-pub up_to_all : (event : Event) (before : List Event) (old new : List Record) (many : ℕ) → AreUpTo event before old new many → length old ≤ many
-    → AreRecords old before → creation_in event ≡ None → AreRecords new (event ∷ before)
-up_to_all event before old new many all enough stand makes = record {
-  many = all.same ∙ stand.many ∙ sym (task_count-same event before makes);
-  each = λ task below.
-      let exists : task < length old = omega (arith, all.same) in
-      all.done task (omega arith) exists;
-}
-
--- one record that stays as it was
-up_to_kept : (event : Event) (before : List Event) (old new : List Record) (i : ℕ) → AreUpTo event before old new i
-    → IsRecordOf (event ∷ before) i (record_at old i) → AreUpTo event before old new (i + 1)
-up_to_kept event before old new i so_far right = record {
-  same = so_far.same;
-  done = λ task less exists.
-      elim (cases_eq task i) [
-        | inl same ↦ subst (λ (n : ℕ). IsRecordOf (event ∷ before) n (record_at new n)) (sym same) (rw (so_far.rest i (omega arith)) right)
-        | inr differs ↦ so_far.done task (omega arith) exists
-      ];
-  rest = λ task above. so_far.rest task (omega arith);
-}
-
-pub quit_step : (e : Event) (before : List Event) (m : Master) (old new : List Record) (i : ℕ) (now : Record) (flag : Bool) → IsLawful (e ∷ before)
-    → e ≡ event.Quit m → AreRecords old before → AreUpTo e before old new i → i < length old → (is_terminated before i ≡ false → flag ≡ depends_on before i m)
-    → flag ≡ true → now ≡ quit_record (not (record_at new i).stage.terminated) (record_at new i) → AreUpTo e before old (set new i now) (i + 1)
-quit_step e before m old new i now flag lawful says stand so_far below tells on is =
-    let same : now ≡ quit_record (not (record_at old i).stage.terminated && flag) (record_at old i) = is
-    ∙ ap (λ (r : Record). quit_record (not r.stage.terminated) r) (so_far.rest i (omega arith))
-    ∙ ap (λ (b : Bool). quit_record b (record_at old i)) (and_on (not (record_at old i).stage.terminated) flag on) in
-    up_to_more e before old new i now so_far below
-    (rw (same, says) (quit_flagged before m i (record_at old i) flag (record_at old i).stage.terminated
-    (subst (λ (x : Event). IsLawful (x ∷ before)) says lawful) refl tells (stand.each i below)))
+pub abort_once : IsOnce abort_record
+abort_once flag r =
+    ap (λ (b : Bool). record r { stage = record r.stage { abnormal = b } }) (again (not r.stage.terminated) flag r.stage.abnormal)
   where
-    and_on : (a b : Bool) → b ≡ true → a ≡ (a && b)
-    and_on true b on = sym on
-    and_on false b on = refl
+    again : (live b was : Bool) → (live || (b && live || was)) ≡ (live || was)
+    again true b was = refl
+    again false true was = refl
+    again false false was = refl
 
-pub quit_pass : (e : Event) (before : List Event) (m : Master) (old new : List Record) (i : ℕ) (flag : Bool) → IsLawful (e ∷ before) → e ≡ event.Quit m
-    → AreRecords old before → AreUpTo e before old new i → i < length old → (is_terminated before i ≡ false → flag ≡ depends_on before i m)
-    → flag ≡ false → AreUpTo e before old new (i + 1)
-quit_pass e before m old new i flag lawful says stand so_far below tells off =
-    let same : quit_record (not (record_at old i).stage.terminated && flag) (record_at old i) ≡ record_at old i =
-    ap (λ (b : Bool). quit_record b (record_at old i))
-    (ap (λ (b : Bool). not (record_at old i).stage.terminated && b) off ∙ no_more (not (record_at old i).stage.terminated)) in
-    up_to_kept e before old new i so_far
-    (rw says (subst (IsRecordOf (event.Quit m ∷ before) i) same (quit_flagged before m i (record_at old i) flag (record_at old i).stage.terminated
-    (subst (λ (x : Event). IsLawful (x ∷ before)) says lawful) refl tells (stand.each i below))))
-
-pub abort_step : (e : Event) (before : List Event) (by : TaskNo) (tasks : List TaskNo) (old new : List Record) (i : ℕ) (now : Record) (flag : Bool)
-    → IsLawful (e ∷ before) → e ≡ event.Aborted by tasks → AreRecords old before → AreUpTo e before old new i → i < length old
-    → (is_terminated before i ≡ false → flag ≡ is_hit before tasks i) → now ≡ abort_record flag (record_at new i) → AreUpTo e before old (set new i now) (i + 1)
-abort_step e before by tasks old new i now flag lawful says stand so_far below tells is =
-    let same : now ≡ abort_record (is_hit before tasks i) (record_at old i) = is ∙ ap (λ r. abort_record flag r) (so_far.rest i (omega arith))
-    ∙ abort_flagged before tasks i (record_at old i) flag (record_at old i).stage.terminated refl tells (stand.each i below) in
-    up_to_more e before old new i now so_far below
-    (rw (same, says) (abort_record_of before by tasks i (record_at old i) (subst (λ (x : Event). IsLawful (x ∷ before)) says lawful) (omega (arith, stand.many))
-    (stand.each i below)))
-
-pub quit_makes_none : (e : Event) (m : Master) → e ≡ event.Quit m → creation_in e ≡ None
+quit_makes_none : (e : Event) (m : Master) → e ≡ event.Quit m → creation_in e ≡ None
 unfolding creation_in
 quit_makes_none e m says = ap creation_in says
 
-pub abort_makes_none : (e : Event) (by : TaskNo) (tasks : List TaskNo) → e ≡ event.Aborted by tasks → creation_in e ≡ None
+abort_makes_none : (e : Event) (by : TaskNo) (tasks : List TaskNo) → e ≡ event.Aborted by tasks → creation_in e ≡ None
 unfolding creation_in
 abort_makes_none e by tasks says = ap creation_in says
+
+-- all records after all that depend on a master terminated together
+pub records_quit : (e : Event) (before : List Event) (m : Master) (records now : List Record) (tasks : List TaskNo) (i : ℕ) → IsLawful (e ∷ before)
+    → e ≡ event.Quit m → AreRecords records before → ListsLive before tasks (λ u. depends_on before u m) → HaveChanged quit_live_record records now tasks i
+    → length tasks ≤ i → AreRecords now (e ∷ before)
+records_quit e before m records now tasks i lawful says stand lists changed whole =
+    all_changed quit_live_record e before records now tasks i stand (quit_makes_none e m says) changed whole (λ task known.
+    rw says (quit_flagged before m task (record_at records task) (lists_task task tasks) (record_at records task).stage.terminated
+    (subst (λ (x : Event). IsLawful (x ∷ before)) says lawful) refl (lists.tells task (omega (arith, known, stand.many))) (stand.each task known)))
+
+-- all records after an abort
+pub records_aborted : (e : Event) (before : List Event) (by : TaskNo) (aborted : List TaskNo) (records now : List Record) (tasks : List TaskNo) (i : ℕ)
+    → IsLawful (e ∷ before) → e ≡ event.Aborted by aborted → AreRecords records before → ListsLive before tasks (is_hit before aborted)
+    → HaveChanged abort_record records now tasks i → length tasks ≤ i → AreRecords now (e ∷ before)
+records_aborted e before by aborted records now tasks i lawful says stand lists changed whole =
+    all_changed abort_record e before records now tasks i stand (abort_makes_none e by aborted says) changed whole (λ task known.
+    let exists : task < task_count before = omega (arith, known, stand.many) in
+    let was = record_at records task in
+    rw (
+      says,
+      abort_flagged before aborted task was (lists_task task tasks) was.stage.terminated refl (lists.tells task exists) (stand.each task known),
+    )
+    (abort_record_of before by aborted task was (subst (λ (x : Event). IsLawful (x ∷ before)) says lawful) exists (stand.each task known)))

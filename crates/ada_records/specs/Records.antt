@@ -10,7 +10,7 @@ use Rattle.ada_events.specs.declared.outcome.Outcome.TheVariants.{Dead, Nothing}
 use Rattle.ada_events.specs.Says.{creation_in, held_in, started_in, released_in, meeting_in}
 use Rattle.ada_events.specs.Tasks.{task_count}
 use Rattle.ada_events.specs.Masters.{depends_on}
-use Rattle.ada_events.specs.Phases.{has_start, is_started, is_elaborated, has_failed, is_completed, has_ended, is_abnormal, is_terminated}
+use Rattle.ada_events.specs.Phases.{has_start, is_started, is_elaborated, has_failed, is_completed, has_ended, is_abnormal, is_terminated, lists_task}
 use Rattle.ada_events.specs.Phases.{is_suspended}
 use Rattle.ada_events.specs.Calls.{is_met}
 use Rattle.ada_events.specs.Termination.{is_at_open_terminate}
@@ -80,10 +80,10 @@ pub record AreRecords (records : List Record) (journal : List Event) : Type 0 wh
   pub many : length records ≡ task_count journal
   pub each : (task : ℕ) → task < length records → IsRecordOf journal task (record_at records task)
 
--- what a flag of each task that isn't terminated says
-abbrev pub TellsOfLive : List Event → List Bool → (ℕ → Bool) → Type 0
-TellsOfLive journal flags test =
-    (task : ℕ) → task < length flags → is_terminated journal task ≡ false → slice_index_or flags task false ≡ test task
+-- a list of tasks that exist names, of those that aren't terminated, just the ones that pass the test
+pub record ListsLive (journal : List Event) (tasks : List TaskNo) (test : ℕ → Bool) : Type 0 where
+  pub exist : (i : ℕ) (d : TaskNo) → i < length tasks → (slice_index_or tasks i d).0 < task_count journal
+  pub tells : (task : ℕ) → task < task_count journal → is_terminated journal task ≡ false → lists_task task tasks ≡ test task
 
 -- the task is hit by an abort of these tasks (9.10): it is one of them, or depends on the body of one
 abbrev pub is_hit : List Event → List TaskNo → ℕ → Bool
@@ -120,10 +120,9 @@ touches_many _ = false
 
 -- what is known of an event beside what it says: of a rendezvous the choice by which the wait takes the call, and
 -- whom of the tasks that aren't terminated an event touches that may touch many
-pub record AreFacts (journal : List Event) (event : Event) (choice : ℕ) (touched : List Bool) : Type 0 where
+pub record AreFacts (journal : List Event) (event : Event) (choice : ℕ) (touched : List TaskNo) : Type 0 where
   pub chosen : (call wait : ℕ) → event ≡ Met call wait → choice ≡ choice_met journal wait
-  pub listed : touches_many event ≡ true → length touched ≡ task_count journal
-  pub tells : touches_many event ≡ true → TellsOfLive journal touched (is_touched journal event)
+  pub lists : touches_many event ≡ true → ListsLive journal touched (is_touched journal event)
 
 -- there is room for one more record where the event makes a task
 abbrev pub MakesRoom : Event → ℕ → ℕ → Type 0

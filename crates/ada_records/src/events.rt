@@ -53,15 +53,15 @@ fn note_meeting(
 }
 
 /// Notes an event in the records, before it is appended to its journal. The choice is the one by which a wait takes a
-/// call, counted from 0, where the event begins a rendezvous. The list says of each task whether it depends on the
-/// master whose dependents terminate together, or is hit by the abort, where the event is one of these. There is
-/// room for one more record where the event makes a task.
+/// call, counted from 0, where the event begins a rendezvous. The list has, of the tasks that aren't terminated, those
+/// that depend on the master whose dependents terminate together, or that the abort hits, where the event is one of
+/// these. There is room for one more record where the event makes a task.
 pub fn note(
     records: &mut Vec<Record>,
     journal: &Journal,
     event: &Event,
     choice: u8,
-    touched: &[bool],
+    touched: &[TaskNo],
 )
     requires lawful { IsLawful (event.now ∷ journal.now.events) }
     requires stand { AreRecords records.old.items journal.now.events }

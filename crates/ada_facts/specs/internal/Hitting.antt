@@ -1,16 +1,21 @@
 -- Whom an abort hits (9.10), by the tasks that it names.
-use Rattle.std.specs.Prelude.{◌≡◌, ℕ, ◌<◌, Bool, false, List, slice_index_or}
+use Rattle.std.specs.Prelude.{◌≡◌, ℕ, ◌<◌, Bool, false, List, length, slice_index_or}
 use Rattle.std.specs.List.{list_any}
 use Rattle.ada_events.specs.declared.event.Event.{Event}
 use Rattle.ada_events.specs.declared.limits.TheConstants.{MOST_TASKS}
 use Rattle.ada_events.specs.declared.names.Master.TheVariants.{Body}
 use Rattle.ada_events.specs.declared.names.TaskNo.{TaskNo}
 use Rattle.ada_events.specs.Masters.{depends_on}
-use Rattle.ada_events.specs.Phases.{lists_task}
+use Rattle.ada_events.specs.Phases.{is_terminated, lists_task}
 
 -- the flags of all numbers of tasks say which of them the list names
 abbrev pub AreNamed : List Bool → List TaskNo → Type 0
 AreNamed flags tasks = (task : ℕ) → task < MOST_TASKS → slice_index_or flags task false ≡ lists_task task tasks
+
+-- what a flag of each task that isn't terminated says
+abbrev pub TellsOfLive : List Event → List Bool → (ℕ → Bool) → Type 0
+TellsOfLive journal flags test =
+    (task : ℕ) → task < length flags → is_terminated journal task ≡ false → slice_index_or flags task false ≡ test task
 
 -- the task depends on the body of one of these tasks
 abbrev pub hits_bodies : List Event → List TaskNo → ℕ → Bool

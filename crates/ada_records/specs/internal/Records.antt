@@ -1,5 +1,5 @@
 -- Records that stand for a journal: each field is what the definitions give.
-use Rattle.std.specs.Prelude.{◌≡◌, ◌⊎◌, ℕ, ◌<◌, ◌≤◌, Bool, true, false, not, ◌||◌, ◌&&◌, ◌∷◌, List, length, take}
+use Rattle.std.specs.Prelude.{◌≡◌, ◌⊎◌, ℕ, ◌<◌, Bool, true, false, not, ◌||◌, ◌&&◌, List, length, take}
 use Rattle.ada_events.specs.declared.event.Event.{Event}
 use Rattle.ada_events.specs.declared.event.Event.TheVariants.{Completed, Halted}
 use Rattle.ada_events.specs.declared.names.TaskNo.{TaskNo}
@@ -10,7 +10,7 @@ use Rattle.ada_events.specs.Phases.{lists_task}
 use Rattle.ada_events.specs.Termination.{is_open_terminate}
 use Rattle.ada_records.specs.declared.record.Doing.{Doing}
 use Rattle.ada_records.specs.declared.record.Record.{Record}
-use Rattle.ada_records.specs.Records.{freed, record_at, IsRecordOf}
+use Rattle.ada_records.specs.Records.{freed, record_at}
 
 -- what is kept of the latest doing of a task that an event at a position holds up
 abbrev pub held : ℕ → Bool → Doing
@@ -50,16 +50,15 @@ start_record named r = record r {
   };
 }
 
--- the first so many records stand for the journal with one more event, and the others are as they were
-pub record AreUpTo (event : Event) (before : List Event) (old new : List Record) (many : ℕ) : Type 0 where
-  pub same : length new ≡ length old
-  pub done : (task : ℕ) → task < many → task < length old → IsRecordOf (event ∷ before) task (record_at new task)
-  pub rest : (task : ℕ) → many ≤ task → record_at new task ≡ record_at old task
+-- a record of a task that terminates with all others that depend on a master, unless it was terminated (9.4)
+abbrev pub quit_live_record : Bool → Record → Record
+quit_live_record true r = quit_record (not r.stage.terminated) r
+quit_live_record false r = r
 
--- the records after the first so many tasks were named by a start
-pub record HaveStarted (first now : List Record) (tasks : List TaskNo) (many : ℕ) : Type 0 where
+-- the records after the change of the first so many tasks of a list, by whether that names the task
+pub record HaveChanged (change : Bool → Record → Record) (first now : List Record) (tasks : List TaskNo) (many : ℕ) : Type 0 where
   pub same : length now ≡ length first
-  pub each : (task : ℕ) → task < length first → record_at now task ≡ start_record (lists_task task (take many tasks)) (record_at first task)
+  pub each : (task : ℕ) → task < length first → record_at now task ≡ change (lists_task task (take many tasks)) (record_at first task)
 
 -- the task completes: by itself, or it is halted (9.4, 9.10)
 abbrev pub IsCompletion : Event → TaskNo → Type 0

@@ -1,5 +1,7 @@
 use Rattle.std.proofs.Common.{arith, refl}
-use Rattle.ada_records.proofs.Starting.{starter_exists, named_within, named_still, named_none, named_more, records_started}
+use Rattle.ada_records.proofs.Starting.{starter_exists, named_within, named_still, named_none, start_twice, records_started}
+use Rattle.ada_records.specs.internal.Records.{start_record}
+use Rattle.ada_records.proofs.Changing.{changed_more}
 use Rattle.ada_records.proofs.records.note_start.Goals as goal
 
 pub bounds-records-by : goal.bounds-records-by
@@ -15,7 +17,7 @@ loop-i-init c = named_none _ _
 
 pub loop-i-preserved : goal.loop-i-preserved
 loop-i-preserved c =
-    named_more _ c.loop-i.records c.as_slice-named.result.now c.loop-i.i _ c.start_one.result c.loop-i.invariant c.loop-i-test.true
+    changed_more start_record _ c.loop-i.records c.as_slice-named.result.now c.loop-i.i _ c.start_one.result start_twice c.loop-i.invariant c.loop-i-test.true
     (named_within c.args._event.now c.args.journal.now.events c.args.records.now c.args.by _ c.args.tasks.now c.as_slice-named.result.now c.loop-i.i _
     c.requires.lawful c.requires.stand c.requires.starts c.as_slice-named.ensures.value c.loop-i-test.true)
     c.start_one.ensures

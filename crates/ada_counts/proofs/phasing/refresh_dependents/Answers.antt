@@ -1,0 +1,44 @@
+use Rattle.std.proofs.Common.{arith}
+use Rattle.ada_events.specs.declared.names.TaskNo.{TaskNo}
+use Rattle.ada_laws.proofs.Growing.{task_count-same}
+use Rattle.ada_counts.proofs.Quitting.{quit_makes_none, all_quit}
+use Rattle.ada_counts.proofs.Refreshing.{one_named}
+use Rattle.ada_counts.proofs.phasing.refresh_dependents.Goals as goal
+
+pub bounds-records-dependents : goal.bounds-records-dependents
+bounds-records-dependents c =
+    let main : TaskNo = record { 0 = 0 } in
+    omega (
+      arith,
+      c.requires.depend.exist c.loop-i.i main c.loop-i-test.true,
+      c.requires.records.many,
+      task_count-same c.args._event.now c.args._journal.now.events (quit_makes_none c.args._event.now c.args._master c.requires.quits),
+    )
+
+pub refresh-requires : goal.refresh-requires
+refresh-requires c =
+    let main : TaskNo = record { 0 = 0 } in
+    omega (arith, c.requires.depend.exist c.loop-i.i main c.loop-i-test.true, c.loop-i.invariant.0.many)
+
+pub loop-i-preserved : goal.loop-i-preserved
+loop-i-preserved c =
+    let main : TaskNo = record { 0 = 0 } in
+    let known = c.requires.depend.exist c.loop-i.i main c.loop-i-test.true in
+    one_named c.args._event.now c.args._journal.now.events c.args.dependents.now c.args.tables.now c.loop-i.tables c.refresh.new.tables c.loop-i.i _ _
+    c.loop-i.invariant c.loop-i-test.true known
+    (c.requires.records.each _
+    (omega (
+      arith,
+      known,
+      c.requires.records.many,
+      task_count-same c.args._event.now c.args._journal.now.events (quit_makes_none c.args._event.now c.args._master c.requires.quits),
+    )))
+    c.refresh.ensures
+
+pub returns-clause-phases : goal.returns-clause-phases
+returns-clause-phases c =
+    all_quit c.args._event.now c.args._journal.now.events c.args._master c.args.dependents.now c.args.tables.now c.loop-i.tables c.loop-i.i
+    c.requires.lawful c.requires.quits c.requires.depend c.loop-i-test.false c.loop-i.invariant
+
+pub returns-clause-kept : goal.returns-clause-kept
+returns-clause-kept c = c.loop-i.invariant.1
