@@ -1,7 +1,6 @@
 -- The first key of an agenda, and keys that are dropped from it.
-use Rattle.std.proofs.Common.{◌≡◌, ◌≢◌, ◌⊎◌, ℕ, ◌<◌, true, false, Option, Some, None, List, [], ◌∷◌, length, get_or, sym, refl, ap, ◌∙◌, subst, inl, inr}
-use Rattle.std.specs.Option.{is_some, IfNone}
-use Rattle.std.proofs.lemmas.Bool.{cases_eq, true≢false}
+use Rattle.std.proofs.Common.{◌≡◌, ◌≢◌, ◌⊎◌, ℕ, ◌<◌, true, false, Some, None, List, [], ◌∷◌, length, get_or, sym, refl, ap, ◌∙◌, subst, inl, inr}
+use Rattle.std.proofs.lemmas.Bool.{cases_eq}
 use Rattle.std.proofs.lemmas.Option.{none-some}
 use Rattle.ada_events.specs.declared.event.Event.{Event}
 use Rattle.ada_events.specs.Forced.{forced}
@@ -49,11 +48,6 @@ first_is_forced rows journal place key row step agenda here lower least ranked g
 -- where there is no key, nothing is forced
 pub none_is_forced : (rows : List (List ℕ)) (journal : List Event) → IsAgendaOf rows journal → ((r k : ℕ) → keeps rows r k ≡ false) → None ≡ forced journal
 none_is_forced rows journal agenda empty = sym (forced_nothing journal (has_key rows) agenda.covers (λ row key. empty (rank row) key))
-
--- what is so where nothing was found
-pub nothing_found : (found : Option (ℕ × ℕ)) (so : Type 0) → is_some found ≡ false → IfNone found so → so
-nothing_found None so none told = told
-nothing_found (Some key) so none told = absurd (true≢false none)
 
 -- a key that gives no step is dropped
 pub key_dropped : (old new : List (List ℕ)) (journal : List Event) (place key : ℕ) (row : Row) → IsAgendaOf old journal

@@ -35,11 +35,8 @@ impl Answerer for Index {
         }
     }
 
+    // Inlined, so that no call is made where nothing is forced.
     #[inline(always)]
-    fn may_force(&mut self, _journal: &Journal) -> bool {
-        self.agenda.first().is_some()
-    }
-
     fn advance(&mut self, journal: &mut Journal) -> bool {
         while let Some((rank, key)) = self.agenda.first() {
             if self.take_first(journal, rank, key) {

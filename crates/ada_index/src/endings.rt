@@ -7,11 +7,10 @@ ghost use Rattle.ada_events.specs.declared.event.Event.TheVariants.{Halted as Ha
 ghost use Rattle.ada_index.specs.Indexes.{IsIndexOf};
 
 use crate::Index;
-use crate::rendezvous::partner_at;
 use ada_counts::endings::{follow_failure, follow_halt, follow_termination};
 use ada_events::{Event, Journal, TaskNo};
 use ada_noting::{calls, endings};
-use ada_records::records::{note_gone, note_halted, note_released};
+use ada_records::records::{holder_at, note_gone, note_halted, note_released};
 
 impl Index {
     // Notes that a task is halted.
@@ -37,7 +36,7 @@ impl Index {
         requires fails { event.now ≡ FailedEvent call }
         ensures { IsIndexOf self.new (event.now ∷ journal.now.events) }
     {
-        let caller = partner_at(journal, call);
+        let caller = holder_at(journal, call);
         let kept = &mut self.kept;
         let state = kept.state(journal);
         calls::note_failure(&mut self.agenda, &state, event, call);

@@ -7,28 +7,12 @@ ghost use Rattle.ada_events.specs.declared.event.Event.TheVariants.{Called as Ca
 ghost use Rattle.ada_events.specs.declared.event.Event.TheVariants.{Met as MetEvent, Waiting as WaitingEvent};
 ghost use Rattle.ada_events.specs.declared.event.EventTail.TheVariants.{Nothing};
 ghost use Rattle.ada_index.specs.Indexes.{IsIndexOf};
-ghost use Rattle.ada_laws.specs.Suspension.{IsSuspendedAt};
-ghost use Rattle.ada_records.specs.Records.{HoldsSomebody};
 
 use crate::Index;
 use ada_counts::rendezvous::{follow_accept, follow_call, follow_end, follow_meeting};
 use ada_events::{Entry, Event, Journal, Patience, TaskNo};
 use ada_noting::calls;
 use ada_records::records::{holder_at, note_ended, note_hold, note_met};
-
-// The task that is suspended at the position of a call or a wait; `holder_at` of any other event.
-#[inline(always)]
-#[tactic(auto, unfolding(ada_events::specs::Says::held_in))]
-pub(crate) fn partner_at(journal: &Journal, position: u32) -> TaskNo
-    requires { HoldsSomebody journal.now.events position }
-    ensures { IsSuspendedAt journal.now.events result.0 position }
-{
-    match journal.get(position) {
-        Some(Event::Called { by, .. }) => *by,
-        Some(Event::Waiting { by, .. }) => *by,
-        _ => holder_at(journal, position),
-    }
-}
 
 impl Index {
     // Notes a call, for which there is room.
@@ -103,7 +87,7 @@ impl Index {
         requires ends { event.now ≡ EndedEvent by call raised }
         ensures { IsIndexOf self.new (event.now ∷ journal.now.events) }
     {
-        let caller = partner_at(journal, call);
+        let caller = holder_at(journal, call);
         let kept = &mut self.kept;
         let state = kept.state(journal);
         calls::note_end(&mut self.agenda, &state, event, by, call, raised);
@@ -135,8 +119,8 @@ impl Index {
         requires meets { event.now ≡ MetEvent call wait }
         ensures { IsIndexOf self.new (event.now ∷ journal.now.events) }
     {
-        let caller = partner_at(journal, call);
-        let acceptor = partner_at(journal, wait);
+        let caller = holder_at(journal, call);
+        let acceptor = holder_at(journal, wait);
         let choice = self.state(journal).choice_met(wait);
         note_met(
             self.kept.records.as_mut_slice(),

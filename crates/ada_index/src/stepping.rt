@@ -38,6 +38,7 @@ impl Index {
 
     // Halts the task of that number (9.10), where it is to be halted.
     #[tactic(auto, using(ada_rows::proofs::Strangers::no_halt))]
+    #[inline(never)]
     fn halt(&mut self, journal: &mut Journal, key: u32) -> bool
         requires { MayTake self.old journal.old row.Halting key }
         ensures { Takes self.old journal.old row.Halting key result self.new journal.new }
@@ -56,6 +57,7 @@ impl Index {
     }
 
     // Lets the call at a position fail (9.5, 9.10), where it is to fail.
+    #[inline(never)]
     fn fail(&mut self, journal: &mut Journal, call: u32) -> bool
         requires { MayTake self.old journal.old row.Failing call }
         ensures { Takes self.old journal.old row.Failing call result self.new journal.new }
@@ -71,6 +73,7 @@ impl Index {
     }
 
     // Lets the wait at a position take a call (9.5, 9.7.1), where there is one.
+    #[inline(never)]
     fn meet(&mut self, journal: &mut Journal, wait: u32) -> bool
         requires { MayTake self.old journal.old row.Taking wait }
         ensures { Takes self.old journal.old row.Taking wait result self.new journal.new }
@@ -86,6 +89,7 @@ impl Index {
     }
 
     // Cancels the call at a position (9.7.2, 9.7.3), where it is to be cancelled.
+    #[inline(never)]
     fn cancel(&mut self, journal: &mut Journal, call: u32) -> bool
         requires { MayTake self.old journal.old row.Cancelling call }
         ensures { Takes self.old journal.old row.Cancelling call result self.new journal.new }
@@ -98,6 +102,7 @@ impl Index {
     }
 
     // Lets the wait at a position end without a call (9.7.1), where there is a way.
+    #[inline(never)]
     fn pass(&mut self, journal: &mut Journal, wait: u32) -> bool
         requires { MayTake self.old journal.old row.Passing wait }
         ensures { Takes self.old journal.old row.Passing wait result self.new journal.new }
@@ -110,6 +115,7 @@ impl Index {
     }
 
     // Ends the delay at a position (9.6), where its moment has come.
+    #[inline(never)]
     fn wake(&mut self, journal: &mut Journal, pause: u32) -> bool
         requires { MayTake self.old journal.old row.Waking pause }
         ensures { Takes self.old journal.old row.Waking pause result self.new journal.new }
@@ -122,6 +128,7 @@ impl Index {
     }
 
     // Ends the activation that started at a position (9.3), where all its tasks are done.
+    #[inline(never)]
     fn activate(&mut self, journal: &mut Journal, start: u32) -> bool
         requires { MayTake self.old journal.old row.Activating start }
         ensures { Takes self.old journal.old row.Activating start result self.new journal.new }
@@ -135,6 +142,7 @@ impl Index {
 
     // Lets the task of that number terminate by itself (9.3, 9.4), where it is to.
     #[tactic(auto, using(ada_rows::proofs::Strangers::no_end))]
+    #[inline(never)]
     fn terminate(&mut self, journal: &mut Journal, key: u32) -> bool
         requires { MayTake self.old journal.old row.Going key }
         ensures { Takes self.old journal.old row.Going key result self.new journal.new }
@@ -154,6 +162,7 @@ impl Index {
 
     // Lets all terminate together that depend on the body of the task of that number (9.4), where they are to.
     #[tactic(auto, using(ada_rows::proofs::Strangers::no_quitting))]
+    #[inline(never)]
     fn quit_body(&mut self, journal: &mut Journal, key: u32) -> bool
         requires { MayTake self.old journal.old row.QuittingBody key }
         ensures { Takes self.old journal.old row.QuittingBody key result self.new journal.new }
@@ -170,6 +179,7 @@ impl Index {
     }
 
     // Lets all terminate together that depend on the block at a position (9.4), where they are to.
+    #[inline(never)]
     fn quit_block(&mut self, journal: &mut Journal, block: u32) -> bool
         requires { MayTake self.old journal.old row.QuittingBlock block }
         ensures { Takes self.old journal.old row.QuittingBlock block result self.new journal.new }
@@ -183,6 +193,7 @@ impl Index {
     }
 
     // Lets the block be left that is closed at a position (9.4), where all its dependents are terminated.
+    #[inline(never)]
     fn leave(&mut self, journal: &mut Journal, close: u32) -> bool
         requires { MayTake self.old journal.old row.Leaving close }
         ensures { Takes self.old journal.old row.Leaving close result self.new journal.new }
@@ -195,6 +206,7 @@ impl Index {
     }
 
     // Takes the step that a row gives at a key, if it gives one, and says so.
+    #[inline(never)]
     fn take(&mut self, journal: &mut Journal, row: Row, key: u32) -> bool
         requires { MayTake self.old journal.old row key }
         ensures { Takes self.old journal.old row key result self.new journal.new }
@@ -216,6 +228,8 @@ impl Index {
 
     /// Takes the step that the row of that rank gives at a key, if it gives one, and says so. The key is the agenda's
     /// first.
+    // Inlined, so that the beginning of a rendezvous, which is mostly what is forced, is one call away.
+    #[inline(always)]
     pub(crate) fn take_first(&mut self, journal: &mut Journal, rank: usize, key: usize) -> bool
         requires rank { rank < 11 }
         requires key { key < 69632 }
@@ -223,6 +237,7 @@ impl Index {
         ensures { TakesAtRank self.old journal.old rank key result self.new journal.new }
     {
         match Row::at_rank(rank) {
+            Some(Row::Taking) => self.meet(journal, key as u32),
             Some(row) => self.take(journal, row, key as u32),
             None => false,
         }

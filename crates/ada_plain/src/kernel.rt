@@ -28,10 +28,6 @@ impl Answerer for Search {
         Ok(())
     }
 
-    fn may_force(&mut self, _journal: &Journal) -> bool {
-        true
-    }
-
     fn advance(&mut self, journal: &mut Journal) -> bool {
         match forced(journal.as_slice()) {
             Some(step) => {

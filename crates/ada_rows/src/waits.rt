@@ -40,7 +40,9 @@ impl<'a> State<'a> {
         self.front_of(task, choice).is_some()
     }
 
-    // The numbers of the selectable choices, counted over all from 0.
+    // The numbers of the selectable choices, counted over all from 0. Inlined, though seldom asked, since for a call
+    // the state would lie in memory, wherever it is made.
+    #[inline(always)]
     #[tactic(auto, unfolding(ada_events::specs::Waits::numbers_from))]
     fn selectable(&self, task: TaskNo, choices: &[Choice]) -> ChoiceNumbers
         requires few { length choices.now ≤ MOST_CHOICES }
@@ -135,6 +137,7 @@ impl<'a> State<'a> {
 
     // The number of the choice by which a wait with these choices takes a call; 0 where it takes none. Where there is
     // one choice it isn't asked whether a call waits for it.
+    #[inline(always)]
     #[tactic(auto, using(crate::proofs::Choosing::one_picked))]
     fn number_taken(&self, task: TaskNo, choices: &[Choice], pick: u32) -> u8
         requires few { length choices.now ≤ MOST_CHOICES }
@@ -149,6 +152,7 @@ impl<'a> State<'a> {
     }
 
     // The number of the choice by which the event takes a call, where it is a wait that takes one; else 0.
+    #[inline(always)]
     #[tactic(auto, unfolding(ada_events::specs::Waits::taken_choice, ada_events::specs::Says::wait_in))]
     fn choice_of(&self, _at: u32, event: &Event) -> u8
         requires stands { event_at self.now _at ≡ Some event.now }
@@ -169,6 +173,7 @@ impl<'a> State<'a> {
 
     /// The number of the choice by which the wait at the position takes a call (9.7.1), counted over all of its choices
     /// from 0; 0 where it takes none.
+    #[inline(always)]
     #[tactic(auto, unfolding(ada_events::specs::Outcomes::choice_met))]
     pub fn choice_met(&self, wait: u32) -> u8
         ensures { result ≡ outcomes.choice_met self.now wait }

@@ -30,12 +30,6 @@ pub trait Answerer {
             IsRefused journal.old.events request.now cause journal.new.events) }
         ensures stands { stands self.new journal.new.events };
 
-    /// Whether the journal may force a step. Where it may not, it forces none.
-    fn may_force(&mut self, journal: &Journal) -> bool
-        requires stands { stands self.old journal.now.events }
-        ensures rest { result ≡ false → forced journal.now.events ≡ None }
-        ensures stands { stands self.new journal.now.events };
-
     /// Appends the step that the journal forces, for which there is room in it, and says whether there was one.
     fn advance(&mut self, journal: &mut Journal) -> bool
         requires stands { stands self.old journal.old.events }

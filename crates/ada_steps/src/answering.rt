@@ -22,21 +22,8 @@ pub fn make_room(journal: &mut Journal) -> Result<(), Refusal>
     journal.reserve(ROOM)
 }
 
-// Appends the steps that the journal forces, until it forces none.
-#[inline(never)]
-fn append_forced<A: Answerer>(answerer: &mut A, journal: &mut Journal)
-    requires stands { A.stands answerer.old journal.old.events }
-    requires lawful { IsLawful journal.old.events }
-    requires room { work_left journal.old.events ≤ journal.old.spare }
-    ensures forces { Forces journal.old.events journal.new.events }
-    ensures lawful { IsLawful journal.new.events }
-    ensures settled { IsSettled journal.new.events }
-    ensures stands { A.stands answerer.new journal.new.events }
-{
-    while answerer.advance(journal) {}
-}
-
-// The same. Mostly nothing is forced, which is told with less than a call.
+// Appends the steps that the journal forces, until it forces none. Inlined, since mostly it forces none, which is told
+// with less than a call.
 #[inline(always)]
 fn settle<A: Answerer>(answerer: &mut A, journal: &mut Journal)
     requires stands { A.stands answerer.old journal.old.events }
@@ -47,9 +34,7 @@ fn settle<A: Answerer>(answerer: &mut A, journal: &mut Journal)
     ensures settled { IsSettled journal.new.events }
     ensures stands { A.stands answerer.new journal.new.events }
 {
-    if answerer.may_force(journal) {
-        append_forced(answerer, journal);
-    }
+    while answerer.advance(journal) {}
 }
 
 /// Answers a request: appends its event and the steps that it forces, and gives the event's position; or

@@ -57,9 +57,15 @@ unfolding count_below
 count_more test many = rw add-one refl
 
 -- one more number is counted if it passes
-pub counted_more : (test : ℕ → Bool) (many count more : ℕ) (here : Bool) → count ≡ count_below test many → here ≡ test many → more ≡ (if here then 1 else 0)
+counted_more : (test : ℕ → Bool) (many count more : ℕ) (here : Bool) → count ≡ count_below test many → here ≡ test many → more ≡ (if here then 1 else 0)
     → count + more ≡ count_below test (many + 1)
 counted_more test many count more here so_far here_is more_is = rw (so_far, more_is, here_is) (sym (count_more test many))
+
+pub counted_one : (test : ℕ → Bool) (many count : ℕ) → count ≡ count_below test many → test many ≡ true → count + 1 ≡ count_below test (many + 1)
+counted_one test many count so_far here = counted_more test many count 1 true so_far (sym here) refl
+
+pub counted_none : (test : ℕ → Bool) (many count : ℕ) → count ≡ count_below test many → test many ≡ false → count ≡ count_below test (many + 1)
+counted_none test many count so_far here = omega (arith, counted_more test many count 0 false so_far (sym here) refl)
 
 pub count_nothing : (test : ℕ → Bool) → 0 ≡ count_below test 0
 unfolding count_below

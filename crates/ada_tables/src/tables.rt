@@ -50,13 +50,6 @@ impl Model for Tables {
         AreTied t.tasks.tasks t.queues.queues t.queues.callers t.firsts.items };
 }
 
-// How much a test adds to a count.
-fn one_if(test: bool) -> u16
-    ensures { result ≡ (if test then 1 else 0) }
-{
-    if test { 1 } else { 0 }
-}
-
 impl Tables {
     /// Tables with the main program alone, which runs. What they keep will lie in memory of `alloc`. Fails with
     /// `OutOfMemory` alone.
@@ -356,14 +349,16 @@ impl Tables {
     /// How many dependents of a master (9.4) are ready to quit, at most 255: suspended at a wait whose terminate
     /// alternative is open, while no call waits at any of their entries. Where these are all that live, they terminate
     /// together once the master is complete.
-    #[tactic(auto, using(crate::proofs::Ways::counted_more, crate::proofs::Ways::count_nothing))]
+    #[tactic(auto, using(crate::proofs::Ways::counted_one, crate::proofs::Ways::counted_none, crate::proofs::Ways::count_nothing))]
     pub fn ready_dependents(&self, master: Master) -> u16
         ensures value { result ≡ ready_dependents self.now.tasks self.now.queues master }
         ensures fits { result ≤ 255 }
     {
         let mut count = 0;
         for task in 0..self.tasks() {
-            count += one_if(self.is_ready_dependent(task, master));
+            if self.is_ready_dependent(task, master) {
+                count += 1;
+            }
         }
         count
     }
@@ -391,14 +386,16 @@ impl Tables {
 
     /// How many dependents of a master (9.4) are neither terminated nor ready to quit, at most 255: ready to quit
     /// is who is suspended at a wait whose terminate alternative is open, while no call waits at any of its entries.
-    #[tactic(auto, using(crate::proofs::Ways::counted_more, crate::proofs::Ways::count_nothing))]
+    #[tactic(auto, using(crate::proofs::Ways::counted_one, crate::proofs::Ways::counted_none, crate::proofs::Ways::count_nothing))]
     pub fn unready_dependents(&self, master: Master) -> u16
         ensures value { result ≡ unready_dependents self.now.tasks self.now.queues master }
         ensures fits { result ≤ 255 }
     {
         let mut count = 0;
         for task in 0..self.tasks() {
-            count += one_if(self.is_unready_dependent(task, master));
+            if self.is_unready_dependent(task, master) {
+                count += 1;
+            }
         }
         count
     }

@@ -235,6 +235,7 @@ impl Tasks {
     }
 
     /// Takes a task out of the rendezvous with a call, wherever it stands in its nest.
+    #[inline(always)]
     pub(crate) fn cut_nest(&mut self, task: u16, call: u32)
         requires { task < length self.old.tasks }
         ensures { self.new ≡ record self.old {

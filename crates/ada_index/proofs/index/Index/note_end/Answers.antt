@@ -6,9 +6,9 @@ use Rattle.ada_touching.specs.Keeping.{IsAgendaOf}
 use Rattle.ada_index.proofs.Quiet.{quiet_as, not_due_as, noted}
 use Rattle.ada_index.proofs.index.Index.note_end.Goals as goal
 
-pub partner_at-caller-requires : goal.partner_at-caller-requires
+pub holder_at-caller-requires : goal.holder_at-caller-requires
 unfolding released_in
-partner_at-caller-requires c = release_holds c.args.event.now c.args.journal.now.events _ c.requires.lawful (ap released_in c.requires.ends)
+holder_at-caller-requires c = release_holds c.args.event.now c.args.journal.now.events _ c.requires.lawful (ap released_in c.requires.ends)
 
 pub returns : goal.returns
 unfolding creation_in moment_in

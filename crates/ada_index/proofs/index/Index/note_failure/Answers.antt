@@ -8,9 +8,9 @@ use Rattle.ada_touching.specs.Keeping.{IsAgendaOf}
 use Rattle.ada_index.proofs.Quiet.{quiet_as, not_due_as, noted}
 use Rattle.ada_index.proofs.index.Index.note_failure.Goals as goal
 
-pub partner_at-caller-requires : goal.partner_at-caller-requires
+pub holder_at-caller-requires : goal.holder_at-caller-requires
 unfolding released_in
-partner_at-caller-requires c = release_holds c.args.event.now c.args.journal.now.events _ c.requires.lawful (ap released_in c.requires.fails)
+holder_at-caller-requires c = release_holds c.args.event.now c.args.journal.now.events _ c.requires.lawful (ap released_in c.requires.fails)
 
 pub note_released-requires-clause-frees : goal.note_released-requires-clause-frees
 unfolding released_in meeting_in raised_in

@@ -7,11 +7,11 @@ use Rattle.ada_touching.specs.Additions.{adds_nothing}
 use Rattle.ada_index.proofs.Quiet.{quiet_as, not_due_as, noted}
 use Rattle.ada_index.proofs.index.Index.note_meeting.Goals as goal
 
-pub partner_at-caller-requires : goal.partner_at-caller-requires
-partner_at-caller-requires c = (met_holds c.args.event.now c.args.journal.now.events _ _ c.requires.lawful c.requires.meets).0
+pub holder_at-caller-requires : goal.holder_at-caller-requires
+holder_at-caller-requires c = (met_holds c.args.event.now c.args.journal.now.events _ _ c.requires.lawful c.requires.meets).0
 
-pub partner_at-acceptor-requires : goal.partner_at-acceptor-requires
-partner_at-acceptor-requires c = (met_holds c.args.event.now c.args.journal.now.events _ _ c.requires.lawful c.requires.meets).1
+pub holder_at-acceptor-requires : goal.holder_at-acceptor-requires
+holder_at-acceptor-requires c = (met_holds c.args.event.now c.args.journal.now.events _ _ c.requires.lawful c.requires.meets).1
 
 pub returns : goal.returns
 unfolding creation_in moment_in

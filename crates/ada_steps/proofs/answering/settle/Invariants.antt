@@ -1,6 +1,6 @@
 use Rattle.ada_laws.specs.Work.{work_left}
 use Rattle.ada_steps.specs.internal.Settling.{IsSettling}
-use Rattle.ada_steps.proofs.answering.append_forced.Given as goal
+use Rattle.ada_steps.proofs.answering.settle.Given as goal
 
 abbrev pub invariant-loop : goal.invariant-loop
 invariant-loop g l = IsSettling l.initial.journal.events l.journal × g.A.Answerer.stands l.answerer l.journal.events
