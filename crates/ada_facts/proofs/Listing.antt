@@ -1,6 +1,7 @@
 -- Lists to which those of the tasks are added, one after another, that pass a test.
 use Rattle.std.proofs.Common.{◌≡◌, ℕ, suc, ◌+◌, ◌<◌, ◌≤◌, Bool, true, false, ◌||◌, eqb, List, [], ◌∷◌, ◌++◌, length, get_or, sym, refl, ap, ◌∙◌, subst}
 use Rattle.std.proofs.Common.{arith, inl, inr}
+use Rattle.std.proofs.Math.Bool.{or-false}
 use Rattle.std.proofs.lemmas.Bool.{cases_eq, cases_lt, eq-eqb, ne_eqb}
 use Rattle.std.proofs.lemmas.List.{get_or_append_left, length-append}
 use Rattle.std.proofs.lemmas.List.Folds.{list_any-append}
@@ -25,10 +26,6 @@ unlisted [] many below = refl
 unlisted (t ∷ rest) many below =
     rw (ne_eqb t.0 many (λ same. absurd (omega (arith, below 0 t (omega arith), same))))
     (unlisted rest many (λ i d less. below (suc i) d (omega (arith, less))))
-
-or_false : (b : Bool) → (b || false) ≡ b
-or_false true = refl
-or_false false = refl
 
 -- one more task is listed
 pub lists_more : (journal : List Event) (tasks : List TaskNo) (test : ℕ → Bool) (many : ℕ) (new : TaskNo) → new.0 ≡ many → ListsFirst journal tasks test many
@@ -55,7 +52,7 @@ lists_more journal tasks test many new is so_far passes = record {
         | inr differs ↦
             both
             ∙ ap (λ (b : Bool). lists_task task tasks || (b || false)) (ne_eqb new.0 task (λ back. differs (sym back ∙ is)))
-            ∙ or_false (lists_task task tasks)
+            ∙ or-false (lists_task task tasks)
             ∙ so_far.tells task (omega (arith, less, differs)) live
       ];
 }

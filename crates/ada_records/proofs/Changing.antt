@@ -1,6 +1,7 @@
 -- Records of which those of listed tasks are changed, one after another.
 use Rattle.std.proofs.Common.{◌≡◌, ℕ, ◌+◌, ◌<◌, ◌≤◌, Bool, true, false, ◌||◌, eqb, None, List, ◌∷◌, length, get_or, set, take, sym, refl, ap, ◌∙◌, subst, arith}
 use Rattle.std.proofs.Common.{inl, inr}
+use Rattle.std.proofs.Math.Bool.{or-true, or-false}
 use Rattle.std.proofs.lemmas.Bool.{cases_eq, eq-eqb, ne_eqb}
 use Rattle.std.proofs.lemmas.List.{length-set, get_or-set_same, get_or-set_other, take_all}
 use Rattle.std.proofs.lemmas.List.Folds.{list_any_more}
@@ -12,14 +13,6 @@ use Rattle.ada_laws.proofs.Growing.{task_count-same}
 use Rattle.ada_records.specs.declared.record.Record.{Record}
 use Rattle.ada_records.specs.Records.{no_record, record_at, IsRecordOf, AreRecords, ListsLive}
 use Rattle.ada_records.specs.internal.Records.{HaveChanged}
-
-or_true : (b : Bool) → (b || true) ≡ true
-or_true true = refl
-or_true false = refl
-
-or_false : (b : Bool) → (b || false) ≡ b
-or_false true = refl
-or_false false = refl
 
 -- a change after which the same change says nothing new
 abbrev pub IsOnce : (Bool → Record → Record) → Type 0
@@ -36,13 +29,13 @@ changed_more change first now tasks i d new once so_far below known is = record 
       ≡ (lists_task task (take i tasks) || eqb u task) = list_any_more (λ (t : TaskNo). eqb t.0 task) tasks i d below in
       elim (cases_eq task u) [
         | inl same ↦
-            rw (more, eq-eqb u task (sym same), or_true (lists_task task (take i tasks)))
+            rw (more, eq-eqb u task (sym same), or-true (lists_task task (take i tasks)))
             (subst (λ (n : ℕ). record_at (set now u new) n ≡ change true (record_at first n)) (sym same)
             (get_or-set_same now u new no_record (omega (arith, known, so_far.same)) ∙ is
             ∙ ap (λ (r : Record). change true r) (so_far.each u known)
             ∙ once (lists_task u (take i tasks)) (record_at first u)))
         | inr differs ↦
-            rw (more, ne_eqb u task (λ same. differs (sym same)), or_false (lists_task task (take i tasks)))
+            rw (more, ne_eqb u task (λ same. differs (sym same)), or-false (lists_task task (take i tasks)))
             (get_or-set_other now u task new no_record differs ∙ so_far.each task exists)
       ];
 }
