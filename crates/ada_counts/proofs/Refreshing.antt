@@ -14,7 +14,7 @@ use Rattle.ada_events.specs.declared.event.Event.TheVariants.{Started}
 use Rattle.ada_events.specs.Nests.{nest}
 use Rattle.ada_laws.proofs.Growing.{task_count-same, is_terminated-more}
 use Rattle.ada_records.specs.declared.record.Record.{Record}
-use Rattle.ada_records.specs.Records.{IsRecordOf}
+use Rattle.ada_records.specs.Records.{IsRecordOf, AreRecords, record_at}
 use Rattle.ada_tables.specs.declared.phase.Phase.{Phase}
 use Rattle.ada_tables.specs.Dependents.{Facts, nobody, task_at, is_terminated as ends}
 use Rattle.ada_tables.specs.internal.Dependents.{with_phase}
@@ -143,6 +143,13 @@ one_refreshed event before old new task kept makes touches nests right is =
     (all_done event before (λ t. eqb t task.0 || false) (refreshed task.0 kept old).tasks makes
     (λ t below undone. touches.1 t (λ same. true≢false (sym (ap (λ (b : Bool). b || false) (eq-eqb t task.0 same)) ∙ undone)))
     (refreshed_more event before (λ _. false) old task.0 kept nests touches.0 right))
+
+-- a task that there was before an event that makes none has a right record behind it
+pub right_behind : (event : Event) (before : List Event) (records : List Record) (task : ℕ) → creation_in event ≡ None → AreRecords records (event ∷ before)
+    → task < task_count before → (task < length records) × IsRecordOf (event ∷ before) task (record_at records task)
+right_behind event before records task makes stand known =
+    let within : task < length records = omega (arith, known, stand.many, task_count-same event before makes) in
+    (within, stand.each task within)
 
 -- of the tasks of a list, the first so many are done
 abbrev pub AreNamed : Event → List Event → List TaskNo → TableState → TableState → ℕ → Type 0

@@ -1,19 +1,14 @@
 use Rattle.std.proofs.Common.{arith}
 use Rattle.ada_events.specs.declared.names.TaskNo.{TaskNo}
-use Rattle.ada_laws.proofs.Growing.{task_count-same}
 use Rattle.ada_counts.proofs.Quitting.{quit_makes_none, all_quit}
-use Rattle.ada_counts.proofs.Refreshing.{one_named}
+use Rattle.ada_counts.proofs.Refreshing.{one_named, right_behind}
 use Rattle.ada_counts.proofs.phasing.refresh_dependents.Goals as goal
 
 pub bounds-records-dependents : goal.bounds-records-dependents
 bounds-records-dependents c =
     let main : TaskNo = record { 0 = 0 } in
-    omega (
-      arith,
-      c.requires.depend.exist c.loop-i.i main c.loop-i-test.true,
-      c.requires.records.many,
-      task_count-same c.args._event.now c.args._journal.now.events (quit_makes_none c.args._event.now c.args._master c.requires.quits),
-    )
+    (right_behind c.args._event.now c.args._journal.now.events c.args.records.now _ (quit_makes_none c.args._event.now c.args._master c.requires.quits)
+    c.requires.records (c.requires.depend.exist c.loop-i.i main c.loop-i-test.true)).0
 
 pub refresh-requires : goal.refresh-requires
 refresh-requires c =
@@ -26,13 +21,8 @@ loop-i-preserved c =
     let known = c.requires.depend.exist c.loop-i.i main c.loop-i-test.true in
     one_named c.args._event.now c.args._journal.now.events c.args.dependents.now c.args.tables.now c.loop-i.tables c.refresh.new.tables c.loop-i.i _ _
     c.loop-i.invariant c.loop-i-test.true known
-    (c.requires.records.each _
-    (omega (
-      arith,
-      known,
-      c.requires.records.many,
-      task_count-same c.args._event.now c.args._journal.now.events (quit_makes_none c.args._event.now c.args._master c.requires.quits),
-    )))
+    (right_behind c.args._event.now c.args._journal.now.events c.args.records.now _ (quit_makes_none c.args._event.now c.args._master c.requires.quits)
+    c.requires.records known).1
     c.refresh.ensures
 
 pub returns-clause-phases : goal.returns-clause-phases

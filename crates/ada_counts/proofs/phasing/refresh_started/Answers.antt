@@ -1,21 +1,17 @@
 use Rattle.std.proofs.Common.{arith, sym, ap, ◌∙◌}
 use Rattle.ada_events.specs.declared.event.Event.TheVariants.{Started}
 use Rattle.ada_events.specs.declared.names.TaskNo.{TaskNo}
-use Rattle.ada_laws.proofs.Growing.{task_count-same}
 use Rattle.ada_records.proofs.Starting.{starter_exists, named_exists}
-use Rattle.ada_counts.proofs.Refreshing.{one_named, all_named, start_makes}
+use Rattle.ada_counts.proofs.Refreshing.{one_named, all_named, right_behind, start_makes}
 use Rattle.ada_counts.proofs.phasing.refresh_started.Goals as goal
 
 pub bounds-records-named : goal.bounds-records-named
 bounds-records-named c =
     let main : TaskNo = record { 0 = 0 } in
-    omega (
-      arith,
-      named_exists c.args._event.now c.args._journal.now.events c.args.by c.as_slice-named.result.now c.loop-i.i main c.requires.lawful
-          (c.requires.starts ∙ ap (Started c.args.by) (sym c.as_slice-named.ensures.value)) c.loop-i-test.true,
-      c.requires.records.many,
-      task_count-same c.args._event.now c.args._journal.now.events (start_makes c.args._event.now c.args.by c.args.tasks.now c.requires.starts),
-    )
+    (right_behind c.args._event.now c.args._journal.now.events c.args.records.now _
+    (start_makes c.args._event.now c.args.by c.args.tasks.now c.requires.starts) c.requires.records
+    (named_exists c.args._event.now c.args._journal.now.events c.args.by c.as_slice-named.result.now c.loop-i.i main c.requires.lawful
+    (c.requires.starts ∙ ap (Started c.args.by) (sym c.as_slice-named.ensures.value)) c.loop-i-test.true)).0
 
 pub refresh-requires : goal.refresh-requires
 refresh-requires c =
@@ -34,23 +30,15 @@ loop-i-preserved c =
     (c.requires.starts ∙ ap (Started c.args.by) (sym c.as_slice-named.ensures.value)) c.loop-i-test.true in
     one_named c.args._event.now c.args._journal.now.events c.as_slice-named.result.now c.args.tables.now c.loop-i.tables c.refresh.new.tables c.loop-i.i _ _
     c.loop-i.invariant c.loop-i-test.true known
-    (c.requires.records.each _
-    (omega (
-      arith,
-      known,
-      c.requires.records.many,
-      task_count-same c.args._event.now c.args._journal.now.events (start_makes c.args._event.now c.args.by c.args.tasks.now c.requires.starts),
-    )))
+    (right_behind c.args._event.now c.args._journal.now.events c.args.records.now _
+    (start_makes c.args._event.now c.args.by c.args.tasks.now c.requires.starts) c.requires.records known).1
     c.refresh.ensures
 
 pub bounds-records-by : goal.bounds-records-by
 bounds-records-by c =
-    omega (
-      arith,
-      starter_exists c.args._event.now c.args._journal.now.events c.args.by c.args.tasks.now c.requires.lawful c.requires.starts,
-      c.requires.records.many,
-      task_count-same c.args._event.now c.args._journal.now.events (start_makes c.args._event.now c.args.by c.args.tasks.now c.requires.starts),
-    )
+    (right_behind c.args._event.now c.args._journal.now.events c.args.records.now _
+    (start_makes c.args._event.now c.args.by c.args.tasks.now c.requires.starts) c.requires.records
+    (starter_exists c.args._event.now c.args._journal.now.events c.args.by c.args.tasks.now c.requires.lawful c.requires.starts)).0
 
 pub refresh-requires-2 : goal.refresh-requires-2
 refresh-requires-2 c =
@@ -67,5 +55,5 @@ returns-clause-phases c =
     all_named c.args._event.now c.args._journal.now.events c.args.by c.as_slice-named.result.now c.args.tables.now c.loop-i.tables c.refresh-2.new.tables
     c.loop-i.i _ c.requires.lawful
     (c.requires.starts ∙ ap (Started c.args.by) (sym c.as_slice-named.ensures.value)) makes c.loop-i-test.false c.loop-i.invariant known
-    (c.requires.records.each c.args.by.0 (omega (arith, known, c.requires.records.many, task_count-same c.args._event.now c.args._journal.now.events makes)))
+    (right_behind c.args._event.now c.args._journal.now.events c.args.records.now c.args.by.0 makes c.requires.records known).1
     c.refresh-2.ensures
