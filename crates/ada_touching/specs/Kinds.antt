@@ -55,7 +55,7 @@ pub record IsCloseAt (journal : List Event) (closing : Closing) (position : ℕ)
   pub stands : event_at journal position ≡ Some event
   pub says : closing_in event ≡ Some closing
 
--- the task's maker is suspended at a start that names the task, of which that waits (9.3)
+-- the task's maker is suspended at a start that names the task, and waits for the end of its activation (9.3)
 pub record IsActivationOf (journal : List Event) (task : TaskNo) (position : ℕ) : Type 0 where
   pub creation : Creation
   pub made : creation_of journal task.0 ≡ Some creation
