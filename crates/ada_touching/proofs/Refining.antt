@@ -9,7 +9,7 @@ use Rattle.std.proofs.lemmas.Bool.{and_parts, or_cases, or_parts, false≢true, 
 use Rattle.std.proofs.lemmas.Option.{none-some, same_Some, option_and_then_some}
 use Rattle.ada_events.specs.declared.event.Event.{Event}
 use Rattle.ada_events.specs.declared.event.Event.TheVariants as event
-use Rattle.ada_events.specs.declared.event.Event.TheVariants.{Halted, Failed, Met, Cancelled, Passed, Woken, Gone, Quit, Left}
+use Rattle.ada_events.specs.declared.event.Event.TheVariants.{Halted, Failed, Met, Cancelled, Passed, Woken, Quit, Left}
 use Rattle.ada_events.specs.declared.event.Way.{Way}
 use Rattle.ada_events.specs.declared.names.TaskNo.{TaskNo}
 use Rattle.ada_events.specs.declared.names.Master.{Master}
@@ -30,7 +30,7 @@ use Rattle.ada_events.specs.Lawful.{IsLawful}
 use Rattle.ada_laws.specs.Calls.{IsCallAt, IsWaitAt}
 use Rattle.ada_laws.specs.Masters.{IsOpeningAt}
 use Rattle.ada_laws.specs.Suspension.{IsSuspendedAt}
-use Rattle.ada_laws.proofs.Searching.{three_parts, then_some-some, if_some, option_map_or-true, event_at-cases, event_at-older, event_at-newest}
+use Rattle.ada_laws.proofs.Searching.{three_parts, then_some-some, if_some, event_at-cases, event_at-older, event_at-newest}
 use Rattle.ada_laws.proofs.Searching.{event_at-within}
 use Rattle.ada_laws.proofs.Saying.{held_in-wait, held_in-start, held_in-closing}
 use Rattle.ada_laws.proofs.Queueing.{is_open_at-call}
