@@ -5,6 +5,7 @@ ghost use Rattle.ada_agenda.specs.Bits.{has};
 ghost use Rattle.ada_agenda.specs.internal.Bits.{word_sum};
 
 use crate::levels::{first, put, take};
+use ada_events::limits::MOST_EVENTS;
 use std::alloc::{AllocError, Global};
 use std::marker::Model;
 
@@ -12,6 +13,9 @@ use std::marker::Model;
 const WORDS: usize = 1_088;
 
 const HEADS: usize = 17;
+
+// Each position of a journal is such a number.
+const _: () = prove!(MOST_EVENTS < 64 * WORDS);
 
 /// So many words of no bit.
 fn zeros(alloc: Global, count: usize) -> Result<Vec<u64>, AllocError>

@@ -6,7 +6,6 @@ use crate::boards::offer_first;
 use crate::saying::{SCRIPT, is_at, try_say};
 use crate::stepping::try_step;
 use ada_board::{BoardWriter, History, Readers, open_board};
-use ada_events::Refusal;
 use ada_hall::{Hall, Session};
 use ada_script::{Script, read};
 use ada_trials::{Answer, Reach, Seen};
@@ -35,14 +34,6 @@ pub fn try_hall<R: Wait + AllocGlobal>(
     match call {
         HallCall::New => made_twice(rt, &script, reach),
         _ => played::<Brand, R>(rt, History::new(), Blank::new(1), &script, call, reach),
-    }
-}
-
-/// The answer of a call of a hall that was refused.
-pub fn answer_of(cause: Refusal) -> Answer {
-    match cause {
-        Refusal::OutOfMemory => Answer::Refused,
-        _ => Answer::Failed,
     }
 }
 
@@ -102,7 +93,7 @@ fn made<J: Session, R: Wait + AllocGlobal>(
             let whole = publishes(rt, &mut writer, &mut places);
             writer.close(rt);
             let answer = if whole {
-                answer_of(cause)
+                Answer::from(cause)
             } else {
                 Answer::Failed
             };

@@ -1,7 +1,6 @@
 //! Trials of saying the lines of a script in a hall.
 ghost use Rattle.std.specs.Prelude.{◌≡◌, ◌<◌};
 
-use crate::halls::answer_of;
 use crate::stepping::told_step;
 use ada_board::BoardReader;
 use ada_events::{Request, TaskNo};
@@ -109,7 +108,7 @@ fn say<J: Session, R: Wait>(
     ensures { share.new.parts ≡ share.old.parts }
 {
     if let Err(cause) = hall.say(rt, share, place.min(LINES) as u32) {
-        return answer_of(cause);
+        return Answer::from(cause);
     }
     if hall.behind() {
         Answer::Behind

@@ -2,7 +2,6 @@
 ghost use Rattle.std.specs.Prelude.{◌≡◌, ◌<◌};
 
 use crate::boards::shows;
-use crate::halls::answer_of;
 use crate::saying::is_at;
 use ada_board::BoardReader;
 use ada_board::answers::opening_board;
@@ -59,7 +58,7 @@ fn step<J: Session, R: Wait>(rt: &R, hall: &mut Hall<'_, J>, share: &mut Share<J
                 Answer::Done
             }
         }
-        Err(cause) => answer_of(cause),
+        Err(cause) => Answer::from(cause),
     }
 }
 

@@ -11,8 +11,7 @@ use std::alloc::Global;
 pub fn answer_of(refusal: Option<Refusal>) -> Answer {
     match refusal {
         None => Answer::Done,
-        Some(Refusal::OutOfMemory) => Answer::Refused,
-        Some(_) => Answer::Failed,
+        Some(cause) => Answer::from(cause),
     }
 }
 
@@ -39,7 +38,7 @@ impl Trial for Making {
                 self.kernel = Some(kernel);
                 Answer::Done
             }
-            Err(cause) => answer_of(Some(cause)),
+            Err(cause) => Answer::from(cause),
         }
     }
 
@@ -142,7 +141,7 @@ impl Trial for Play {
                 }
                 Answer::Done
             }
-            Err(cause) => answer_of(Some(cause)),
+            Err(cause) => Answer::from(cause),
         }
     }
 

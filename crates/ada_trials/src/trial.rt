@@ -1,5 +1,7 @@
 //! A library call that is tried where memory may be refused to it.
 
+use ada_events::Refusal;
+
 /// What a call answered.
 #[derive(Clone, Copy, Debug, PartialEq, Eq)]
 pub enum Answer {
@@ -11,6 +13,15 @@ pub enum Answer {
     Refused,
     /// It failed for another cause.
     Failed,
+}
+
+impl From<Refusal> for Answer {
+    fn from(cause: Refusal) -> Answer {
+        match cause {
+            Refusal::OutOfMemory => Answer::Refused,
+            _ => Answer::Failed,
+        }
+    }
 }
 
 /// How far a trial goes.
