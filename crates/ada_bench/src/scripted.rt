@@ -3,7 +3,7 @@
 use crate::jobs::{Plan, Taker};
 use ada_events::TaskNo;
 use ada_kernel::Kernel;
-use ada_script::{Names, Script, asked};
+use ada_script::{Names, Script, Statement, asked};
 use std::alloc::Global;
 
 /// A script, and its names as its play has bound them.
@@ -19,20 +19,29 @@ impl Scripted {
     pub fn play(alloc: Global, script: Script) -> anyhow::Result<Scripted> {
         let mut names = script.names()?;
         let mut kernel = Kernel::new(alloc)?;
-        for line in script.lines() {
-            let made = TaskNo(kernel.tasks());
-            if line.statement.is_show() {
-                continue;
-            }
-            if let Ok(at) = kernel.step(asked(&line.statement, &names)) {
-                names.bind(&line.statement, at, made);
-            }
-        }
+        play_lines(&script, &mut kernel, &mut names);
         Ok(Scripted {
             script,
             names,
             kernel,
         })
+    }
+}
+
+fn play_lines(script: &Script, kernel: &mut Kernel, names: &mut Names) {
+    for line in script.lines() {
+        play_line(&line.statement, kernel, names);
+    }
+}
+
+// Plays a line that makes a request.
+fn play_line(statement: &Statement, kernel: &mut Kernel, names: &mut Names) {
+    if statement.is_show() {
+        return;
+    }
+    let made = TaskNo(kernel.tasks());
+    if let Ok(at) = kernel.step(asked(statement, names)) {
+        names.bind(statement, at, made);
     }
 }
 
