@@ -7,6 +7,7 @@ use Rattle.std.specs.Bool.{then_some}
 use Rattle.std.specs.List.{Contains, list_any, list_all}
 use Rattle.std.proofs.lemmas.Bool.{and_parts, and_cases, or_parts, or_cases, eq-eqb, eqb-true, lt-ltb, not-true, not-false, true≢false, false≢true, cases_Bool}
 use Rattle.std.proofs.lemmas.Bool.{cases_lt, false_from_ne_true}
+use Rattle.std.proofs.Math.Bool.{or-true}
 use Rattle.std.proofs.lemmas.Option.{none-some, option_and_then_some}
 use Rattle.ada_events.specs.declared.event.Event.{Event}
 use Rattle.ada_events.specs.declared.event.Event.TheVariants.{Halted, Failed, Cancelled, Passed, Woken, Activated, Gone, Quit, Left}
@@ -41,10 +42,6 @@ use Rattle.ada_forcing.specs.Touching.Touches.{block_quits, ends_within}
 use Rattle.ada_forcing.specs.Touching.MayQuit.{complete, idle, made}
 use Rattle.ada_forcing.proofs.TakingNewly.{waits_newly_take, pending_before}
 use Rattle.ada_forcing.proofs.Keys.{of_found}
-
-or_true : (b : Bool) → (b || true) ≡ true
-or_true true = refl
-or_true false = refl
 
 three_of : (a b c : Bool) → (a && not b && c) ≡ true → (a ≡ true) × (b ≡ false) × (c ≡ true)
 three_of true false true all = (refl, refl, refl)
@@ -87,7 +84,7 @@ unfolding is_caller_in_rendezvous is_joined_at is_open_at is_pending is_released
 still_joined event before u p e c at says by unreleased stays live met =
     any_event-from (λ p e. is_some_and (call_in e) (λ (c : Call). eqb c.by u) && is_joined_at (event ∷ before) p e) (event ∷ before) p e
     (event_at-older event before p e at)
-    (rw (says, by, eq-eqb u u refl, stays, unreleased, live, met) (or_true (is_some_and (meeting_in event) (λ (m : Meeting). eqb m.call p))))
+    (rw (says, by, eq-eqb u u refl, stays, unreleased, live, met) (or-true (is_some_and (meeting_in event) (λ (m : Meeting). eqb m.call p))))
 
 halts_at : (event : Event) (before : List Event) (u : ℕ) → is_abnormal before u ≡ true → has_ended (event ∷ before) u ≡ false
     → is_caller_in_rendezvous (event ∷ before) u ≡ false → is_caller_in_rendezvous before u ≡ true → Touches event before Halting u
@@ -264,7 +261,7 @@ goes_newly event before u go =
           ]
       | inr abandoned ↦
           elim (cases_Bool (is_abandoned before u)) [
-            | inl was ↦ inl (rw (live, was) (or_true (is_completed before u && all_terminated before (Body (task_no u)))))
+            | inl was ↦ inl (rw (live, was) (or-true (is_completed before u && all_terminated before (Body (task_no u)))))
             | inr was ↦ inr (abandons u was abandoned)
           ]
     ]

@@ -4,6 +4,7 @@ use Rattle.std.proofs.Common.{inr, eqb}
 use Rattle.std.specs.Prelude.{if◌then◌else◌}
 use Rattle.std.specs.Option.{option_map, option_map_or, option_len}
 use Rattle.std.proofs.lemmas.Bool.{cases_eq, eq-eqb, ne_eqb, false_from_ne_true}
+use Rattle.std.proofs.Math.Bool.{or-true, or-false}
 use Rattle.std.proofs.lemmas.Option.{none-some}
 use Rattle.ada_events.specs.declared.event.Event.{Event}
 use Rattle.ada_events.specs.declared.names.TaskNo.{TaskNo}
@@ -20,14 +21,6 @@ use Rattle.ada_laws.proofs.Depending.{depends_exists}
 use Rattle.ada_laws.proofs.Searching.{option_or-some, if_some, event_at-cases, event_at-newest, event_at-other, event_at-within}
 use Rattle.ada_laws.proofs.Reaching.{reaches-same, known_later, parent_in-known, parent_in-created, parent_in-opened, reaches_up, reaches_down, frame_known}
 use Rattle.ada_laws.proofs.Reaching.{creation_asked, opening_asked, reaches_known}
-
-or_true : (b : Bool) → (b || true) ≡ true
-or_true true = refl
-or_true false = refl
-
-or_false : (b : Bool) → (b || false) ≡ b
-or_false true = refl
-or_false false = refl
 
 pub same_truth : (a b : Bool) → (a ≡ true → b ≡ true) → (b ≡ true → a ≡ true) → a ≡ b
 same_truth true b forth back = sym (forth refl)
@@ -99,7 +92,7 @@ older_parent : (event : Event) (before : List Event) (x y : Master) (o : Option 
     → option_map_or (λ (z : Master). reaches (event ∷ before) z y) o false ≡ option_map_or (λ (z : Master). reaches before z y) o false
 older_parent event before x y None lawful known older is = refl
 older_parent event before x y (Some z) lawful known older is =
-    let reached : reaches before x z ≡ true = older z ∙ rw (is, reaches-same before z) (or_true (same_master x z)) in
+    let reached : reaches before x z ≡ true = older z ∙ rw (is, reaches-same before z) (or-true (same_master x z)) in
     reaches_later event before z y (reaches_known before lawful x z known reached)
 
 or_twice : (a b : Bool) → (a || (a || b)) ≡ (a || b)
@@ -128,8 +121,8 @@ by_making event before x y lawful (block p o says same) older =
 -- what is reached from a master is that master, or is reached from its parent
 pub masters_reach_by_parents : MastersReachByParents
 unfolding reaches creation_of event_at
-masters_reach_by_parents [] (Body t) y lawful known = sym (or_false (same_master (Body t) y))
-masters_reach_by_parents [] (Block p) y lawful known = sym (or_false (same_master (Block p) y))
+masters_reach_by_parents [] (Body t) y lawful known = sym (or-false (same_master (Body t) y))
+masters_reach_by_parents [] (Block p) y lawful known = sym (or-false (same_master (Block p) y))
 masters_reach_by_parents (event ∷ before) x y lawful known =
     by_making event before x y lawful (made_cases event before x known) (λ earlier z. masters_reach_by_parents before x z lawful.0 earlier)
 
@@ -171,7 +164,7 @@ of_creation event before t y lawful (Some c) says older =
     elim (cases_eq t.0 (task_count before)) [
       | inl same ↦
           rw (says, eq-eqb t.0 (task_count before) same, nobody before t.0 y same)
-          (or_false (reaches before c.master y) ∙ sym (reaches_later event before c.master y (creation_known event before c lawful says)))
+          (or-false (reaches before c.master y) ∙ sym (reaches_later event before c.master y (creation_known event before c lawful says)))
       | inr differs ↦
           rw (says, ne_eqb t.0 (task_count before) differs, older) (of_older event before t y (creation_of before t.0) lawful.0 refl)
     ]

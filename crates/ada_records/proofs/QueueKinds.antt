@@ -34,9 +34,9 @@ and_true : (b : Bool) → b ≡ (b && true)
 and_true true = refl
 and_true false = refl
 
-or_false : (a : Bool) → (a || (false || false)) ≡ a
-or_false true = refl
-or_false false = refl
+or_neither : (a : Bool) → (a || (false || false)) ≡ a
+or_neither true = refl
+or_neither false = refl
 
 -- an event that makes no call adds nothing
 pub no_newest : (event : Event) (before : List Event) (task : ℕ) (entry : Entry) → call_in event ≡ None → newest_call event before task entry ≡ []
@@ -139,10 +139,10 @@ same_side false a b same = refl
 completes_only : (e : Event) (task u : ℕ) (before : List Event) → completed_in e ≡ Some task → (released_in e ≡ None) × (meeting_in e ≡ None)
     × (call_in e ≡ None) × (ends e before u ≡ eqb u task)
 unfolding completed_in released_in meeting_in call_in gone_in quit_in
-completes_only (event.Completed by) task u before says = (refl, refl, refl, rw (same_Some _ task says) (or_false (eqb u task)))
-completes_only (event.Elaborated by false) task u before says = (refl, refl, refl, rw (same_Some _ task says) (or_false (eqb u task)))
+completes_only (event.Completed by) task u before says = (refl, refl, refl, rw (same_Some _ task says) (or_neither (eqb u task)))
+completes_only (event.Elaborated by false) task u before says = (refl, refl, refl, rw (same_Some _ task says) (or_neither (eqb u task)))
 completes_only (event.Elaborated by true) task u before says = absurd (none-some task says)
-completes_only (event.Halted t) task u before says = (refl, refl, refl, rw (same_Some _ task says) (or_false (eqb u task)))
+completes_only (event.Halted t) task u before says = (refl, refl, refl, rw (same_Some _ task says) (or_neither (eqb u task)))
 completes_only _ task u before says = absurd (none-some task says)
 
 pub queue_completed : (event : Event) (before : List Event) (task : ℕ) (entry : Entry) (u at : ℕ) → IsLawful before → completed_in event ≡ Some u

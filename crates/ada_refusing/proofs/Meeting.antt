@@ -1,5 +1,6 @@
 -- The causes for which the requests of a rendezvous are refused, without those that never apply to them.
 use Rattle.std.proofs.Common.{◌≡◌, ℕ, Bool, true, false, not, ◌||◌, List, [], ◌∷◌, length, refl}
+use Rattle.std.proofs.Math.Bool.{or-false}
 use Rattle.std.specs.Prelude.{nat_le}
 use Rattle.std.specs.List.{list_any}
 use Rattle.ada_events.specs.declared.event.Event.{Event}
@@ -22,11 +23,6 @@ use Rattle.ada_events.specs.Refusals.{is_not_in_accept, has_no_block, is_still_n
 use Rattle.ada_events.specs.Search.{is_some_and}
 use Rattle.ada_events.specs.Tasks.{has_task}
 
--- a list of one passes a test where that one passes
-or_false : (b : Bool) → (b || false) ≡ b
-or_false true = refl
-or_false false = refl
-
 -- an entry call
 pub call_causes : (journal : List Event) (by callee : TaskNo) (entry : Entry) (patience : Patience)
     → refusal journal (Call by callee entry patience)
@@ -41,7 +37,7 @@ unfolding refusal causes first_cause names_unknown_task asker named_tasks asker_
     has_empty_list is_not_your_task has_no_accept names_no_family breaks_constraint nests_same_family terminates_in_accept is_not_in_accept has_no_block
     is_still_nested aborts_main moves_back makes_too_many_tasks makes_too_many_slots is_too_deep
 call_causes journal by callee entry patience =
-    rw (or_false (not (has_task journal callee.0))) refl
+    rw (or-false (not (has_task journal callee.0))) refl
 
 -- an accept statement
 pub accept_causes : (journal : List Event) (by : TaskNo) (entry : Entry) (pick : ℕ)
@@ -59,7 +55,7 @@ unfolding refusal causes first_cause names_unknown_task asker named_tasks asker_
     has_empty_list is_not_your_task has_no_accept names_no_family breaks_constraint nests_same_family terminates_in_accept is_not_in_accept has_no_block
     is_still_nested aborts_main moves_back is_too_late makes_too_many_tasks makes_too_many_slots is_too_deep
 accept_causes journal by entry pick =
-    simp or_false refl
+    simp or-false refl
 
 -- the end of an accept statement
 pub end_causes : (journal : List Event) (by : TaskNo) (raised : Bool)
@@ -74,4 +70,4 @@ unfolding refusal causes first_cause names_unknown_task asker named_tasks asker_
     has_empty_list is_not_your_task has_no_accept names_no_family breaks_constraint nests_same_family terminates_in_accept is_not_in_accept has_no_block
     is_still_nested aborts_main moves_back is_too_late makes_too_many_tasks makes_too_many_slots is_too_deep
 end_causes journal by raised =
-    simp or_false refl
+    simp or-false refl
