@@ -3,6 +3,7 @@ ghost use Rattle.std.specs.Prelude.{◌≡◌, IfOk, map};
 ghost use Rattle.clap.specs.Words.{FailsBy, app_of, found_of, rows_of, subcommand_rows_of};
 ghost use Rattle.ada_command_line.specs.Orders.{adatask, is_free, ordered, order_named, refused_kinds};
 
+use ada_events::limits::{MOST_EVENTS, MOST_SLOTS, MOST_TASKS};
 use clap::{Arg, ArgAction, ArgMatches, Command, Error};
 use std::alloc::{AllocError, Global};
 use std::convert::AsStr;
@@ -46,7 +47,19 @@ Exit status:
   2  the command line is refused
   3  the main program isn't terminated at the end
   4  memory, the input, the output or a thread was refused
+
+Limits:
+
+  256 tasks, the main program counted, 1,024 entries and 65,536 events, what is gone
+  counted; a request that would go beyond is refused, and the journal names its cause
 ";
+
+// The numbers of the help are those of the kernel.
+const _: () = prove!(MOST_TASKS == 256);
+
+const _: () = prove!(MOST_SLOTS == 1_024);
+
+const _: () = prove!(MOST_EVENTS == 65_536);
 
 /// What the words of a command line order, of which the first is the program's name: `replay`, or nothing,
 /// to replay; `run` to run, with `--free` as the threads come. Any other word is refused, and `--help` and

@@ -80,6 +80,7 @@ fn help_is_shown(rt: HostRuntime) -> Result<(), Fail> {
             assert!(rt; text.contains("print the journal of what happens"));
             assert!(rt; text.contains("main: create S under main E"));
             assert!(rt; text.contains("2  the command line is refused"));
+            assert!(rt; text.contains("256 tasks"));
             assert!(rt; !help.use_stderr());
         }
     }
