@@ -1,14 +1,13 @@
 //! The answers to the lines of a script.
 ghost use Rattle.std.specs.Prelude.{◌≡◌, ◌<◌};
 
-use crate::opened::{Setting, opened};
-use ada_board::{BoardReader, History, Readers};
+use crate::scene::{Scene, played};
+use ada_board::{BoardReader, Readers};
 use ada_events::{Refusal, TaskNo};
 use ada_hall::{Answer, Asking, Hall, Session};
-use ada_script::{Script, Value, read};
-use std::marker::Brand;
+use ada_script::{Value, read};
 use std::sync::Wait;
-use std::sync::ledger::{Blank, Share};
+use std::sync::ledger::Share;
 use std::test::Fail;
 
 /// A server with a queued call, lines that show attributes, and lines that are refused.
@@ -88,46 +87,27 @@ fn are_shown<J: Session>(
     )
 }
 
-/// Plays all requests, shows the attributes, and then tries places that are answered or none.
-fn answer_all<J: Session, R: Wait>(
-    rt: &R,
-    hall: &mut Hall<'_, J>,
-    share: &mut Share<J>,
-    places: &mut Readers<J>,
-) -> Result<bool, Fail>
-    requires { 0 < share.old.parts }
-{
-    let mut reader = places.take()?;
-    say_all(rt, hall, share)?;
-    let right = are_said(hall);
-    let shown = are_shown(hall, &mut reader)?;
-    Ok(right && shown && stay(rt, hall, share))
-}
+/// All requests are played, the attributes shown, and then places tried that are answered or none.
+struct Answering;
 
-fn lines_played<J: Session, R: Wait + AllocGlobal>(
-    rt: &R,
-    history: History,
-    blank: Blank,
-    script: &Script,
-) -> Result<bool, Fail>
-    requires named { history ≡ J.book }
-    requires script { script.now ≡ J.script }
-    requires ledger { (blank.name ≡ J.name) × (blank.parts ≡ J.parts) }
-    requires parts { 0 < blank.parts }
-{
-    let Setting {
-        mut hall,
-        mut places,
-        mut share,
-    } = opened::<J, R>(rt, history, blank, script, 1)?;
-    let came = answer_all(rt, &mut hall, &mut share, &mut places);
-    hall.close(rt);
-    came
+impl Scene for Answering {
+    fn play<J: Session, R: Wait>(
+        rt: &R,
+        hall: &mut Hall<'_, J>,
+        share: &mut Share<J>,
+        places: &mut Readers<J>,
+    ) -> Result<bool, Fail> {
+        let mut reader = places.take()?;
+        say_all(rt, hall, share)?;
+        let right = are_said(hall);
+        let shown = are_shown(hall, &mut reader)?;
+        Ok(right && shown && stay(rt, hall, share))
+    }
 }
 
 #[test]
 fn lines_have_their_own_answers(rt: HostRuntime) -> Result<(), Fail> {
     let script = read(rt.alloc(), LINES)?;
-    assert!(rt; lines_played::<Brand, _>(&rt, History::new(), Blank::new(1), &script)?);
+    assert!(rt; played::<Answering, _>(&rt, &script, 1)?);
     Ok(())
 }

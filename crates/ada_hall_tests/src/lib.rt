@@ -7,4 +7,6 @@ mod answering;
 mod memory;
 pub mod opened;
 #[cfg(test)]
+mod scene;
+#[cfg(test)]
 mod stepping;

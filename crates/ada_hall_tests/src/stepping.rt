@@ -1,16 +1,15 @@
 //! Steps of a hall, with readers beside it.
 ghost use Rattle.std.specs.Prelude.{◌≡◌, ◌<◌};
 
-use crate::opened::{Setting, opened};
-use ada_board::{BoardFault, History, Readers};
+use crate::scene::{Scene, played};
+use ada_board::{BoardFault, Readers};
 use ada_board_tests::Watchers;
 use ada_events::{Refusal, Request};
 use ada_hall::{Hall, Session, Told};
 use ada_requests::{MAIN, SINGLE, abort, activate, create, timed_call, up};
-use ada_script::{Script, read};
-use std::marker::Brand;
+use ada_script::read;
 use std::sync::Wait;
-use std::sync::ledger::{Blank, Share};
+use std::sync::ledger::Share;
 use std::test::Fail;
 
 /// Makes a server, task 1 with two entries, and two clients, and activates them: 8 events.
@@ -70,45 +69,26 @@ fn worked_row<J: Session, R: Wait>(
 }
 
 /// The row by two readers, for which there are two places and no third, and what the hall keeps of it.
-fn row_watched<J: Session, R: Wait>(
-    rt: &R,
-    hall: &mut Hall<'_, J>,
-    share: &mut Share<J>,
-    places: &mut Readers<J>,
-) -> Result<bool, Fail>
-    requires { 0 < share.old.parts }
-{
-    let mut both = Watchers::take(places)?;
-    let full = places.take().err() == Some(BoardFault::NoPlace);
-    let seen = worked_row(rt, hall, share, &mut both)?;
-    Ok(full && seen && !hall.behind() && hall.total() == 10 && hall.answers().is_empty())
-}
+struct Stepping;
 
-fn row_played<J: Session, R: Wait + AllocGlobal>(
-    rt: &R,
-    history: History,
-    blank: Blank,
-    script: &Script,
-) -> Result<bool, Fail>
-    requires named { history ≡ J.book }
-    requires script { script.now ≡ J.script }
-    requires ledger { (blank.name ≡ J.name) × (blank.parts ≡ J.parts) }
-    requires parts { 0 < blank.parts }
-{
-    let Setting {
-        mut hall,
-        mut places,
-        mut share,
-    } = opened::<J, R>(rt, history, blank, script, 2)?;
-    let came = row_watched(rt, &mut hall, &mut share, &mut places);
-    hall.close(rt);
-    came
+impl Scene for Stepping {
+    fn play<J: Session, R: Wait>(
+        rt: &R,
+        hall: &mut Hall<'_, J>,
+        share: &mut Share<J>,
+        places: &mut Readers<J>,
+    ) -> Result<bool, Fail> {
+        let mut both = Watchers::take(places)?;
+        let full = places.take().err() == Some(BoardFault::NoPlace);
+        let seen = worked_row(rt, hall, share, &mut both)?;
+        Ok(full && seen && !hall.behind() && hall.total() == 10 && hall.answers().is_empty())
+    }
 }
 
 // The second reader learns no mark: it would answer None of the server for ever, did it not look.
 #[test]
 fn steps_are_seen_without_the_lock(rt: HostRuntime) -> Result<(), Fail> {
     let script = read(rt.alloc(), b"")?;
-    assert!(rt; row_played::<Brand, _>(&rt, History::new(), Blank::new(1), &script)?);
+    assert!(rt; played::<Stepping, _>(&rt, &script, 2)?);
     Ok(())
 }
