@@ -50,8 +50,8 @@ Exit status:
 
 Limits:
 
-  256 tasks, the main program counted, 1,024 entries and 65,536 events, what is gone
-  counted; a request that would go beyond is refused, and the journal names its cause
+  256 tasks, the main program among them, 1,024 entries and 65,536 events, with all that
+  is gone; a request that would go beyond is refused, and its cause printed
 ";
 
 // The numbers of the help are those of the kernel.
