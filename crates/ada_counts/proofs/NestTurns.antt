@@ -50,6 +50,7 @@ use Rattle.ada_records.proofs.Saying.{met_says}
 use Rattle.ada_records.proofs.Unnesting.{nest_released}
 use Rattle.ada_tables.specs.Dependents.{has_block, count_below}
 use Rattle.ada_tables.specs.Standing.{live_count}
+use Rattle.ada_counts.specs.Noting.{passing_in}
 use Rattle.ada_counts.specs.internal.Renesting.{IsIdleIn, ChangesNests}
 use Rattle.ada_counts.specs.declared.nests.NestChange.TheVariants.{Nothing, Enters, LeavesBlock, EndsRendezvous}
 use Rattle.ada_counts.proofs.Cuts.{all_apart, cuts_keep_the_rest}
@@ -58,7 +59,7 @@ use Rattle.ada_counts.proofs.Nesting.{innermost_last}
 use Rattle.ada_counts.proofs.OnePhaseKinds.{not_in_nest}
 use Rattle.ada_counts.proofs.Owners.{block_in_nest, one_holder}
 use Rattle.ada_counts.proofs.PendingNests.{EndsWith, has_innermost, closed_last, waiting_shallow}
-use Rattle.ada_counts.proofs.ReleasedKinds.{HasOpenCall, plain_release, plainly_uncalled, cancelled_unmet, failed_open, ended_open, IsLeaving, is_leaving}
+use Rattle.ada_counts.proofs.ReleasedKinds.{HasOpenCall, plainly_uncalled, cancelled_unmet, failed_open, ended_open, IsLeaving, is_leaving}
 use Rattle.ada_counts.proofs.ReleasedKinds.{closing_is}
 
 -- an event that opens, meets and releases nothing
@@ -74,11 +75,11 @@ unfolding opening_in meeting_in released_in
 nests_elaborated event before by ok is lawful = nests_kept event (kind.Elaborated by ok) before is refl refl refl lawful
 
 -- the end of a wait otherwise than by a rendezvous, of a delay or of a start
-pub nests_passed : (event f : Event) (before : List Event) (p : ℕ) → event ≡ f → plain_release f ≡ Some p → released_in f ≡ Some p → left_in f ≡ None
+pub nests_passed : (event f : Event) (before : List Event) (p : ℕ) → event ≡ f → passing_in f ≡ Some p → released_in f ≡ Some p → left_in f ≡ None
     → meeting_in f ≡ None → IsLawful (event ∷ before) → ChangesNests event before Nothing
 nests_passed event f before p is plain frees leaves meets lawful = λ task.
     nest_released event before task p (ap released_in is ∙ frees) (ap left_in is ∙ leaves) (ap meeting_in is ∙ meets)
-    ∙ all_apart p (nest before task) (not_in_nest before task p (plainly_uncalled event before p lawful (ap plain_release is ∙ plain)))
+    ∙ all_apart p (nest before task) (not_in_nest before task p (plainly_uncalled event before p lawful (ap passing_in is ∙ plain)))
 
 cancelled_says : (event : Event) (p : ℕ) → event ≡ kind.Cancelled p → (released_in event ≡ Some p) × (left_in event ≡ None) × (meeting_in event ≡ None)
 unfolding released_in left_in meeting_in

@@ -33,12 +33,13 @@ use Rattle.ada_records.proofs.QueueKinds.{queue_called, queue_released, queue_me
 use Rattle.ada_records.proofs.Saying.{held_apart}
 use Rattle.ada_records.proofs.TaskEnds.{completion_exists}
 use Rattle.ada_tables.specs.Standing.{caller_of}
+use Rattle.ada_counts.specs.Noting.{passing_in}
 use Rattle.ada_counts.specs.internal.Requeuing.{without_caller, ComesLast, ChangesQueues}
 use Rattle.ada_counts.specs.declared.queues.QueueChange.TheVariants.{Nothing, Joins, Leaves}
 use Rattle.ada_counts.proofs.Empty.{is_some}
 use Rattle.ada_counts.proofs.Entries.{new_number, declarer_exists}
 use Rattle.ada_counts.proofs.OnePhaseKinds.{completes_only, completed_queue, filter_absent, not_in_queue}
-use Rattle.ada_counts.proofs.ReleasedKinds.{plain_release, plainly_uncalled, is_leaving, closing_is}
+use Rattle.ada_counts.proofs.ReleasedKinds.{plainly_uncalled, is_leaving, closing_is}
 
 -- an event that makes no call, releases nothing, meets and completes nobody
 pub queues_kept : (event f : Event) (before : List Event) → event ≡ f → call_in f ≡ None → released_in f ≡ None → meeting_in f ≡ None → completed_in f ≡ None
@@ -53,11 +54,11 @@ uncalled_released : (event : Event) (before : List Event) (p : ℕ) → released
 uncalled_released event before p frees meets calls uncalled = λ task entry.
     queue_released event before task entry p frees meets calls ∙ filter_absent p (queue before task entry) (not_in_queue before task p entry uncalled)
 
-pub queues_passed : (event f : Event) (before : List Event) (p : ℕ) → event ≡ f → plain_release f ≡ Some p → released_in f ≡ Some p → meeting_in f ≡ None
+pub queues_passed : (event f : Event) (before : List Event) (p : ℕ) → event ≡ f → passing_in f ≡ Some p → released_in f ≡ Some p → meeting_in f ≡ None
     → call_in f ≡ None → IsLawful (event ∷ before) → ChangesQueues event before Nothing
 queues_passed event f before p is plain frees meets calls lawful =
     uncalled_released event before p (ap released_in is ∙ frees) (ap meeting_in is ∙ meets) (ap call_in is ∙ calls)
-    (plainly_uncalled event before p lawful (ap plain_release is ∙ plain))
+    (plainly_uncalled event before p lawful (ap passing_in is ∙ plain))
 
 closed_calls_none : (by : TaskNo) (block : ℕ) → call_in (kind.Closed by block) ≡ None
 unfolding call_in

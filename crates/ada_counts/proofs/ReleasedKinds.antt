@@ -28,6 +28,7 @@ use Rattle.ada_laws.proofs.Searching.{option_map_or-true}
 use Rattle.ada_laws.proofs.Stepping.{queued_open}
 use Rattle.ada_records.proofs.Saying.{not_both}
 use Rattle.ada_records.proofs.Within.{nest_open}
+use Rattle.ada_counts.specs.Noting.{passing_in}
 
 -- the position of an open call
 abbrev pub HasOpenCall : List Event → ℕ → Type 0
@@ -39,14 +40,7 @@ forced_call (kind.Failed call) = Some call
 forced_call (kind.Cancelled call) = Some call
 forced_call _ = None
 
--- what an event releases that isn't a call or a close
-abbrev pub plain_release : Event → Option ℕ
-plain_release (kind.Passed wait way) = Some wait
-plain_release (kind.Woken pause) = Some pause
-plain_release (kind.Activated start ok) = Some start
-plain_release _ = None
-
-asked_plainly : (journal : List Event) (r : Request) → (forced_call (asked_event journal r) ≡ None) × (plain_release (asked_event journal r) ≡ None)
+asked_plainly : (journal : List Event) (r : Request) → (forced_call (asked_event journal r) ≡ None) × (passing_in (asked_event journal r) ≡ None)
     × (left_in (asked_event journal r) ≡ None)
 unfolding asked_event left_in
 asked_plainly journal (request.Open by) = (refl, refl, refl)
@@ -128,7 +122,7 @@ uncalled_at : (journal : List Event) (p q : ℕ) (e : Event) → event_at journa
 uncalled_at journal p q e at none same =
     subst (λ (n : ℕ). call_at journal n ≡ None) (same_Some q p same) (ap (option_and_then call_in) at ∙ none)
 
-row_uncalled : (journal : List Event) (event : Event) (p : ℕ) → IsRow journal event → plain_release event ≡ Some p → call_at journal p ≡ None
+row_uncalled : (journal : List Event) (event : Event) (p : ℕ) → IsRow journal event → passing_in event ≡ Some p → call_at journal p ≡ None
 row_uncalled journal event p (passes q e wait way at says pending takes) ends =
     uncalled_at journal p q e at (no_call e (λ c calls. not_both e c wait calls says)) ends
 row_uncalled journal event p (wakes q e delay at says wake) ends = uncalled_at journal p q e at (delay_calls_none e delay says) ends
@@ -136,12 +130,12 @@ row_uncalled journal event p (activates q e start ok at says pending all same) e
 row_uncalled journal event p _ ends = absurd (none-some p ends)
 
 -- a wait that ends without a rendezvous, a delay and a start aren't calls
-pub plainly_uncalled : (event : Event) (before : List Event) (p : ℕ) → IsLawful (event ∷ before) → plain_release event ≡ Some p → call_at before p ≡ None
+pub plainly_uncalled : (event : Event) (before : List Event) (p : ℕ) → IsLawful (event ∷ before) → passing_in event ≡ Some p → call_at before p ≡ None
 plainly_uncalled event before p lawful ends = by_row lawful.1
   where
     by_row : MayFollow before event → call_at before p ≡ None
     by_row (inl forces) = row_uncalled before event p (forced-row before event forces) ends
-    by_row (inr asked) = absurd (none-some p (sym (ap plain_release asked.becomes ∙ (asked_plainly before asked.request).1) ∙ ends))
+    by_row (inr asked) = absurd (none-some p (sym (ap passing_in asked.becomes ∙ (asked_plainly before asked.request).1) ∙ ends))
 
 -- the call that an end names
 abbrev ended_call : Event → Option ℕ

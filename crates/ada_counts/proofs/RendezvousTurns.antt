@@ -24,16 +24,16 @@ use Rattle.ada_laws.proofs.Rows.IsRow.{fails}
 use Rattle.ada_tables.specs.Tables.{TableState}
 use Rattle.ada_counts.specs.declared.nests.NestChange.TheVariants.{Nothing as SameNests, Enters, EndsRendezvous}
 use Rattle.ada_counts.specs.declared.queues.QueueChange.TheVariants.{Nothing as SameQueues, Joins, Leaves}
-use Rattle.ada_counts.specs.Noting.{MakesCall, MakesWait, EndsCall}
+use Rattle.ada_counts.specs.Noting.{MakesCall, EndsCall}
 use Rattle.ada_counts.specs.internal.Known.{AreKnown}
-use Rattle.ada_counts.proofs.NestTurns.{nests_kept, nests_of_end, nests_met, accepted_by_callee}
+use Rattle.ada_counts.proofs.NestTurns.{nests_kept, nests_cancelled, nests_of_end, nests_met, accepted_by_callee}
 use Rattle.ada_counts.proofs.QueueTurns.{queues_called, queues_kept, queues_ended, queues_met}
 use Rattle.ada_counts.proofs.Room.{needs_no_room}
 use Rattle.ada_counts.proofs.TouchedTasks.{held_touches, released_touches}
 
 -- a call of an entry comes last there, and holds its task up
 pub call_known : (event : Event) (before : List Event) (tables : TableState) (by callee : TaskNo) (entry : Entry) → MakesCall event by callee entry
-    → 0 < tables.spare → IsLawful (event ∷ before) → AreKnown event before tables (Joins by callee entry) SameNests by
+    → 0 < tables.spare → IsLawful (event ∷ before) → AreKnown event before tables (Joins by callee entry) SameNests (Some by)
 unfolding creation_in opening_in call_in meeting_in released_in held_in started_in
 call_known event before tables by callee entry calls room lawful = record {
   makes = ap creation_in calls.is;
@@ -41,18 +41,6 @@ call_known event before tables by callee entry calls room lawful = record {
   queues = queues_called event before _ by callee entry (ap call_in calls.is) refl refl refl lawful;
   nests = nests_kept event _ before calls.is refl refl refl lawful;
   touches = held_touches event _ before by calls.is refl refl lawful;
-}
-
--- a wait holds its task up
-pub wait_known : (event : Event) (before : List Event) (tables : TableState) (by : TaskNo) → MakesWait event by → IsLawful (event ∷ before)
-    → AreKnown event before tables SameQueues SameNests by
-unfolding creation_in opening_in call_in meeting_in released_in completed_in held_in started_in
-wait_known event before tables by waits lawful = record {
-  makes = ap creation_in waits.is;
-  room = needs_no_room event _ tables waits.is refl;
-  queues = queues_kept event _ before waits.is refl refl refl refl lawful;
-  nests = nests_kept event _ before waits.is refl refl refl lawful;
-  touches = held_touches event _ before by waits.is refl refl lawful;
 }
 
 -- who ends a rendezvous, and with which call
@@ -101,7 +89,7 @@ ender_is_callee event before by p raised lawful is c calls =
 
 -- the end of a rendezvous takes it out of the nest of the task that ends it, and lets its caller go on
 pub end_known : (event : Event) (before : List Event) (tables : TableState) (by caller : TaskNo) (call : ℕ) → EndsCall event by call
-    → IsSuspendedAt before caller.0 call → IsLawful (event ∷ before) → AreKnown event before tables (Leaves caller) (EndsRendezvous by call) caller
+    → IsSuspendedAt before caller.0 call → IsLawful (event ∷ before) → AreKnown event before tables (Leaves caller) (EndsRendezvous by call) (Some caller)
 unfolding creation_in call_in meeting_in released_in
 end_known event before tables by caller call ends held lawful = record {
   makes = ap creation_in ends.is;
@@ -114,7 +102,7 @@ end_known event before tables by caller call ends held lawful = record {
 -- the beginning of a rendezvous takes its call out of the queue, puts it into the nest of the acceptor, and lets that go on
 pub meeting_known : (event : Event) (before : List Event) (tables : TableState) (call wait : ℕ) (caller acceptor : TaskNo) → event ≡ kind.Met call wait
     → IsSuspendedAt before caller.0 call → IsSuspendedAt before acceptor.0 wait → IsLawful (event ∷ before)
-    → AreKnown event before tables (Leaves caller) (Enters acceptor (Rendezvous call)) acceptor
+    → AreKnown event before tables (Leaves caller) (Enters acceptor (Rendezvous call)) (Some acceptor)
 unfolding creation_in call_in released_in
 meeting_known event before tables call wait caller acceptor is calls waits lawful = record {
   makes = ap creation_in is;
@@ -122,4 +110,16 @@ meeting_known event before tables call wait caller acceptor is calls waits lawfu
   queues = queues_met event before caller call wait is calls lawful;
   nests = nests_met event before acceptor call wait is waits lawful;
   touches = released_touches event _ before acceptor wait is refl lawful waits;
+}
+
+-- the cancellation of a call takes it out of its queue, and lets its caller go on
+pub cancellation_known : (event : Event) (before : List Event) (tables : TableState) (call : ℕ) (caller : TaskNo) → event ≡ kind.Cancelled call
+    → IsSuspendedAt before caller.0 call → IsLawful (event ∷ before) → AreKnown event before tables (Leaves caller) SameNests (Some caller)
+unfolding creation_in call_in meeting_in released_in
+cancellation_known event before tables call caller is held lawful = record {
+  makes = ap creation_in is;
+  room = needs_no_room event _ tables is refl;
+  queues = queues_ended event _ before caller call is refl refl refl held lawful;
+  nests = nests_cancelled event before call is lawful;
+  touches = released_touches event _ before caller call is refl lawful held;
 }

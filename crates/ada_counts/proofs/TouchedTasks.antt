@@ -2,10 +2,9 @@
 use Rattle.std.proofs.Common.{◌≡◌, ℕ, ◌<◌, Bool, true, false, Some, None, List, [], ◌∷◌, refl, sym, ap, ◌∙◌, subst}
 use Rattle.std.proofs.lemmas.Option.{none-some, same_Some}
 use Rattle.ada_events.specs.declared.event.Event.{Event}
-use Rattle.ada_events.specs.declared.event.Event.TheVariants.{Elaborated, Gone, Quit, Started}
-use Rattle.ada_events.specs.declared.names.Master.{Master}
+use Rattle.ada_events.specs.declared.event.Event.TheVariants.{Elaborated, Gone, Started}
 use Rattle.ada_events.specs.declared.names.TaskNo.{TaskNo}
-use Rattle.ada_events.specs.Says.{held_in, start_in, started_in, released_in, completed_in, gone_in, quit_in}
+use Rattle.ada_events.specs.Says.{held_in, started_in, released_in, completed_in, gone_in, quit_in}
 use Rattle.ada_events.specs.Tasks.{task_count}
 use Rattle.ada_events.specs.Phases.{lists_task, is_completed, is_terminated}
 use Rattle.ada_events.specs.Lawful.{IsLawful}
@@ -16,7 +15,7 @@ use Rattle.ada_records.proofs.Holding.{hold_only, holder_ran}
 use Rattle.ada_records.proofs.Saying.{release_only, held_apart}
 use Rattle.ada_records.proofs.TaskEnds.{goer_exists, elaborator_exists}
 use Rattle.ada_tables.specs.Standing.{phase_of}
-use Rattle.ada_counts.specs.internal.Phasing.{TouchesFew, TouchesOnly}
+use Rattle.ada_counts.specs.internal.Phasing.{TouchesOnly}
 use Rattle.ada_counts.proofs.KeptPhases.{others_keep_phases}
 use Rattle.ada_counts.proofs.OnePhase.{going_changes_one_phase}
 use Rattle.ada_counts.proofs.OnePhaseKinds.{completes_only, other_completed, same_ends}
@@ -100,28 +99,6 @@ elaborated_touches event before by true is lawful = (
 )
 elaborated_touches event before by false is lawful =
     completed_touches event (Elaborated by false) before by is refl (elaborator_exists event before by false lawful is) lawful
-
--- an event of another kind than a start and a quit touches few
-pub touches_few : (e : Event) → ((by : TaskNo) (tasks : List TaskNo) → e ≡ Started by tasks → ⊥) → ((master : Master) → e ≡ Quit master → ⊥) → TouchesFew e
-unfolding start_in quit_in
-touches_few (Started by tasks) start quit = absurd (start by tasks refl)
-touches_few (Quit master) start quit = absurd (quit master refl)
-touches_few _ start quit = record { starts = refl; quits = refl }
-
-started_few : (event : Event) (by : TaskNo) (tasks : List TaskNo) → event ≡ Started by tasks → TouchesFew event → ⊥
-unfolding start_in
-started_few event by tasks is few = none-some _ (sym few.starts ∙ ap start_in is)
-
-quit_few : (event : Event) (master : Master) → event ≡ Quit master → TouchesFew event → ⊥
-unfolding quit_in
-quit_few event master is few = none-some _ (sym few.quits ∙ ap quit_in is)
-
-pub start_excluded : (event : Event) (before : List Event) (by : TaskNo) (tasks : List TaskNo) → event ≡ Started by tasks → TouchesFew event
-    → TouchesOnly event before None
-start_excluded event before by tasks is few = absurd (started_few event by tasks is few)
-
-pub quit_excluded : (event : Event) (before : List Event) (master : Master) → event ≡ Quit master → TouchesFew event → TouchesOnly event before None
-quit_excluded event before master is few = absurd (quit_few event master is few)
 
 -- who is neither named by a start nor starts it keeps its phase
 pub start_touches : (event : Event) (before : List Event) (by : TaskNo) (tasks : List TaskNo) (task : ℕ) → event ≡ Started by tasks → IsLawful (event ∷ before)

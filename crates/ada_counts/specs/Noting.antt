@@ -1,9 +1,7 @@
 -- What has to be known where an event is noted in tables.
-use Rattle.std.specs.Prelude.{◌≡◌, ℕ, ℤ, Bool, ◌<◌, Option, IsSome, List, length}
+use Rattle.std.specs.Prelude.{◌≡◌, ℕ, ℤ, Bool, ◌<◌, Option, Some, None, IsSome, List, length}
 use Rattle.ada_events.specs.declared.event.Event.{Event}
-use Rattle.ada_events.specs.declared.event.Event.TheVariants.{Created, Called, Waiting, Ended}
-use Rattle.ada_events.specs.declared.event.EventTail.{EventTail}
-use Rattle.ada_events.specs.declared.names.Choice.{Choice}
+use Rattle.ada_events.specs.declared.event.Event.TheVariants.{Created, Called, Ended, Passed, Woken, Activated}
 use Rattle.ada_events.specs.declared.names.Entry.{Entry}
 use Rattle.ada_events.specs.declared.names.Family.{Family}
 use Rattle.ada_events.specs.declared.names.Master.{Master}
@@ -11,6 +9,7 @@ use Rattle.ada_events.specs.declared.names.Patience.{Patience}
 use Rattle.ada_events.specs.declared.names.TaskNo.{TaskNo}
 use Rattle.ada_events.specs.Limits.{slot_count}
 use Rattle.ada_events.specs.Says.{call_in}
+use Rattle.ada_records.specs.Records.{IsPlainHold}
 use Rattle.ada_tables.specs.Tables.{TableState}
 
 -- there is a queue for each entry
@@ -33,12 +32,17 @@ pub record MakesCall (event : Event) (by callee : TaskNo) (entry : Entry) : Type
   pub due : Option ℤ
   pub is : event ≡ Called by callee entry patience due
 
--- by the event a task waits selectively, or at an accept statement (9.5, 9.7.1)
-pub record MakesWait (event : Event) (by : TaskNo) : Type 0 where
-  pub pick : ℕ
-  pub choices : List Choice
-  pub tail : EventTail
-  pub is : event ≡ Waiting by pick choices tail
+-- the event holds the task up otherwise than by a call or a start: a wait, a delay or a close (9.4, 9.6, 9.7.1)
+pub record IsMereHold (event : Event) (task : ℕ) : Type 0 where
+  pub plain : IsPlainHold event task
+  pub calls : call_in event ≡ None
+
+-- the wait, the delay or the start that an event ends without a rendezvous (9.3, 9.6, 9.7.1)
+abbrev pub passing_in : Event → Option ℕ
+passing_in (Passed wait way) = Some wait
+passing_in (Woken pause) = Some pause
+passing_in (Activated start ok) = Some start
+passing_in _ = None
 
 -- by the event a task ends the rendezvous with the call at a position (9.5)
 pub record EndsCall (event : Event) (by : TaskNo) (call : ℕ) : Type 0 where

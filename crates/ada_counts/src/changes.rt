@@ -13,7 +13,8 @@ use ada_events::{Event, Journal, TaskNo};
 use ada_records::Record;
 use ada_tables::Tables;
 
-/// Lets tables follow an event of which it is known what it changes in queues and nests, and whose phase.
+/// Applies to the tables what an event is known to change: a queue, a nest, and the phase of one task at most. The
+/// records are those after the event.
 #[inline(always)]
 pub(crate) fn follow_changes(
     tables: &mut Tables,
@@ -22,7 +23,7 @@ pub(crate) fn follow_changes(
     event: &Event,
     queues: QueueChange,
     nests: NestChange,
-    touched: TaskNo,
+    touched: Option<TaskNo>,
 )
     requires lawful { IsLawful (event.now ∷ journal.now.events) }
     requires stand { StandFor tables.old journal.now.events }
@@ -34,5 +35,5 @@ pub(crate) fn follow_changes(
 {
     change_queues(tables, journal, event, queues);
     change_nests(tables, journal, event, nests);
-    refresh_touched(tables, records, journal, event, Some(touched));
+    refresh_touched(tables, records, journal, event, touched);
 }

@@ -3,12 +3,14 @@
 //! function that does nothing.
 #![tactic(auto)]
 
+pub mod aborts;
+pub mod activation;
 mod changes;
-pub mod endings;
-pub mod follow;
 pub mod laws;
+pub mod masters;
 mod nests;
 mod phases;
 mod phasing;
 mod queues;
 pub mod rendezvous;
+pub mod suspension;

@@ -8,7 +8,6 @@ ghost use Rattle.ada_counts.specs.internal.Phasing.{AreRenested};
 ghost use Rattle.ada_counts.specs.internal.Renesting.{ChangesNests};
 
 use ada_events::{Event, Journal, Member, TaskNo};
-use ada_records::records::holder_at;
 use ada_tables::Tables;
 
 /// What an event changes in what tasks are within.
@@ -44,41 +43,7 @@ pub(crate) fn callee_at(journal: &Journal, at: u32) -> TaskNo
     }
 }
 
-/// What an event changes in what tasks are within: a block is entered when it is opened, and a rendezvous when it
-/// begins; they are left when the block is left, and when the call ends (9.4, 9.5).
-pub(crate) fn nest_change(journal: &Journal, event: &Event) -> NestChange
-    requires { IsLawful (event.now ∷ journal.now.events) }
-    ensures { ChangesNests event.now journal.now.events result }
-{
-    match event {
-        Event::Opened { by, .. } => NestChange::Enters(*by, Member::Block(journal.len() + 1)),
-        Event::Met { call, wait } => {
-            NestChange::Enters(holder_at(journal, *wait), Member::Rendezvous(*call))
-        }
-        Event::Ended { call, .. } => NestChange::EndsRendezvous(callee_at(journal, *call), *call),
-        Event::Failed { call } => NestChange::EndsRendezvous(callee_at(journal, *call), *call),
-        Event::Left { close } => NestChange::LeavesBlock(holder_at(journal, *close)),
-        Event::Created { .. } => NestChange::Nothing,
-        Event::Started { .. } => NestChange::Nothing,
-        Event::Elaborated { .. } => NestChange::Nothing,
-        Event::Called { .. } => NestChange::Nothing,
-        Event::Waiting { .. } => NestChange::Nothing,
-        Event::Paused { .. } => NestChange::Nothing,
-        Event::Closed { .. } => NestChange::Nothing,
-        Event::Completed { .. } => NestChange::Nothing,
-        Event::Aborted { .. } => NestChange::Nothing,
-        Event::Ticked { .. } => NestChange::Nothing,
-        Event::Halted { .. } => NestChange::Nothing,
-        Event::Cancelled { .. } => NestChange::Nothing,
-        Event::Passed { .. } => NestChange::Nothing,
-        Event::Woken { .. } => NestChange::Nothing,
-        Event::Activated { .. } => NestChange::Nothing,
-        Event::Gone { .. } => NestChange::Nothing,
-        Event::Quit { .. } => NestChange::Nothing,
-    }
-}
-
-/// Changes the nests of tables as an event does, where it is known what that is.
+/// Changes the nests of tables as an event is known to do.
 #[inline(always)]
 pub(crate) fn change_nests(
     tables: &mut Tables,
@@ -98,14 +63,4 @@ pub(crate) fn change_nests(
         NestChange::LeavesBlock(task) => tables.pop_nest(task),
         NestChange::EndsRendezvous(task, call) => tables.cut_nest(task, call),
     }
-}
-
-/// Changes the nests of tables as an event does.
-pub(crate) fn follow_nests(tables: &mut Tables, journal: &Journal, event: &Event)
-    requires lawful { IsLawful (event.now ∷ journal.now.events) }
-    requires hold { HoldFacts tables.old.tasks journal.now.events }
-    ensures nests { AreRenested event.now journal.now.events tables.new.tasks }
-    ensures kept { tables.new ≡ record tables.old { tasks = tables.new.tasks } }
-{
-    change_nests(tables, journal, event, nest_change(journal, event));
 }

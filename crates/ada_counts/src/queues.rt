@@ -7,7 +7,6 @@ ghost use Rattle.ada_counts.specs.Noting.{HaveAllQueues, HaveRoomFor};
 ghost use Rattle.ada_counts.specs.internal.Requeuing.{ChangesQueues};
 
 use ada_events::{Entry, Event, Journal, TaskNo};
-use ada_records::records::holder_at;
 use ada_tables::Tables;
 
 /// What an event changes in queues.
@@ -22,47 +21,6 @@ pub(crate) enum QueueChange {
     },
     /// A task's call leaves the queue in which it waits, if it waits.
     Leaves(TaskNo),
-}
-
-/// What an event changes in queues: a call comes last at its entry, and leaves it when its rendezvous begins, when it
-/// ends otherwise and when its caller is halted (9.5, 9.7.2, 9.7.3, 9.10).
-pub(crate) fn queue_change(journal: &Journal, event: &Event) -> QueueChange
-    requires { IsLawful (event.now ∷ journal.now.events) }
-    ensures { ChangesQueues event.now journal.now.events result }
-{
-    match event {
-        Event::Called {
-            by,
-            callee,
-            entry,
-            ..
-        } => QueueChange::Joins {
-            by: *by,
-            callee: *callee,
-            entry: *entry,
-        },
-        Event::Ended { call, .. } => QueueChange::Leaves(holder_at(journal, *call)),
-        Event::Failed { call } => QueueChange::Leaves(holder_at(journal, *call)),
-        Event::Cancelled { call } => QueueChange::Leaves(holder_at(journal, *call)),
-        Event::Met { call, .. } => QueueChange::Leaves(holder_at(journal, *call)),
-        Event::Halted { task } => QueueChange::Leaves(*task),
-        Event::Opened { .. } => QueueChange::Nothing,
-        Event::Created { .. } => QueueChange::Nothing,
-        Event::Started { .. } => QueueChange::Nothing,
-        Event::Elaborated { .. } => QueueChange::Nothing,
-        Event::Waiting { .. } => QueueChange::Nothing,
-        Event::Paused { .. } => QueueChange::Nothing,
-        Event::Closed { .. } => QueueChange::Nothing,
-        Event::Completed { .. } => QueueChange::Nothing,
-        Event::Aborted { .. } => QueueChange::Nothing,
-        Event::Ticked { .. } => QueueChange::Nothing,
-        Event::Passed { .. } => QueueChange::Nothing,
-        Event::Woken { .. } => QueueChange::Nothing,
-        Event::Activated { .. } => QueueChange::Nothing,
-        Event::Gone { .. } => QueueChange::Nothing,
-        Event::Quit { .. } => QueueChange::Nothing,
-        Event::Left { .. } => QueueChange::Nothing,
-    }
 }
 
 // Takes a task's call out of the queue in which it waits, if it waits.
@@ -80,7 +38,7 @@ fn leave_queue(tables: &mut Tables, task: TaskNo)
     }
 }
 
-/// Changes the queues of tables as an event does, where it is known what that is. There is a queue for each entry, and
+/// Changes the queues of tables as an event is known to do. There is a queue for each entry, and
 /// room for one more call where the event makes one.
 #[inline(always)]
 pub(crate) fn change_queues(
@@ -109,22 +67,4 @@ pub(crate) fn change_queues(
         }
         QueueChange::Leaves(task) => leave_queue(tables, task),
     }
-}
-
-/// Changes the queues of tables as an event does. There is a queue for each entry, and room for one more call where the
-/// event makes one.
-pub(crate) fn follow_queues(tables: &mut Tables, journal: &Journal, event: &Event)
-    requires lawful { IsLawful (event.now ∷ journal.now.events) }
-    requires hold { HoldFacts tables.old.tasks journal.now.events }
-    requires queues { HoldQueues tables.old journal.now.events }
-    requires slots { HaveAllQueues tables.old journal.now.events }
-    requires room { HaveRoomFor tables.old event.now }
-    ensures queues { HoldQueues tables.new (event.now ∷ journal.now.events) }
-    ensures slots { length tables.new.queues ≡ length tables.old.queues }
-    ensures kept { tables.new ≡ record tables.old {
-      queues = tables.new.queues;
-      spare = tables.new.spare;
-    } }
-{
-    change_queues(tables, journal, event, queue_change(journal, event));
 }

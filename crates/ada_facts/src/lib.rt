@@ -1,7 +1,7 @@
-//! What the records need to know of an event beside its own words, told by what is kept of its journal, with no search.
+//! Whom an event touches that touches many tasks at once: the dependents that terminate together (9.4), and those whom
+//! an abort hits (9.10).
 #![tactic(auto)]
 
-mod facts;
 mod touched;
 
-pub use facts::{choice_of, touched_by};
+pub use touched::{dependents, hit};

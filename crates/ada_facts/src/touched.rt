@@ -37,7 +37,7 @@ fn is_dependent(state: &State, task: TaskNo, master: Master) -> bool
 }
 
 /// Who depends on a master whose dependents terminate together (9.4).
-pub(crate) fn dependents(state: &State, master: Master) -> Tasks
+pub fn dependents(state: &State, master: Master) -> Tasks
     requires { is_to_quit state.now master ≡ true }
     ensures { records.ListsLive state.now result
         (λ task. masters.depends_on state.now task master) }
@@ -117,7 +117,7 @@ fn is_hit(state: &State, task: TaskNo, _tasks: &[TaskNo], named: &[bool], hit: &
 
 /// Whom an abort of these tasks hits (9.10). The task that holds what another was made under was made before that, so
 /// the tasks are gone through by their numbers.
-pub(crate) fn hit(state: &State, tasks: &[TaskNo]) -> Tasks
+pub fn hit(state: &State, tasks: &[TaskNo]) -> Tasks
     ensures { records.ListsLive state.now result (records.is_hit state.now tasks.now) }
 {
     let named = named(tasks);

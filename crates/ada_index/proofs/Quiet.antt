@@ -69,3 +69,22 @@ pub noted : (index : Index) (event : Event) (before : List Event) (records : Lis
     → IsIndexOf (record index { kept = with_kept index.kept records tables; agenda = rows; next_due = next }) (event ∷ before)
 noted index event before records tables rows next stands lawful quiet long recorded tabled slots agenda due =
     noted_from index event before records tables rows next index.unstarted stands lawful quiet long recorded tabled slots agenda due stands.unstarted
+
+-- the same where the records, the agenda and the next due moment stay
+pub noted_tables : (index : Index) (event : Event) (before : List Event) (tables : TableState) → IsIndexOf index before → IsLawful (event ∷ before)
+    → IsQuiet event → AreRecords index.kept.records.items (event ∷ before) → StandFor tables (event ∷ before) → HaveAllQueues tables (event ∷ before)
+    → IsAgendaOf index.agenda (event ∷ before) → IsDueBound (event ∷ before) index.next_due
+    → IsIndexOf (record index { kept = record index.kept { tables = tables } }) (event ∷ before)
+noted_tables index event before tables stands lawful quiet recorded tabled slots agenda due = record {
+  kept = record {
+    lawful = lawful;
+    recorded = recorded;
+    tabled = tabled;
+    created = made_same index.kept.made.items event before stands.kept.created quiet.makes;
+    timed = stands.kept.timed ∙ sym (same_moment event before quiet);
+  };
+  slots = slots;
+  agenda = agenda;
+  due = due;
+  unstarted = bound_stays event before index.unstarted stands.unstarted;
+}

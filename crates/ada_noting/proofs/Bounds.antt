@@ -147,7 +147,7 @@ pub first_all : (journal : List Event) (now : ℤ) (many all : ℕ) (bound : Opt
 first_all journal now many all bound is enough = record { reaches = λ task due below. is.reaches task due (omega (arith, below, enough)) }
 
 -- the moment of a tick
-ticked_to : (event : Event) (before : List Event) (now : ℤ) → event ≡ Ticked now → moment (event ∷ before) ≡ now
+pub ticked_to : (event : Event) (before : List Event) (now : ℤ) → event ≡ Ticked now → moment (event ∷ before) ≡ now
 unfolding moment moment_in
 ticked_to event before now ticks = rw ticks refl
 

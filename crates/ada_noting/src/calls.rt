@@ -49,7 +49,7 @@ pub(crate) fn put_callee(agenda: &mut Agenda, state: &State, at: u32)
 }
 
 /// Notes that a call is cancelled (9.7.2, 9.7.3): what the masters may force on which its callee depends may be forced.
-pub(crate) fn note_cancellation(agenda: &mut Agenda, state: &State, _event: &Event, call: u32)
+pub fn note_cancellation(agenda: &mut Agenda, state: &State, _event: &Event, call: u32)
     requires lawful { IsLawful (_event.now ∷ state.now) }
     requires stands { IsAgendaOf agenda.old state.now }
     requires cancels { _event.now ≡ CancelledEvent call }
@@ -139,7 +139,7 @@ fn is_to_pass(state: &State, pick: u32, choices: &[Choice], tail: &EventTail) ->
 
 /// Notes that a task waits selectively (9.7.1): that it takes a call, that it passes, where there is a way, and with an
 /// open terminate alternative what the masters may force on which the task depends, may be forced.
-pub(crate) fn note_wait(
+pub fn note_wait(
     agenda: &mut Agenda,
     state: &State,
     event: &Event,

@@ -89,7 +89,7 @@ fn put_completion(agenda: &mut Agenda, first: &mut FirstUnstarted, state: &State
 
 /// Notes that a task completes (9.4): that it goes, that dependents of its body quit, that calls to it fail, that the
 /// activation ends that names it, and that tasks go that were never started, may be forced.
-pub(crate) fn note_completion(
+pub fn note_completion(
     agenda: &mut Agenda,
     first: &mut FirstUnstarted,
     state: &State,
@@ -106,9 +106,9 @@ pub(crate) fn note_completion(
     put_completion(agenda, first, state, task);
 }
 
-/// Notes that a task's activation ends by an exception (9.3), which completes it: what a completion may force may be
-/// forced.
-pub(crate) fn note_failed_activation(
+// Notes that a task's activation ends by an exception (9.3), which completes it: what a completion may force may be
+// forced.
+fn note_failed_activation(
     agenda: &mut Agenda,
     first: &mut FirstUnstarted,
     state: &State,
@@ -161,7 +161,7 @@ pub fn note_termination(agenda: &mut Agenda, state: &State, _event: &Event, task
 
 /// Notes that all that depend on a master terminate together (9.4): what the master may force, and what those may on
 /// which its task depends, and that tasks go that were never started, may be forced.
-pub(crate) fn note_quit(
+pub fn note_quit(
     agenda: &mut Agenda,
     first: &mut FirstUnstarted,
     state: &State,
@@ -179,13 +179,36 @@ pub(crate) fn note_quit(
     put_all_unstarted(agenda, first, state);
 }
 
-/// Notes that a task ends its activation without an exception (9.3): that the activation ends that names it may be
-/// forced.
-pub(crate) fn note_elaboration(agenda: &mut Agenda, state: &State, _event: &Event, task: TaskNo)
+// Notes that a task ends its activation without an exception (9.3): that the activation ends that names it may be
+// forced.
+fn note_elaborated(agenda: &mut Agenda, state: &State, _event: &Event, task: TaskNo)
     requires lawful { IsLawful (_event.now ∷ state.now) }
     requires stands { IsAgendaOf agenda.old state.now }
     requires comes_up { _event.now ≡ ElaboratedEvent task true }
     ensures { IsAgendaOf agenda.new (_event.now ∷ state.now) }
 {
     put_activation(agenda, state, task);
+}
+
+/// Notes that a task ends its own activation (9.3), by an exception where `ok` is false.
+pub fn note_elaboration(
+    agenda: &mut Agenda,
+    first: &mut FirstUnstarted,
+    state: &State,
+    event: &Event,
+    task: TaskNo,
+    ok: bool,
+)
+    requires lawful { IsLawful (event.now ∷ state.now) }
+    requires stands { IsAgendaOf agenda.old state.now }
+    requires bound { IsStartBound state.now first.old }
+    requires comes_up { event.now ≡ ElaboratedEvent task ok }
+    ensures stands { IsAgendaOf agenda.new (event.now ∷ state.now) }
+    ensures bound { IsStartBound state.now first.new }
+{
+    if ok {
+        note_elaborated(agenda, state, event, task);
+    } else {
+        note_failed_activation(agenda, first, state, event, task);
+    }
 }

@@ -1,4 +1,4 @@
-//! What an event adds to an agenda, by kind of event.
+//! What a close and an abort add to an agenda.
 
 ghost use Rattle.std.specs.Prelude.{◌≡◌, true, false, ◌∷◌, length};
 ghost use Rattle.ada_events.specs.Lawful.{IsLawful};
@@ -7,7 +7,6 @@ ghost use Rattle.ada_events.specs.Tasks.{task_count};
 ghost use Rattle.ada_events.specs.declared.event.Event.TheVariants.{Closed as ClosedEvent, Aborted as AbortedEvent};
 ghost use Rattle.ada_noting.specs.Bounds.{IsStartBound};
 ghost use Rattle.ada_touching.specs.Keeping.{IsAgendaOf};
-ghost use Rattle.ada_touching.specs.Additions.{adds_nothing};
 
 use crate::passes::{put_all_haltable, put_all_held, put_key};
 use crate::unstarted::{FirstUnstarted, put_all_unstarted};
@@ -17,38 +16,9 @@ use ada_forcing::Row;
 use ada_rows::State;
 use ada_touching::keeping::own_key;
 
-/// Notes an event that can newly force nothing: an opening, the beginning of a rendezvous, the passing of a wait, the
-/// end of a delay, or the leaving of a block (9.4 to 9.7).
-#[tactic(auto, using(crate::proofs::Additions::nothing_noted))]
-pub(crate) fn note_nothing(_agenda: &mut Agenda, _state: &State, _event: &Event)
-    requires lawful { IsLawful (_event.now ∷ _state.now) }
-    requires stands { IsAgendaOf _agenda.old _state.now }
-    requires nothing { adds_nothing _event.now ≡ true }
-    ensures { IsAgendaOf _agenda.new (_event.now ∷ _state.now) }
-{}
-
-/// Notes that an activation ends (9.3), which can newly force nothing, and goes past the tasks that were started, so
-/// that nothing that comes later has to.
-pub(crate) fn note_activation(
-    agenda: &mut Agenda,
-    first: &mut FirstUnstarted,
-    state: &State,
-    event: &Event,
-)
-    requires lawful { IsLawful (event.now ∷ state.now) }
-    requires stands { IsAgendaOf agenda.old state.now }
-    requires bound { IsStartBound state.now first.old }
-    requires nothing { adds_nothing event.now ≡ true }
-    ensures stands { IsAgendaOf agenda.new (event.now ∷ state.now) }
-    ensures bound { IsStartBound state.now first.new }
-{
-    first.advance(state);
-    note_nothing(agenda, state, event);
-}
-
 /// Notes that a task closes a block (9.4): that it leaves the block, that the block's dependents quit, and that tasks
 /// go that were never started, may be forced.
-pub(crate) fn note_close(
+pub fn note_close(
     agenda: &mut Agenda,
     first: &mut FirstUnstarted,
     state: &State,
@@ -69,7 +39,7 @@ pub(crate) fn note_close(
 }
 
 /// Notes that tasks are aborted (9.10): that a task is halted, and that a call fails, may be forced.
-pub(crate) fn note_abort(
+pub fn note_abort(
     agenda: &mut Agenda,
     state: &State,
     _event: &Event,

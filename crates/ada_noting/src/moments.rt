@@ -19,8 +19,8 @@ use ada_forcing::Row;
 use ada_rows::State;
 use ada_waits::waits::{is_due, least_due};
 
-// The least moment of a wait's delay alternatives.
-fn tail_due(tail: &EventTail) -> Option<i64>
+/// The least moment of a wait's delay alternatives, if there is one (9.7.1).
+pub fn tail_due(tail: &EventTail) -> Option<i64>
     ensures { result ≡ kinds.tail_due tail.now }
 {
     match tail {
@@ -108,7 +108,7 @@ fn put_all_due(agenda: &mut Agenda, state: &State, tick: &Event)
 
 /// Notes that the moment moves, in milliseconds (9.6): that timed calls are cancelled, that waits pass and that delays
 /// end may be forced. A tick that doesn't reach the next due moment adds nothing.
-pub(crate) fn note_tick(agenda: &mut Agenda, next: NextDue, state: &State, event: &Event, now: i64)
+pub fn note_tick(agenda: &mut Agenda, next: NextDue, state: &State, event: &Event, now: i64)
     requires lawful { IsLawful (event.now ∷ state.now) }
     requires stands { IsAgendaOf agenda.old state.now }
     requires bound { IsDueBound state.now next }

@@ -77,8 +77,8 @@ fn least_after(state: &State, now: i64) -> NextDue
     next
 }
 
-// Keeps the bound up with a tick (9.6).
-fn next_after_tick(next: NextDue, state: &State, _event: &Event, now: i64) -> NextDue
+/// Keeps the bound up with a tick (9.6). Only a tick that reaches it looks at the tasks.
+pub fn next_after_tick(next: NextDue, state: &State, _event: &Event, now: i64) -> NextDue
     requires lawful { IsLawful (_event.now ∷ state.now) }
     requires bound { IsDueBound state.now next }
     requires ticks { _event.now ≡ TickedEvent now }
@@ -88,18 +88,5 @@ fn next_after_tick(next: NextDue, state: &State, _event: &Event, now: i64) -> Ne
         least_after(state, now)
     } else {
         next
-    }
-}
-
-// Keeps the bound up with an event that is to be appended. Only a tick that reaches it looks at the tasks, and any
-// other event at no more than its own moments.
-pub(crate) fn next_after_event(next: NextDue, state: &State, event: &Event) -> NextDue
-    requires lawful { IsLawful (event.now ∷ state.now) }
-    requires bound { IsDueBound state.now next }
-    ensures { IsDueBound (event.now ∷ state.now) result }
-{
-    match event {
-        Event::Ticked { now } => next_after_tick(next, state, event, *now),
-        _ => next.with(due_in(event)),
     }
 }

@@ -46,7 +46,7 @@ impl FirstUnstarted {
     }
 
     /// Goes past the tasks that were started since.
-    pub(crate) fn advance(&mut self, state: &State)
+    pub fn advance(&mut self, state: &State)
         requires lawful { IsLawful state.now }
         requires bound { IsStartBound state.now self.old }
         ensures { IsStartBound state.now self.new }

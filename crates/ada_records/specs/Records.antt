@@ -104,26 +104,3 @@ pub record IsPlainRelease (event : Event) (position : ℕ) : Type 0 where
   pub releases : released_in event ≡ Some position
   pub meets : meeting_in event ≡ None
   pub raises : raised_in event ≡ None
-
--- the tasks that an event touches all at once: those that depend on a master and terminate together (9.4), or those
--- that an abort hits (9.10)
-abbrev pub is_touched : List Event → Event → ℕ → Bool
-is_touched journal (Quit master) task = depends_on journal task master
-is_touched journal (Aborted by tasks) task = is_hit journal tasks task
-is_touched journal _ task = false
-
--- the event may touch many tasks at once
-abbrev pub touches_many : Event → Bool
-touches_many (Quit master) = true
-touches_many (Aborted by tasks) = true
-touches_many _ = false
-
--- what is known of an event beside what it says: of a rendezvous the choice by which the wait takes the call, and
--- whom of the tasks that aren't terminated an event touches that may touch many
-pub record AreFacts (journal : List Event) (event : Event) (choice : ℕ) (touched : List TaskNo) : Type 0 where
-  pub chosen : (call wait : ℕ) → event ≡ Met call wait → choice ≡ choice_met journal wait
-  pub lists : touches_many event ≡ true → ListsLive journal touched (is_touched journal event)
-
--- there is room for one more record where the event makes a task
-abbrev pub MakesRoom : Event → ℕ → ℕ → Type 0
-MakesRoom event many capacity = IsSome (creation_in event) → many < capacity

@@ -1,5 +1,5 @@
 -- What is known of an event that makes no task, where it is noted in tables.
-use Rattle.std.specs.Prelude.{◌≡◌, Some, None, List}
+use Rattle.std.specs.Prelude.{◌≡◌, Option, None, List}
 use Rattle.ada_events.specs.declared.event.Event.{Event}
 use Rattle.ada_events.specs.declared.names.TaskNo.{TaskNo}
 use Rattle.ada_events.specs.Says.{creation_in}
@@ -12,11 +12,11 @@ use Rattle.ada_counts.specs.internal.Renesting.{ChangesNests}
 use Rattle.ada_counts.specs.internal.Requeuing.{ChangesQueues}
 
 -- of the event it is known that it makes no task, that the tables have room for it, what it changes in queues and nests,
--- and whose phase
-pub record AreKnown (event : Event) (before : List Event) (tables : TableState) (queue_change : QueueChange) (nest_change : NestChange) (touched : TaskNo)
+-- and whose phase, if any
+pub record AreKnown (event : Event) (before : List Event) (tables : TableState) (queue_change : QueueChange) (nest_change : NestChange) (touched : Option TaskNo)
     : Type 0 where
   pub makes : creation_in event ≡ None
   pub room : HaveRoomFor tables event
   pub queues : ChangesQueues event before queue_change
   pub nests : ChangesNests event before nest_change
-  pub touches : TouchesOnly event before (Some touched)
+  pub touches : TouchesOnly event before touched

@@ -2,7 +2,6 @@
 use Rattle.std.specs.Prelude.{◌≡◌, ℕ, ◌<◌, Bool, false, if◌then◌else◌, Option, Some, None, List, ◌∷◌, length}
 use Rattle.ada_events.specs.declared.event.Event.{Event}
 use Rattle.ada_events.specs.declared.names.TaskNo.{TaskNo}
-use Rattle.ada_events.specs.Says.{start_in, quit_in}
 use Rattle.ada_events.specs.Tasks.{task_count}
 use Rattle.ada_events.specs.Nests.{nest}
 use Rattle.ada_tables.specs.Standing.{phase_of, facts_in}
@@ -11,11 +10,6 @@ use Rattle.ada_tables.specs.internal.Dependents.{with_phase}
 use Rattle.ada_tables.specs.Tables.{TableState}
 use Rattle.ada_records.specs.declared.record.Record.{Record}
 use Rattle.ada_counts.specs.Telling.{phase_by}
-
--- the event neither starts an activation (9.3) nor terminates all that depend on a master (9.4)
-pub record TouchesFew (event : Event) : Type 0 where
-  pub starts : start_in event ≡ None
-  pub quits : quit_in event ≡ None
 
 -- an event changes no phase, or one existing task's at most
 abbrev pub TouchesOnly : Event → List Event → Option TaskNo → Type 0

@@ -2,4 +2,4 @@ use Rattle.ada_counts.proofs.Refreshing.{AreNamed}
 use Rattle.ada_counts.proofs.phasing.refresh_started.Given as goal
 
 abbrev pub invariant-loop-i : goal.invariant-loop-i
-invariant-loop-i l = AreNamed l._event l._journal.events l.named l.fn.tables l.tables l.i
+invariant-loop-i l = AreNamed l._event l._journal.events l.tasks l.fn.tables l.tables l.i

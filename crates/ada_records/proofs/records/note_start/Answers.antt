@@ -17,18 +17,18 @@ loop-i-init c = named_none _ _
 
 pub loop-i-preserved : goal.loop-i-preserved
 loop-i-preserved c =
-    changed_more start_record _ c.loop-i.records c.as_slice-named.result.now c.loop-i.i _ c.start_one.result start_twice c.loop-i.invariant c.loop-i-test.true
-    (named_within c.args._event.now c.args.journal.now.events c.args.records.now c.args.by _ c.args.tasks.now c.as_slice-named.result.now c.loop-i.i _
-    c.requires.lawful c.requires.stand c.requires.starts c.as_slice-named.ensures.value c.loop-i-test.true)
+    changed_more start_record _ c.loop-i.records c.args.tasks.now c.loop-i.i _ c.start_one.result start_twice c.loop-i.invariant c.loop-i-test.true
+    (named_within c.args._event.now c.args.journal.now.events c.args.records.now c.args.by _ c.args.tasks.now c.args.tasks.now c.loop-i.i _
+    c.requires.lawful c.requires.stand c.requires.starts refl c.loop-i-test.true)
     c.start_one.ensures
 
-pub bounds-records-named : goal.bounds-records-named
-bounds-records-named c =
-    named_still c.args._event.now c.args.journal.now.events c.args.records.now c.loop-i.records c.args.by _ c.args.tasks.now c.as_slice-named.result.now
-    c.loop-i.i _ c.requires.lawful c.requires.stand c.requires.starts c.as_slice-named.ensures.value c.loop-i-test.true c.loop-i.auto.records
+pub bounds-records-tasks : goal.bounds-records-tasks
+bounds-records-tasks c =
+    named_still c.args._event.now c.args.journal.now.events c.args.records.now c.loop-i.records c.args.by _ c.args.tasks.now c.args.tasks.now
+    c.loop-i.i _ c.requires.lawful c.requires.stand c.requires.starts refl c.loop-i-test.true c.loop-i.auto.records
 
 pub returns : goal.returns
 returns c =
     records_started c.args._event.now c.args.journal.now.events c.args.records.now c.loop-i.records c.held.result c.args.by c.args.tasks.now
-    c.as_slice-named.result.now c.loop-i.i c.requires.lawful c.requires.stand c.requires.starts c.as_slice-named.ensures.value
+    c.args.tasks.now c.loop-i.i c.requires.lawful c.requires.stand c.requires.starts refl
     (rw (c.held.ensures, c.len.ensures) refl) c.loop-i.invariant c.loop-i-test.false c.loop-i.auto.i-end

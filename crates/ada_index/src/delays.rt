@@ -1,0 +1,125 @@
+//! Delay statements, and the moment (9.6), in milliseconds.
+
+ghost use Rattle.std.specs.Prelude.{◌≡◌, ◌∷◌, IfErr, OnOk};
+ghost use Rattle.ada_events.specs.Lawful.{IsLawful};
+ghost use Rattle.ada_events.specs.Steps.{IsRefused};
+ghost use Rattle.ada_events.specs.declared.event.Event.TheVariants.{Paused as PausedEvent, Ticked as TickedEvent, Woken as WokenEvent};
+ghost use Rattle.ada_events.specs.declared.request.Request.TheVariants as asked;
+ghost use Rattle.ada_forcing.specs.declared.row.Row.TheVariants as row;
+ghost use Rattle.ada_index.specs.Indexes.{IsIndexOf};
+ghost use Rattle.ada_index.specs.internal.Indexes.{MayBegin, MayTake, Takes};
+ghost use Rattle.ada_steps.specs.Beginning.{HasBegun};
+
+use crate::Index;
+use ada_counts::suspension::{follow_hold, follow_release, follow_tick};
+use ada_events::{Event, Journal, Refusal, Request, TaskNo};
+use ada_noting::moments::note_tick;
+use ada_noting::next_after_tick;
+use ada_records::records::{holder_at, note_hold, note_released};
+use ada_touching::keeping::note_delay;
+use ada_waits::due_after;
+
+impl Index {
+    // Notes that a task is delayed until a moment.
+    fn note_delay(&mut self, journal: &Journal, event: &Event, by: TaskNo, due: i64)
+        requires lawful { IsLawful (event.now ∷ journal.now.events) }
+        requires stands { IsIndexOf self.old journal.now.events }
+        requires delays { event.now ≡ PausedEvent by due }
+        ensures { IsIndexOf self.new (event.now ∷ journal.now.events) }
+    {
+        let kept = &mut self.kept;
+        note_delay(&mut self.agenda, journal, event);
+        self.next_due = self.next_due.with(Some(due));
+        note_hold(kept.records.as_mut_slice(), journal, event, by);
+        follow_hold(&mut kept.tables, &kept.records, journal, event, by);
+    }
+
+    // Delays a task by a duration.
+    #[inline(never)]
+    pub(crate) fn begin_delay(
+        &mut self,
+        journal: &mut Journal,
+        request: &Request,
+        by: TaskNo,
+        duration: i64,
+    ) -> Result<(), Refusal>
+        requires may { MayBegin self.old journal.old.events }
+        requires asks { request.now ≡ asked.Delay by duration }
+        ensures ok { OnOk result (HasBegun journal.old request.now journal.new) }
+        ensures err { IfErr result (λ cause.
+            IsRefused journal.old.events request.now cause journal.new.events) }
+        ensures stands { IsIndexOf self.new journal.new.events }
+    {
+        self.admit(journal, request)?;
+        let due = due_after(self.state(journal).moment(), duration);
+        let event = Event::Paused { by, due };
+        self.note_delay(journal, &event, by, due);
+        journal.push_reserved(event);
+        Ok(())
+    }
+
+    // Notes that a delay is over.
+    fn note_waking(&mut self, journal: &Journal, event: &Event, pause: u32)
+        requires lawful { IsLawful (event.now ∷ journal.now.events) }
+        requires stands { IsIndexOf self.old journal.now.events }
+        requires wakes { event.now ≡ WokenEvent pause }
+        ensures { IsIndexOf self.new (event.now ∷ journal.now.events) }
+    {
+        let task = holder_at(journal, pause);
+        let kept = &mut self.kept;
+        note_released(kept.records.as_mut_slice(), journal, event, task, pause);
+        follow_release(&mut kept.tables, &kept.records, journal, event, pause, task);
+    }
+
+    // Ends the delay at a position (9.6), where its moment has come.
+    #[inline(never)]
+    pub(crate) fn wake(&mut self, journal: &mut Journal, pause: u32) -> bool
+        requires { MayTake self.old journal.old row.Waking pause }
+        ensures { Takes self.old journal.old row.Waking pause result self.new journal.new }
+    {
+        if !self.state(journal).wakes(pause) {
+            return false;
+        }
+        let step = Event::Woken { pause };
+        self.note_waking(journal, &step, pause);
+        journal.push_reserved(step);
+        true
+    }
+
+    // Notes that the moment moves.
+    fn note_tick(&mut self, journal: &Journal, event: &Event, now: i64)
+        requires lawful { IsLawful (event.now ∷ journal.now.events) }
+        requires stands { IsIndexOf self.old journal.now.events }
+        requires ticks { event.now ≡ TickedEvent now }
+        ensures { IsIndexOf self.new (event.now ∷ journal.now.events) }
+    {
+        let kept = &mut self.kept;
+        let state = kept.state(journal);
+        note_tick(&mut self.agenda, self.next_due, &state, event, now);
+        self.next_due = next_after_tick(self.next_due, &state, event, now);
+        follow_tick(&mut kept.tables, &kept.records, journal, event, now);
+        kept.moment = now;
+    }
+
+    // Moves the moment.
+    #[inline(never)]
+    pub(crate) fn begin_tick(
+        &mut self,
+        journal: &mut Journal,
+        request: &Request,
+        now: i64,
+    ) -> Result<(), Refusal>
+        requires may { MayBegin self.old journal.old.events }
+        requires asks { request.now ≡ asked.Tick now }
+        ensures ok { OnOk result (HasBegun journal.old request.now journal.new) }
+        ensures err { IfErr result (λ cause.
+            IsRefused journal.old.events request.now cause journal.new.events) }
+        ensures stands { IsIndexOf self.new journal.new.events }
+    {
+        self.admit(journal, request)?;
+        let event = Event::Ticked { now };
+        self.note_tick(journal, &event, now);
+        journal.push_reserved(event);
+        Ok(())
+    }
+}

@@ -1,0 +1,332 @@
+//! Tasks and the masters that they depend on (9.1, 9.4): creations, blocks, completion and termination.
+
+ghost use Rattle.std.specs.Prelude.{◌≡◌, ◌∷◌, IfErr, OnOk, OnErr};
+ghost use Rattle.ada_events.specs.Lawful.{IsLawful};
+ghost use Rattle.ada_events.specs.Steps.{IsRefused};
+ghost use Rattle.ada_events.specs.declared.event.Event.TheVariants.{Opened as OpenedEvent, Closed as ClosedEvent, Left as LeftEvent};
+ghost use Rattle.ada_events.specs.declared.event.Event.TheVariants.{Completed as CompletedEvent, Gone as GoneEvent, Quit as QuitEvent};
+ghost use Rattle.ada_events.specs.declared.request.Request.TheVariants as asked;
+ghost use Rattle.ada_forcing.specs.declared.row.Row.TheVariants as row;
+ghost use Rattle.ada_index.specs.Indexes.{IsIndexOf};
+ghost use Rattle.ada_index.specs.internal.Indexes.{MayBegin, MayTake, Takes};
+ghost use Rattle.ada_steps.specs.Beginning.{HasBegun};
+ghost use Rattle.ada_counts.specs.Noting.{MakesTask};
+ghost use Rattle.ada_events.specs.Forced.{is_to_quit};
+
+use crate::Index;
+use ada_counts::masters::{
+    follow_completion, follow_creation, follow_leaving, follow_opening, follow_quitting,
+    follow_termination,
+};
+use ada_counts::suspension::follow_hold;
+use ada_events::{Event, Families, FamilyList, Journal, Master, Refusal, Request, TaskNo};
+use ada_facts::dependents;
+use ada_forcing::Row;
+use ada_noting::endings::{note_completion, note_quit, note_termination};
+use ada_noting::kinds::note_close;
+use ada_records::records::{
+    holder_at, note_completion as note_completed, note_created, note_gone, note_hold,
+    note_quit as note_quitting, note_released,
+};
+use ada_touching::keeping::note_creation as note_new_task;
+use ada_waits::member_position;
+
+impl Index {
+    // Notes an event that makes a task. Fails with `OutOfMemory` alone, and then changes nothing.
+    fn note_creation(
+        &mut self,
+        journal: &Journal,
+        event: &Event,
+        master: Master,
+        families: &Families,
+    ) -> Result<(), Refusal>
+        requires lawful { IsLawful (event.now ∷ journal.now.events) }
+        requires stands { IsIndexOf self.old journal.now.events }
+        requires makes { MakesTask event.now master families.now }
+        ensures ok { OnOk result (IsIndexOf self.new (event.now ∷ journal.now.events)) }
+        ensures err { IfErr result (λ cause. cause ≡ Refusal.OutOfMemory) }
+        ensures unchanged { OnErr result (IsIndexOf self.new journal.now.events) }
+    {
+        let tasks = usize::from(self.kept.tables.tasks());
+        self.kept.records.reserve(1)?;
+        self.kept.made.reserve(1)?;
+        follow_creation(&mut self.kept.tables, journal, event, master, families)?;
+        note_created(&mut self.kept.records, journal, event);
+        self.kept.made.push_reserved(journal.len() + 1);
+        note_new_task(&mut self.agenda, journal, event, tasks);
+        Ok(())
+    }
+
+    // Makes a task that depends on a master.
+    #[inline(never)]
+    pub(crate) fn begin_create(
+        &mut self,
+        journal: &mut Journal,
+        request: &Request,
+        by: TaskNo,
+        master: Master,
+        families: &Families,
+    ) -> Result<(), Refusal>
+        requires may { MayBegin self.old journal.old.events }
+        requires asks { request.now ≡ asked.Create by master families.now }
+        ensures ok { OnOk result (HasBegun journal.old request.now journal.new) }
+        ensures err { IfErr result (λ cause.
+            IsRefused journal.old.events request.now cause journal.new.events) }
+        ensures stands { IsIndexOf self.new journal.new.events }
+    {
+        self.admit(journal, request)?;
+        let under = self.state(journal).frame(by);
+        let declared = FamilyList::from_slice(journal.allocator(), families.as_slice())?;
+        let event = Event::Created {
+            by,
+            under,
+            master,
+            families: declared,
+        };
+        self.note_creation(journal, &event, master, families)?;
+        journal.push_reserved(event);
+        Ok(())
+    }
+
+    // Notes that a task opens a block.
+    fn note_opening(&mut self, journal: &Journal, event: &Event, by: TaskNo, under: Master)
+        requires lawful { IsLawful (event.now ∷ journal.now.events) }
+        requires stands { IsIndexOf self.old journal.now.events }
+        requires opens { event.now ≡ OpenedEvent by under }
+        ensures { IsIndexOf self.new (event.now ∷ journal.now.events) }
+    {
+        let kept = &mut self.kept;
+        follow_opening(&mut kept.tables, &kept.records, journal, event, by, under);
+    }
+
+    // Opens a block.
+    #[inline(never)]
+    pub(crate) fn begin_open(
+        &mut self,
+        journal: &mut Journal,
+        request: &Request,
+        by: TaskNo,
+    ) -> Result<(), Refusal>
+        requires may { MayBegin self.old journal.old.events }
+        requires asks { request.now ≡ asked.Open by }
+        ensures ok { OnOk result (HasBegun journal.old request.now journal.new) }
+        ensures err { IfErr result (λ cause.
+            IsRefused journal.old.events request.now cause journal.new.events) }
+        ensures stands { IsIndexOf self.new journal.new.events }
+    {
+        self.admit(journal, request)?;
+        let under = self.state(journal).frame(by);
+        let event = Event::Opened { by, under };
+        self.note_opening(journal, &event, by, under);
+        journal.push_reserved(event);
+        Ok(())
+    }
+
+    // Notes that a task closes a block.
+    fn note_close(&mut self, journal: &Journal, event: &Event, by: TaskNo, block: u32)
+        requires lawful { IsLawful (event.now ∷ journal.now.events) }
+        requires stands { IsIndexOf self.old journal.now.events }
+        requires closes { event.now ≡ ClosedEvent by block }
+        ensures { IsIndexOf self.new (event.now ∷ journal.now.events) }
+    {
+        let kept = &mut self.kept;
+        let state = kept.state(journal);
+        note_close(
+            &mut self.agenda,
+            &mut self.unstarted,
+            &state,
+            event,
+            by,
+            block,
+        );
+        note_hold(kept.records.as_mut_slice(), journal, event, by);
+        follow_hold(&mut kept.tables, &kept.records, journal, event, by);
+    }
+
+    // Closes a task's innermost block.
+    #[inline(never)]
+    pub(crate) fn begin_close(
+        &mut self,
+        journal: &mut Journal,
+        request: &Request,
+        by: TaskNo,
+    ) -> Result<(), Refusal>
+        requires may { MayBegin self.old journal.old.events }
+        requires asks { request.now ≡ asked.Close by }
+        ensures ok { OnOk result (HasBegun journal.old request.now journal.new) }
+        ensures err { IfErr result (λ cause.
+            IsRefused journal.old.events request.now cause journal.new.events) }
+        ensures stands { IsIndexOf self.new journal.new.events }
+    {
+        self.admit(journal, request)?;
+        let block = member_position(self.state(journal).innermost(by));
+        let event = Event::Closed { by, block };
+        self.note_close(journal, &event, by, block);
+        journal.push_reserved(event);
+        Ok(())
+    }
+
+    // Notes that a block is left.
+    fn note_leaving(&mut self, journal: &Journal, event: &Event, close: u32)
+        requires lawful { IsLawful (event.now ∷ journal.now.events) }
+        requires stands { IsIndexOf self.old journal.now.events }
+        requires leaves { event.now ≡ LeftEvent close }
+        ensures { IsIndexOf self.new (event.now ∷ journal.now.events) }
+    {
+        let task = holder_at(journal, close);
+        let kept = &mut self.kept;
+        note_released(kept.records.as_mut_slice(), journal, event, task, close);
+        follow_leaving(&mut kept.tables, &kept.records, journal, event, close, task);
+    }
+
+    // Lets the block be left that is closed at a position (9.4), where all its dependents are terminated.
+    #[inline(never)]
+    pub(crate) fn leave(&mut self, journal: &mut Journal, close: u32) -> bool
+        requires { MayTake self.old journal.old row.Leaving close }
+        ensures { Takes self.old journal.old row.Leaving close result self.new journal.new }
+    {
+        if !self.state(journal).leaves(close) {
+            return false;
+        }
+        let step = Event::Left { close };
+        self.note_leaving(journal, &step, close);
+        journal.push_reserved(step);
+        true
+    }
+
+    // Notes that a task completes.
+    fn note_completion(&mut self, journal: &Journal, event: &Event, by: TaskNo)
+        requires lawful { IsLawful (event.now ∷ journal.now.events) }
+        requires stands { IsIndexOf self.old journal.now.events }
+        requires completes { event.now ≡ CompletedEvent by }
+        ensures { IsIndexOf self.new (event.now ∷ journal.now.events) }
+    {
+        let kept = &mut self.kept;
+        let state = kept.state(journal);
+        note_completion(&mut self.agenda, &mut self.unstarted, &state, event, by);
+        note_completed(kept.records.as_mut_slice(), journal, event, by);
+        follow_completion(&mut kept.tables, &kept.records, journal, event, by);
+    }
+
+    // Completes a task.
+    #[inline(never)]
+    pub(crate) fn begin_complete(
+        &mut self,
+        journal: &mut Journal,
+        request: &Request,
+        by: TaskNo,
+    ) -> Result<(), Refusal>
+        requires may { MayBegin self.old journal.old.events }
+        requires asks { request.now ≡ asked.Complete by }
+        ensures ok { OnOk result (HasBegun journal.old request.now journal.new) }
+        ensures err { IfErr result (λ cause.
+            IsRefused journal.old.events request.now cause journal.new.events) }
+        ensures stands { IsIndexOf self.new journal.new.events }
+    {
+        self.admit(journal, request)?;
+        let event = Event::Completed { by };
+        self.note_completion(journal, &event, by);
+        journal.push_reserved(event);
+        Ok(())
+    }
+
+    // Notes that a task terminates by itself.
+    #[inline(always)]
+    fn note_termination(&mut self, journal: &Journal, event: &Event, task: TaskNo)
+        requires lawful { IsLawful (event.now ∷ journal.now.events) }
+        requires stands { IsIndexOf self.old journal.now.events }
+        requires goes { event.now ≡ GoneEvent task }
+        ensures { IsIndexOf self.new (event.now ∷ journal.now.events) }
+    {
+        let kept = &mut self.kept;
+        let state = kept.state(journal);
+        note_termination(&mut self.agenda, &state, event, task);
+        note_gone(kept.records.as_mut_slice(), journal, event, task);
+        follow_termination(&mut kept.tables, &kept.records, journal, event, task);
+    }
+
+    // Lets the task of that number terminate by itself (9.3, 9.4), where it is to.
+    #[tactic(auto, using(ada_rows::proofs::Strangers::no_end))]
+    #[inline(never)]
+    pub(crate) fn terminate(&mut self, journal: &mut Journal, key: u32) -> bool
+        requires { MayTake self.old journal.old row.Going key }
+        ensures { Takes self.old journal.old row.Going key result self.new journal.new }
+    {
+        let Some(task) = self.state(journal).task(key) else {
+            return false;
+        };
+        if !self.state(journal).goes(task) {
+            return false;
+        }
+        let step = Event::Gone { task };
+        self.note_termination(journal, &step, task);
+        journal.push_reserved(step);
+        self.drop_key(journal, Row::Going, key);
+        true
+    }
+
+    // Notes that all that depend on a master terminate together.
+    #[inline(never)]
+    fn note_quit(&mut self, journal: &Journal, event: &Event, master: Master)
+        requires lawful { IsLawful (event.now ∷ journal.now.events) }
+        requires stands { IsIndexOf self.old journal.now.events }
+        requires quits { event.now ≡ QuitEvent master }
+        ensures { IsIndexOf self.new (event.now ∷ journal.now.events) }
+    {
+        let kept = &mut self.kept;
+        let state = kept.state(journal);
+        let dependents = dependents(&state, master);
+        note_quit(&mut self.agenda, &mut self.unstarted, &state, event, master);
+        note_quitting(
+            kept.records.as_mut_slice(),
+            journal,
+            event,
+            master,
+            dependents.as_slice(),
+        );
+        follow_quitting(
+            &mut kept.tables,
+            &kept.records,
+            journal,
+            event,
+            master,
+            dependents.as_slice(),
+        );
+    }
+
+    // Lets all terminate together that depend on the body of the task of that number (9.4), where they are to.
+    #[tactic(auto, using(ada_rows::proofs::Strangers::no_quitting))]
+    #[inline(never)]
+    pub(crate) fn quit_body(&mut self, journal: &mut Journal, key: u32) -> bool
+        requires { MayTake self.old journal.old row.QuittingBody key }
+        ensures { Takes self.old journal.old row.QuittingBody key result self.new journal.new }
+    {
+        let Some(task) = self.state(journal).task(key) else {
+            return false;
+        };
+        if !self.state(journal).quits_body(task) {
+            return false;
+        }
+        let master = Master::Body(task);
+        let step = Event::Quit { master };
+        self.note_quit(journal, &step, master);
+        journal.push_reserved(step);
+        true
+    }
+
+    // Lets all terminate together that depend on the block at a position (9.4), where they are to.
+    #[inline(never)]
+    pub(crate) fn quit_block(&mut self, journal: &mut Journal, block: u32) -> bool
+        requires { MayTake self.old journal.old row.QuittingBlock block }
+        ensures { Takes self.old journal.old row.QuittingBlock block result self.new journal.new }
+    {
+        if !self.state(journal).quits_block(block) {
+            return false;
+        }
+        let master = Master::Block(block);
+        let step = Event::Quit { master };
+        self.note_quit(journal, &step, master);
+        journal.push_reserved(step);
+        true
+    }
+}
