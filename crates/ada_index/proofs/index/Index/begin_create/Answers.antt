@@ -18,8 +18,10 @@ unfolding asked_event
 note_creation-requires-clause-lawful c =
     let admitted = c.in_ok-admit.ensures.ok in
     admitted_lawful c.args.journal.now c.args.request.now c.admit.new.journal admitted c.args.self.now _ c.requires.may
-    (ap (λ (under : Master). Created c.args.by under c.args.master _) (c.frame-under.ensures ∙ ap (λ j. frame j c.args.by.0) (c.state.ensures ∙ c.in_ok-admit.ensures.ok.events))
-    ∙ ap (λ (families : List Family). Created c.args.by _ c.args.master families) (c.in_ok-from_slice-declared.ensures.ok ∙ c.as_slice.ensures.value)
+    (ap (λ (families : List Family). Created c.args.by c.frame-under.result c.args.master families)
+    (c.in_ok-declared.ensures.ok ∙ c.as_slice.ensures.value)
+    ∙ ap (λ (under : Master). Created c.args.by under c.args.master c.args.families.now)
+    (c.frame-under.ensures ∙ ap (λ j. frame j c.args.by.0) (c.state.ensures ∙ c.in_ok-admit.ensures.ok.events))
     ∙ sym (ap (asked_event c.args.journal.now.events) c.requires.asks))
 
 pub returns-clause-ok : goal.returns-clause-ok
@@ -27,7 +29,9 @@ unfolding asked_event
 returns-clause-ok c =
     let admitted = c.in_ok-admit.ensures.ok in
     admitted_begun c.args.journal.now c.args.request.now c.admit.new.journal admitted _ c.push_reserved.new.self
-    (ap (λ (under : Master). Created c.args.by under c.args.master _) (c.frame-under.ensures ∙ ap (λ j. frame j c.args.by.0) (c.state.ensures ∙ c.in_ok-admit.ensures.ok.events))
-    ∙ ap (λ (families : List Family). Created c.args.by _ c.args.master families) (c.in_ok-from_slice-declared.ensures.ok ∙ c.as_slice.ensures.value)
+    (ap (λ (families : List Family). Created c.args.by c.frame-under.result c.args.master families)
+    (c.in_ok-declared.ensures.ok ∙ c.as_slice.ensures.value)
+    ∙ ap (λ (under : Master). Created c.args.by under c.args.master c.args.families.now)
+    (c.frame-under.ensures ∙ ap (λ j. frame j c.args.by.0) (c.state.ensures ∙ c.in_ok-admit.ensures.ok.events))
     ∙ sym (ap (asked_event c.args.journal.now.events) c.requires.asks))
     c.push_reserved.ensures.events c.push_reserved.ensures.spare

@@ -1,5 +1,8 @@
-use Rattle.std.proofs.Common.{arith, ◌∷◌, ◌∙◌, refl, sym, ap, subst}
-use Rattle.ada_events.specs.Says.{creation_in, moment_in, call_in, held_in, started_in}
+use Rattle.std.proofs.Common.{Some, w64, arith, ◌∷◌, ◌∙◌, refl, sym, ap, subst}
+use Rattle.std.proofs.lemmas.Int.{to_z-of_z}
+use Rattle.std.specs.Option.{is_some}
+use Rattle.ada_events.specs.declared.event.Event.{Event}
+use Rattle.ada_events.specs.Says.{creation_in, moment_in, call_in, delay_in, held_in, started_in}
 use Rattle.ada_events.specs.Waits.{earlier}
 use Rattle.ada_noting.specs.Bounds.{IsDueBound}
 use Rattle.ada_noting.proofs.Bounds.{bound_noted}
@@ -8,6 +11,10 @@ use Rattle.ada_records.proofs.EventKinds.{holds_of}
 use Rattle.ada_laws.proofs.LimitLaws.{events_are_few}
 use Rattle.ada_index.proofs.Quiet.{quiet_as, noted}
 use Rattle.ada_index.proofs.index.Index.note_delay.Goals as goal
+
+pub note_delay-requires-clause-delays : goal.note_delay-requires-clause-delays
+unfolding delay_in
+note_delay-requires-clause-delays c = ap (λ (e : Event). is_some (delay_in e)) c.requires.delays
 
 pub note_hold-requires-clause-holds : goal.note_hold-requires-clause-holds
 unfolding held_in started_in
@@ -33,5 +40,6 @@ returns c =
     (omega (arith, c.note_hold.auto.records, c.as_mut_slice.ensures.len)) c.note_hold.ensures c.follow_hold.ensures.stand c.follow_hold.ensures.slots
     c.note_delay.ensures
     (subst (IsDueBound (event ∷ before))
-    (ap (earlier c.args.self.now.next_due) (ap due_in c.requires.delays) ∙ sym c.with-self.ensures)
+    (ap (earlier c.args.self.now.next_due) (ap due_in c.requires.delays)
+    ∙ ap (λ due. earlier c.args.self.now.next_due (Some due)) (sym (to_z-of_z w64 c.args.due c.ranges.due)) ∙ sym c.with-self.ensures)
     (bound_noted event before c.args.self.now.next_due c.requires.lawful c.requires.stands.due))

@@ -4,13 +4,15 @@ use Rattle.ada_noting.proofs.Bounds.{bound_kept}
 use Rattle.ada_noting.proofs.Additions.{nothing_noted}
 use Rattle.ada_touching.specs.Additions.{adds_nothing}
 use Rattle.ada_index.proofs.Quiet.{quiet_as, not_due_as, noted_tables}
+use Rattle.ada_records.specs.Records.{AreRecords}
 use Rattle.ada_records.proofs.EventKinds.{records_opened}
 use Rattle.ada_index.proofs.index.Index.note_opening.Goals as goal
 
 pub follow_opening-requires-clause-records : goal.follow_opening-requires-clause-records
 follow_opening-requires-clause-records c =
-    records_opened c.args.event.now c.args.journal.now.events c.args.by c.args.under c.args.self.now.kept.records.items c.requires.opens c.requires.lawful
-    c.requires.stands.kept.recorded
+    subst (λ rs. AreRecords rs (c.args.event.now ∷ c.args.journal.now.events)) (sym c.deref.ensures.value)
+    (records_opened c.args.event.now c.args.journal.now.events c.args.by c.args.under c.args.self.now.kept.records.items c.requires.opens c.requires.lawful
+    c.requires.stands.kept.recorded)
 
 pub returns : goal.returns
 unfolding creation_in moment_in

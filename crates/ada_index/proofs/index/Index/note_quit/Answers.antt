@@ -1,7 +1,8 @@
-use Rattle.std.proofs.Common.{arith, ◌∷◌, ◌∙◌, refl, sym, ap, subst}
+use Rattle.std.proofs.Common.{◌≡◌, true, arith, ◌∷◌, ◌∙◌, refl, sym, ap, subst}
 use Rattle.ada_events.specs.Says.{creation_in, moment_in}
 use Rattle.ada_touching.specs.Keeping.{IsAgendaOf}
 use Rattle.ada_noting.specs.Bounds.{IsStartBound}
+use Rattle.ada_events.specs.Forced.{is_to_quit}
 use Rattle.ada_facts.proofs.Quitting.{quits_here}
 use Rattle.ada_index.proofs.Quiet.{quiet_as, not_due_as, noted_from}
 use Rattle.ada_noting.proofs.Bounds.{bound_kept}

@@ -1,9 +1,15 @@
 use Rattle.std.proofs.Common.{arith, ◌∷◌, ◌∙◌, refl, sym, ap, subst}
-use Rattle.ada_events.specs.Says.{creation_in, moment_in}
+use Rattle.std.specs.Option.{is_some}
+use Rattle.ada_events.specs.declared.event.Event.{Event}
+use Rattle.ada_events.specs.Says.{creation_in, moment_in, start_in}
 use Rattle.ada_laws.proofs.LimitLaws.{events_are_few}
 use Rattle.ada_index.proofs.Quiet.{quiet_as, not_due_as, noted}
 use Rattle.ada_noting.proofs.Bounds.{bound_kept}
 use Rattle.ada_index.proofs.index.Index.note_start.Goals as goal
+
+pub note_start-requires-clause-starts : goal.note_start-requires-clause-starts
+unfolding start_in
+note_start-requires-clause-starts c = ap (λ (e : Event). is_some (start_in e)) c.requires.starts
 
 pub note_start-requires-2-clause-room : goal.note_start-requires-2-clause-room
 note_start-requires-2-clause-room c = omega (arith, events_are_few c.args.journal.now.events c.requires.lawful.0)

@@ -5,13 +5,16 @@ use Rattle.ada_touching.specs.Keeping.{IsAgendaOf}
 use Rattle.ada_noting.specs.Bounds.{IsDueBound}
 use Rattle.ada_noting.proofs.Bounds.{ticked_to}
 use Rattle.ada_noting.proofs.Starts.{bound_stays}
+use Rattle.ada_records.specs.Records.{AreRecords}
 use Rattle.ada_records.proofs.EventKinds.{records_ticked}
 use Rattle.ada_index.proofs.Creations.{made_same}
 use Rattle.ada_index.proofs.index.Index.note_tick.Goals as goal
 
 pub follow_tick-requires-clause-records : goal.follow_tick-requires-clause-records
 follow_tick-requires-clause-records c =
-    records_ticked c.args.event.now c.args.journal.now.events _ c.args.self.now.kept.records.items c.requires.ticks c.requires.lawful c.requires.stands.kept.recorded
+    subst (λ rs. AreRecords rs (c.args.event.now ∷ c.args.journal.now.events)) (sym c.deref.ensures.value)
+    (records_ticked c.args.event.now c.args.journal.now.events _ c.args.self.now.kept.records.items c.requires.ticks c.requires.lawful
+    c.requires.stands.kept.recorded)
 
 pub returns : goal.returns
 unfolding creation_in
@@ -28,6 +31,6 @@ returns c =
       };
       slots = c.follow_tick.ensures.slots;
       agenda = subst (λ journal. IsAgendaOf c.note_tick.new.agenda (event ∷ journal)) c.state-state.ensures c.note_tick.ensures;
-      due = subst (λ journal. IsDueBound (event ∷ journal) c.next_after_tick.result) c.state-state.ensures c.next_after_tick.ensures;
+      due = subst (λ journal. IsDueBound (event ∷ journal) c.next_after_tick-self.result) c.state-state.ensures c.next_after_tick-self.ensures;
       unstarted = bound_stays event before c.args.self.now.unstarted c.requires.stands.unstarted;
     }
