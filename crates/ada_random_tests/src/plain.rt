@@ -1,7 +1,7 @@
 //! The plain kernel by itself.
 
 use ada_events::{Refusal, Request, TaskNo};
-use ada_plain::PlainKernel;
+use ada_reference::PlainKernel;
 use ada_requests::{MAIN, SINGLE, create, tasks};
 use std::test::Fail;
 

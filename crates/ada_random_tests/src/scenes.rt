@@ -3,9 +3,9 @@
 use crate::dice::Dice;
 use ada_events::limits::MOST_FAMILIES;
 use ada_events::{Entry, Family, Journal, Master, Member, TaskNo, Tasks};
-use ada_plain_tasks::nests::{frame, innermost};
-use ada_plain_tasks::phases::{has_start, is_elaborated, is_running};
-use ada_plain_tasks::tasks::{families, making_of, moment};
+use ada_reference::{
+    families, frame, has_start, innermost, is_elaborated, is_running, making_of, moment,
+};
 
 /// A journal, and how many tasks it has.
 #[derive(Clone, Copy)]

@@ -3,13 +3,10 @@
 use ada_events::limits::MOST_FAMILIES;
 use ada_events::{Entry, Outcome, Refusal, Request, TaskNo};
 use ada_kernel::Kernel;
-use ada_plain::PlainKernel;
-use ada_plain::attributes::{
-    is_finished, known_callable, known_outcome, known_running, known_terminated, own_count,
+use ada_reference::{
+    PlainKernel, board, families, is_finished, known_callable, known_outcome, known_running,
+    known_terminated, own_count, slot, tasks_in,
 };
-use ada_plain::boards::{board, tasks_in};
-use ada_plain::slots::slot;
-use ada_plain_tasks::tasks::families;
 use ada_requests::SINGLE;
 use std::alloc::Global;
 use std::process::Abort;

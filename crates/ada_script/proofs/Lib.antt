@@ -1,3 +1,16 @@
+pub mod CutParts
+pub mod Numbers
+pub mod Repeat
+pub mod Choices
+pub mod Written
+pub mod Taken
+pub mod TakenLists
+pub mod TakenSelect
+pub mod TakenStatements
+pub mod AgainParts
+pub mod AgainLists
+pub mod AgainSelect
+pub mod AgainStatements
 pub mod Lines
 pub mod Once
 pub mod Printable

@@ -2,18 +2,18 @@
 use Rattle.std.proofs.Common.{◌≡◌, ◌⊎◌, ℕ, ◌+◌, List, ◌∷◌, ◌++◌, false, Ok, Err, refl, sym, ap, subst, ◌∙◌, inl, inr}
 use Rattle.ada_statements.specs.declared.fault.Cause.{Cause}
 use Rattle.ada_statements.specs.declared.fault.Cause.TheVariants as causes
-use Rattle.ada_reading.specs.declared.fault.Fault.{Fault}
-use Rattle.ada_reading.specs.declared.fault.Fault.TheVariants.{BadStatement, BadNumber, UnknownName, DoubleName, OutOfMemory}
+use Rattle.ada_script.specs.declared.fault.Fault.{Fault}
+use Rattle.ada_script.specs.declared.fault.Fault.TheVariants.{BadStatement, BadNumber, UnknownName, DoubleName, OutOfMemory}
 use Rattle.ada_statements.specs.declared.fault.ScriptFault.{ScriptFault}
 use Rattle.ada_script.specs.declared.script.Line.{Line}
 use Rattle.ada_statements.specs.declared.statement.Statement.{Statement}
 use Rattle.ada_statements.specs.Scope.{Scope, MayStand}
 use Rattle.ada_statements.specs.Text.{words_in}
 use Rattle.ada_script.specs.Script.{AddsLine, AddsLines, SpellsStatement, SpellsNothing, IsPlain, IsFault, IsOfWords, Stops, is_skipped, scope_of}
-use Rattle.ada_reading.specs.internal.Reading.{statement_of}
-use Rattle.ada_reading.specs.Fault.{cause_of}
-use Rattle.ada_reading.proofs.TakenStatements.{statement_reads}
-use Rattle.ada_reading.proofs.AgainStatements.{statement_again}
+use Rattle.ada_script.specs.internal.Reading.{statement_of}
+use Rattle.ada_script.specs.internal.Fault.{cause_of}
+use Rattle.ada_script.proofs.TakenStatements.{statement_reads}
+use Rattle.ada_script.proofs.AgainStatements.{statement_again}
 
 -- a statement that was read is what the line says
 pub says : (names : Scope) (before : List Line) (words : List (List ℕ)) (statement : Statement) → names ≡ scope_of before

@@ -10,12 +10,12 @@ use Rattle.ada_statements.specs.declared.statement.Statement.{Statement}
 use Rattle.ada_statements.specs.declared.statement.Statement.TheVariants.{Tick, Open, Create, Activate, Up, Fail, Call, CallWithin, Try, Accept, Select, End}
 use Rattle.ada_statements.specs.declared.statement.Statement.TheVariants.{Raise, Close, Delay, Complete, Abort, ShowCallable, ShowTerminated, ShowCount}
 use Rattle.ada_statements.specs.Text.{words_in, is_name}
-use Rattle.ada_spelling.specs.Spelling.{speaker, words_of}
+use Rattle.ada_script.specs.Spelling.{speaker, words_of}
 use Rattle.ada_statements.specs.Scope.{Scope, MayStand}
 use Rattle.ada_script.specs.Script.{IsPlain, IsUnplain, begins_comment, is_skipped, SpellsStatement, AddsLine, AddsLines, IsFault, Stops, scope_of}
-use Rattle.ada_reading.specs.internal.Reading.{statement_of}
-use Rattle.ada_reading.proofs.AgainParts.{name_letter}
-use Rattle.ada_reading.proofs.AgainStatements.{statement_again}
+use Rattle.ada_script.specs.internal.Reading.{statement_of}
+use Rattle.ada_script.proofs.AgainParts.{name_letter}
+use Rattle.ada_script.proofs.AgainStatements.{statement_again}
 
 -- ---- one line
 

@@ -7,7 +7,7 @@ use Rattle.ada_statements.specs.declared.fault.ScriptFault.{ScriptFault}
 use Rattle.ada_script.specs.declared.script.Line.{Line}
 use Rattle.ada_statements.specs.declared.statement.Statement.{Statement}
 use Rattle.ada_statements.specs.Text.{lines_of, words_in, number_sign}
-use Rattle.ada_spelling.specs.Spelling.{words_of}
+use Rattle.ada_script.specs.Spelling.{words_of}
 use Rattle.ada_statements.specs.Scope.{Scope, main_alone, declare, MayStand}
 
 -- the names that are declared behind some lines

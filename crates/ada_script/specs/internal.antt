@@ -1,2 +1,8 @@
 -- What only private contracts and invariants cite: no caller meets it.
+pub mod Cursor
+pub mod Fault
+pub mod Number
 pub mod Printable
+pub mod Reading
+pub mod Verbs
+pub mod Writing

@@ -1,16 +1,30 @@
 //! Scripts of requests to the tasking kernel: reading them, naming what they name, and printing what
 //! the kernel answers.
+//!
+//! A text is cut into lines and these into words, and the words of a line are read as a statement;
+//! back, the words of a statement are spelled.
 #![tactic(auto)]
 
+mod cursor;
+mod fault;
 pub mod laws;
-mod reading;
+mod lists;
+mod number;
+mod parts;
 pub mod script;
+mod select;
+mod spelling;
+mod statements;
+mod text;
+mod verb;
+mod word;
 
 pub use ada_printing::{Value, write_event, write_refusal, write_shown};
-pub use ada_spelling::{Word, words};
 pub use ada_statements::{
     Addressee, Alternative, Cause, Declaration, EntryName, EntryNames, Made, Meaning, Name, Names,
     ScriptFault, Statement, ask, asked, request,
 };
-pub use reading::read;
 pub use script::{Line, Script};
+pub use spelling::words;
+pub use text::read;
+pub use word::Word;

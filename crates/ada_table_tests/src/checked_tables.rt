@@ -7,7 +7,7 @@ ghost use Rattle.ada_queues.specs.internal.Queues as queues;
 ghost use Rattle.ada_tables.specs.Tables.{HasEntry};
 
 use ada_events::{Entry, Families, Family, Master, Member, Refusal, TaskNo};
-use ada_plain::slots::number_within;
+use ada_reference::number_within;
 use ada_tables::{Layers, Phase, Tables};
 use std::alloc::Global;
 

@@ -2,9 +2,9 @@
 
 use ada_events::{Refusal, Request, TaskNo};
 use ada_kernel::Kernel;
-use ada_plain::PlainKernel;
-use ada_plain::attributes::{is_finished, known_callable, known_outcome, known_terminated};
-use ada_plain::boards::board;
+use ada_reference::{
+    PlainKernel, board, is_finished, known_callable, known_outcome, known_terminated,
+};
 use std::alloc::Global;
 
 /// Both kernels.

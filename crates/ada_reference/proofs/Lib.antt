@@ -1,0 +1,11 @@
+pub mod Asking
+pub mod Doubles
+pub mod Few
+pub mod Filling
+pub mod Latest
+pub mod Loops
+pub mod Members
+pub mod Numbers
+pub mod Places
+pub mod Resting
+pub mod SlotSums

@@ -1,0 +1,7 @@
+use Rattle.std.proofs.Common.{◌≡◌, reverse, take}
+use Rattle.ada_events.specs.Search.{gathered}
+use Rattle.ada_events.specs.Nests.{member_at, innermost}
+use Rattle.ada_reference.proofs.nests.innermost.Given as goal
+
+abbrev pub invariant-loop-i : goal.invariant-loop-i
+invariant-loop-i l = l.last ≡ innermost (gathered (member_at (reverse l.events) l.task.0) (reverse (take l.i l.events)))

@@ -1,0 +1,119 @@
+//! Reading a text as a script.
+
+ghost use Rattle.std.specs.Prelude.{◌≡◌, ◌↔◌, ◌≤◌, ◌++◌, ◌⊎◌, List, IsTrue, OnOk, IfOk, IfErr};
+ghost use Rattle.ada_statements.specs.Text.{words_in};
+ghost use Rattle.ada_script.specs.Script.{IsPrintable, IsPlain, IsUnplain, is_skipped as skipped, scope_of, AddsLine, IsScript, IsFault, IsFirstFault};
+ghost use Rattle.ada_script.specs.internal.Printable.{printable};
+ghost use Rattle.ada_script.specs.declared.script.Line.{Line};
+
+use crate::cursor::{Lines, Words};
+use crate::statements::read_statement;
+use crate::{Cause, Line, Names, Script, ScriptFault, Statement};
+use std::alloc::Global;
+
+/// Whether a byte is in 32 to 126.
+fn is_printable_byte(byte: u8) -> bool
+    ensures { result ≡ printable byte }
+{
+    32 <= byte && byte <= 126
+}
+
+/// Whether each byte is in 32 to 126.
+// Each is looked at, with no way out before the last, so that many are looked at at once.
+fn is_printable(line: &[u8]) -> bool
+    ensures { IsTrue result ↔ IsPrintable line.now }
+{
+    let mut are = true;
+    for byte in line {
+        are &= is_printable_byte(*byte);
+    }
+    are
+}
+
+/// Checks the number of a line, its length and its bytes, in this order.
+fn check_line(number: u32, line: &[u8]) -> Result<(), Cause>
+    ensures ok { OnOk result (IsPlain number line.now) }
+    ensures err { IfErr result (IsUnplain number line.now) }
+{
+    if number > 4096 {
+        return Err(Cause::TooManyLines);
+    }
+    if line.len() > 200 {
+        return Err(Cause::LineTooLong);
+    }
+    if !is_printable(line) {
+        return Err(Cause::NotAscii);
+    }
+    Ok(())
+}
+
+/// Whether there is no word, or the first one begins with a number sign.
+fn is_skipped(words: &Words) -> bool
+    ensures { result ≡ skipped words.now }
+{
+    match words.peek() {
+        None => true,
+        Some([first, ..]) => *first == b'#',
+        Some([]) => false,
+    }
+}
+
+/// Reads a line behind others, and keeps what it says and the name that it declares.
+fn read_line(
+    alloc: Global,
+    lines: &mut Vec<Line>,
+    names: &mut Names,
+    number: u32,
+    line: &[u8],
+) -> Result<(), Cause>
+    requires { names.old ≡ scope_of lines.old.items }
+    ensures number { OnOk result (number ≤ 4096) }
+    ensures names { OnOk result (names.new ≡ scope_of lines.new.items) }
+    ensures lines { OnOk result ((added : List Line)
+        × AddsLine lines.old.items number line.now added
+        × (lines.new.items ≡ lines.old.items ++ added)) }
+    ensures err { IfErr result (λ cause. (cause ≡ Cause.OutOfMemory)
+        ⊎ IsFault lines.old.items number line.now cause) }
+{
+    check_line(number, line)?;
+    let mut words = Words::new(line);
+    if is_skipped(&words) {
+        return Ok(());
+    }
+    let mut statement = Statement::Tick { now: 0 };
+    read_statement(alloc, names, &mut words, &mut statement)?;
+    names.declare(&statement)?;
+    lines.reserve(1)?;
+    lines.push_reserved(Line {
+        line: number,
+        statement,
+    });
+    Ok(())
+}
+
+/// Reads a text as a script. It is one where each line is blank, a comment or a statement whose names
+/// are declared by the lines before it; else the fault names the first line that isn't. Its cause is
+/// `OutOfMemory` where a growth was refused before such a line was met.
+pub fn read(alloc: Global, text: &[u8]) -> Result<Script, ScriptFault>
+    ensures ok { IfOk result (λ script. IsScript text.now script) }
+    ensures err { IfErr result (λ fault. (fault.cause ≡ Cause.OutOfMemory)
+        ⊎ IsFirstFault text.now fault) }
+{
+    let mut number = 1;
+    let mut lines = Vec::new(alloc);
+    let mut names = Names::new(alloc).map_err(|cause| ScriptFault {
+        line: number,
+        cause,
+    })?;
+    let mut rest = Lines::new(text);
+    while let Some(line) = rest.next() {
+        if let Err(cause) = read_line(alloc, &mut lines, &mut names, number, line) {
+            return Err(ScriptFault {
+                line: number,
+                cause,
+            });
+        }
+        number += 1;
+    }
+    Ok(Script::new(lines, names))
+}
