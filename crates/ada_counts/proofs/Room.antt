@@ -4,7 +4,7 @@ use Rattle.std.proofs.lemmas.Bool.{false≢true}
 use Rattle.ada_events.specs.declared.event.Event.{Event}
 use Rattle.ada_events.specs.Says.{Call, call_in}
 use Rattle.ada_tables.specs.Tables.{TableState}
-use Rattle.ada_counts.specs.Noting.{HaveRoomFor}
+use Rattle.ada_counts.specs.internal.Known.{HaveRoomFor}
 
 -- no room for a call
 pub needs_no_room : (event f : Event) (tables : TableState) → event ≡ f → call_in f ≡ None → HaveRoomFor tables event

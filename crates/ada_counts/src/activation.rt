@@ -14,8 +14,8 @@ use ada_events::{Event, Journal, TaskNo};
 use ada_records::Record;
 use ada_tables::Tables;
 
-/// Lets tables follow the start of an activation, which changes the phases of the tasks that it names and of the one that
-/// waits for them (9.3).
+/// Lets tables follow the start of an activation, which changes the phases of the tasks that it names and of the one
+/// that waits for them (9.3).
 pub fn follow_start(
     tables: &mut Tables,
     records: &[Record],

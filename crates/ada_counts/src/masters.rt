@@ -1,5 +1,5 @@
-//! Tables that follow the making of a task, blocks that are opened and left, and tasks that complete and terminate (9.1,
-//! 9.4).
+//! Tables that follow the making of a task, blocks that are opened and left, and tasks that complete and terminate
+//! (9.1, 9.4).
 ghost use Rattle.std.specs.Prelude.{◌≡◌, ◌∷◌, OnOk, OnErr, IfErr};
 ghost use Rattle.ada_events.specs.Lawful.{IsLawful};
 ghost use Rattle.ada_events.specs.Masters.{depends_on};

@@ -3,7 +3,8 @@ ghost use Rattle.std.specs.Prelude.{◌≡◌, ◌<◌, ◌≤◌, ◌∷◌, le
 ghost use Rattle.ada_events.specs.Lawful.{IsLawful};
 ghost use Rattle.ada_queues.specs.internal.Queues.{without};
 ghost use Rattle.ada_counts.specs.Facing.{HoldFacts, HoldQueues};
-ghost use Rattle.ada_counts.specs.Noting.{HaveAllQueues, HaveRoomFor};
+ghost use Rattle.ada_counts.specs.Noting.{HaveAllQueues};
+ghost use Rattle.ada_counts.specs.internal.Known.{HaveRoomFor};
 ghost use Rattle.ada_counts.specs.internal.Requeuing.{ChangesQueues};
 
 use ada_events::{Entry, Event, Journal, TaskNo};

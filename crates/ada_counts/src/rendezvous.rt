@@ -1,5 +1,5 @@
-//! Tables that follow the events of a rendezvous: a call, its beginning, its end, its failure and its cancellation (9.5,
-//! 9.7.2, 9.7.3).
+//! Tables that follow the events of a rendezvous: a call, its beginning, its end, its failure and its cancellation
+//! (9.5, 9.7.2, 9.7.3).
 ghost use Rattle.std.specs.Prelude.{◌≡◌, ◌<◌, ◌∷◌};
 ghost use Rattle.ada_events.specs.Lawful.{IsLawful};
 ghost use Rattle.ada_events.specs.declared.event.Event.TheVariants.{Met as MetEvent, Failed as FailedEvent, Cancelled as CancelledEvent};

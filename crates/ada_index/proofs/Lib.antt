@@ -4,5 +4,4 @@ pub mod Keys
 pub mod Quiet
 pub mod Requests
 pub mod Spent
-pub mod Steps
 pub mod Taking

@@ -94,7 +94,7 @@ impl Index {
         Ok(())
     }
 
-    // Notes that an activation ends, and goes past the tasks that were started, so that nothing that comes later has to.
+    // Notes that an activation ends, and goes past the tasks that were started, so that nothing later has to.
     fn note_activation(&mut self, journal: &Journal, event: &Event, start: u32, _ok: bool)
         requires lawful { IsLawful (event.now ∷ journal.now.events) }
         requires stands { IsIndexOf self.old journal.now.events }

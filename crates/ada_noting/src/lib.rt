@@ -1,5 +1,5 @@
-//! Keeps an agenda up with its journal through the events of each kind, by what is kept of the journal: what an event can
-//! newly force is put in, and at times a little more, but never too little.
+//! Keeps an agenda up with its journal through the events of each kind, by what is kept of the journal: what an event
+//! can newly force is put in, and at times a little more, but never too little.
 #![tactic(auto)]
 
 pub mod calls;

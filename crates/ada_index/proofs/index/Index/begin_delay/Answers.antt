@@ -14,7 +14,8 @@ pub note_delay-requires-clause-lawful : goal.note_delay-requires-clause-lawful
 unfolding asked_event
 note_delay-requires-clause-lawful c =
     let admitted = c.in_ok-admit.ensures.ok in
-    subst (λ n. IsLawful (Paused c.args.by n ∷ c.admit.new.journal.events)) (sym (to_z-of_z w64 c.due_after-due.result (record { sfits = c.due_after-due.type_inv })))
+    subst (λ n. IsLawful (Paused c.args.by n ∷ c.admit.new.journal.events))
+    (sym (to_z-of_z w64 c.due_after-due.result (record { sfits = c.due_after-due.type_inv })))
     (admitted_lawful c.args.journal.now c.args.request.now c.admit.new.journal admitted c.args.self.now _ c.requires.may
     (delay_asked c.args.journal.now.events _ c.args.request.now c.args.by c.args.duration _ c.due_after-due.result
     (to_z-of_z w64 c.moment.result (record { sfits = c.moment.type_inv }) ∙ c.moment.ensures
@@ -32,4 +33,5 @@ returns-clause-ok c =
     ∙ ap moment (c.state.ensures ∙ c.in_ok-admit.ensures.ok.events))
     (to_z-of_z w64 c.args.duration c.ranges.duration) c.requires.asks c.due_after-due.ensures
     (is_accepted c.args.journal.now.events c.args.request.now admitted.unrefused).in_time)
-    (c.push_reserved.ensures.events ∙ ap (λ n. Paused c.args.by n ∷ c.admit.new.journal.events) (to_z-of_z w64 c.due_after-due.result (record { sfits = c.due_after-due.type_inv }))) c.push_reserved.ensures.spare
+    (c.push_reserved.ensures.events ∙ ap (λ n. Paused c.args.by n ∷ c.admit.new.journal.events)
+    (to_z-of_z w64 c.due_after-due.result (record { sfits = c.due_after-due.type_inv }))) c.push_reserved.ensures.spare

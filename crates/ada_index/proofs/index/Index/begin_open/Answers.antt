@@ -16,12 +16,14 @@ unfolding asked_event
 note_opening-requires-clause-lawful c =
     let admitted = c.in_ok-admit.ensures.ok in
     admitted_lawful c.args.journal.now c.args.request.now c.admit.new.journal admitted c.args.self.now _ c.requires.may
-    (ap (Opened c.args.by) (c.frame-under.ensures ∙ ap (λ j. frame j c.args.by.0) (c.state.ensures ∙ c.in_ok-admit.ensures.ok.events)) ∙ sym (ap (asked_event c.args.journal.now.events) c.requires.asks))
+    (ap (Opened c.args.by) (c.frame-under.ensures ∙ ap (λ j. frame j c.args.by.0) (c.state.ensures ∙ c.in_ok-admit.ensures.ok.events)) ∙ sym
+    (ap (asked_event c.args.journal.now.events) c.requires.asks))
 
 pub returns-clause-ok : goal.returns-clause-ok
 unfolding asked_event
 returns-clause-ok c =
     let admitted = c.in_ok-admit.ensures.ok in
     admitted_begun c.args.journal.now c.args.request.now c.admit.new.journal admitted _ c.push_reserved.new.self
-    (ap (Opened c.args.by) (c.frame-under.ensures ∙ ap (λ j. frame j c.args.by.0) (c.state.ensures ∙ c.in_ok-admit.ensures.ok.events)) ∙ sym (ap (asked_event c.args.journal.now.events) c.requires.asks))
+    (ap (Opened c.args.by) (c.frame-under.ensures ∙ ap (λ j. frame j c.args.by.0) (c.state.ensures ∙ c.in_ok-admit.ensures.ok.events)) ∙ sym
+    (ap (asked_event c.args.journal.now.events) c.requires.asks))
     c.push_reserved.ensures.events c.push_reserved.ensures.spare

@@ -23,6 +23,7 @@ returns c =
     let before = c.args.journal.now.events in
     noted c.args.self.now event before c.note_released.new.records c.follow_cancellation.new.tables c.note_cancellation.new.agenda c.args.self.now.next_due
     c.requires.stands c.requires.lawful (quiet_as event _ c.requires.cancels refl refl)
-    (omega (arith, c.note_released.auto.records, c.as_mut_slice.ensures.len)) c.note_released.ensures c.follow_cancellation.ensures.stand c.follow_cancellation.ensures.slots
+    (omega (arith, c.note_released.auto.records, c.as_mut_slice.ensures.len)) c.note_released.ensures c.follow_cancellation.ensures.stand
+    c.follow_cancellation.ensures.slots
     (subst (λ journal. IsAgendaOf c.note_cancellation.new.agenda (event ∷ journal)) c.state-state.ensures c.note_cancellation.ensures)
     (bound_kept event before c.args.self.now.next_due c.requires.lawful c.requires.stands.due (not_due_as event _ c.requires.cancels refl))

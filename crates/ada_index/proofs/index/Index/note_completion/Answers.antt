@@ -13,7 +13,8 @@ returns c =
     let before = c.args.journal.now.events in
     noted_from c.args.self.now event before c.note_completion-2.new.records c.follow_completion.new.tables c.note_completion.new.agenda c.args.self.now.next_due
     c.note_completion.new.first c.requires.stands c.requires.lawful (quiet_as event _ c.requires.completes refl refl)
-    (omega (arith, c.note_completion-2.auto.records, c.as_mut_slice.ensures.len)) c.note_completion-2.ensures c.follow_completion.ensures.stand c.follow_completion.ensures.slots
+    (omega (arith, c.note_completion-2.auto.records, c.as_mut_slice.ensures.len)) c.note_completion-2.ensures c.follow_completion.ensures.stand
+    c.follow_completion.ensures.slots
     (subst (λ journal. IsAgendaOf c.note_completion.new.agenda (event ∷ journal)) c.state-state.ensures c.note_completion.ensures.stands)
     (bound_kept event before c.args.self.now.next_due c.requires.lawful c.requires.stands.due (not_due_as event _ c.requires.completes refl))
     (subst (λ journal. IsStartBound journal c.note_completion.new.first) c.state-state.ensures c.note_completion.ensures.bound)

@@ -13,7 +13,8 @@ returns c =
     let before = c.args.journal.now.events in
     noted_from c.args.self.now event before c.note_elaborated.new.records c.follow_elaboration.new.tables c.note_elaboration.new.agenda c.args.self.now.next_due
     c.note_elaboration.new.first c.requires.stands c.requires.lawful (quiet_as event _ c.requires.comes_up refl refl)
-    (omega (arith, c.note_elaborated.auto.records, c.as_mut_slice.ensures.len)) c.note_elaborated.ensures c.follow_elaboration.ensures.stand c.follow_elaboration.ensures.slots
+    (omega (arith, c.note_elaborated.auto.records, c.as_mut_slice.ensures.len)) c.note_elaborated.ensures c.follow_elaboration.ensures.stand
+    c.follow_elaboration.ensures.slots
     (subst (λ journal. IsAgendaOf c.note_elaboration.new.agenda (event ∷ journal)) c.state-state.ensures c.note_elaboration.ensures.stands)
     (bound_kept event before c.args.self.now.next_due c.requires.lawful c.requires.stands.due (not_due_as event _ c.requires.comes_up refl))
     (subst (λ journal. IsStartBound journal c.note_elaboration.new.first) c.state-state.ensures c.note_elaboration.ensures.bound)

@@ -20,7 +20,8 @@ returns c =
     let before = c.args.journal.now.events in
     noted_from c.args.self.now event before c.note_quit-2.new.records c.follow_quitting.new.tables c.note_quit.new.agenda c.args.self.now.next_due
     c.note_quit.new.first c.requires.stands c.requires.lawful (quiet_as event _ c.requires.quits refl refl)
-    (omega (arith, c.note_quit-2.auto.records, c.as_mut_slice.ensures.len)) c.note_quit-2.ensures c.follow_quitting.ensures.stand c.follow_quitting.ensures.slots
+    (omega (arith, c.note_quit-2.auto.records, c.as_mut_slice.ensures.len)) c.note_quit-2.ensures c.follow_quitting.ensures.stand
+    c.follow_quitting.ensures.slots
     (subst (λ journal. IsAgendaOf c.note_quit.new.agenda (event ∷ journal)) c.state-state.ensures c.note_quit.ensures.stands)
     (bound_kept event before c.args.self.now.next_due c.requires.lawful c.requires.stands.due (not_due_as event _ c.requires.quits refl))
     (subst (λ journal. IsStartBound journal c.note_quit.new.first) c.state-state.ensures c.note_quit.ensures.bound)

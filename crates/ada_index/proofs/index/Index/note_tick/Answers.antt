@@ -24,7 +24,8 @@ returns c =
     record {
       kept = record {
         lawful = c.requires.lawful;
-        recorded = records_ticked c.args.event.now c.args.journal.now.events _ c.args.self.now.kept.records.items c.requires.ticks c.requires.lawful c.requires.stands.kept.recorded;
+        recorded = records_ticked c.args.event.now c.args.journal.now.events _ c.args.self.now.kept.records.items c.requires.ticks c.requires.lawful
+            c.requires.stands.kept.recorded;
         tabled = c.follow_tick.ensures.stand;
         created = made_same c.args.self.now.kept.made.items event before c.requires.stands.kept.created (ap creation_in c.requires.ticks);
         timed = to_z-of_z w64 c.args.now c.ranges.now ∙ sym (ticked_to event before _ c.requires.ticks);

@@ -28,6 +28,7 @@ returns c =
     let before = c.args.journal.now.events in
     noted c.args.self.now event before c.note_released.new.records c.follow_release.new.tables c.args.self.now.agenda c.args.self.now.next_due
     c.requires.stands c.requires.lawful (quiet_as event _ c.requires.wakes refl refl)
-    (omega (arith, c.note_released.auto.records, c.as_mut_slice.ensures.len)) c.note_released.ensures c.follow_release.ensures.stand c.follow_release.ensures.slots
+    (omega (arith, c.note_released.auto.records, c.as_mut_slice.ensures.len)) c.note_released.ensures c.follow_release.ensures.stand
+    c.follow_release.ensures.slots
     (nothing_noted event before c.args.self.now.agenda c.requires.lawful c.requires.stands.agenda (ap adds_nothing c.requires.wakes))
     (bound_kept event before c.args.self.now.next_due c.requires.lawful c.requires.stands.due (not_due_as event _ c.requires.wakes refl))
