@@ -1,0 +1,169 @@
+//! The calls that are tried.
+
+use crate::boards::{try_offer, try_open};
+use crate::halls::{HallCall, try_hall};
+use crate::journals::Reserving;
+use crate::kernels::{Making, Play};
+use crate::saying;
+use crate::scenario::{EVENTS, LINES, REQUESTS};
+use crate::scripts::{Copying, Printed, Printing, Reading, Spelling};
+use crate::tables::{TableCall, TableTrial};
+use crate::trial::{Reach, Seen, go};
+use std::alloc::Global;
+use std::sync::Wait;
+
+/// A library call that takes memory.
+#[derive(Clone, Copy, Debug, PartialEq, Eq)]
+pub enum Call {
+    KernelNew,
+    KernelStep,
+    TablesNew,
+    AddTask,
+    ReserveCall,
+    JournalReserve,
+    Read,
+    ScriptNames,
+    Words,
+    WriteEvent,
+    WriteRefusal,
+    WriteShown,
+    OpenBoard,
+    Offer,
+    HallNew,
+    HallStep,
+    HallSay,
+}
+
+/// All of them.
+pub const CALLS: [Call; 17] = [
+    Call::KernelNew,
+    Call::KernelStep,
+    Call::TablesNew,
+    Call::AddTask,
+    Call::ReserveCall,
+    Call::JournalReserve,
+    Call::Read,
+    Call::ScriptNames,
+    Call::Words,
+    Call::WriteEvent,
+    Call::WriteRefusal,
+    Call::WriteShown,
+    Call::OpenBoard,
+    Call::Offer,
+    Call::HallNew,
+    Call::HallStep,
+    Call::HallSay,
+];
+
+/// How many tasks there may be before one is added in a trial of it.
+const TASKS: usize = 9;
+
+impl Call {
+    /// Its name.
+    pub fn name(self) -> &'static str {
+        match self {
+            Call::KernelNew => "Kernel::new",
+            Call::KernelStep => "Kernel::step",
+            Call::TablesNew => "Tables::new",
+            Call::AddTask => "Tables::add_task",
+            Call::ReserveCall => "Tables::reserve_call",
+            Call::JournalReserve => "Journal::reserve",
+            Call::Read => "read",
+            Call::ScriptNames => "Script::names",
+            Call::Words => "words",
+            Call::WriteEvent => "write_event",
+            Call::WriteRefusal => "write_refusal",
+            Call::WriteShown => "write_shown",
+            Call::OpenBoard => "open_board",
+            Call::Offer => "BoardWriter::offer",
+            Call::HallNew => "Hall::new",
+            Call::HallStep => "Hall::step",
+            Call::HallSay => "Hall::say",
+        }
+    }
+
+    /// How many trials of it there are: of each request, line or event, of a truth and of a number, of each number of
+    /// tasks.
+    pub fn numbers(self) -> usize {
+        match self {
+            Call::KernelStep => REQUESTS,
+            Call::AddTask | Call::ReserveCall => TASKS,
+            Call::Words => LINES,
+            Call::WriteEvent => EVENTS,
+            Call::WriteShown => 2,
+            Call::HallSay => saying::LINES,
+            _ => 1,
+        }
+    }
+
+    /// Goes so far in a trial of it, and gives what was seen of a whole one.
+    pub fn go<R: Wait + AllocGlobal>(
+        self,
+        rt: &R,
+        number: usize,
+        reach: Reach,
+    ) -> anyhow::Result<Option<Seen>> {
+        let alloc = rt.alloc();
+        match self {
+            Call::KernelNew => Ok(go(Making::prepare(alloc), Making::prepare(alloc), reach)),
+            Call::KernelStep => step(alloc, number, reach),
+            Call::TablesNew => Ok(table(alloc, TableCall::New, 1, reach)),
+            Call::AddTask => Ok(table(alloc, TableCall::AddTask, number, reach)),
+            Call::ReserveCall => Ok(table(alloc, TableCall::ReserveCall, number, reach)),
+            Call::JournalReserve => Ok(go(
+                Reserving::prepare(alloc),
+                Reserving::prepare(alloc),
+                reach,
+            )),
+            Call::Read => Ok(go(Reading::prepare(alloc), Reading::prepare(alloc), reach)),
+            Call::ScriptNames => copy(alloc, reach),
+            Call::Words => spell(alloc, number, reach),
+            Call::WriteEvent => print(alloc, Printed::Event(number), reach),
+            Call::WriteRefusal => print(alloc, Printed::Refusal, reach),
+            Call::WriteShown => print(alloc, shown(number), reach),
+            Call::OpenBoard => Ok(try_open(rt, reach)),
+            Call::Offer => try_offer(rt, reach),
+            Call::HallNew => try_hall(rt, HallCall::New, reach),
+            Call::HallStep => try_hall(rt, HallCall::Step, reach),
+            Call::HallSay => try_hall(rt, HallCall::Say(number), reach),
+        }
+    }
+}
+
+fn shown(number: usize) -> Printed {
+    if number == 1 {
+        Printed::Truth
+    } else {
+        Printed::Number
+    }
+}
+
+fn step(alloc: Global, number: usize, reach: Reach) -> anyhow::Result<Option<Seen>> {
+    let trial = Play::prepare(alloc, number)?;
+    let twin = Play::prepare(alloc, number)?;
+    Ok(go(trial, twin, reach))
+}
+
+fn table(alloc: Global, call: TableCall, tasks: usize, reach: Reach) -> Option<Seen> {
+    let trial = TableTrial::prepare(alloc, call, tasks);
+    let twin = TableTrial::prepare(alloc, call, tasks);
+    go(trial, twin, reach)
+}
+
+fn copy(alloc: Global, reach: Reach) -> anyhow::Result<Option<Seen>> {
+    let trial = Copying::prepare(alloc)?;
+    let twin = Copying::prepare(alloc)?;
+    Ok(go(trial, twin, reach))
+}
+
+fn spell(alloc: Global, number: usize, reach: Reach) -> anyhow::Result<Option<Seen>> {
+    let trial = Spelling::prepare(alloc, number)?;
+    let twin = Spelling::prepare(alloc, number)?;
+    Ok(go(trial, twin, reach))
+}
+
+fn print(alloc: Global, printed: Printed, reach: Reach) -> anyhow::Result<Option<Seen>> {
+    let trial = Printing::prepare(alloc, printed)?;
+    let twin = Printing::prepare(alloc, printed)?;
+    Ok(go(trial, twin, reach))
+}

@@ -1,5 +1,0 @@
-use Rattle.ada_hall_refusals.proofs.boards.open.Given as goal
-
--- the board of the history that was just made
-abbrev pub ghosts-opened : goal.ghosts-opened
-ghosts-opened g a = record { book = a.history }
