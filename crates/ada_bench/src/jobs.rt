@@ -1,11 +1,12 @@
 //! What is measured: a replay, its parts, and the floors of both.
 
+use crate::floors::{Tokens, push_events, read_text, write_text};
 use crate::sink::Sink;
+use crate::turns::Job;
 use ada_events::{Event, Patience, Request, TaskNo};
 use ada_kernel::Kernel;
 use ada_replay::replay;
 use ada_script::read;
-use ada_timing::{Job, Tokens, push_events, read_text, write_text};
 use std::time::{Duration, Instant};
 
 /// The replay of a script, from its bytes to the text that is written.

@@ -1,17 +1,28 @@
 //! Measures how long the parts of adatask take, each beside a floor that is measured in the same run: the
 //! same bytes read and cut into words, the same requests made, the same events made and kept, and the same
-//! text made and written, by plain loops; the same numbers read from a table; and journals made and dropped.
+//! text made and written, by plain loops; the same numbers read from a table; journals made and dropped; and boards
+//! under a lock.
 #![tactic(auto)]
 
+mod album;
+mod boards;
+mod floors;
 mod jobs;
 mod kernels;
+mod locked;
+mod published;
 mod queries;
+mod race;
+mod report;
 mod scripted;
 mod scripts;
+mod sights;
 mod sink;
+mod turns;
 mod workloads;
 mod works;
 
+use boards::{measure_boards, try_boards};
 use queries::Query;
 use scripts::Kind;
 use std::alloc::{AllocError, Global};
@@ -36,6 +47,9 @@ const KEPT: usize = 1 << 24;
 /// The name of the making of kernels.
 const MAKING: &str = "kernels";
 
+/// The name of the reads and publications of boards.
+const BOARDS: &str = "board";
+
 /// Without a word, prints the names of what can be measured. With such a name, and perhaps a number of
 /// lines, rounds, tasks, events or times, measures it and prints the table. With `small`, tries all on
 /// little input, and prints how much each came to.
@@ -43,7 +57,11 @@ fn main(rt: HostRuntime) -> anyhow::Result<()> {
     let words: Vec<String> = env::args(&rt)?.collect(rt.alloc())?;
     match words.get(1) {
         None => print_names(&rt),
-        Some(word) if word.as_str() == "small" => try_all(&rt),
+        Some(word) if word.as_str() == "small" => {
+            try_all(&rt)?;
+            try_boards(&rt)
+        }
+        Some(word) if word.as_str() == BOARDS => measure_boards(&rt),
         Some(word) => {
             let size = words.get(2).and_then(|size| size.as_str().parse().ok());
             keep_memory(rt.alloc())?;
@@ -70,6 +88,7 @@ fn print_names(rt: &HostRuntime) -> anyhow::Result<()> {
         println!(rt; "{}", query.name())?;
     }
     println!(rt; "{}", MAKING)?;
+    println!(rt; "{}", BOARDS)?;
     Ok(())
 }
 

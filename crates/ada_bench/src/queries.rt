@@ -1,8 +1,8 @@
 //! Questions to a kernel beside reads of a table, and kernels that are made and dropped.
 
+use crate::turns::Job;
 use ada_events::{Board, Entry, Journal, TaskNo};
 use ada_kernel::Kernel;
-use ada_timing::Job;
 use std::time::{Duration, Instant};
 
 /// What is asked of a kernel, about one task after another.

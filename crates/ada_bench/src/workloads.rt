@@ -3,15 +3,16 @@
 use crate::jobs::{Floor, Looker, Plan, Pushing, Reading, Replaying, Stepping};
 use crate::kernels::Beside;
 use crate::queries::{Asking, Listing, Looking, Making, Query};
+use crate::report::{print_head, print_memory, print_row};
 use crate::scripted::Scripted;
 use crate::scripts::{Kind, script};
 use crate::sink::Sink;
+use crate::turns::{Job, measure};
 use crate::works::Work;
 use ada_events::Event;
 use ada_kernel::Kernel;
 use ada_replay::replay;
 use ada_script::{Script, read};
-use ada_timing::{Job, measure, print_head, print_memory, print_row};
 
 /// Plays a script of so many lines, and prints how much it came to.
 pub fn try_script(rt: &HostRuntime, kind: Kind, lines: usize) -> anyhow::Result<()> {

@@ -6,7 +6,8 @@ use Rattle.ada_table_tests.proofs.creation.the_first_creation_is_followed.Goals 
 
 pub follow_creation-followed-requires-clause-lawful : goal.follow_creation-followed-requires-clause-lawful
 follow_creation-followed-requires-clause-lawful g c =
-    first_lawful c.new-journal.result.events _ c.new-journal.ensures c.in_ok-from_slice.ensures.ok
+    first_lawful c.new-journal.result.events _ c.new-journal.ensures
+    (c.in_ok-from_slice.ensures.ok ∙ c.as_slice.ensures.value ∙ c.from_slice-families.ensures)
 
 pub follow_creation-followed-requires-clause-slots : goal.follow_creation-followed-requires-clause-slots
 unfolding slot_count

@@ -1,18 +1,12 @@
-//! Measures reads of a board that is published, beside reads of a board under a lock: of one reader alone, and
-//! of three while a writer publishes without pause.
-#![tactic(auto)]
+//! Reads of a board that is published, beside reads of a board under a lock: of one reader alone, and of three
+//! while a writer publishes without pause.
 
-mod album;
-mod locked;
-mod published;
-mod race;
-mod sights;
-
-use ada_timing::{measure, print_head, print_row};
-use album::Album;
-use locked::{ReadingLocked, Storing};
-use published::{Publishing, Reading};
-use std::env;
+use crate::album::Album;
+use crate::locked::{ReadingLocked, Storing};
+use crate::published::{Publishing, Reading};
+use crate::report::{print_head, print_row};
+use crate::turns::measure;
+use crate::{locked, published};
 use std::io::Print;
 use std::sync::Wait;
 use std::thread::Threads;
@@ -27,17 +21,10 @@ const TIMES: u32 = 1_000_000;
 /// How often all boards are published.
 const ROUNDS: u32 = 200;
 
-/// With `small`, tries all on a few boards, and says that all readers saw the last one. Without, measures
-/// and prints the tables.
-fn main(rt: HostRuntime) -> anyhow::Result<()> {
-    let words: Vec<String> = env::args(&rt)?.collect(rt.alloc())?;
-    match words.get(1) {
-        Some(word) if word.as_str() == "small" => try_all(&rt),
-        _ => measure_all(&rt),
-    }
-}
-
-fn try_all<R: Threads + Wait + Sync + Clock + AllocGlobal + Print>(rt: &R) -> anyhow::Result<()> {
+/// Tries all on a few boards, and says that all readers saw the last one.
+pub fn try_boards<R: Threads + Wait + Sync + Clock + AllocGlobal + Print>(
+    rt: &R,
+) -> anyhow::Result<()> {
     let album = Album::of(rt.alloc(), 5)?;
     try_races(rt, &album)
 }
@@ -52,7 +39,8 @@ fn try_races<R: Threads + Wait + Sync + Clock + AllocGlobal + Print>(
     Ok(())
 }
 
-fn measure_all<R: Threads + Wait + Sync + Clock + AllocGlobal + Print>(
+/// Measures reads and publications, and prints the tables.
+pub fn measure_boards<R: Threads + Wait + Sync + Clock + AllocGlobal + Print>(
     rt: &R,
 ) -> anyhow::Result<()> {
     measure_reads(rt)?;

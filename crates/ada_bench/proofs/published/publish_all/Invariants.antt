@@ -1,5 +1,5 @@
 use Rattle.std.proofs.Common.{◌≡◌, [], take}
-use Rattle.ada_board_bench.proofs.published.publish_all.Given as goal
+use Rattle.ada_bench.proofs.published.publish_all.Given as goal
 
 abbrev pub invariant-loop-board : goal.invariant-loop-board
 invariant-loop-board g l = l.writer ≡ record { published = take l.board-index l.boards; offered = [] }

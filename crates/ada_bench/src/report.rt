@@ -1,6 +1,6 @@
 //! The table: a line for each thing that is measured.
 
-use crate::Turns;
+use crate::turns::Turns;
 use std::{fs, io};
 
 /// Prints what something took, and its floor: first, best and median turn, and the ratio of the best

@@ -3,9 +3,9 @@
 use crate::album::Album;
 use crate::race::Race;
 use crate::sights::{Locked, Watchers, look};
+use crate::turns::Job;
 use ada_events::Board;
 use ada_kernel::Kernel;
-use ada_timing::Job;
 use std::sync::{Mutex, Wait};
 use std::thread::{Threads, join};
 use std::time::{Clock, Duration, Instant};

@@ -1,4 +1,4 @@
-use Rattle.ada_board_bench.proofs.published.races.Given as goal
+use Rattle.ada_bench.proofs.published.races.Given as goal
 
 -- the board of the history that was just made
 abbrev pub ghosts-race : goal.ghosts-race
