@@ -1,5 +1,5 @@
 -- The causes for which each request is refused, without those that never apply to it.
-use Rattle.std.proofs.Common.{◌≡◌, ℕ, ℤ, Bool, true, false, not, ◌||◌, ◌&&◌, ◌+◌, eqb, List, [], ◌∷◌, ◌++◌, length, refl}
+use Rattle.std.proofs.Common.{◌≡◌, ℕ, ℤ, Bool, true, not, ◌||◌, ◌&&◌, ◌+◌, eqb, List, [], ◌∷◌, ◌++◌, length, refl}
 use Rattle.std.proofs.Math.Bool.{or-false}
 use Rattle.std.specs.Prelude.{nat_le, nat_lt, int_lt}
 use Rattle.std.specs.List.{list_any}
