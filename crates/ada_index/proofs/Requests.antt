@@ -10,8 +10,6 @@ use Rattle.ada_events.specs.Tasks.{task_count}
 use Rattle.ada_laws.proofs.Accepting.{asker_exists}
 use Rattle.ada_laws.proofs.LimitLaws.{asked_lawful}
 use Rattle.ada_steps.specs.Beginning.{HasBegun}
-use Rattle.ada_index.specs.internal.Indexes.{IsAdmitted, MayBegin}
-use Rattle.ada_index.specs.declared.index.Index.{Index}
 
 module _ (old room : List Event) (request : Request) (event : Event) (unrefused : refusal old request ≡ None) (same : room ≡ old)
     (is : event ≡ asked_event old request) where
@@ -31,19 +29,8 @@ has_begun before room after request event unrefused same is appended many left =
   room = omega (arith, many, left);
 }
 
-module _ (before : Kept) (request : Request) (room : Kept) (admitted : IsAdmitted before request room) where
-  -- an admitted request's event may follow, and with it the answer has begun
-  pub admitted_lawful : (index : Index) (event : Event) → MayBegin index before.events → event ≡ asked_event before.events request
-      → IsLawful (event ∷ room.events)
-  admitted_lawful index event may is =
-      may_follow before.events room.events request event admitted.unrefused admitted.events is may.stands.kept.lawful may.settled
-
-  pub admitted_begun : (event : Event) (after : Kept) → event ≡ asked_event before.events request → after.events ≡ event ∷ room.events
-      → room.spare ≤ after.spare + 1 → HasBegun before request after
-  admitted_begun event after is appended left =
-      has_begun before room after request event admitted.unrefused admitted.events is appended admitted.room left
-
-  -- whoever makes it exists
-  pub asker_there : (state : List Event) (by : ℕ) → state ≡ room.events → asker request ≡ Some by → by < task_count state
-  asker_there state by is asks =
-      subst (λ j. by < task_count j) (sym (is ∙ admitted.events)) (asker_exists before.events request by admitted.unrefused asks)
+-- whoever asks exists
+pub asker_there : (old state : List Event) (request : Request) (by : ℕ) → refusal old request ≡ None → state ≡ old → asker request ≡ Some by
+    → by < task_count state
+asker_there old state request by unrefused same asks =
+    subst (λ j. by < task_count j) (sym same) (asker_exists old request by unrefused asks)

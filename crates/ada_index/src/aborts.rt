@@ -12,12 +12,14 @@ ghost use Rattle.ada_steps.specs.Beginning.{HasBegun};
 
 use crate::Index;
 use ada_counts::aborts::{follow_abort, follow_halt};
-use ada_events::{Event, Journal, Refusal, Request, TaskList, TaskNo, Tasks};
+use ada_events::{Event, Journal, Refusal, TaskList, TaskNo, Tasks};
 use ada_facts::hit;
 use ada_forcing::Row;
 use ada_noting::endings::note_halt;
 use ada_noting::kinds::note_abort;
 use ada_records::records::{note_abort as note_aborted, note_halted};
+use ada_refusing::aborts::refusal_of_abort;
+use ada_steps::make_room;
 
 impl Index {
     // Notes that tasks are aborted, with all that depend on them.
@@ -47,19 +49,20 @@ impl Index {
     pub(crate) fn begin_abort(
         &mut self,
         journal: &mut Journal,
-        request: &Request,
         by: TaskNo,
         tasks: &Tasks,
     ) -> Result<(), Refusal>
-        requires may { MayBegin self.old journal.old.events }
-        requires asks { request.now ≡ asked.Abort by tasks.now }
-        ensures ok { OnOk result (HasBegun journal.old request.now journal.new) }
+        requires { MayBegin self.old journal.old.events }
+        ensures ok { OnOk result (HasBegun journal.old (asked.Abort by tasks.now) journal.new) }
         ensures err { IfErr result (λ cause.
-            IsRefused journal.old.events request.now cause journal.new.events) }
+            IsRefused journal.old.events (asked.Abort by tasks.now) cause journal.new.events) }
         ensures stands { IsIndexOf self.new journal.new.events }
     {
-        self.admit(journal, request)?;
         let named = tasks.as_slice();
+        if let Some(cause) = refusal_of_abort(&self.state(journal), by, named) {
+            return Err(cause);
+        }
+        make_room(journal)?;
         let tasks = TaskList::from_slice(journal.allocator(), named)?;
         let event = Event::Aborted { by, tasks };
         self.note_abort(journal, &event, by, named);

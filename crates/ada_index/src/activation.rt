@@ -13,9 +13,11 @@ ghost use Rattle.ada_steps.specs.Beginning.{HasBegun};
 use crate::Index;
 use ada_counts::activation::{follow_elaboration, follow_start};
 use ada_counts::suspension::follow_release;
-use ada_events::{Event, Journal, Refusal, Request, TaskList, TaskNo, Tasks};
+use ada_events::{Event, Journal, Refusal, TaskList, TaskNo, Tasks};
 use ada_noting::endings::note_elaboration;
 use ada_records::records::{holder_at, note_elaborated, note_released, note_start};
+use ada_refusing::activation::{refusal_of_activate, refusal_of_elaborated};
+use ada_steps::make_room;
 use ada_touching::keeping;
 
 impl Index {
@@ -37,19 +39,20 @@ impl Index {
     pub(crate) fn begin_activate(
         &mut self,
         journal: &mut Journal,
-        request: &Request,
         by: TaskNo,
         tasks: &Tasks,
     ) -> Result<(), Refusal>
-        requires may { MayBegin self.old journal.old.events }
-        requires asks { request.now ≡ asked.Activate by tasks.now }
-        ensures ok { OnOk result (HasBegun journal.old request.now journal.new) }
+        requires { MayBegin self.old journal.old.events }
+        ensures ok { OnOk result (HasBegun journal.old (asked.Activate by tasks.now) journal.new) }
         ensures err { IfErr result (λ cause.
-            IsRefused journal.old.events request.now cause journal.new.events) }
+            IsRefused journal.old.events (asked.Activate by tasks.now) cause journal.new.events) }
         ensures stands { IsIndexOf self.new journal.new.events }
     {
-        self.admit(journal, request)?;
         let named = tasks.as_slice();
+        if let Some(cause) = refusal_of_activate(&self.state(journal), by, named) {
+            return Err(cause);
+        }
+        make_room(journal)?;
         let tasks = TaskList::from_slice(journal.allocator(), named)?;
         let event = Event::Started { by, tasks };
         self.note_start(journal, &event, by, named);
@@ -76,18 +79,19 @@ impl Index {
     pub(crate) fn begin_elaborated(
         &mut self,
         journal: &mut Journal,
-        request: &Request,
         by: TaskNo,
         ok: bool,
     ) -> Result<(), Refusal>
-        requires may { MayBegin self.old journal.old.events }
-        requires asks { request.now ≡ asked.Elaborated by ok }
-        ensures ok { OnOk result (HasBegun journal.old request.now journal.new) }
+        requires { MayBegin self.old journal.old.events }
+        ensures ok { OnOk result (HasBegun journal.old (asked.Elaborated by ok) journal.new) }
         ensures err { IfErr result (λ cause.
-            IsRefused journal.old.events request.now cause journal.new.events) }
+            IsRefused journal.old.events (asked.Elaborated by ok) cause journal.new.events) }
         ensures stands { IsIndexOf self.new journal.new.events }
     {
-        self.admit(journal, request)?;
+        if let Some(cause) = refusal_of_elaborated(&self.state(journal), by) {
+            return Err(cause);
+        }
+        make_room(journal)?;
         let event = Event::Elaborated { by, ok };
         self.note_elaboration(journal, &event, by, ok);
         journal.push_reserved(event);

@@ -13,14 +13,14 @@ impl Answerer for Index {
     #[inline(always)]
     fn begin(&mut self, journal: &mut Journal, request: &Request) -> Result<(), Refusal> {
         match request {
-            Request::Open { by } => self.begin_open(journal, request, *by),
+            Request::Open { by } => self.begin_open(journal, *by),
             Request::Create {
                 by,
                 master,
                 families,
-            } => self.begin_create(journal, request, *by, *master, families),
-            Request::Activate { by, tasks } => self.begin_activate(journal, request, *by, tasks),
-            Request::Elaborated { by, ok } => self.begin_elaborated(journal, request, *by, *ok),
+            } => self.begin_create(journal, *by, *master, families),
+            Request::Activate { by, tasks } => self.begin_activate(journal, *by, tasks),
+            Request::Elaborated { by, ok } => self.begin_elaborated(journal, *by, *ok),
             Request::Call {
                 by,
                 callee,
@@ -36,14 +36,14 @@ impl Answerer for Index {
                 (Some((choice, rest)), Tail::Nothing) if rest.is_empty() && choice.guard => {
                     self.begin_accept(journal, *by, choice.entry, *pick)
                 }
-                _ => self.begin_wait(journal, request, *by, choices, tail, *pick),
+                _ => self.begin_wait(journal, *by, choices, tail, *pick),
             },
-            Request::Delay { by, duration } => self.begin_delay(journal, request, *by, *duration),
+            Request::Delay { by, duration } => self.begin_delay(journal, *by, *duration),
             Request::End { by, raised } => self.begin_end(journal, *by, *raised),
-            Request::Close { by } => self.begin_close(journal, request, *by),
-            Request::Complete { by } => self.begin_complete(journal, request, *by),
-            Request::Abort { by, tasks } => self.begin_abort(journal, request, *by, tasks),
-            Request::Tick { now } => self.begin_tick(journal, request, *now),
+            Request::Close { by } => self.begin_close(journal, *by),
+            Request::Complete { by } => self.begin_complete(journal, *by),
+            Request::Abort { by, tasks } => self.begin_abort(journal, *by, tasks),
+            Request::Tick { now } => self.begin_tick(journal, *now),
         }
     }
 

@@ -12,10 +12,12 @@ ghost use Rattle.ada_steps.specs.Beginning.{HasBegun};
 
 use crate::Index;
 use ada_counts::suspension::{follow_hold, follow_release, follow_tick};
-use ada_events::{Event, Journal, Refusal, Request, TaskNo};
+use ada_events::{Event, Journal, Refusal, TaskNo};
 use ada_noting::moments::note_tick;
 use ada_noting::next_after_tick;
 use ada_records::records::{holder_at, note_hold, note_released};
+use ada_refusing::delays::{refusal_of_delay, refusal_of_tick};
+use ada_steps::make_room;
 use ada_touching::keeping::note_delay;
 use ada_waits::due_after;
 
@@ -39,18 +41,19 @@ impl Index {
     pub(crate) fn begin_delay(
         &mut self,
         journal: &mut Journal,
-        request: &Request,
         by: TaskNo,
         duration: i64,
     ) -> Result<(), Refusal>
-        requires may { MayBegin self.old journal.old.events }
-        requires asks { request.now ≡ asked.Delay by duration }
-        ensures ok { OnOk result (HasBegun journal.old request.now journal.new) }
+        requires { MayBegin self.old journal.old.events }
+        ensures ok { OnOk result (HasBegun journal.old (asked.Delay by duration) journal.new) }
         ensures err { IfErr result (λ cause.
-            IsRefused journal.old.events request.now cause journal.new.events) }
+            IsRefused journal.old.events (asked.Delay by duration) cause journal.new.events) }
         ensures stands { IsIndexOf self.new journal.new.events }
     {
-        self.admit(journal, request)?;
+        if let Some(cause) = refusal_of_delay(&self.state(journal), by, duration) {
+            return Err(cause);
+        }
+        make_room(journal)?;
         let due = due_after(self.state(journal).moment(), duration);
         let event = Event::Paused { by, due };
         self.note_delay(journal, &event, by, due);
@@ -103,20 +106,17 @@ impl Index {
 
     // Moves the moment.
     #[inline(never)]
-    pub(crate) fn begin_tick(
-        &mut self,
-        journal: &mut Journal,
-        request: &Request,
-        now: i64,
-    ) -> Result<(), Refusal>
-        requires may { MayBegin self.old journal.old.events }
-        requires asks { request.now ≡ asked.Tick now }
-        ensures ok { OnOk result (HasBegun journal.old request.now journal.new) }
+    pub(crate) fn begin_tick(&mut self, journal: &mut Journal, now: i64) -> Result<(), Refusal>
+        requires { MayBegin self.old journal.old.events }
+        ensures ok { OnOk result (HasBegun journal.old (asked.Tick now) journal.new) }
         ensures err { IfErr result (λ cause.
-            IsRefused journal.old.events request.now cause journal.new.events) }
+            IsRefused journal.old.events (asked.Tick now) cause journal.new.events) }
         ensures stands { IsIndexOf self.new journal.new.events }
     {
-        self.admit(journal, request)?;
+        if let Some(cause) = refusal_of_tick(&self.state(journal), now) {
+            return Err(cause);
+        }
+        make_room(journal)?;
         let event = Event::Ticked { now };
         self.note_tick(journal, &event, now);
         journal.push_reserved(event);

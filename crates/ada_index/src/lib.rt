@@ -5,7 +5,6 @@
 mod aborts;
 mod activation;
 mod answering;
-mod beginning;
 mod delays;
 pub mod index;
 mod masters;

@@ -19,7 +19,7 @@ use ada_counts::masters::{
     follow_termination,
 };
 use ada_counts::suspension::follow_hold;
-use ada_events::{Event, Families, FamilyList, Journal, Master, Refusal, Request, TaskNo};
+use ada_events::{Event, Families, FamilyList, Journal, Master, Refusal, TaskNo};
 use ada_facts::dependents;
 use ada_forcing::Row;
 use ada_noting::endings::{note_completion, note_quit, note_termination};
@@ -28,6 +28,10 @@ use ada_records::records::{
     holder_at, note_completion as note_completed, note_created, note_gone, note_hold,
     note_quit as note_quitting, note_released,
 };
+use ada_refusing::masters::{
+    refusal_of_close, refusal_of_complete, refusal_of_create, refusal_of_open,
+};
+use ada_steps::make_room;
 use ada_touching::keeping::note_creation as note_new_task;
 use ada_waits::member_position;
 
@@ -62,21 +66,24 @@ impl Index {
     pub(crate) fn begin_create(
         &mut self,
         journal: &mut Journal,
-        request: &Request,
         by: TaskNo,
         master: Master,
         families: &Families,
     ) -> Result<(), Refusal>
-        requires may { MayBegin self.old journal.old.events }
-        requires asks { request.now ≡ asked.Create by master families.now }
-        ensures ok { OnOk result (HasBegun journal.old request.now journal.new) }
-        ensures err { IfErr result (λ cause.
-            IsRefused journal.old.events request.now cause journal.new.events) }
+        requires { MayBegin self.old journal.old.events }
+        ensures ok { OnOk result
+            (HasBegun journal.old (asked.Create by master families.now) journal.new) }
+        ensures err { IfErr result (λ cause. IsRefused journal.old.events
+            (asked.Create by master families.now) cause journal.new.events) }
         ensures stands { IsIndexOf self.new journal.new.events }
     {
-        self.admit(journal, request)?;
+        let listed = families.as_slice();
+        if let Some(cause) = refusal_of_create(&self.state(journal), by, master, listed) {
+            return Err(cause);
+        }
+        make_room(journal)?;
         let under = self.state(journal).frame(by);
-        let declared = FamilyList::from_slice(journal.allocator(), families.as_slice())?;
+        let declared = FamilyList::from_slice(journal.allocator(), listed)?;
         let event = Event::Created {
             by,
             under,
@@ -101,20 +108,17 @@ impl Index {
 
     // Opens a block.
     #[inline(never)]
-    pub(crate) fn begin_open(
-        &mut self,
-        journal: &mut Journal,
-        request: &Request,
-        by: TaskNo,
-    ) -> Result<(), Refusal>
-        requires may { MayBegin self.old journal.old.events }
-        requires asks { request.now ≡ asked.Open by }
-        ensures ok { OnOk result (HasBegun journal.old request.now journal.new) }
+    pub(crate) fn begin_open(&mut self, journal: &mut Journal, by: TaskNo) -> Result<(), Refusal>
+        requires { MayBegin self.old journal.old.events }
+        ensures ok { OnOk result (HasBegun journal.old (asked.Open by) journal.new) }
         ensures err { IfErr result (λ cause.
-            IsRefused journal.old.events request.now cause journal.new.events) }
+            IsRefused journal.old.events (asked.Open by) cause journal.new.events) }
         ensures stands { IsIndexOf self.new journal.new.events }
     {
-        self.admit(journal, request)?;
+        if let Some(cause) = refusal_of_open(&self.state(journal), by) {
+            return Err(cause);
+        }
+        make_room(journal)?;
         let under = self.state(journal).frame(by);
         let event = Event::Opened { by, under };
         self.note_opening(journal, &event, by, under);
@@ -145,20 +149,17 @@ impl Index {
 
     // Closes a task's innermost block.
     #[inline(never)]
-    pub(crate) fn begin_close(
-        &mut self,
-        journal: &mut Journal,
-        request: &Request,
-        by: TaskNo,
-    ) -> Result<(), Refusal>
-        requires may { MayBegin self.old journal.old.events }
-        requires asks { request.now ≡ asked.Close by }
-        ensures ok { OnOk result (HasBegun journal.old request.now journal.new) }
+    pub(crate) fn begin_close(&mut self, journal: &mut Journal, by: TaskNo) -> Result<(), Refusal>
+        requires { MayBegin self.old journal.old.events }
+        ensures ok { OnOk result (HasBegun journal.old (asked.Close by) journal.new) }
         ensures err { IfErr result (λ cause.
-            IsRefused journal.old.events request.now cause journal.new.events) }
+            IsRefused journal.old.events (asked.Close by) cause journal.new.events) }
         ensures stands { IsIndexOf self.new journal.new.events }
     {
-        self.admit(journal, request)?;
+        if let Some(cause) = refusal_of_close(&self.state(journal), by) {
+            return Err(cause);
+        }
+        make_room(journal)?;
         let block = member_position(self.state(journal).innermost(by));
         let event = Event::Closed { by, block };
         self.note_close(journal, &event, by, block);
@@ -213,17 +214,18 @@ impl Index {
     pub(crate) fn begin_complete(
         &mut self,
         journal: &mut Journal,
-        request: &Request,
         by: TaskNo,
     ) -> Result<(), Refusal>
-        requires may { MayBegin self.old journal.old.events }
-        requires asks { request.now ≡ asked.Complete by }
-        ensures ok { OnOk result (HasBegun journal.old request.now journal.new) }
+        requires { MayBegin self.old journal.old.events }
+        ensures ok { OnOk result (HasBegun journal.old (asked.Complete by) journal.new) }
         ensures err { IfErr result (λ cause.
-            IsRefused journal.old.events request.now cause journal.new.events) }
+            IsRefused journal.old.events (asked.Complete by) cause journal.new.events) }
         ensures stands { IsIndexOf self.new journal.new.events }
     {
-        self.admit(journal, request)?;
+        if let Some(cause) = refusal_of_complete(&self.state(journal), by) {
+            return Err(cause);
+        }
+        make_room(journal)?;
         let event = Event::Completed { by };
         self.note_completion(journal, &event, by);
         journal.push_reserved(event);

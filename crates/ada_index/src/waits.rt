@@ -12,12 +12,12 @@ ghost use Rattle.ada_steps.specs.Beginning.{HasBegun};
 
 use crate::Index;
 use ada_counts::suspension::{follow_hold, follow_release};
-use ada_events::{
-    ChoiceList, Choices, Event, EventTail, Journal, Refusal, Request, Tail, TaskNo, Way,
-};
+use ada_events::{ChoiceList, Choices, Event, EventTail, Journal, Refusal, Tail, TaskNo, Way};
 use ada_noting::calls::note_wait;
 use ada_noting::moments::tail_due;
 use ada_records::records::{holder_at, note_hold, note_released};
+use ada_refusing::waits::refusal_of_wait;
+use ada_steps::make_room;
 use ada_waits::asked_tail;
 
 impl Index {
@@ -57,21 +57,24 @@ impl Index {
     pub(crate) fn begin_wait(
         &mut self,
         journal: &mut Journal,
-        request: &Request,
         by: TaskNo,
         choices: &Choices,
         tail: &Tail,
         pick: u32,
     ) -> Result<(), Refusal>
-        requires may { MayBegin self.old journal.old.events }
-        requires asks { request.now ≡ asked.Wait by choices.now tail.now pick }
-        ensures ok { OnOk result (HasBegun journal.old request.now journal.new) }
-        ensures err { IfErr result (λ cause.
-            IsRefused journal.old.events request.now cause journal.new.events) }
+        requires { MayBegin self.old journal.old.events }
+        ensures ok { OnOk result
+            (HasBegun journal.old (asked.Wait by choices.now tail.now pick) journal.new) }
+        ensures err { IfErr result (λ cause. IsRefused journal.old.events
+            (asked.Wait by choices.now tail.now pick) cause journal.new.events) }
         ensures stands { IsIndexOf self.new journal.new.events }
     {
-        self.admit(journal, request)?;
-        let choices = ChoiceList::from_slice(journal.allocator(), choices.as_slice())?;
+        let listed = choices.as_slice();
+        if let Some(cause) = refusal_of_wait(&self.state(journal), by, listed, tail) {
+            return Err(cause);
+        }
+        make_room(journal)?;
+        let choices = ChoiceList::from_slice(journal.allocator(), listed)?;
         let tail = asked_tail(journal.allocator(), self.state(journal).moment(), tail)?;
         let event = Event::Waiting {
             by,

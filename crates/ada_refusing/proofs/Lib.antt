@@ -1,5 +1,4 @@
-pub mod Asking
+pub mod Causes
 pub mod Declaring
 pub mod Doubling
 pub mod Layering
-pub mod Meeting

@@ -1,24 +1,20 @@
 //! The causes for which the requests of a rendezvous are refused: a call, an accept statement and its end (9.5). They
 //! are told by what such a request says, with no request at hand, so a test asks nothing of its kind.
 
-ghost use Rattle.std.specs.Prelude.{◌≡◌, ◌∷◌, [], ℕ, Bool, true, nat_le, length};
-ghost use Rattle.ada_events.specs.declared.limits.TheConstants.{MOST_MEMBERS};
+ghost use Rattle.std.specs.Prelude.{◌≡◌, ◌∷◌, [], ℕ, Bool, true};
 ghost use Rattle.ada_events.specs.declared.names.Entry.{Entry as EntryValue};
 ghost use Rattle.ada_events.specs.declared.names.TaskNo.{TaskNo as Task};
 ghost use Rattle.ada_events.specs.declared.request.Request.TheVariants as asked;
 ghost use Rattle.ada_events.specs.declared.request.Tail.TheVariants.{Nothing};
 ghost use Rattle.ada_events.specs.Limits as limits;
 ghost use Rattle.ada_events.specs.Refusals as refusals;
-ghost use Rattle.ada_tables.specs.Layers.{members};
 
 use crate::entries::{is_outside, lacks_family};
 use crate::limits::{ends_too_late, is_full};
 use crate::names::{is_elaborated, is_known, is_running};
-use crate::nests::{has_rendezvous_for, is_innermost_rendezvous};
-use ada_events::limits::MOST_MEMBERS;
+use crate::nests::{has_most_members, has_rendezvous_for, is_innermost_rendezvous};
 use ada_events::{Entry, Patience, Refusal, TaskNo};
 use ada_rows::State;
-use ada_tables::Layers;
 
 // Whether a call, of whichever entry, would be due behind the last moment (9.7.3).
 #[tactic(auto, unfolding(ada_events::specs::Limits::is_too_late))]
@@ -32,16 +28,9 @@ fn is_late_call(state: &State, patience: Patience) -> bool
     }
 }
 
-// Whether a nest has its most members.
-fn has_most_members(nest: &Layers) -> bool
-    ensures { result ≡ nat_le MOST_MEMBERS (length (members nest.now)) }
-{
-    MOST_MEMBERS <= nest.len()
-}
-
 /// The cause for which an entry call is refused, if there is one (9.5, 9.7.2, 9.7.3).
 #[inline(always)]
-#[tactic(auto, unfolding(ada_events::specs::Refusals::first_cause), using(crate::proofs::Meeting::call_causes))]
+#[tactic(auto, unfolding(ada_events::specs::Refusals::first_cause), using(crate::proofs::Causes::call_causes))]
 pub fn refusal_of_call(
     state: &State,
     by: TaskNo,
@@ -76,7 +65,7 @@ pub fn refusal_of_call(
 /// The cause for which an accept statement, a wait with one open choice and nothing else, is refused, if there is one
 /// (9.5).
 #[inline(always)]
-#[tactic(auto, unfolding(ada_events::specs::Refusals::first_cause), using(crate::proofs::Meeting::accept_causes))]
+#[tactic(auto, unfolding(ada_events::specs::Refusals::first_cause), using(crate::proofs::Causes::accept_causes))]
 pub fn refusal_of_accept(state: &State, by: TaskNo, entry: Entry) -> Option<Refusal>
     ensures { (pick : ℕ) → result ≡ refusals.refusal state.now
         (asked.Wait by (record { guard = true; entry = entry } ∷ []) Nothing pick) }
@@ -111,7 +100,7 @@ pub fn refusal_of_accept(state: &State, by: TaskNo, entry: Entry) -> Option<Refu
 
 /// The cause for which the end of an accept statement, by an exception or not, is refused, if there is one (9.5, 11.5).
 #[inline(always)]
-#[tactic(auto, unfolding(ada_events::specs::Refusals::first_cause), using(crate::proofs::Meeting::end_causes))]
+#[tactic(auto, unfolding(ada_events::specs::Refusals::first_cause), using(crate::proofs::Causes::end_causes))]
 pub fn refusal_of_end(state: &State, by: TaskNo) -> Option<Refusal>
     ensures { (raised : Bool) → result ≡ refusals.refusal state.now (asked.End by raised) }
 {

@@ -1,11 +1,9 @@
 -- Beginning the answer to a request, and taking the step that a row of the forced steps gives at a key.
 use Rattle.std.specs.Prelude.{◌≡◌, ℕ, ◌<◌, ◌≤◌, ◌+◌, Bool, true, false, Some, None, List, ◌∷◌}
 use Rattle.ada_events.specs.declared.event.Event.{Event}
-use Rattle.ada_events.specs.declared.request.Request.{Request}
 use Rattle.ada_events.specs.Forced.{forced}
 use Rattle.ada_events.specs.Journals.{Kept}
 use Rattle.ada_events.specs.Lawful.{IsSettled}
-use Rattle.ada_events.specs.Refusals.{refusal}
 use Rattle.ada_forcing.specs.declared.row.Row.{Row}
 use Rattle.ada_forcing.specs.Rows.{rank, step_at}
 use Rattle.ada_index.specs.declared.index.Index.{Index}
@@ -15,12 +13,6 @@ use Rattle.ada_index.specs.Indexes.{IsIndexOf}
 pub record MayBegin (index : Index) (journal : List Event) : Type 0 where
   pub stands : IsIndexOf index journal
   pub settled : IsSettled journal
-
--- the request isn't refused, and there is room for what it appends; no event is appended yet
-pub record IsAdmitted (journal : Kept) (request : Request) (after : Kept) : Type 0 where
-  pub unrefused : refusal journal.events request ≡ None
-  pub events : after.events ≡ journal.events
-  pub room : 1024 ≤ after.spare
 
 -- the index stands for the journal; what the row gives at the key is forced, and there is room for it
 pub record MayTake (index : Index) (journal : Kept) (row : Row) (key : ℕ) : Type 0 where

@@ -1,6 +1,6 @@
 use Rattle.std.proofs.Common.{◌∙◌, sym}
 use Rattle.ada_refusing.proofs.Doubling.{own_are_few}
-use Rattle.ada_refusing.proofs.entries.is_not_to_activate.Goals as goal
+use Rattle.ada_refusing.proofs.activation.is_not_to_activate.Goals as goal
 
 pub has_double_task-requires : goal.has_double_task-requires
 has_double_task-requires c =

@@ -1,7 +1,7 @@
 use Rattle.std.proofs.Common.{sym, replicate, false, arith}
 use Rattle.std.proofs.lemmas.List.{get_or-replicate, length-replicate}
 use Rattle.ada_refusing.proofs.Doubling.{none_seen, one_seen, seen_twice}
-use Rattle.ada_refusing.proofs.entries.has_double_task.Goals as goal
+use Rattle.ada_refusing.proofs.activation.has_double_task.Goals as goal
 
 pub loop-left-init : goal.loop-left-init
 loop-left-init c = none_seen c.args.tasks.now (replicate 256 false) (length-replicate 256 false) (λ task below. get_or-replicate 256 task false false below)

@@ -4,7 +4,7 @@ use Rattle.ada_counts.proofs.Enclosing.{frame_reaches_held}
 use Rattle.ada_counts.proofs.Walking.{same_dependents}
 use Rattle.ada_tables.specs.Dependents.{Facts, is_terminated as ends}
 use Rattle.ada_rows.proofs.Blocks.{ended_or, else_closed}
-use Rattle.ada_refusing.proofs.names.is_reached.Goals as goal
+use Rattle.ada_refusing.proofs.masters.is_reached.Goals as goal
 
 pub depends_on-requires-clause-known : goal.depends_on-requires-clause-known
 depends_on-requires-clause-known c = subst (λ n. c.args.by.0 < n) (sym c.tables-tables.ensures.stand.many) c.requires.known

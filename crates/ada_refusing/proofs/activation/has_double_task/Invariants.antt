@@ -1,5 +1,5 @@
 use Rattle.ada_refusing.proofs.Doubling.{HasSeen}
-use Rattle.ada_refusing.proofs.entries.has_double_task.Given as goal
+use Rattle.ada_refusing.proofs.activation.has_double_task.Given as goal
 
 abbrev pub invariant-loop-left : goal.invariant-loop-left
 invariant-loop-left l = HasSeen l.tasks l.seen l.left
