@@ -7,7 +7,7 @@ use ada_board::answers::{callable_on, count_on, opening_board, terminated_on};
 use ada_board::{BoardFault, BoardReader, BoardWriter, History, Naming, Readers, open_board};
 use ada_events::{Board, TaskNo};
 use ada_kernel::Kernel;
-use ada_requests::{MAIN, SINGLE, create};
+use ada_test_requests::{MAIN, SINGLE, create};
 use std::marker::Brand;
 use std::sync::Wait;
 

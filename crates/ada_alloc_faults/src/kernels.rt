@@ -4,7 +4,7 @@ use crate::scenario::{REQUESTS, SCRIPT, are_same_names};
 use crate::trial::{Answer, Trial};
 use ada_events::{Entry, Refusal, Request, TaskNo};
 use ada_kernel::Kernel;
-use ada_script::{Names, Script, Statement, asked, read};
+use ada_script::{Names, Script, Statement, read, request_of};
 use std::alloc::Global;
 
 /// The answer of a call that the kernel or its tables refused, or didn't.
@@ -131,7 +131,7 @@ impl Trial for Play {
             return Answer::Failed;
         }
         let made = TaskNo(self.kernel.tasks());
-        match self.kernel.step(asked(&line.statement, &self.names)) {
+        match self.kernel.step(request_of(&line.statement, &self.names)) {
             Ok(at) => {
                 self.names.bind(&line.statement, at, made);
                 self.played = self.played.saturating_add(1);

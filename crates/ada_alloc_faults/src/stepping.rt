@@ -8,7 +8,7 @@ use ada_board::BoardReader;
 use ada_board::answers::opening_board;
 use ada_events::{Request, TaskNo};
 use ada_hall::{Hall, Session, Told};
-use ada_requests::{MAIN, SINGLE, create};
+use ada_test_requests::{MAIN, SINGLE, create};
 use std::sync::Wait;
 use std::sync::ledger::Share;
 

@@ -3,7 +3,7 @@
 use crate::jobs::{Plan, Taker};
 use ada_events::TaskNo;
 use ada_kernel::Kernel;
-use ada_script::{Names, Script, Statement, asked};
+use ada_script::{Names, Script, Statement, request_of};
 use std::alloc::Global;
 
 /// A script, and its names as its play has bound them.
@@ -40,7 +40,7 @@ fn play_line(statement: &Statement, kernel: &mut Kernel, names: &mut Names) {
         return;
     }
     let made = TaskNo(kernel.tasks());
-    if let Ok(at) = kernel.step(asked(statement, names)) {
+    if let Ok(at) = kernel.step(request_of(statement, names)) {
         names.bind(statement, at, made);
     }
 }
@@ -51,7 +51,7 @@ impl Plan for Scripted {
     fn measured<T: Taker>(&self, taker: &mut T) {
         for line in self.script.lines() {
             if !line.statement.is_show() {
-                taker.take(asked(&line.statement, &self.names));
+                taker.take(request_of(&line.statement, &self.names));
             }
         }
     }

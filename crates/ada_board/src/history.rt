@@ -60,7 +60,7 @@ pub type Reached = Seen<Board, u64, Law>;
 pub type Head = Word<Board, u64, Law>;
 
 /// Which board it is: what goes by one name is of one board. A program picks a name for each board that it
-/// opens, as the tests of `ada_board_tests` do.
+/// opens, as the tests of `ada_run_tests` do.
 pub trait Naming {
     ghost use Rattle.logbook.specs.Pages.{Book};
 

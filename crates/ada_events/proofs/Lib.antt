@@ -1,3 +1,5 @@
 pub mod Positions
 mod worked
 mod Entries
+pub mod Dues
+pub mod Lists

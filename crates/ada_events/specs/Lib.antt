@@ -19,3 +19,4 @@ pub mod Slots
 pub mod Lawful
 pub mod Boards
 pub mod Steps
+pub mod Late

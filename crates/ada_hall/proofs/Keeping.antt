@@ -18,7 +18,7 @@ use Rattle.ada_hall.specs.declared.answer.KeptAnswer.{KeptAnswer}
 use Rattle.ada_hall.specs.Answers.{answer_at}
 use Rattle.ada_hall.specs.Counting.{asked_count}
 use Rattle.ada_hall.specs.History.{IsAnswerTo}
-use Rattle.ada_hall.specs.Stations.{Showing}
+use Rattle.ada_hall.specs.PublishedKernels.{Showing}
 use Rattle.ada_hall.specs.Halls.{IsHistory, open_line, gained}
 use Rattle.ada_hall.specs.internal.Halls.{IsHall, IsOfShow}
 use Rattle.ada_hall.proofs.Counts.{accepted_counts, count_within, nothing_counted}

@@ -18,7 +18,7 @@ use Rattle.ada_laws.proofs.GroupLaws.{empty_is_settled}
 use Rattle.ada_board.specs.Answers.{latest_behind, latest}
 use Rattle.ada_board.specs.Sights.{Posted}
 use Rattle.ada_board.proofs.Truth.{latest_added}
-use Rattle.ada_hall.specs.Stations.{IsTied}
+use Rattle.ada_hall.specs.PublishedKernels.{IsTied}
 
 -- nothing published is true of the empty journal, and not behind it
 pub tied_at_first : IsTied [] [] false

@@ -12,11 +12,11 @@ use Rattle.ada_replay.specs.Replay.{beginning}
 use Rattle.ada_hall.specs.declared.answer.Answer.{Answer}
 use Rattle.ada_hall.specs.declared.answer.Answer.TheVariants.{Group, Refused, Shown}
 use Rattle.ada_hall.specs.declared.answer.KeptAnswer.{KeptAnswer}
-use Rattle.ada_hall.specs.declared.floor.Floor.{Floor}
+use Rattle.ada_hall.specs.declared.turns.Turns.{Turns}
 use Rattle.ada_hall.specs.Answers.{answer_at}
-use Rattle.ada_hall.specs.Stations.{Showing, GoesOnShowing}
+use Rattle.ada_hall.specs.PublishedKernels.{Showing, GoesOnShowing}
 use Rattle.ada_hall.specs.Speakers.{speaker_count}
-use Rattle.ada_hall.specs.Floors.{first_floor}
+use Rattle.ada_hall.specs.Turns.{first_turns}
 use Rattle.ada_hall.specs.History.{GoesOn, IsAnswerTo, AreGiven}
 
 -- the kernel with what is published of it, what names are bound to, the answers that were given, and who may go on
@@ -24,16 +24,16 @@ pub record Held : Type 0 where
   pub showing : Showing
   pub names : Scope
   pub answers : List KeptAnswer
-  pub floor : Floor
+  pub turns : Turns
 
-abbrev pub hall_of : Showing → Scope → List KeptAnswer → Floor → Held
-hall_of showing names answers floor = record { showing = showing; names = names; answers = answers; floor = floor }
+abbrev pub hall_of : Showing → Scope → List KeptAnswer → Turns → Held
+hall_of showing names answers turns = record { showing = showing; names = names; answers = answers; turns = turns }
 
 -- a new hall
 abbrev pub opening : List Line → Held
 opening script =
     hall_of (record { journal = []; published = []; behind = false }) (scope_of script) []
-    (first_floor (min (speaker_count script) (2 ^ 32 - 1)))
+    (first_turns (min (speaker_count script) (2 ^ 32 - 1)))
 
 -- the journal, and what names are bound to
 abbrev pub state_of : Held → PlayState
@@ -74,7 +74,7 @@ pub record IsSaid (line : Line) (place : ℕ) (old new : Held) : Type 0 where
   pub answers : IsAnswerTo line (state_of old) answer text (state_of new)
   pub kept : new.answers ≡ old.answers ++ kept_at place old.showing.journal answer ∷ []
   pub published : GoesOnShowing old.showing new.showing
-  pub floor : new.floor ≡ old.floor
+  pub turns : new.turns ≡ old.turns
 
 -- the request at a place is answered; nothing changes where there is none, or it has an answer
 abbrev pub AnswersPlace : List Line → ℕ → Held → Held → Type 0
@@ -84,5 +84,5 @@ AnswersPlace script place old new = MatchOption (open_request script old.answers
 abbrev pub noted : List Line → ℕ → Answer → Held → Held
 noted script place answer hall =
     if is_some (open_show script hall.answers place)
-    then hall_of hall.showing hall.names (hall.answers ++ kept_at place hall.showing.journal answer ∷ []) hall.floor
+    then hall_of hall.showing hall.names (hall.answers ++ kept_at place hall.showing.journal answer ∷ []) hall.turns
     else hall

@@ -1,8 +1,8 @@
 pub mod Answers
-pub mod Stations
+pub mod PublishedKernels
 pub mod Counting
 pub mod Speakers
-pub mod Floors
+pub mod Turns
 pub mod History
 pub mod Asking
 pub mod Halls

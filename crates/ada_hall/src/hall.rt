@@ -13,17 +13,17 @@ ghost use Rattle.ada_replay.specs.Play.{shown as shown_of};
 ghost use Rattle.ada_hall.specs.Going.{may_go};
 ghost use Rattle.ada_hall.specs.Halls.{state_of, IsHistory, AnswersPlace, noted, opening};
 ghost use Rattle.ada_hall.specs.internal.Halls.{IsOfShow};
-ghost use Rattle.ada_hall.specs.Stations.{Publishes, IsTied};
+ghost use Rattle.ada_hall.specs.PublishedKernels.{Publishes, IsTied};
 
 use crate::answer::{Answer, KeptAnswer};
 use crate::answers::Answers;
 use crate::asking::{Asked, asking_of};
-use crate::floor::{Floor, may_play};
+use crate::published::{PublishedKernel, Told};
 use crate::saying::{answer_request, open_line};
 use crate::session::Session;
 use crate::speakers::{speaker, speakers};
-use crate::station::{Station, Told};
 use crate::tally::Tally;
+use crate::turns::{Turns, may_play};
 use ada_board::BoardWriter;
 use ada_events::{Journal, Refusal, Request};
 use ada_kernel::Kernel;
@@ -39,11 +39,11 @@ use std::sync::ledger::{Book, Share};
 /// [`close`](Hall::close).
 pub struct Hall<'s, J: Session> {
     script: &'s Script,
-    station: Station<J>,
+    published: PublishedKernel<J>,
     names: Names,
     answers: Answers,
     tally: Tally<J>,
-    floor: Floor,
+    turns: Turns,
 }
 
 impl<'s, J: Session> Model for Hall<'s, J> {
@@ -53,10 +53,10 @@ impl<'s, J: Session> Model for Hall<'s, J> {
 
     ghost Value = { Held };
 
-    ghost view = { λ h. hall_of h.station h.names h.answers.kept h.floor };
+    ghost view = { λ h. hall_of h.published h.names h.answers.kept h.turns };
 
     ghost invariant = { λ h. (h.script.now ≡ J.script)
-        × IsHall J.script h.answers.places h.tally h.station h.names h.answers.kept };
+        × IsHall J.script h.answers.places h.tally h.published h.names h.answers.kept };
 }
 
 // The names of a script, a new kernel, and room for an answer to each line.
@@ -93,11 +93,11 @@ impl<'s, J: Session> Hall<'s, J> {
         match beginnings(alloc, script) {
             Ok((names, kernel, answers)) => Ok(Hall {
                 script,
-                station: Station::new(kernel, writer),
+                published: PublishedKernel::new(kernel, writer),
                 names,
                 answers,
                 tally: Tally::new(book),
-                floor: Floor::new(speakers(script.lines())),
+                turns: Turns::new(speakers(script.lines())),
             }),
             Err(cause) => Err((cause, writer)),
         }
@@ -117,7 +117,7 @@ impl<'s, J: Session> Hall<'s, J> {
         ensures published { IfOk result (λ told.
             Publishes self.old.showing self.new.showing told.mark) }
         ensures answers { (self.new.answers ≡ self.old.answers)
-            × (self.new.names ≡ self.old.names) × (self.new.floor ≡ self.old.floor) }
+            × (self.new.names ≡ self.old.names) × (self.new.turns ≡ self.old.turns) }
         ensures err { IfErr result (λ cause.
             IsRefused self.old.showing.journal request cause self.new.showing.journal) }
         ensures unchanged { OnErr result (self.new ≡ self.old) }
@@ -125,7 +125,7 @@ impl<'s, J: Session> Hall<'s, J> {
             ≡ share.old.amount + asked_count self.new.showing.journal }
         ensures parts { share.new.parts ≡ share.old.parts }
     {
-        let told = self.station.step(rt, request)?;
+        let told = self.published.step(rt, request)?;
         self.tally.add(share);
         Ok(told)
     }
@@ -150,9 +150,9 @@ impl<'s, J: Session> Hall<'s, J> {
         if line.statement.is_show() {
             return Ok(());
         }
-        let events = self.station.kernel().journal().len();
-        let tasks = self.station.kernel().tasks();
-        let answer = answer_request(rt, &mut self.station, &mut self.names, line)?;
+        let events = self.published.kernel().journal().len();
+        let tasks = self.published.kernel().tasks();
+        let answer = answer_request(rt, &mut self.published, &mut self.names, line)?;
         self.tally.count(share, answer);
         self.answers.keep(KeptAnswer {
             place,
@@ -178,10 +178,10 @@ impl<'s, J: Session> Hall<'s, J> {
         let Some(line) = script.lines().get(place as usize) else {
             return Err(Refusal::UnknownTask);
         };
-        let what = asking_of(self.station.kernel(), &self.names, &line.statement)?;
+        let what = asking_of(self.published.kernel(), &self.names, &line.statement)?;
         Ok(Asked {
             what,
-            mark: self.station.mark(),
+            mark: self.published.mark(),
         })
     }
 
@@ -211,8 +211,8 @@ impl<'s, J: Session> Hall<'s, J> {
             return;
         };
         if line.statement.is_show() {
-            let events = self.station.kernel().journal().len();
-            let tasks = self.station.kernel().tasks();
+            let events = self.published.kernel().journal().len();
+            let tasks = self.published.kernel().tasks();
             self.answers.keep(KeptAnswer {
                 place,
                 events,
@@ -236,7 +236,7 @@ impl<'s, J: Session> Hall<'s, J> {
         ensures tied { let showing = self.now.showing in
             IsTied showing.journal showing.published showing.behind }
     {
-        self.station.is_behind()
+        self.published.is_behind()
     }
 
     /// The journal, which is lawful and settled.
@@ -245,7 +245,7 @@ impl<'s, J: Session> Hall<'s, J> {
         ensures lawful { IsLawful self.now.showing.journal }
         ensures settled { IsSettled self.now.showing.journal }
     {
-        self.station.kernel().journal()
+        self.published.kernel().journal()
     }
 
     /// The answers in the order in which they were given: each of its own line, over the journal and the
@@ -272,7 +272,7 @@ impl<'s, J: Session> Hall<'s, J> {
     pub fn is_finished(&self) -> bool
         ensures { result ≡ is_finished self.now.showing.journal }
     {
-        self.station.kernel().finished()
+        self.published.kernel().finished()
     }
 
     /// How many requests were accepted: the number of asked events in the journal.
@@ -294,17 +294,17 @@ impl<'s, J: Session> Hall<'s, J> {
     }
 
     /// Who may go on.
-    pub fn floor(&self) -> Floor
-        ensures { result ≡ self.now.floor }
+    pub fn turns(&self) -> Turns
+        ensures { result ≡ self.now.turns }
     {
-        self.floor
+        self.turns
     }
 
     /// Says who may go on.
-    pub fn set_floor(&mut self, floor: Floor)
-        ensures { self.new ≡ record self.old { floor = floor } }
+    pub fn set_turns(&mut self, turns: Turns)
+        ensures { self.new ≡ record self.old { turns = turns } }
     {
-        self.floor = floor;
+        self.turns = turns;
     }
 
     /// Whether the task of the line at a place runs, or has completed: then the line needn't wait. A tick never
@@ -317,7 +317,7 @@ impl<'s, J: Session> Hall<'s, J> {
             return true;
         };
         match speaker(&line.statement) {
-            Some(name) => may_play(self.station.kernel(), self.names.task(name)),
+            Some(name) => may_play(self.published.kernel(), self.names.task(name)),
             None => true,
         }
     }
@@ -326,12 +326,12 @@ impl<'s, J: Session> Hall<'s, J> {
     pub fn close<R: Wait>(self, rt: &R) {
         let Hall {
             script: _,
-            station,
+            published,
             names: _names,
             answers: _answers,
             tally: _tally,
-            floor: _,
+            turns: _,
         } = self;
-        station.close(rt);
+        published.close(rt);
     }
 }

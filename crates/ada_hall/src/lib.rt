@@ -5,18 +5,18 @@
 pub mod answer;
 pub mod answers;
 pub mod asking;
-pub mod floor;
 pub mod hall;
 pub mod printing;
+pub mod published;
 mod saying;
 pub mod session;
 pub mod speakers;
-pub mod station;
 pub mod tally;
+pub mod turns;
 
 pub use answer::{Answer, KeptAnswer};
 pub use asking::{Asked, Asking};
-pub use floor::Floor;
 pub use hall::Hall;
+pub use published::Told;
 pub use session::Session;
-pub use station::Told;
+pub use turns::Turns;

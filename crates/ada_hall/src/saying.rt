@@ -6,17 +6,17 @@ ghost use Rattle.ada_events.specs.Tasks.{task_count};
 ghost use Rattle.ada_statements.specs.Binding.{is_show};
 ghost use Rattle.ada_replay.specs.Ends.{state};
 ghost use Rattle.ada_hall.specs.History.{IsAnswerTo};
-ghost use Rattle.ada_hall.specs.Stations.{GoesOnShowing};
+ghost use Rattle.ada_hall.specs.PublishedKernels.{GoesOnShowing};
 ghost use Rattle.ada_hall.specs.Counting.{asked_count};
 ghost use Rattle.ada_hall.specs.Halls.{open_line, gained};
 
 use crate::answer::Answer;
 use crate::answers::Answers;
-use crate::station::Station;
+use crate::published::PublishedKernel;
 use ada_board::Naming;
 use ada_events::{Refusal, TaskNo};
 use ada_kernel::Kernel;
-use ada_script::{Line, Names, Script, asked};
+use ada_script::{Line, Names, Script, request_of};
 use std::sync::Wait;
 
 // The line at a place, if it has no answer yet.
@@ -39,27 +39,27 @@ fn next_task(kernel: &Kernel) -> TaskNo
 // Makes the request of a line, and binds its name. Refused for want of memory, nothing is changed.
 pub(crate) fn answer_request<J: Naming, R: Wait>(
     rt: &R,
-    station: &mut Station<J>,
+    published: &mut PublishedKernel<J>,
     names: &mut Names,
     line: &Line,
 ) -> Result<Answer, Refusal>
     requires request { is_show line.now.statement ≡ false }
     ensures ok { IfOk result (λ answer. (text : List ℕ)
-        × IsAnswerTo line.now (state station.old.journal names.old) answer text
-        (state station.new.journal names.new)) }
-    ensures showing { IfOk result (λ _. GoesOnShowing station.old station.new) }
+        × IsAnswerTo line.now (state published.old.journal names.old) answer text
+        (state published.new.journal names.new)) }
+    ensures showing { IfOk result (λ _. GoesOnShowing published.old published.new) }
     ensures counted { IfOk result (λ answer.
-        asked_count station.new.journal ≡ asked_count station.old.journal + gained answer) }
+        asked_count published.new.journal ≡ asked_count published.old.journal + gained answer) }
     ensures err { IfErr result (λ cause. cause ≡ Refusal.OutOfMemory) }
-    ensures lawful { IsLawful station.new.journal }
-    ensures unchanged { OnErr result ((station.new ≡ station.old) × (names.new ≡ names.old)) }
+    ensures lawful { IsLawful published.new.journal }
+    ensures unchanged { OnErr result ((published.new ≡ published.old) × (names.new ≡ names.old)) }
 {
-    let request = asked(&line.statement, names);
-    let made = next_task(station.kernel());
-    match station.step(rt, request) {
+    let request = request_of(&line.statement, names);
+    let made = next_task(published.kernel());
+    match published.step(rt, request) {
         Ok(told) => {
             names.bind(&line.statement, told.at, made);
-            let last = station.kernel().journal().len();
+            let last = published.kernel().journal().len();
             Ok(Answer::Group {
                 first: told.at,
                 last,

@@ -11,14 +11,13 @@ ghost use Rattle.ada_events.specs.Slots.{slot_of};
 ghost use Rattle.ada_events.specs.Boards.{board_of};
 ghost use Rattle.ada_laws.specs.Laws.{KeepsTheLaws};
 
+use crate::index::Index;
 use ada_events::{Board, Entry, Journal, Outcome, Refusal, Request, TaskNo};
-use ada_index::Index;
-use ada_queries::boards::board;
-use ada_queries::counts::count;
-use ada_queries::queries;
-use ada_queries::slots::slot;
-use ada_rows::State;
 use ada_steps::step;
+use ada_view::boards::board;
+use ada_view::counts::count;
+use ada_view::slots::slot;
+use ada_view::{View, queries};
 use std::alloc::Global;
 use std::marker::Model;
 
@@ -33,7 +32,7 @@ impl Model for Kernel {
     ghost use Rattle.std.specs.Prelude.{List};
     ghost use Rattle.ada_events.specs.declared.event.Event.{Event};
     ghost use Rattle.ada_events.specs.Lawful.{IsLawful, IsSettled};
-    ghost use Rattle.ada_index.specs.Indexes.{IsIndexOf};
+    ghost use Rattle.ada_kernel.specs.internal.Indexes.{IsIndexOf};
 
     ghost Value = { List Event };
 
@@ -82,38 +81,38 @@ impl Kernel {
     }
 
     // The journal with what is kept of it.
-    fn state(&self) -> State<'_>
+    fn view(&self) -> View<'_>
         ensures { result ≡ self.now }
     {
-        self.index.state(&self.journal)
+        self.index.view(&self.journal)
     }
 
     /// How many tasks there are, the main program counted: 1 to 256.
     pub fn tasks(&self) -> u16
         ensures { result ≡ task_count self.now }
     {
-        queries::tasks(&self.state())
+        queries::tasks(&self.view())
     }
 
     /// The outcome of a task; none where there is no such task.
     pub fn outcome(&self, task: TaskNo) -> Option<Outcome>
         ensures { result ≡ then_some (has_task self.now task.0) (outcome_of self.now task.0) }
     {
-        queries::outcome(&self.state(), task)
+        queries::outcome(&self.view(), task)
     }
 
     /// The attribute CALLABLE of a task (9.9); none where there is no such task.
     pub fn callable(&self, task: TaskNo) -> Option<bool>
         ensures { result ≡ then_some (has_task self.now task.0) (is_callable self.now task.0) }
     {
-        queries::callable(&self.state(), task)
+        queries::callable(&self.view(), task)
     }
 
     /// The attribute TERMINATED of a task (9.9); none where there is no such task.
     pub fn terminated(&self, task: TaskNo) -> Option<bool>
         ensures { result ≡ then_some (has_task self.now task.0) (is_terminated self.now task.0) }
     {
-        queries::terminated(&self.state(), task)
+        queries::terminated(&self.view(), task)
     }
 
     /// Whether a task is running: started, not ended, and not suspended. None where there is no such
@@ -121,7 +120,7 @@ impl Kernel {
     pub fn running(&self, task: TaskNo) -> Option<bool>
         ensures { result ≡ then_some (has_task self.now task.0) (is_running self.now task.0) }
     {
-        queries::running(&self.state(), task)
+        queries::running(&self.view(), task)
     }
 
     /// The attribute COUNT of an entry of the asking task's own (9.9), at most 256. Refused for the first
@@ -129,7 +128,7 @@ impl Kernel {
     pub fn count(&self, by: TaskNo, entry: Entry) -> Result<u16, Refusal>
         ensures { result ≡ own_count self.now by.0 entry }
     {
-        count(&self.state(), by, entry)
+        count(&self.view(), by, entry)
     }
 
     /// The slot of an entry, below 1,024: all entries of all tasks are numbered from 0 in order of task,
@@ -137,20 +136,20 @@ impl Kernel {
     pub fn slot(&self, task: TaskNo, entry: Entry) -> Option<u16>
         ensures { result ≡ slot_of self.now task.0 entry }
     {
-        slot(&self.state(), task, entry)
+        slot(&self.view(), task, entry)
     }
 
     /// The attributes of all tasks and entries.
     pub fn board(&self) -> Board
         ensures { result ≡ board_of self.now }
     {
-        board(&self.state())
+        board(&self.view())
     }
 
     /// Whether the main program is terminated.
     pub fn finished(&self) -> bool
         ensures { result ≡ is_finished self.now }
     {
-        queries::finished(&self.state())
+        queries::finished(&self.view())
     }
 }

@@ -1,7 +1,7 @@
 //! Kernels with many tasks.
 
 use ada_kernel::Kernel;
-use ada_requests::{MAIN, SINGLE, activate, create, up};
+use ada_test_requests::{MAIN, SINGLE, activate, create, up};
 
 /// Makes tasks 1 to `last`, each with one entry and under main, activates them in one request, and ends
 /// their activations; whether all was accepted.

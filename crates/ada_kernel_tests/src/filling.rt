@@ -7,7 +7,7 @@ use crate::crowd::make_tasks;
 use ada_events::limits::{MOST_APPENDED, MOST_EVENTS};
 use ada_events::{Board, Event, Outcome, Refusal, Request, TaskNo};
 use ada_kernel::Kernel;
-use ada_requests::{abort, accept, call, end};
+use ada_test_requests::{abort, accept, call, end};
 use std::process::Abort;
 use std::test::Fail;
 

@@ -8,7 +8,7 @@ use crate::crowd::make_tasks;
 use crate::filling::chain;
 use ada_events::{Event, Family, Outcome, Refusal, Request, TaskNo};
 use ada_kernel::Kernel;
-use ada_requests::{MAIN, SINGLE, abort, accept, call, complete, create, entry};
+use ada_test_requests::{MAIN, SINGLE, abort, accept, call, complete, create, entry};
 use std::process::Abort;
 use std::test::Fail;
 

@@ -3,7 +3,7 @@
 use crate::asserts::{assert_accepted, assert_events};
 use ada_events::{Request, TaskNo};
 use ada_kernel::Kernel;
-use ada_requests::{MAIN, SINGLE, abort, accept, activate, call, complete, create, end, up};
+use ada_test_requests::{MAIN, SINGLE, abort, accept, activate, call, complete, create, end, up};
 use std::process::Abort;
 use std::test::Fail;
 

@@ -7,7 +7,7 @@ use crate::asserts::{
 use crate::crowd::make_tasks;
 use ada_events::{Entry, Family, Outcome, Refusal, Request, TaskNo};
 use ada_kernel::Kernel;
-use ada_requests::{
+use ada_test_requests::{
     MAIN, SINGLE, abort, accept, activate, call, create, end, entry, timed_call, up,
 };
 use std::process::Abort;

@@ -4,7 +4,7 @@ use crate::asserts::{assert_accepted, assert_callable, assert_terminated};
 use ada_events::{Refusal, TaskNo};
 use ada_example::stop;
 use ada_kernel::Kernel;
-use ada_requests::{MAIN, SINGLE, create};
+use ada_test_requests::{MAIN, SINGLE, create};
 use std::process::Abort;
 use std::test::Fail;
 

@@ -32,7 +32,7 @@ use Rattle.ada_laws.proofs.Rows.{IsRow, forced-row}
 use Rattle.ada_laws.proofs.Rows.IsRow.{halts, quits}
 use Rattle.ada_laws.proofs.Depending.{is_started-more, depends_exists, started_named, created_positive}
 use Rattle.ada_laws.proofs.DependentLaws.{going, abandoned_parts}
-use Rattle.ada_records.proofs.Queues.{ends}
+use Rattle.ada_records.proofs.QueueChanges.{ends}
 use Rattle.ada_records.proofs.Saying.{not_both}
 
 -- who was ever held up was started

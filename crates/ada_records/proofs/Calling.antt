@@ -20,23 +20,23 @@ use Rattle.ada_events.specs.Termination.{is_complete_block, is_complete, is_aban
 use Rattle.ada_laws.specs.Calls.{IsWaitAt}
 use Rattle.ada_laws.proofs.Searching.{event_at-newest}
 use Rattle.ada_laws.proofs.Saying.{held_in-call}
-use Rattle.ada_forcing.specs.Rows.{goes_by_task, at_event, step_at}
-use Rattle.ada_forcing.specs.declared.row.Row.{Row}
-use Rattle.ada_forcing.specs.declared.row.Row.TheVariants.{Halting, Failing, Taking, Cancelling, Passing, Waking, Activating, Going, QuittingBody}
-use Rattle.ada_forcing.specs.declared.row.Row.TheVariants.{QuittingBlock, Leaving}
-use Rattle.ada_forcing.specs.Touching.{is_lost, is_idle, IsNewlyBelow, MayQuit, Touches}
-use Rattle.ada_forcing.specs.Touching.Touches.{newest, task_made, aborts, frees, loses, calls, moves, elaborates, completes, abandons, ends_below, body_quits}
-use Rattle.ada_forcing.specs.Touching.Touches.{block_quits, ends_within}
-use Rattle.ada_forcing.specs.Touching.MayQuit.{complete, idle, made}
+use Rattle.ada_rows.specs.Rows.{goes_by_task, at_event, step_at}
+use Rattle.ada_rows.specs.declared.row.Row.{Row}
+use Rattle.ada_rows.specs.declared.row.Row.TheVariants.{Halting, Failing, Meeting, Cancelling, Passing, Waking, Activating, Terminating, QuittingBody}
+use Rattle.ada_rows.specs.declared.row.Row.TheVariants.{QuittingBlock, Leaving}
+use Rattle.ada_rows.specs.Touching.{is_uncallable, is_idle, IsNewlyBelow, MayQuit, Touches}
+use Rattle.ada_rows.specs.Touching.Touches.{newest, task_made, aborts, frees, loses, calls, moves, elaborates, completes, abandons, ends_below, body_quits}
+use Rattle.ada_rows.specs.Touching.Touches.{block_quits, ends_within}
+use Rattle.ada_rows.specs.Touching.MayQuit.{complete, idle, made}
 use Rattle.ada_records.proofs.Holding.{IsQuiet, OnlyHolds, hold_only, quiet_ends, quiet_ended}
-use Rattle.ada_records.proofs.Queues.{ends_caller, queued-more}
+use Rattle.ada_records.proofs.QueueChanges.{ends_caller, queued-more}
 use Rattle.ada_records.proofs.Nesting.{any_event-agree, given_same}
 
 -- the keys that a call touches: its own, where it may fail or be cancelled, and a wait of the task that it calls
 pub data CalledKey (before : List Event) (call : Call) : Row → ℕ → Type 0 where
   may_fail : CalledKey before call Failing (suc (length before))
   may_cancel : CalledKey before call Cancelling (suc (length before))
-  may_meet : (p : ℕ) (wait : Wait) → IsWaitAt before wait p → wait.by ≡ call.callee → CalledKey before call Taking p
+  may_meet : (p : ℕ) (wait : Wait) → IsWaitAt before wait p → wait.by ≡ call.callee → CalledKey before call Meeting p
 
 -- what a call says, and what it doesn't
 pub record SaysCall (e : Event) : Type 0 where
@@ -179,8 +179,8 @@ itself : (e : Event) (before : List Event) (call : Call) (row : Row) (step : Eve
 unfolding step_at
 itself e before call Failing step says by gives = may_fail
 itself e before call Cancelling step says by gives = may_cancel
-itself e before call Taking step says by gives =
-    absurd (nothing_said e step before (at_event (e ∷ before) Taking (suc (length before))) (rw says.waits refl) gives)
+itself e before call Meeting step says by gives =
+    absurd (nothing_said e step before (at_event (e ∷ before) Meeting (suc (length before))) (rw says.waits refl) gives)
 itself e before call Passing step says by gives =
     absurd (nothing_said e step before (at_event (e ∷ before) Passing (suc (length before))) (rw says.waits refl) gives)
 itself e before call Waking step says by gives =
@@ -192,7 +192,7 @@ itself e before call QuittingBlock step says by gives =
 itself e before call Leaving step says by gives =
     absurd (nothing_said e step before (at_event (e ∷ before) Leaving (suc (length before))) (rw says.closes refl) gives)
 itself e before call Halting step says by gives = absurd (true≢false by)
-itself e before call Going step says by gives = absurd (true≢false by)
+itself e before call Terminating step says by gives = absurd (true≢false by)
 itself e before call QuittingBody step says by gives = absurd (true≢false by)
 
 -- a call touches itself and the wait of the task that it calls, and nothing else
@@ -208,7 +208,8 @@ called_touches e before call row key step named gives touched =
     by_touch only says row key gives (aborts u was now) = absurd (both_ways (is_abnormal before u) was (sym (same_abnormal e before u only.quiet) ∙ now))
     by_touch only says row key gives (frees u p c released at by) = absurd (none-some p (sym only.releases ∙ released))
     by_touch only says row key gives (loses p c at was now) = absurd
-        (both_ways (is_lost before c.callee) was (sym (rw (quiet_ended e before c.callee only.quiet, same_abnormal e before c.callee only.quiet) refl) ∙ now))
+        (both_ways (is_uncallable before c.callee) was (sym (rw
+        (quiet_ended e before c.callee only.quiet, same_abnormal e before c.callee only.quiet) refl) ∙ now))
     by_touch only says row key gives (calls p wait at of) = may_meet p wait at
         (sym of.of ∙ ap (λ (c : Call). c.callee) (same_Some of.call call (sym of.says ∙ named)))
     by_touch only says row key gives (moves same p timed some) = absurd (some says.moment)

@@ -1,4 +1,4 @@
--- What becomes of what is kept of a task's latest doing by one more event.
+-- What becomes of what is kept of a task's latest suspension by one more event.
 use Rattle.std.proofs.Common.{◌≡◌, ℕ, zero, suc, ◌<◌, Bool, true, false, not, ◌&&◌, eqb, Option, Some, None, List, ◌∷◌, length, sym, refl, ap, ◌∙◌, subst}
 use Rattle.std.proofs.Common.{arith, inl, inr, ◌||◌}
 use Rattle.std.specs.Option.{option_map_or}
@@ -21,14 +21,14 @@ use Rattle.ada_laws.specs.Suspension.{IsSuspendedAt}
 use Rattle.ada_laws.proofs.Searching.{event_at-older, event_at-newest, any_event-from, is_number-some, is_number-from, option_map_or-true, option_map_or-false}
 use Rattle.ada_laws.proofs.Saying.{held_in-wait}
 use Rattle.ada_laws.proofs.Suspending.{is_suspended-from, suspended_cases, suspended_once}
-use Rattle.ada_records.specs.declared.record.Doing.{Doing}
+use Rattle.ada_records.specs.declared.record.Suspension.{Suspension}
 use Rattle.ada_records.specs.Latest.{latest_outcome}
 use Rattle.ada_records.specs.Records.{IsHeldAt, IsDoingOf}
 use Rattle.ada_records.specs.internal.Records.{may_terminate}
 use Rattle.ada_records.proofs.Callers.{IsAtTerminate, at_terminate}
 use Rattle.ada_records.proofs.Holding.{hold_only, held_newest, held_same, held_released, held_ended, suspended_later}
 use Rattle.ada_records.proofs.LatestOutcomes.{holds_are_held, releases_decide, others_keep_outcomes}
-use Rattle.ada_records.proofs.Queues.{ends}
+use Rattle.ada_records.proofs.QueueChanges.{ends}
 use Rattle.ada_records.proofs.Saying.{number_none, release_only, next_unmet, unmet_same}
 
 -- a task is suspended where its record says
@@ -98,9 +98,9 @@ same_quits event before task at lawful kept other stays lives =
           (λ is. true≢false (sym (terminate_at before task (terminate_later event before task other is)) ∙ not_here)))
     ]
 
--- a task's latest doing stays what it is where the event neither holds it up, nor releases it, nor ends it, but for
+-- a task's latest suspension stays what it is where the event neither holds it up, nor releases it, nor ends it, but for
 -- what becomes of a call with which a rendezvous begins, and for an exception that ends one
-pub doing_later : (event : Event) (before : List Event) (task : ℕ) (kept : Doing) (joined : Bool) (outcome : Outcome) → IsLawful (event ∷ before)
+pub doing_later : (event : Event) (before : List Event) (task : ℕ) (kept : Suspension) (joined : Bool) (outcome : Outcome) → IsLawful (event ∷ before)
     → IsDoingOf before task kept → is_number task (held_in event) ≡ false → is_number kept.at (released_in event) ≡ false → ends event before task ≡ false
     → (0 < kept.at → joined ≡ is_met (event ∷ before) kept.at) → outcome ≡ latest_outcome (event ∷ before) task
     → IsDoingOf (event ∷ before) task (record kept { joined = joined; outcome = outcome })
@@ -121,8 +121,8 @@ same_outcome event before task at lawful kept other unraised stays =
     sym (others_keep_outcomes event before task lawful (not_some task (held_in event) other) (not_some task (raised_in event) unraised)
     (λ p frees held. not_some at (released_in event) stays (frees ∙ ap Some (sym (held_there before task at p lawful.0 kept held)))))
 
--- an event that doesn't touch a task leaves its latest doing
-pub doing_same : (event : Event) (before : List Event) (task : ℕ) (kept : Doing) → IsLawful (event ∷ before) → IsDoingOf before task kept
+-- an event that doesn't touch a task leaves its latest suspension
+pub doing_same : (event : Event) (before : List Event) (task : ℕ) (kept : Suspension) → IsLawful (event ∷ before) → IsDoingOf before task kept
     → is_number task (held_in event) ≡ false → is_number task (raised_in event) ≡ false → is_number kept.at (released_in event) ≡ false
     → is_some_and (meeting_in event) (λ (m : Meeting). eqb m.call kept.at) ≡ false → ends event before task ≡ false → IsDoingOf (event ∷ before) task kept
 doing_same event before task kept lawful old other unraised stays unmet lives =
@@ -222,7 +222,7 @@ ends_only event before task ended =
     ]
 
 -- a task has ended
-pub doing_ended : (event : Event) (before : List Event) (task : ℕ) (kept : Doing) → IsLawful (event ∷ before) → IsDoingOf before task kept
+pub doing_ended : (event : Event) (before : List Event) (task : ℕ) (kept : Suspension) → IsLawful (event ∷ before) → IsDoingOf before task kept
     → ends event before task ≡ true → IsDoingOf (event ∷ before) task (record { at = 0; joined = false; quittable = false; outcome = kept.outcome })
 doing_ended event before task kept lawful old ended =
     let only = ends_only event before task ended in

@@ -25,7 +25,7 @@ use Rattle.ada_laws.proofs.Rows.IsRow.{halts, goes}
 use Rattle.ada_laws.proofs.Depending.{depends_exists}
 use Rattle.ada_laws.proofs.OutcomeLaws.{row-raises_none, raised_in-asked}
 use Rattle.ada_records.proofs.Callers.{asked_completes}
-use Rattle.ada_records.proofs.Queues.{ends}
+use Rattle.ada_records.proofs.QueueChanges.{ends}
 
 row_completed : (journal : List Event) (event : Event) (u : ℕ) → IsRow journal event → completed_in event ≡ Some u → u < task_count journal
 unfolding completed_in

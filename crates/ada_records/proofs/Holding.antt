@@ -17,7 +17,7 @@ use Rattle.ada_laws.proofs.Growing.{is_released-now}
 use Rattle.ada_laws.proofs.Accepting.{asker_exists, asker_runs, running_free, running_live}
 use Rattle.ada_laws.proofs.Stepping.{forced-step}
 use Rattle.ada_records.specs.Records.{IsHeldAt}
-use Rattle.ada_records.proofs.Queues.{ends, has_ended-more}
+use Rattle.ada_records.proofs.QueueChanges.{ends, has_ended-more}
 use Rattle.ada_records.proofs.Within.{next_unreleased}
 
 -- an event that holds a task up ends nobody, releases nothing, meets nobody, makes no task

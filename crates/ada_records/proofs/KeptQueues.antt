@@ -10,7 +10,7 @@ use Rattle.ada_laws.proofs.Queueing.{is_open_at-call}
 use Rattle.ada_records.specs.Changes.{OthersKeepQueues}
 use Rattle.ada_records.proofs.Callers.{caller_stays}
 use Rattle.ada_records.proofs.QueueKinds.{no_newest}
-use Rattle.ada_records.proofs.Queues.{ends_caller, queue_more, queued-more, filter_all}
+use Rattle.ada_records.proofs.QueueChanges.{ends_caller, queue_more, queued-more, filter_all}
 
 -- the caller of a queued call isn't ended
 queued_stays : (event : Event) (before : List Event) (p : ℕ) (e : Event) → IsLawful (event ∷ before) → completed_in event ≡ None → event_at before p ≡ Some e

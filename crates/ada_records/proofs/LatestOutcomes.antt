@@ -1,4 +1,4 @@
--- What becomes of a task's latest doing by one more event.
+-- What becomes of a task's latest suspension by one more event.
 use Rattle.std.proofs.Common.{◌≡◌, ℕ, suc, ◌-◌, Bool, true, false, cond, Option, Some, None, List, [], ◌∷◌, length, sym, refl, ap, ◌∙◌, subst, inl, inr}
 use Rattle.std.specs.Option.{unwrap_or}
 use Rattle.std.proofs.lemmas.Bool.{not-false, false_from_ne_true, false≢true, both_ways}

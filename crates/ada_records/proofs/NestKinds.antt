@@ -35,7 +35,7 @@ use Rattle.ada_laws.proofs.Stepping.{forced-step}
 use Rattle.ada_records.specs.Changes.{is_beside_block, BlocksAreEntered, BlocksAreLeft, OthersKeepNests}
 use Rattle.ada_records.proofs.Callers.{joined_caller_stays}
 use Rattle.ada_records.proofs.LeftBlocks.{left_more, left_frees, left_cases}
-use Rattle.ada_records.proofs.Queues.{has_ended-more}
+use Rattle.ada_records.proofs.QueueChanges.{has_ended-more}
 use Rattle.ada_records.proofs.Unnesting.{kept, gathered-filtered}
 
 -- the member stays in its nest

@@ -20,13 +20,13 @@ use Rattle.ada_laws.proofs.Queueing.{open_call_suspends}
 use Rattle.ada_laws.proofs.Suspending.{suspended_exists}
 use Rattle.ada_laws.proofs.Searching.{is_number-from}
 use Rattle.ada_laws.proofs.OutcomeLaws.{raises_none, unraised}
-use Rattle.ada_records.specs.declared.record.Doing.{Doing}
+use Rattle.ada_records.specs.declared.record.Suspension.{Suspension}
 use Rattle.ada_records.specs.declared.record.Record.{Record}
 use Rattle.ada_records.specs.declared.record.Stage.{Stage}
 use Rattle.ada_records.specs.Records.{no_record, record_at, IsDoingOf, IsStageOf, IsRecordOf, AreRecords, HoldsSomebody, IsPlainHold, IsPlainRelease, freed}
 use Rattle.ada_records.specs.internal.Records.{may_terminate}
 use Rattle.ada_records.proofs.Holding.{hold_only, quiet_ends, holder_ran}
-use Rattle.ada_records.proofs.Queues.{ends}
+use Rattle.ada_records.proofs.QueueChanges.{ends}
 use Rattle.ada_records.proofs.Saying.{IsPlain, number_none, number_other, no_meeting, other_call, release_only, held_apart, met_frees, call_not_wait}
 use Rattle.ada_records.proofs.Saying.{is_met-now, unmet_same, met_says}
 use Rattle.ada_records.proofs.Doings.{held_there, doing_held, doing_released, doing_later, doing_same, doing_ended, same_outcome}
@@ -43,18 +43,18 @@ pub record IsUntouched (event : Event) (before : List Event) (task at : ℕ) : T
   pub ends : ends event before task ≡ false
 
 pub untouched : (event : Event) (before : List Event) (task : ℕ) (kept : Record) → IsLawful (event ∷ before) → IsRecordOf before task kept
-    → IsUntouched event before task kept.doing.at → stage_after event before task kept.stage ≡ kept.stage → IsRecordOf (event ∷ before) task kept
+    → IsUntouched event before task kept.suspension.at → stage_after event before task kept.stage ≡ kept.stage → IsRecordOf (event ∷ before) task kept
 untouched event before task kept lawful old apart same = record {
-  doing = doing_same event before task kept.doing lawful old.doing apart.holds apart.raises apart.frees apart.meets apart.ends;
+  suspension = doing_same event before task kept.suspension lawful old.suspension apart.holds apart.raises apart.frees apart.meets apart.ends;
   stage = subst (IsStageOf (event ∷ before) task) same (stage_more event before task kept.stage old.stage);
 }
 
--- a record with another latest doing, where the event changes nothing else
-pub doing_only : (event : Event) (before : List Event) (task : ℕ) (was now : Record) (doing : Doing) → IsPlain event → IsRecordOf before task was
-    → IsDoingOf (event ∷ before) task doing → now ≡ record was { doing = doing } → IsRecordOf (event ∷ before) task now
-doing_only event before task was now doing plain old right is =
+-- a record with another latest suspension, where the event changes nothing else
+pub doing_only : (event : Event) (before : List Event) (task : ℕ) (was now : Record) (suspension : Suspension) → IsPlain event → IsRecordOf before task was
+    → IsDoingOf (event ∷ before) task suspension → now ≡ record was { suspension = suspension } → IsRecordOf (event ∷ before) task now
+doing_only event before task was now suspension plain old right is =
     subst (IsRecordOf (event ∷ before) task) (sym is) (record {
-      doing = right;
+      suspension = right;
       stage = subst (IsStageOf (event ∷ before) task) (stage_plain event before task was.stage plain) (stage_more event before task was.stage old.stage);
     })
 
@@ -104,12 +104,12 @@ two_changed event before records one two first second makes old has_one has_two 
 }
 
 abbrev pub doing_at : List Record → ℕ → ℕ
-doing_at records task = (record_at records task).doing.at
+doing_at records task = (record_at records task).suspension.at
 
 -- the records after an event that holds a task up
 pub records_hold : (event : Event) (before : List Event) (records : List Record) (task : ℕ) (now : Record) → IsLawful (event ∷ before)
     → AreRecords records before → IsPlainHold event task
-    → now ≡ record (record_at records task) { doing = record { at = length before + 1; joined = false; quittable = may_terminate event; outcome = Held } }
+    → now ≡ record (record_at records task) { suspension = record { at = length before + 1; joined = false; quittable = may_terminate event; outcome = Held } }
     → AreRecords (set records task now) (event ∷ before)
 records_hold event before records task now lawful old hold is =
     let only = hold_only event task hold.holds in
@@ -137,7 +137,7 @@ records_hold event before records task now lawful old hold is =
 pub elsewhere : (journal : List Event) (records : List Record) (u v p : ℕ) → AreRecords records journal → u < length records → u ≢ v → 0 < p
     → IsSuspendedAt journal v p → doing_at records u ≢ p
 elsewhere journal records u v p stand below differs some held = λ same.
-    differs (held_apart journal u v p (subst (λ n. IsSuspendedAt journal u n) same ((stand.each u below).doing.at.held (omega arith))) held)
+    differs (held_apart journal u v p (subst (λ n. IsSuspendedAt journal u n) same ((stand.each u below).suspension.at.held (omega arith))) held)
 
 -- a task that an event which releases another's position neither raises anything in nor meets is untouched
 unreleased : (event : Event) (before : List Event) (records : List Record) (task other p : ℕ) → IsLawful (event ∷ before) → AreRecords records before
@@ -175,7 +175,7 @@ kept_at journal records task position lawful stand held =
       held = held;
       within = within;
       some = some_position journal position held.event held.stands;
-      at = held_there journal task (doing_at records task) position lawful (stand.each task within).doing.at held;
+      at = held_there journal task (doing_at records task) position lawful (stand.each task within).suspension.at held;
     }
 
 -- somebody is suspended at what an event releases
@@ -188,7 +188,7 @@ release_holds event before position lawful frees =
 -- the records after an event that releases what a task is suspended at, otherwise than by a rendezvous or an exception
 pub records_release : (event : Event) (before : List Event) (records : List Record) (task position : ℕ) (now : Record) → IsLawful (event ∷ before)
     → AreRecords records before → IsPlainRelease event position → IsSuspendedAt before task position
-    → now ≡ record (record_at records task) { doing = freed (released_to before event) } → AreRecords (set records task now) (event ∷ before)
+    → now ≡ record (record_at records task) { suspension = freed (released_to before event) } → AreRecords (set records task now) (event ∷ before)
 records_release event before records task position now lawful old frees held is =
     let kept = kept_at before records task position lawful.0 old held in
     let only = release_only event position frees.releases in
@@ -224,8 +224,11 @@ within_set records i n now below = omega (arith, below, length-set records i now
 -- the records after a task ended a rendezvous by an exception
 pub records_raised : (event : Event) (before : List Event) (records : List Record) (by : TaskNo) (caller call : ℕ) (calls raises : Record)
     → IsLawful (event ∷ before) → AreRecords records before → event ≡ Ended by call true → IsSuspendedAt before caller call
-    → calls ≡ record (record_at records caller) { doing = freed Raised }
-    → raises ≡ record (record_at (set records caller calls) by.0) { doing = record (record_at (set records caller calls) by.0).doing { outcome = Raised } }
+    → calls ≡ record (record_at records caller) { suspension = freed Raised }
+    → raises ≡ record (record_at (set records caller calls) by.0) {
+      suspension = record (record_at
+          (set records caller calls) by.0).suspension { outcome = Raised };
+    }
     → AreRecords (set (set records caller calls) by.0 raises) (event ∷ before)
 records_raised event before records by caller p calls raises lawful old raising held calls_is raises_is =
     let kept = kept_at before records caller p lawful.0 old held in
@@ -235,17 +238,20 @@ records_raised event before records by caller p calls raises lawful old raising 
     let quiet_caller : is_number caller (raised_in event) ≡ false = unraised event before caller p lawful held in
     let differs : by.0 ≢ caller = λ same. true≢false (sym (is_number-from caller (raised_in event) (says.1 ∙ ap Some same)) ∙ quiet_caller) in
     let was : record_at (set records caller calls) by.0 ≡ record_at records by.0 = get_or-set_other records caller by.0 calls no_record differs in
-    let is : raises ≡ record (record_at records by.0) { doing = record (record_at records by.0).doing { outcome = Raised } } =
-    raises_is ∙ ap (λ (r : Record). record r { doing = record r.doing { outcome = Raised } }) was in
+    let is : raises ≡ record (record_at records by.0) { suspension = record (record_at records by.0).suspension { outcome = Raised } } =
+    raises_is ∙ ap (λ (r : Record). record r { suspension = record r.suspension { outcome = Raised } }) was in
     two_changed event before records caller by.0 calls raises only.plain.quiet.makes old kept.within has_by differs
     (doing_only event before caller (record_at records caller) calls (freed Raised) only.plain (old.each caller kept.within)
     (subst (λ (o : Outcome). IsDoingOf (event ∷ before) caller (freed o)) (says.3 before) (doing_released event before caller p lawful held says.0)) calls_is)
-    (doing_only event before by.0 (record_at records by.0) raises (record (record_at records by.0).doing { outcome = Raised }) only.plain (old.each by.0 has_by)
-    (doing_later event before by.0 (record_at records by.0).doing (record_at records by.0).doing.joined Raised lawful (old.each by.0 has_by).doing
+    (doing_only event before by.0 (record_at records by.0) raises (record (record_at records by.0).suspension { outcome = Raised }) only.plain
+    (old.each by.0 has_by)
+    (doing_later event before by.0 (record_at records by.0).suspension (record_at records by.0).suspension.joined Raised lawful
+    (old.each by.0 has_by).suspension
     (number_none by.0 (held_in event) only.holds)
     (number_other (doing_at records by.0) p (released_in event) says.0 (elsewhere before records by.0 caller p old has_by differs kept.some held))
     (quiet_ends event before by.0 only.plain.quiet)
-    (λ some. (old.each by.0 has_by).doing.joined some ∙ sym (unmet_same event before (doing_at records by.0) (no_meeting event (doing_at records by.0) says.2)))
+    (λ some. (old.each by.0 has_by).suspension.joined some
+    ∙ sym (unmet_same event before (doing_at records by.0) (no_meeting event (doing_at records by.0) says.2)))
     (sym (raisers_have_raised event before by.0 says.1))) is)
     (λ other known not_caller not_by.
     unreleased event before records caller other p lawful old known not_caller kept.some held says.0
@@ -264,8 +270,11 @@ met_holds event before call wait lawful met =
 -- the records after a rendezvous began
 pub records_met : (event : Event) (before : List Event) (records : List Record) (caller acceptor call wait choice : ℕ) (waits calls : Record)
     → IsLawful (event ∷ before) → AreRecords records before → event ≡ Met call wait → IsSuspendedAt before caller call → IsSuspendedAt before acceptor wait
-    → choice ≡ choice_met before wait → waits ≡ record (record_at records acceptor) { doing = freed (Accepted call choice) }
-    → calls ≡ record (record_at (set records acceptor waits) caller) { doing = record (record_at (set records acceptor waits) caller).doing { joined = true } }
+    → choice ≡ choice_met before wait → waits ≡ record (record_at records acceptor) { suspension = freed (Accepted call choice) }
+    → calls ≡ record (record_at (set records acceptor waits) caller) {
+      suspension = record (record_at
+          (set records acceptor waits) caller).suspension { joined = true };
+    }
     → AreRecords (set (set records acceptor waits) caller calls) (event ∷ before)
 records_met event before records caller acceptor call wait choice waits calls lawful old met at_call at_wait chosen waits_is calls_is =
     let calling = kept_at before records caller call lawful.0 old at_call in
@@ -281,19 +290,20 @@ records_met event before records caller acceptor call wait choice waits calls la
     ∙ ap (Accepted call) (sym chosen) in
     let unfreed : is_number (doing_at records caller) (released_in event)
     ≡ false = number_other (doing_at records caller) wait (released_in event) frees (λ same. apart (sym calling.at ∙ same)) in
-    let is : calls ≡ record (record_at records caller) { doing = record (record_at records caller).doing { joined = true } } =
-    calls_is ∙ ap (λ (r : Record). record r { doing = record r.doing { joined = true } }) (get_or-set_other records acceptor caller waits no_record differs) in
+    let is : calls ≡ record (record_at records caller) { suspension = record (record_at records caller).suspension { joined = true } } =
+    calls_is ∙ ap (λ (r : Record). record r { suspension = record r.suspension { joined = true } })
+    (get_or-set_other records acceptor caller waits no_record differs) in
     two_changed event before records acceptor caller waits calls only.plain.quiet.makes old waiting.within calling.within differs
     (doing_only event before acceptor (record_at records acceptor) waits (freed (Accepted call choice)) only.plain (old.each acceptor waiting.within)
     (subst (λ (o : Outcome). IsDoingOf (event ∷ before) acceptor (freed o)) becomes (doing_released event before acceptor wait lawful at_wait frees)) waits_is)
-    (doing_only event before caller (record_at records caller) calls (record (record_at records caller).doing { joined = true }) only.plain
+    (doing_only event before caller (record_at records caller) calls (record (record_at records caller).suspension { joined = true }) only.plain
     (old.each caller calling.within)
-    (doing_later event before caller (record_at records caller).doing true (record_at records caller).doing.outcome lawful
-    (old.each caller calling.within).doing
+    (doing_later event before caller (record_at records caller).suspension true (record_at records caller).suspension.outcome lawful
+    (old.each caller calling.within).suspension
     (number_none caller (held_in event) only.holds) unfreed (quiet_ends event before caller only.plain.quiet)
     (λ some. sym (is_met-now event before (doing_at records caller) (meets ∙ ap Some (sym calling.at))))
-    ((old.each caller calling.within).doing.outcome
-    ∙ same_outcome event before caller (doing_at records caller) lawful (old.each caller calling.within).doing.at
+    ((old.each caller calling.within).suspension.outcome
+    ∙ same_outcome event before caller (doing_at records caller) lawful (old.each caller calling.within).suspension.at
     (number_none caller (held_in event) only.holds) (number_none caller (raised_in event) raises) unfreed)) is)
     (λ other known not_acceptor not_caller.
     unreleased event before records acceptor other wait lawful old known not_acceptor waiting.some at_wait frees
@@ -330,11 +340,11 @@ records_one event before records task now lawful old only within right =
 -- the records after an event that ends one task
 pub records_end : (event : Event) (before : List Event) (records : List Record) (task : ℕ) (now : Record) → IsLawful (event ∷ before)
     → AreRecords records before → TouchesOne event before task → task < length records → ends event before task ≡ true
-    → now ≡ record { doing = freed (record_at records task).doing.outcome; stage = stage_after event before task (record_at records task).stage }
+    → now ≡ record { suspension = freed (record_at records task).suspension.outcome; stage = stage_after event before task (record_at records task).stage }
     → AreRecords (set records task now) (event ∷ before)
 records_end event before records task now lawful old only within ended is =
     records_one event before records task now lawful old only within
     (subst (IsRecordOf (event ∷ before) task) (sym is) (record {
-      doing = doing_ended event before task (record_at records task).doing lawful (old.each task within).doing ended;
+      suspension = doing_ended event before task (record_at records task).suspension lawful (old.each task within).suspension ended;
       stage = stage_more event before task (record_at records task).stage (old.each task within).stage;
     }))

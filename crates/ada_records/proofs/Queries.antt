@@ -21,12 +21,12 @@ use Rattle.ada_records.specs.Telling.{RecordsTell}
 
 -- the main program's record at first
 abbrev pub main_record : Record
-main_record = record { doing = freed Nothing; stage = record no_stage { started = true; elaborated = true } }
+main_record = record { suspension = freed Nothing; stage = record no_stage { started = true; elaborated = true } }
 
 main_is : IsRecordOf [] 0 main_record
 unfolding is_suspended any_event last_given has_start is_started is_elaborated has_failed is_completed is_abnormal is_terminated
 main_is = record {
-  doing = record {
+  suspension = record {
     at = record { free = λ _. refl; held = λ some. absurd (omega (arith, some)) };
     joined = λ some. absurd (omega (arith, some));
     quittable = refl;
@@ -59,11 +59,11 @@ running_bits s e true = refl
 running_bits s e false = refl
 
 tells_running : (journal : List Event) (task : ℕ) (kept : Record) (ended : Bool) → IsRecordOf journal task kept → ended ≡ has_ended journal task
-    → (kept.stage.started && not ended && eqb kept.doing.at 0) ≡ is_running journal task
+    → (kept.stage.started && not ended && eqb kept.suspension.at 0) ≡ is_running journal task
 unfolding is_running
 tells_running journal task kept ended is same =
-    rw (same, is.stage.started, tells_suspended journal task kept.doing.at is.doing.at)
-    (running_bits (is_started journal task) (has_ended journal task) (eqb kept.doing.at 0))
+    rw (same, is.stage.started, tells_suspended journal task kept.suspension.at is.suspension.at)
+    (running_bits (is_started journal task) (has_ended journal task) (eqb kept.suspension.at 0))
 
 callable_bits : (e a : Bool) → (not e && not a) ≡ not (e || a)
 callable_bits true a = refl
@@ -76,9 +76,9 @@ tells_callable journal task kept ended is same =
     rw (same, is.stage.abnormal) (callable_bits (has_ended journal task) (is_abnormal journal task))
 
 tells_outcome : (journal : List Event) (task : ℕ) (kept : Record) → IsRecordOf journal task kept
-    → cond kept.stage.terminated Dead (cond kept.stage.completed Done kept.doing.outcome) ≡ outcome_of journal task
+    → cond kept.stage.terminated Dead (cond kept.stage.completed Done kept.suspension.outcome) ≡ outcome_of journal task
 unfolding outcome_of
-tells_outcome journal task kept is = rw (is.stage.terminated, is.stage.completed, is.doing.outcome) refl
+tells_outcome journal task kept is = rw (is.stage.terminated, is.stage.completed, is.suspension.outcome) refl
 
 pub records_tell : RecordsTell
 records_tell journal task kept is = record {
@@ -93,7 +93,7 @@ pub record_exists : (journal : List Event) (task : ℕ) → (r : Record) × IsRe
 record_exists journal task =
     let (at, held) = place (is_suspended journal task) refl in (
       record {
-        doing = record {
+        suspension = record {
           at = at;
           joined = is_met journal at;
           quittable = is_at_open_terminate journal task
@@ -112,7 +112,7 @@ record_exists journal task =
         };
       },
       record {
-        doing = record { at = held; joined = λ some. refl; quittable = refl; outcome = refl };
+        suspension = record { at = held; joined = λ some. refl; quittable = refl; outcome = refl };
         stage = record { named = refl; started = refl; elaborated = refl; failed = refl; completed = refl; abnormal = refl; terminated = refl };
       },
     )

@@ -21,7 +21,7 @@ use Rattle.ada_laws.proofs.Suspending.{suspended_once}
 use Rattle.ada_laws.proofs.Queueing.{is_open_at-call, open_call_suspends}
 use Rattle.ada_laws.proofs.Meeting.{met_taking}
 use Rattle.ada_laws.proofs.Stepping.{queued_open}
-use Rattle.ada_records.proofs.Queues.{queue_more, queued-more, newest_call, ends, ends_caller, filter_all}
+use Rattle.ada_records.proofs.QueueChanges.{queue_more, queued-more, newest_call, ends, ends_caller, filter_all}
 use Rattle.ada_records.proofs.Within.{next_unreleased}
 use Rattle.ada_records.proofs.Holding.{IsQuiet, hold_only, quiet_ends, quiet_ended, holder_ran}
 use Rattle.ada_records.proofs.Saying.{release_only, not_both, held_apart, met_says, met_frees, next_unmet}

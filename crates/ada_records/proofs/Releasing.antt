@@ -11,14 +11,14 @@ use Rattle.ada_events.specs.Phases.{is_abnormal}
 use Rattle.ada_events.specs.Forced.{task_no, is_to_fail, is_to_cancel, is_done_activating}
 use Rattle.ada_events.specs.Termination.{is_complete, is_abandoned}
 use Rattle.ada_laws.specs.Calls.{IsCallAt}
-use Rattle.ada_forcing.specs.Rows.{goes_by_task, at_event, step_at}
-use Rattle.ada_forcing.specs.declared.row.Row.{Row}
-use Rattle.ada_forcing.specs.declared.row.Row.TheVariants.{Halting, Failing, Taking, Cancelling, Passing, Waking, Activating, Going, QuittingBody}
-use Rattle.ada_forcing.specs.declared.row.Row.TheVariants.{QuittingBlock, Leaving}
-use Rattle.ada_forcing.specs.Touching.{is_lost, is_idle, IsNewlyBelow, MayQuit, Touches}
-use Rattle.ada_forcing.specs.Touching.Touches.{newest, task_made, aborts, frees, loses, calls, moves, elaborates, completes, abandons, ends_below, body_quits}
-use Rattle.ada_forcing.specs.Touching.Touches.{block_quits, ends_within}
-use Rattle.ada_forcing.specs.Touching.MayQuit.{complete, idle, made}
+use Rattle.ada_rows.specs.Rows.{goes_by_task, at_event, step_at}
+use Rattle.ada_rows.specs.declared.row.Row.{Row}
+use Rattle.ada_rows.specs.declared.row.Row.TheVariants.{Halting, Failing, Meeting, Cancelling, Passing, Waking, Activating, Terminating, QuittingBody}
+use Rattle.ada_rows.specs.declared.row.Row.TheVariants.{QuittingBlock, Leaving}
+use Rattle.ada_rows.specs.Touching.{is_uncallable, is_idle, IsNewlyBelow, MayQuit, Touches}
+use Rattle.ada_rows.specs.Touching.Touches.{newest, task_made, aborts, frees, loses, calls, moves, elaborates, completes, abandons, ends_below, body_quits}
+use Rattle.ada_rows.specs.Touching.Touches.{block_quits, ends_within}
+use Rattle.ada_rows.specs.Touching.MayQuit.{complete, idle, made}
 use Rattle.ada_records.proofs.Holding.{quiet_ended}
 use Rattle.ada_records.proofs.Saying.{OnlyReleases, release_only}
 use Rattle.ada_records.proofs.Calling.{SaysCall, same_abnormal, same_complete, same_abandoned, not_done, nothing_said, no_end}
@@ -58,8 +58,8 @@ not_itself e before Failing step uncalled says by gives =
     nothing_said e step before (at_event (e ∷ before) Failing (suc (length before))) (rw uncalled refl) gives
 not_itself e before Cancelling step uncalled says by gives =
     nothing_said e step before (at_event (e ∷ before) Cancelling (suc (length before))) (rw uncalled refl) gives
-not_itself e before Taking step uncalled says by gives =
-    nothing_said e step before (at_event (e ∷ before) Taking (suc (length before))) (rw says.waits refl) gives
+not_itself e before Meeting step uncalled says by gives =
+    nothing_said e step before (at_event (e ∷ before) Meeting (suc (length before))) (rw says.waits refl) gives
 not_itself e before Passing step uncalled says by gives =
     nothing_said e step before (at_event (e ∷ before) Passing (suc (length before))) (rw says.waits refl) gives
 not_itself e before Waking step uncalled says by gives =
@@ -71,7 +71,7 @@ not_itself e before QuittingBlock step uncalled says by gives =
 not_itself e before Leaving step uncalled says by gives =
     nothing_said e step before (at_event (e ∷ before) Leaving (suc (length before))) (rw says.closes refl) gives
 not_itself e before Halting step uncalled says by gives = true≢false by
-not_itself e before Going step uncalled says by gives = true≢false by
+not_itself e before Terminating step uncalled says by gives = true≢false by
 not_itself e before QuittingBody step uncalled says by gives = true≢false by
 
 -- a master may newly quit after a release only where that makes a task ready
@@ -94,7 +94,7 @@ released_touches e before position row key step released gives touched =
     by_touch only says row key gives (aborts u was now) = absurd (both_ways (is_abnormal before u) was (sym (same_abnormal e before u only.plain.quiet) ∙ now))
     by_touch only says row key gives (frees u p c frees_p at by) = may_halt u c (rw (same_Some position p (sym released ∙ frees_p)) at) by
     by_touch only says row key gives (loses p c at was now) = absurd
-        (both_ways (is_lost before c.callee) was (sym
+        (both_ways (is_uncallable before c.callee) was (sym
         (rw (quiet_ended e before c.callee only.plain.quiet, same_abnormal e before c.callee only.plain.quiet) refl) ∙ now))
     by_touch only says row key gives (calls p wait at of) = absurd (none-some of.call (sym says.0 ∙ of.says))
     by_touch only says row key gives (moves same p timed some) = absurd (some says.1.moment)

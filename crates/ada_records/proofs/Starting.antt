@@ -14,7 +14,7 @@ use Rattle.ada_events.specs.Phases.{lists_task}
 use Rattle.ada_events.specs.Outcomes.{raised_in}
 use Rattle.ada_events.specs.Lawful.{IsLawful}
 use Rattle.ada_laws.proofs.Growing.{task_count-same}
-use Rattle.ada_records.specs.declared.record.Doing.{Doing}
+use Rattle.ada_records.specs.declared.record.Suspension.{Suspension}
 use Rattle.ada_records.specs.declared.record.Record.{Record}
 use Rattle.ada_records.specs.Records.{no_record, record_at, IsDoingOf, IsStageOf, IsRecordOf, AreRecords}
 use Rattle.ada_records.specs.internal.Records.{start_record, HaveChanged}
@@ -24,7 +24,7 @@ use Rattle.ada_records.proofs.Holding.{holder_ran}
 use Rattle.ada_records.proofs.Stages.{stage_more}
 
 -- who starts an activation waits for its end
-abbrev pub starting : List Event → Doing
+abbrev pub starting : List Event → Suspension
 starting before = record { at = length before + 1; joined = false; quittable = false; outcome = Held }
 
 starter_doing : (before : List Event) (by : TaskNo) (tasks : List TaskNo) → IsLawful (Started by tasks ∷ before)
@@ -35,7 +35,7 @@ starter_doing before by tasks lawful =
     subst (λ (n : ℕ). IsDoingOf (Started by tasks ∷ before) by.0 (record { at = n; joined = false; quittable = false; outcome = Held })) next
     (doing_held (Started by tasks) before by.0 lawful refl)
 
-other_doing : (before : List Event) (by : TaskNo) (tasks : List TaskNo) (task : ℕ) (kept : Doing) → IsLawful (Started by tasks ∷ before)
+other_doing : (before : List Event) (by : TaskNo) (tasks : List TaskNo) (task : ℕ) (kept : Suspension) → IsLawful (Started by tasks ∷ before)
     → IsDoingOf before task kept → task ≢ by.0 → IsDoingOf (Started by tasks ∷ before) task kept
 unfolding held_in released_in completed_in gone_in quit_in meeting_in raised_in
 other_doing before by tasks task kept lawful old differs =
@@ -46,9 +46,9 @@ start_stage : (before : List Event) (by : TaskNo) (tasks : List TaskNo) (task : 
 unfolding completed_in gone_in quit_in started_in aborted_in elaborated_in failed_in
 start_stage before by tasks task kept old = stage_more (Started by tasks) before task kept.stage old
 
--- the records with the starter's latest doing, before the tasks are named
+-- the records with the starter's latest suspension, before the tasks are named
 abbrev pub with_starter : List Event → List Record → ℕ → List Record
-with_starter before records by = set records by (record (record_at records by) { doing = starting before })
+with_starter before records by = set records by (record (record_at records by) { suspension = starting before })
 
 -- after the first so many tasks were named
 pub named_none : (first : List Record) (tasks : List TaskNo) → HaveChanged start_record first first tasks 0
@@ -101,16 +101,16 @@ started_record before records by tasks task lawful old has_by known =
       | inl same ↦
           subst (λ (n : ℕ). IsRecordOf (Started by tasks ∷ before) n
           (start_record (lists_task n tasks) (record_at (with_starter before records by.0) n))) (sym same)
-          (rw (get_or-set_same records by.0 (record (record_at records by.0) { doing = starting before }) no_record has_by)
+          (rw (get_or-set_same records by.0 (record (record_at records by.0) { suspension = starting before }) no_record has_by)
           (record {
-            doing = starter_doing before by tasks lawful;
+            suspension = starter_doing before by tasks lawful;
             stage = start_stage before by tasks by.0 (record_at records by.0)
                 (old.each by.0 has_by).stage;
           }))
       | inr differs ↦
-          rw (get_or-set_other records by.0 task (record (record_at records by.0) { doing = starting before }) no_record differs)
+          rw (get_or-set_other records by.0 task (record (record_at records by.0) { suspension = starting before }) no_record differs)
           (record {
-            doing = other_doing before by tasks task (record_at records task).doing lawful (old.each task known).doing differs;
+            suspension = other_doing before by tasks task (record_at records task).suspension lawful (old.each task known).suspension differs;
             stage = start_stage
                 before by tasks task (record_at records task) (old.each task known).stage;
           })
@@ -122,7 +122,7 @@ started_records : (before : List Event) (records now : List Record) (by : TaskNo
 unfolding creation_in
 started_records before records now by tasks lawful old has_by all =
     let first = with_starter before records by.0 in
-    let many : length first ≡ length records = length-set records by.0 (record (record_at records by.0) { doing = starting before }) in
+    let many : length first ≡ length records = length-set records by.0 (record (record_at records by.0) { suspension = starting before }) in
     record {
       many = all.same ∙ many ∙ old.many ∙ sym (task_count-same (Started by tasks) before refl);
       each = λ task below.
@@ -132,15 +132,17 @@ started_records before records now by tasks lawful old has_by all =
     }
 
 -- the records after a start
-pub records_started : (event : Event) (before : List Event) (records now : List Record) (doing : Doing) (by : TaskNo) (tasks named : List TaskNo) (i : ℕ)
-    → IsLawful (event ∷ before) → AreRecords records before → event ≡ Started by tasks → named ≡ tasks → doing ≡ starting before
-    → HaveChanged start_record (set records by.0 (record (record_at records by.0) { doing = doing })) now named i → length named ≤ i → i ≤ length named
+pub records_started : (event : Event) (before : List Event) (records now : List Record) (suspension : Suspension) (by : TaskNo)
+    (tasks named : List TaskNo) (i : ℕ)
+    → IsLawful (event ∷ before) → AreRecords records before → event ≡ Started by tasks → named ≡ tasks → suspension ≡ starting before
+    → HaveChanged start_record (set records by.0 (record (record_at records by.0) { suspension = suspension })) now named i → length named ≤ i
+    → i ≤ length named
     → AreRecords now (event ∷ before)
-records_started event before records now doing by tasks named i lawful old starts same is so_far above below =
+records_started event before records now suspension by tasks named i lawful old starts same is so_far above below =
     let all : i ≡ length named = omega (arith, above, below) in
     subst (λ (e : Event). AreRecords now (e ∷ before)) (sym starts)
     (started_records before records now by tasks (subst (λ (e : Event). IsLawful (e ∷ before)) starts lawful) old
     (omega (arith, starter_exists event before by tasks lawful starts, old.many))
     (subst (λ (ts : List TaskNo). HaveChanged start_record (with_starter before records by.0) now ts (length ts)) same
-    (subst (λ (k : Doing). HaveChanged start_record (set records by.0 (record (record_at records by.0) { doing = k })) now named (length named)) is
-    (subst (λ (n : ℕ). HaveChanged start_record (set records by.0 (record (record_at records by.0) { doing = doing })) now named n) all so_far))))
+    (subst (λ (k : Suspension). HaveChanged start_record (set records by.0 (record (record_at records by.0) { suspension = k })) now named (length named)) is
+    (subst (λ (n : ℕ). HaveChanged start_record (set records by.0 (record (record_at records by.0) { suspension = suspension })) now named n) all so_far))))

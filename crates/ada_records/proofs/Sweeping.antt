@@ -27,7 +27,7 @@ pub quit_record_of : (before : List Event) (m : Master) (task : ℕ) (was : Reco
     → depends_on before task m ≡ depends → IsRecordOf before task was → IsRecordOf (event.Quit m ∷ before) task (quit_record depends was)
 unfolding held_in released_in completed_in gone_in quit_in started_in aborted_in elaborated_in failed_in meeting_in raised_in
 quit_record_of before m task was true lawful says old = record {
-  doing = doing_ended (event.Quit m) before task was.doing lawful old.doing says;
+  suspension = doing_ended (event.Quit m) before task was.suspension lawful old.suspension says;
   stage = subst (IsStageOf (event.Quit m ∷ before) task) (rw says refl) (stage_more (event.Quit m) before task was.stage old.stage);
 }
 quit_record_of before m task was false lawful says old =
@@ -41,21 +41,21 @@ no_more false = refl
 kept_terminated : (before : List Event) (m : Master) (task : ℕ) (was : Record) (depends : Bool) → is_terminated before task ≡ true → IsRecordOf before task was
     → IsRecordOf (event.Quit m ∷ before) task (quit_record depends was) → IsRecordOf (event.Quit m ∷ before) task was
 kept_terminated before m task was false ended old new = new
-kept_terminated before m task was true ended old new = record { doing = doing; stage = stage }
+kept_terminated before m task was true ended old new = record { suspension = suspension; stage = stage }
   where
     over : has_ended before task ≡ true
     over = has_ended-terminated before task ended
 
-    free : 0 < was.doing.at → ⊥
-    free held = true≢false (sym over ∙ (old.doing.at.held held).live)
+    free : 0 < was.suspension.at → ⊥
+    free held = true≢false (sym over ∙ (old.suspension.at.held held).live)
 
-    doing : IsDoingOf (event.Quit m ∷ before) task was.doing
-    doing = record {
-      at = record { free = λ _. new.doing.at.free refl; held = λ held. absurd (free held) };
+    suspension : IsDoingOf (event.Quit m ∷ before) task was.suspension
+    suspension = record {
+      at = record { free = λ _. new.suspension.at.free refl; held = λ held. absurd (free held) };
       joined = λ held. absurd (free held);
-      quittable = old.doing.quittable ∙ ap (λ b. is_at_open_terminate before task && not b) over ∙ no_more (is_at_open_terminate before task)
-          ∙ new.doing.quittable;
-      outcome = new.doing.outcome;
+      quittable = old.suspension.quittable ∙ ap (λ b. is_at_open_terminate before task && not b) over ∙ no_more (is_at_open_terminate before task)
+          ∙ new.suspension.quittable;
+      outcome = new.suspension.outcome;
     }
 
     stage : IsStageOf (event.Quit m ∷ before) task was.stage
@@ -108,7 +108,7 @@ pub abort_record_of : (before : List Event) (by : TaskNo) (tasks : List TaskNo) 
     → task < task_count before → IsRecordOf before task was → IsRecordOf (event.Aborted by tasks ∷ before) task (abort_record (is_hit before tasks task) was)
 unfolding held_in released_in completed_in gone_in quit_in started_in aborted_in elaborated_in failed_in meeting_in raised_in
 abort_record_of before by tasks task was lawful exists old = record {
-  doing = doing_same (event.Aborted by tasks) before task was.doing lawful old.doing refl refl refl refl refl;
+  suspension = doing_same (event.Aborted by tasks) before task was.suspension lawful old.suspension refl refl refl refl refl;
   stage =
       subst (IsStageOf (event.Aborted by tasks ∷ before) task)
       (rw (lt-ltb task (task_count before) exists)

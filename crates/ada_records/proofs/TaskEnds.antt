@@ -82,7 +82,7 @@ completion_exists event before task lawful (inr is) = completed_exists event bef
 
 completed_records : (before : List Event) (records : List Record) (task : TaskNo) (now : Record) → IsLawful (Completed task ∷ before)
     → AreRecords records before → task.0 < length records
-    → now ≡ record { doing = freed (record_at records task.0).doing.outcome; stage = record (record_at records task.0).stage { completed = true } }
+    → now ≡ record { suspension = freed (record_at records task.0).suspension.outcome; stage = record (record_at records task.0).stage { completed = true } }
     → AreRecords (set records task.0 now) (Completed task ∷ before)
 unfolding held_in released_in completed_in gone_in quit_in started_in aborted_in elaborated_in failed_in meeting_in creation_in raised_in
 completed_records before records task now lawful old within is =
@@ -91,7 +91,7 @@ completed_records before records task now lawful old within is =
 
 halted_records : (before : List Event) (records : List Record) (task : TaskNo) (now : Record) → IsLawful (Halted task ∷ before) → AreRecords records before
     → task.0 < length records → now ≡ record {
-      doing = freed (record_at records task.0).doing.outcome;
+      suspension = freed (record_at records task.0).suspension.outcome;
       stage = record (record_at records task.0).stage
           { completed = true };
     } → AreRecords (set records task.0 now) (Halted task ∷ before)
@@ -102,7 +102,7 @@ halted_records before records task now lawful old within is =
 
 gone_records : (before : List Event) (records : List Record) (task : TaskNo) (now : Record) → IsLawful (Gone task ∷ before) → AreRecords records before
     → task.0 < length records → now ≡ record {
-      doing = freed (record_at records task.0).doing.outcome;
+      suspension = freed (record_at records task.0).suspension.outcome;
       stage = record (record_at records task.0).stage
           { terminated = true };
     } → AreRecords (set records task.0 now) (Gone task ∷ before)
@@ -114,7 +114,7 @@ gone_records before records task now lawful old within is =
 -- the records after a task completed
 pub records_completed : (event : Event) (before : List Event) (records : List Record) (task : TaskNo) (now : Record) → IsLawful (event ∷ before)
     → AreRecords records before → IsCompletion event task
-    → now ≡ record { doing = freed (record_at records task.0).doing.outcome; stage = record (record_at records task.0).stage { completed = true } }
+    → now ≡ record { suspension = freed (record_at records task.0).suspension.outcome; stage = record (record_at records task.0).stage { completed = true } }
     → AreRecords (set records task.0 now) (event ∷ before)
 records_completed event before records task now lawful old completes is =
     let within : task.0 < length records = omega (arith, completion_exists event before task lawful completes, old.many) in
@@ -136,7 +136,7 @@ goer_exists event before task lawful is = gone_exists event before task.0 lawful
 -- the records after a task terminated by itself
 pub records_gone : (event : Event) (before : List Event) (records : List Record) (task : TaskNo) (now : Record) → IsLawful (event ∷ before)
     → AreRecords records before → event ≡ Gone task
-    → now ≡ record { doing = freed (record_at records task.0).doing.outcome; stage = record (record_at records task.0).stage { terminated = true } }
+    → now ≡ record { suspension = freed (record_at records task.0).suspension.outcome; stage = record (record_at records task.0).stage { terminated = true } }
     → AreRecords (set records task.0 now) (event ∷ before)
 records_gone event before records task now lawful old goes is =
     subst (λ (e : Event). AreRecords (set records task.0 now) (e ∷ before)) (sym goes)
@@ -156,7 +156,8 @@ unfolding held_in released_in completed_in gone_in quit_in started_in aborted_in
 elaborated_records before records by true now lawful old within is =
     records_one (Elaborated by true) before records by.0 now lawful old (elaborated_touches before by true) within
     (subst (IsRecordOf (Elaborated by true ∷ before) by.0) (sym is) (record {
-      doing = doing_same (Elaborated by true) before by.0 (record_at records by.0).doing lawful (old.each by.0 within).doing refl refl refl refl refl;
+      suspension = doing_same (Elaborated by true) before by.0 (record_at records by.0).suspension lawful
+          (old.each by.0 within).suspension refl refl refl refl refl;
       stage = subst (IsStageOf (Elaborated by true ∷ before) by.0) (rw (eq-eqb by.0 by.0 refl) refl)
           (stage_more (Elaborated by true) before by.0 (record_at records by.0).stage (old.each by.0 within).stage);
     }))

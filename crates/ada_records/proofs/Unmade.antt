@@ -26,7 +26,7 @@ use Rattle.ada_records.proofs.Existing.{positive, elaborated_exists, raiser_exis
 use Rattle.ada_records.proofs.Holding.{holder_ran}
 use Rattle.ada_records.proofs.LatestOutcomes.{what_is_released_held}
 use Rattle.ada_records.proofs.Noting.{IsUntouched, untouched}
-use Rattle.ada_records.proofs.Queues.{ends}
+use Rattle.ada_records.proofs.QueueChanges.{ends}
 use Rattle.ada_records.proofs.Saying.{number_none, no_meeting}
 use Rattle.ada_records.proofs.Stages.{stage_after}
 
@@ -79,7 +79,7 @@ unfolding task_count is_suspended any_event last_given has_start is_started is_e
 nothing_yet u beyond =
     let main : eqb u 0 ≡ false = ne_eqb u 0 (λ same. omega (arith, same, beyond)) in
     record {
-      doing = record {
+      suspension = record {
         at = record { free = λ _. refl; held = λ some. absurd (omega (arith, some)) };
         joined = λ some. absurd (omega (arith, some));
         quittable = refl;
@@ -120,8 +120,8 @@ made_untouched event before task kept c lawful old says =
     (record {
       holds = number_none task (held_in event) only.0;
       raises = number_none task (raised_in event) only.1;
-      frees = number_none kept.doing.at (released_in event) only.2;
-      meets = no_meeting event kept.doing.at only.3;
+      frees = number_none kept.suspension.at (released_in event) only.2;
+      meets = no_meeting event kept.suspension.at only.3;
       ends = makes_ends_none event before c task says;
     })
     (makes_stage event before c task kept.stage says)

@@ -1,4 +1,4 @@
--- What became of a task's latest doing, and what one more event changes in it. Laws.
+-- What became of a task's latest suspension, and what one more event changes in it. Laws.
 use Rattle.std.specs.Prelude.{◌≡◌, ℕ, Some, List, ◌∷◌}
 use Rattle.std.specs.Option.{unwrap_or}
 use Rattle.ada_events.specs.declared.event.Event.{Event}

@@ -3,3 +3,9 @@ pub mod Latest
 pub mod Records
 pub mod Telling
 pub mod internal
+pub mod Facing
+pub mod Holders
+pub mod Pending
+pub mod RecordedPhases
+pub mod Following
+pub mod Noting

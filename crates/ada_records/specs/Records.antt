@@ -16,13 +16,13 @@ use Rattle.ada_events.specs.Calls.{is_met}
 use Rattle.ada_events.specs.Termination.{is_at_open_terminate}
 use Rattle.ada_events.specs.Outcomes.{raised_in, choice_met}
 use Rattle.ada_laws.specs.Suspension.{IsSuspendedAt}
-use Rattle.ada_records.specs.declared.record.Doing.{Doing}
+use Rattle.ada_records.specs.declared.record.Suspension.{Suspension}
 use Rattle.ada_records.specs.declared.record.Stage.{Stage}
 use Rattle.ada_records.specs.declared.record.Record.{Record}
 use Rattle.ada_records.specs.Latest.{latest_outcome}
 
--- what is left of a task's latest doing once it isn't suspended any more
-abbrev pub freed : Outcome → Doing
+-- what is left of a task's latest suspension once it isn't suspended any more
+abbrev pub freed : Outcome → Suspension
 freed outcome = record { at = 0; joined = false; quittable = false; outcome = outcome }
 
 -- a task of which nothing has become
@@ -39,11 +39,11 @@ no_stage = record {
 
 -- the record of a task that was just made
 abbrev pub new_record : Record
-new_record = record { doing = freed Nothing; stage = no_stage }
+new_record = record { suspension = freed Nothing; stage = no_stage }
 
 -- no task's record
 abbrev pub no_record : Record
-no_record = record { doing = freed Dead; stage = no_stage }
+no_record = record { suspension = freed Dead; stage = no_stage }
 
 abbrev pub record_at : List Record → ℕ → Record
 record_at records task = slice_index_or records task no_record
@@ -53,8 +53,8 @@ pub record IsHeldAt (journal : List Event) (task at : ℕ) : Type 0 where
   pub free : at ≡ 0 → is_suspended journal task ≡ false
   pub held : 0 < at → IsSuspendedAt journal task at
 
--- what is kept of the task's latest doing is right
-pub record IsDoingOf (journal : List Event) (task : ℕ) (kept : Doing) : Type 0 where
+-- what is kept of the task's latest suspension is right
+pub record IsDoingOf (journal : List Event) (task : ℕ) (kept : Suspension) : Type 0 where
   pub at : IsHeldAt journal task kept.at
   pub joined : 0 < kept.at → kept.joined ≡ is_met journal kept.at
   pub quittable : kept.quittable ≡ (is_at_open_terminate journal task && not (has_ended journal task))
@@ -72,7 +72,7 @@ pub record IsStageOf (journal : List Event) (task : ℕ) (kept : Stage) : Type 0
 
 -- the record is right
 pub record IsRecordOf (journal : List Event) (task : ℕ) (kept : Record) : Type 0 where
-  pub doing : IsDoingOf journal task kept.doing
+  pub suspension : IsDoingOf journal task kept.suspension
   pub stage : IsStageOf journal task kept.stage
 
 -- there is a record of each task, and it is right

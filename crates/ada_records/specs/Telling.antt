@@ -13,13 +13,13 @@ abbrev pub has_ended_by : Record → Bool
 has_ended_by kept = kept.stage.completed || kept.stage.terminated
 
 abbrev pub is_running_by : Record → Bool
-is_running_by kept = kept.stage.started && not (has_ended_by kept) && kept.doing.at == 0
+is_running_by kept = kept.stage.started && not (has_ended_by kept) && kept.suspension.at == 0
 
 abbrev pub is_callable_by : Record → Bool
 is_callable_by kept = not (has_ended_by kept) && not kept.stage.abnormal
 
 abbrev pub outcome_by : Record → Outcome
-outcome_by kept = if kept.stage.terminated then Dead else (if kept.stage.completed then Done else kept.doing.outcome)
+outcome_by kept = if kept.stage.terminated then Dead else (if kept.stage.completed then Done else kept.suspension.outcome)
 
 -- a right record tells whether its task has ended, runs and is callable, and its outcome
 pub record IsTelling (journal : List Event) (task : ℕ) (kept : Record) : Type 0 where

@@ -1,8 +1,22 @@
-//! What the kernel keeps of each task beside its tables, and what one more event changes in it.
+//! What one more event changes: in the record that the kernel keeps of each task, and in its tables, whose queues,
+//! nests
+//! and phases follow the journal. What the tables hold of dependents follows by laws, each the contract of a function
+//! that does nothing.
 #![tactic(auto)]
 
+pub mod aborts;
+pub mod activation;
+mod changes;
 pub mod laws;
+pub mod masters;
+mod nests;
+mod phases;
+mod phasing;
+mod queues;
 pub mod record;
 pub mod records;
+pub mod rendezvous;
+pub mod suspension;
+pub mod table_laws;
 
-pub use record::{Doing, Record, Stage};
+pub use record::{Record, Stage, Suspension};

@@ -5,8 +5,10 @@ ghost use Rattle.ada_events.specs.Limits as limits;
 
 use crate::nests::{frame, innermost};
 use crate::tasks::moment;
-use ada_events::{ChoiceList, Event, FamilyList, Refusal, Request, TaskList, TaskNo};
-use ada_waits::{asked_tail, call_due, due_after, member_position};
+use ada_events::{
+    ChoiceList, Event, FamilyList, Refusal, Request, TaskList, TaskNo, asked_tail, call_due,
+    due_after, member_position,
+};
 use std::alloc::Global;
 
 /// The event that a request becomes when it is accepted: the same, with each duration replaced by the

@@ -7,7 +7,7 @@ use crate::asks::asked_event;
 use crate::forced::forced;
 use crate::refusals::refusal;
 use ada_events::{Journal, Refusal, Request};
-use ada_steps::{Answerer, make_room, step};
+use ada_steps::{Engine, make_room, step};
 use std::alloc::Global;
 use std::marker::Model;
 
@@ -15,7 +15,7 @@ use std::marker::Model;
 #[derive(Drop)]
 struct Search;
 
-impl Answerer for Search {
+impl Engine for Search {
     ghost stands = { λ _ _. Unit {0} };
 
     fn begin(&mut self, journal: &mut Journal, request: &Request) -> Result<(), Refusal> {

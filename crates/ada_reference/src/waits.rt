@@ -5,8 +5,7 @@ ghost use Rattle.ada_events.specs.Waits as waits;
 ghost use Rattle.ada_events.specs.declared.limits.TheConstants.{MOST_CHOICES};
 
 use crate::calls::front;
-use ada_events::{Choice, Event, TaskNo};
-use ada_waits::{ChoiceNumbers, picked, push_if};
+use ada_events::{Choice, ChoiceNumbers, Event, TaskNo, picked, push_if};
 
 /// The call at the front of an open choice's queue.
 #[tactic(auto, unfolding(ada_events::specs::Waits::front_of))]

@@ -1,9 +1,9 @@
 //! Playing scripts of requests on a kernel.
 #![tactic(auto)]
 
-mod asking;
 pub mod fault;
 pub mod input;
+mod kernel_sink;
 pub mod laws;
 pub mod output;
 pub mod play;

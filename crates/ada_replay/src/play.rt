@@ -9,7 +9,7 @@ ghost use Rattle.ada_events.specs.declared.request.Request.{Request as RequestVa
 ghost use Rattle.ada_statements.specs.Binding.{is_show, request_of};
 
 use crate::RunFault;
-use crate::asking::ask_kernel;
+use crate::kernel_sink::send_to_kernel;
 use crate::output::{write_output, write_piece};
 use crate::shows::shown;
 use ada_events::{Event, Refusal, TaskNo};
@@ -85,7 +85,7 @@ fn say_request(
 {
     let from = kernel.journal().len();
     let made = next_task(kernel);
-    match ask_kernel(kernel, &line.statement, names) {
+    match send_to_kernel(kernel, &line.statement, names) {
         Ok(at) => {
             names.bind(&line.statement, at, made);
             print_events(kernel.journal().as_slice(), names, from, text)

@@ -1,9 +1,3 @@
-pub mod Blocks
-pub mod Choosing
-pub mod Closing
-pub mod Deciding
-pub mod Leaving
-pub mod Orphans
-pub mod Pending
-pub mod Quitting
-pub mod Strangers
+pub mod Keys
+pub mod TakingNewly
+pub mod TouchedKeys

@@ -1,2 +1,5 @@
-pub mod States
+pub mod Agendas
+pub mod Newly
+pub mod Rows
+pub mod Touching
 pub mod internal

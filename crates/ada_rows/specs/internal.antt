@@ -1,5 +1,2 @@
 -- What only private contracts and invariants cite: no caller meets it.
-pub mod Choosing
-pub mod Deciding
-pub mod Ending
-pub mod States
+pub mod Newly

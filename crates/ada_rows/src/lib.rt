@@ -1,13 +1,8 @@
-//! A journal with what is kept of it; and whether a row of the forced steps gives a step at a key, told by that, with
-//! no search.
+//! Where a journal forces a step: the rows of the forced steps, the keys at which they give one, and what one
+//! more event can newly force. Each law is the contract of a function that does nothing.
 #![tactic(auto)]
 
-pub mod calls;
-pub mod endings;
-pub mod holds;
-pub mod nests;
-pub mod rows;
-pub mod state;
-pub mod waits;
+pub mod laws;
+pub mod row;
 
-pub use state::State;
+pub use row::Row;

@@ -15,7 +15,7 @@ use Rattle.ada_hall.specs.Answers.{AreJoined, end_of}
 use Rattle.ada_hall.specs.History.{GoesOn, AnswersRequest, AnswersShow, IsGiven, AreGiven}
 use Rattle.ada_hall.specs.Printing.{Continues, ArePrinted}
 use Rattle.ada_replay.proofs.Breaking.{keeps_same}
-use Rattle.ada_threads.specs.Opening.{IsOpeningFault}
+use Rattle.ada_run.specs.Opening.{IsOpeningFault}
 use Rattle.ada_run.specs.Running.{Follow, IsRun, BreaksRun}
 use Rattle.ada_run.specs.internal.Running.{AreWhole}
 

@@ -1,2 +1,5 @@
 pub mod Running
 pub mod internal
+pub mod Orders
+pub mod Opening
+pub mod Reports

@@ -3,10 +3,11 @@ ghost use Rattle.std.specs.Prelude.{◌≡◌, ◌⊎◌, ◌<◌, ◌≤◌, If
 ghost use Rattle.ada_replay.specs.Input.{most_bytes, TakesAtMost};
 ghost use Rattle.ada_replay.specs.Replay.{Tells};
 ghost use Rattle.ada_hall.specs.Speakers.{created};
-ghost use Rattle.ada_threads.specs.Opening.{IsOpeningFault};
+ghost use Rattle.ada_run.specs.Opening.{IsOpeningFault};
 ghost use Rattle.ada_run.specs.Running.{IsScriptRun, BreaksRun, IsTextRun, IsTextBroken, IsUnread, Runs, RunBreaks};
 ghost use Rattle.ada_run.specs.internal.Running.{AreWhole};
 
+use crate::{Gate, Shared, open_hall, play};
 use ada_board::History;
 use ada_hall::printing::{are_joined, write_answers};
 use ada_hall::speakers::creations;
@@ -15,7 +16,6 @@ use ada_replay::input::read_input;
 use ada_replay::replaying::read_script;
 use ada_replay::{Ending, RunFault};
 use ada_script::Script;
-use ada_threads::{Gate, Shared, open_hall, play};
 use std::alloc::Global;
 use std::io::{Read, Write};
 use std::marker::Brand;
@@ -45,7 +45,7 @@ fn look_through<J: Session>(hall: &Hall<'_, J>) -> Result<(), RunFault>
         (AreWhole J.script hall.now.answers (length hall.now.showing.journal)) }
     ensures err { IfErr result IsOpeningFault }
 {
-    if hall.floor().is_stopped() || !hall.is_answered() {
+    if hall.turns().is_stopped() || !hall.is_answered() {
         return Err(RunFault::Memory);
     }
     if !are_joined(hall.answers(), hall.journal().len()) {

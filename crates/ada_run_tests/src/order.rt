@@ -1,6 +1,6 @@
 //! Command lines: what they order, and which are refused.
 
-use ada_command_line::{Order, order_of};
+use ada_run::{Order, order_of};
 use clap::error::ErrorKind;
 use std::process::Abort;
 use std::test::Fail;

@@ -1,10 +1,9 @@
 //! Runs of scripts by threads: what they print, in turn and free, and how they end.
 
 use ada_hall::Session;
-use ada_run::{Ending, Free, Gate, InTurn, RunFault, replay, run, status_of};
+use ada_run::{Ending, Free, Gate, InTurn, RunFault, Shared, replay, run, status_of};
 use ada_script_tests::rendezvous::SCRIPT;
 use ada_script_tests::streams::Writes;
-use ada_threads::Shared;
 use std::alloc::{AllocError, Global};
 use std::process::Abort;
 use std::sync::Wait;

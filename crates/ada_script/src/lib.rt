@@ -21,8 +21,8 @@ mod word;
 
 pub use ada_printing::{Value, write_event, write_refusal, write_shown};
 pub use ada_statements::{
-    Addressee, Alternative, Cause, Declaration, EntryName, EntryNames, Made, Meaning, Name, Names,
-    ScriptFault, Statement, ask, asked, request,
+    Alternative, Cause, Declaration, EntryName, EntryNames, Made, Meaning, Name, Names,
+    RequestSink, ScriptFault, Statement, request, request_of, send,
 };
 pub use script::{Line, Script};
 pub use spelling::words;

@@ -2,10 +2,10 @@
 
 use crate::common::{assert_found, assert_text, passed, script_of, with_script};
 use ada_events::{Event, Refusal, Request, TaskNo};
-use ada_requests::{call, end};
 use ada_script::{
     Cause, Line, Names, Script, Value, request, write_event, write_refusal, write_shown,
 };
+use ada_test_requests::{call, end};
 use std::process::Abort;
 use std::test::Fail;
 

@@ -14,7 +14,7 @@ pub use fault::{Cause, ScriptFault};
 pub use meaning::{Bound, EntryNames, Made, Meaning};
 pub use name::Name;
 pub use names::Names;
-pub use requests::{Addressee, ask, asked, request};
+pub use requests::{RequestSink, request, request_of, send};
 pub use statement::{
     Alternative, Alternatives, Declaration, Declarations, EntryName, Statement, TaskNames,
 };

@@ -58,7 +58,7 @@ fn copy_of(tail: &Tail) -> Tail
 }
 
 /// Whom requests are made of.
-pub trait Addressee {
+pub trait RequestSink {
     ghost use Rattle.ada_events.specs.declared.request.Request.{Request as RequestOf};
 
     /// What it answers to a request.
@@ -74,20 +74,20 @@ pub trait Addressee {
 
 /// Makes the wait for a call of one entry.
 #[inline(never)]
-fn ask_accept<A: Addressee>(
+fn send_accept<A: RequestSink>(
     by: &Name,
     entry: &EntryName,
     names: &Names,
-    addressee: &mut A,
+    sink: &mut A,
 ) -> A::Answer
-    ensures { A.answers addressee.old (accepted names.now by.now entry.now) result addressee.new }
+    ensures { A.answers sink.old (accepted names.now by.now entry.now) result sink.new }
 {
     let mut choices = Bounded::new();
     choices.push(Choice {
         guard: true,
         entry: names.entry(by, entry),
     });
-    addressee.take(Request::Wait {
+    sink.take(Request::Wait {
         by: names.task(by),
         choices,
         tail: Tail::Nothing,
@@ -97,18 +97,18 @@ fn ask_accept<A: Addressee>(
 
 /// Makes the creation of a task.
 #[inline(never)]
-fn ask_create<A: Addressee>(
+fn send_create<A: RequestSink>(
     by: &Name,
     under: &Name,
     families: &Declarations,
     names: &Names,
-    addressee: &mut A,
+    sink: &mut A,
 ) -> A::Answer
-    ensures { A.answers addressee.old
+    ensures { A.answers sink.old
         (requests.Create (task_of names.now by.now) (master_of names.now under.now)
-        (map family_of families.now)) result addressee.new }
+        (map family_of families.now)) result sink.new }
 {
-    addressee.take(Request::Create {
+    sink.take(Request::Create {
         by: names.task(by),
         master: names.master(under),
         families: families_of(families),
@@ -117,17 +117,17 @@ fn ask_create<A: Addressee>(
 
 /// Makes the activation of tasks.
 #[inline(never)]
-fn ask_activate<A: Addressee>(
+fn send_activate<A: RequestSink>(
     by: &Name,
     tasks: &TaskNames,
     names: &Names,
-    addressee: &mut A,
+    sink: &mut A,
 ) -> A::Answer
-    ensures { A.answers addressee.old
+    ensures { A.answers sink.old
         (requests.Activate (task_of names.now by.now) (map (task_of names.now) tasks.now)) result
-        addressee.new }
+        sink.new }
 {
-    addressee.take(Request::Activate {
+    sink.take(Request::Activate {
         by: names.task(by),
         tasks: tasks_of(tasks, names),
     })
@@ -135,19 +135,19 @@ fn ask_activate<A: Addressee>(
 
 /// Makes the wait of a selective wait.
 #[inline(never)]
-fn ask_select<A: Addressee>(
+fn send_select<A: RequestSink>(
     by: &Name,
     pick: u32,
     choices: &Alternatives,
     tail: &Tail,
     names: &Names,
-    addressee: &mut A,
+    sink: &mut A,
 ) -> A::Answer
-    ensures { A.answers addressee.old
+    ensures { A.answers sink.old
         (requests.Wait (task_of names.now by.now) (map (choice_of names.now by.now) choices.now)
-        tail.now pick) result addressee.new }
+        tail.now pick) result sink.new }
 {
-    addressee.take(Request::Wait {
+    sink.take(Request::Wait {
         by: names.task(by),
         choices: choices_of(choices, by, names),
         tail: copy_of(tail),
@@ -157,17 +157,17 @@ fn ask_select<A: Addressee>(
 
 /// Makes the abort of tasks.
 #[inline(never)]
-fn ask_abort<A: Addressee>(
+fn send_abort<A: RequestSink>(
     by: &Name,
     tasks: &TaskNames,
     names: &Names,
-    addressee: &mut A,
+    sink: &mut A,
 ) -> A::Answer
-    ensures { A.answers addressee.old
+    ensures { A.answers sink.old
         (requests.Abort (task_of names.now by.now) (map (task_of names.now) tasks.now)) result
-        addressee.new }
+        sink.new }
 {
-    addressee.take(Request::Abort {
+    sink.take(Request::Abort {
         by: names.task(by),
         tasks: tasks_of(tasks, names),
     })
@@ -177,30 +177,30 @@ fn ask_abort<A: Addressee>(
 // Each request is given away where its kind is known, so that one without a list needn't lie in memory. Those with
 // lists are made in functions of their own, so that no other waits for room for a list.
 #[inline(always)]
-pub fn ask<A: Addressee>(statement: &Statement, names: &Names, addressee: &mut A) -> A::Answer
+pub fn send<A: RequestSink>(statement: &Statement, names: &Names, sink: &mut A) -> A::Answer
     requires { is_show statement.now ≡ false }
     ensures { (request : RequestValue) × (Some request ≡ request_of names.now statement.now)
-        × A.answers addressee.old request result addressee.new }
+        × A.answers sink.old request result sink.new }
 {
     match statement {
-        Statement::Tick { now } => addressee.take(Request::Tick { now: *now }),
-        Statement::Open { by, .. } => addressee.take(Request::Open { by: names.task(by) }),
+        Statement::Tick { now } => sink.take(Request::Tick { now: *now }),
+        Statement::Open { by, .. } => sink.take(Request::Open { by: names.task(by) }),
         Statement::Create {
             by,
             under,
             families,
             ..
-        } => ask_create(by, under, families, names, addressee),
-        Statement::Activate { by, tasks } => ask_activate(by, tasks, names, addressee),
-        Statement::Up { by } => addressee.take(Request::Elaborated {
+        } => send_create(by, under, families, names, sink),
+        Statement::Activate { by, tasks } => send_activate(by, tasks, names, sink),
+        Statement::Up { by } => sink.take(Request::Elaborated {
             by: names.task(by),
             ok: true,
         }),
-        Statement::Fail { by } => addressee.take(Request::Elaborated {
+        Statement::Fail { by } => sink.take(Request::Elaborated {
             by: names.task(by),
             ok: false,
         }),
-        Statement::Call { by, callee, entry } => addressee.take(Request::Call {
+        Statement::Call { by, callee, entry } => sink.take(Request::Call {
             by: names.task(by),
             callee: names.task(callee),
             entry: names.entry(callee, entry),
@@ -211,40 +211,40 @@ pub fn ask<A: Addressee>(statement: &Statement, names: &Names, addressee: &mut A
             callee,
             entry,
             duration,
-        } => addressee.take(Request::Call {
+        } => sink.take(Request::Call {
             by: names.task(by),
             callee: names.task(callee),
             entry: names.entry(callee, entry),
             patience: Patience::Timed(*duration),
         }),
-        Statement::Try { by, callee, entry } => addressee.take(Request::Call {
+        Statement::Try { by, callee, entry } => sink.take(Request::Call {
             by: names.task(by),
             callee: names.task(callee),
             entry: names.entry(callee, entry),
             patience: Patience::Conditional,
         }),
-        Statement::Accept { by, entry } => ask_accept(by, entry, names, addressee),
+        Statement::Accept { by, entry } => send_accept(by, entry, names, sink),
         Statement::Select {
             by,
             pick,
             choices,
             tail,
-        } => ask_select(by, *pick, choices, tail.get(), names, addressee),
-        Statement::End { by } => addressee.take(Request::End {
+        } => send_select(by, *pick, choices, tail.get(), names, sink),
+        Statement::End { by } => sink.take(Request::End {
             by: names.task(by),
             raised: false,
         }),
-        Statement::Raise { by } => addressee.take(Request::End {
+        Statement::Raise { by } => sink.take(Request::End {
             by: names.task(by),
             raised: true,
         }),
-        Statement::Close { by } => addressee.take(Request::Close { by: names.task(by) }),
-        Statement::Delay { by, duration } => addressee.take(Request::Delay {
+        Statement::Close { by } => sink.take(Request::Close { by: names.task(by) }),
+        Statement::Delay { by, duration } => sink.take(Request::Delay {
             by: names.task(by),
             duration: *duration,
         }),
-        Statement::Complete { by } => addressee.take(Request::Complete { by: names.task(by) }),
-        Statement::Abort { by, tasks } => ask_abort(by, tasks, names, addressee),
+        Statement::Complete { by } => sink.take(Request::Complete { by: names.task(by) }),
+        Statement::Abort { by, tasks } => send_abort(by, tasks, names, sink),
         Statement::ShowCallable { .. }
         | Statement::ShowTerminated { .. }
         | Statement::ShowCount { .. } => unreachable!(),
@@ -255,7 +255,7 @@ pub fn ask<A: Addressee>(statement: &Statement, names: &Names, addressee: &mut A
 #[derive(Drop)]
 struct Giver;
 
-impl Addressee for Giver {
+impl RequestSink for Giver {
     type Answer = Request;
 
     ghost answers = { λ before request answer after. answer ≡ request };
@@ -267,11 +267,11 @@ impl Addressee for Giver {
 }
 
 /// What a statement that shows no attribute asks of the kernel, under these names: its `request`.
-pub fn asked(statement: &Statement, names: &Names) -> Request
+pub fn request_of(statement: &Statement, names: &Names) -> Request
     requires { is_show statement.now ≡ false }
     ensures { Some result ≡ request_of names.now statement.now }
 {
-    ask(statement, names, &mut Giver)
+    send(statement, names, &mut Giver)
 }
 
 /// What a statement asks of the kernel, under these names. A name that isn't bound stands for task
@@ -283,6 +283,6 @@ pub fn request(statement: &Statement, names: &Names) -> Option<Request>
     if statement.is_show() {
         None
     } else {
-        Some(asked(statement, names))
+        Some(request_of(statement, names))
     }
 }

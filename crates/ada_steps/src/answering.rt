@@ -5,7 +5,7 @@ ghost use Rattle.ada_events.specs.Lawful.{IsLawful, IsSettled, Forces};
 ghost use Rattle.ada_events.specs.Steps.{IsAccepted, IsRefused};
 ghost use Rattle.ada_laws.specs.Work.{work_left};
 
-use crate::Answerer;
+use crate::Engine;
 use ada_events::{Journal, Refusal, Request};
 
 /// How many events find room before a request changes anything: more than one request appends.
@@ -25,16 +25,16 @@ pub fn make_room(journal: &mut Journal) -> Result<(), Refusal>
 // Appends the steps that the journal forces, until it forces none. Inlined, since mostly it forces none, which is told
 // with less than a call.
 #[inline(always)]
-fn settle<A: Answerer>(answerer: &mut A, journal: &mut Journal)
-    requires stands { A.stands answerer.old journal.old.events }
+fn settle<A: Engine>(engine: &mut A, journal: &mut Journal)
+    requires stands { A.stands engine.old journal.old.events }
     requires lawful { IsLawful journal.old.events }
     requires room { work_left journal.old.events ≤ journal.old.spare }
     ensures forces { Forces journal.old.events journal.new.events }
     ensures lawful { IsLawful journal.new.events }
     ensures settled { IsSettled journal.new.events }
-    ensures stands { A.stands answerer.new journal.new.events }
+    ensures stands { A.stands engine.new journal.new.events }
 {
-    while answerer.advance(journal) {}
+    while engine.advance(journal) {}
 }
 
 /// Answers a request: appends its event and the steps that it forces, and gives the event's position; or
@@ -42,12 +42,12 @@ fn settle<A: Answerer>(answerer: &mut A, journal: &mut Journal)
 /// was refused and no other cause applies.
 // Inlined, so that a request whose kind is known there needn't lie in memory.
 #[inline(always)]
-pub fn step<A: Answerer>(
-    answerer: &mut A,
+pub fn step<A: Engine>(
+    engine: &mut A,
     journal: &mut Journal,
     request: &Request,
 ) -> Result<u32, Refusal>
-    requires stands { A.stands answerer.old journal.old.events }
+    requires stands { A.stands engine.old journal.old.events }
     requires lawful { IsLawful journal.old.events }
     requires settled { IsSettled journal.old.events }
     ensures ok { IfOk result (λ at.
@@ -56,10 +56,10 @@ pub fn step<A: Answerer>(
         IsRefused journal.old.events request.now cause journal.new.events) }
     ensures lawful { IsLawful journal.new.events }
     ensures settled { IsSettled journal.new.events }
-    ensures stands { A.stands answerer.new journal.new.events }
+    ensures stands { A.stands engine.new journal.new.events }
 {
     let at = journal.len() + 1;
-    answerer.begin(journal, request)?;
-    settle(answerer, journal);
+    engine.begin(journal, request)?;
+    settle(engine, journal);
     Ok(at)
 }

@@ -2,8 +2,8 @@
 //! forces. What answers for the journal, by a search or by an index of it, is a type parameter.
 #![tactic(auto)]
 
-pub mod answerer;
 mod answering;
+pub mod engine;
 
-pub use answerer::Answerer;
 pub use answering::{make_room, step};
+pub use engine::Engine;

@@ -16,3 +16,12 @@ pub mod Ties
 pub mod Turns
 pub mod Ways
 mod worked
+pub mod Arriving
+pub mod Chains
+pub mod Emptiness
+pub mod Fronts
+pub mod Growing
+pub mod Keys
+pub mod Leaving
+pub mod Linking
+pub mod Steps

@@ -3,7 +3,7 @@ use Rattle.std.proofs.Common.{◌≡◌, ℕ, zero, suc, ◌+◌, Bool, true, fa
 use Rattle.std.specs.Prelude.{if◌then◌else◌}
 use Rattle.std.proofs.lemmas.Bool.{cases_eq, eq-eqb, ne_eqb}
 use Rattle.ada_events.specs.declared.names.Master.{Master}
-use Rattle.ada_queues.specs.Queues.{QueuedCall}
+use Rattle.ada_tables.specs.Queues.{QueuedCall}
 use Rattle.ada_tables.specs.declared.phase.Phase.{Phase}
 use Rattle.ada_tables.specs.declared.phase.Phase.TheVariants.{Unstarted, Active, Held, Quittable, Completed, Terminated}
 use Rattle.ada_tables.specs.Dependents.{Facts, task_at, depends_on, is_terminated, count_below, is_live_dependent, live_dependents}

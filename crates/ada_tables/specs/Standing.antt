@@ -17,7 +17,7 @@ use Rattle.ada_events.specs.Termination.{is_at_open_terminate, is_ready_to_quit}
 use Rattle.ada_tables.specs.declared.phase.Phase.{Phase}
 use Rattle.ada_tables.specs.declared.phase.Phase.TheVariants.{Unstarted, Active, Held, Quittable, Completed, Terminated}
 use Rattle.ada_tables.specs.Dependents.{Facts, task_at, count_below, live_dependents, Stands}
-use Rattle.ada_queues.specs.Queues.{QueuedCall, queue_at}
+use Rattle.ada_tables.specs.Queues.{QueuedCall, queue_at}
 use Rattle.ada_tables.specs.Tables.{TableState, slot_at, unready_dependents, HasEntry}
 
 -- the phase of a task that isn't terminated (9.3, 9.4)

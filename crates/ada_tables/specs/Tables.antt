@@ -12,7 +12,7 @@ use Rattle.ada_events.specs.Slots.{number_within}
 use Rattle.ada_tables.specs.declared.phase.Phase.{Phase}
 use Rattle.ada_tables.specs.declared.phase.Phase.TheVariants.{Quittable}
 use Rattle.ada_tables.specs.Dependents.{Facts, task_at, depends_on, is_terminated, count_below}
-use Rattle.ada_queues.specs.Queues.{QueuedCall, queue_at}
+use Rattle.ada_tables.specs.Queues.{QueuedCall, queue_at}
 
 pub record TableState : Type 0 where
   pub tasks : List Facts

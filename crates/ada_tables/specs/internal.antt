@@ -4,3 +4,6 @@ pub mod Counts
 pub mod Dependents
 pub mod Layers
 pub mod Tables
+pub mod Links
+pub mod Nodes
+pub mod Queues

@@ -9,17 +9,16 @@ ghost use Rattle.ada_tables.specs.Dependents.{task_at, depends_on, cut, is_termi
 ghost use Rattle.ada_tables.specs.internal.Dependents.{parent_of, made_facts, main_facts, with_nest, with_phase};
 ghost use Rattle.ada_tables.specs.Dependents.{live_dependents, Stands};
 ghost use Rattle.ada_tables.specs.internal.Dependents.{IsOpen, IsFresh, IsIdle};
-ghost use Rattle.ada_queues.specs.Queues.{queue_at};
-ghost use Rattle.ada_queues.specs.internal.Queues.{waits, with_last, without, front_call};
+ghost use Rattle.ada_tables.specs.Queues.{queue_at};
+ghost use Rattle.ada_tables.specs.internal.Queues.{waits, with_last, without, front_call};
 ghost use Rattle.ada_tables.specs.Standing.{StandFor};
 ghost use Rattle.ada_tables.specs.Tables.{slot_at, slots_before, declared, has_no_calls, is_ready, is_unready, unready_dependents, HasEntry};
 ghost use Rattle.ada_tables.specs.internal.Tables.{ready_dependents};
 ghost use Rattle.ada_events.specs.declared.limits.TheConstants.{MOST_MEMBERS, MOST_SLOTS, MOST_TASKS};
 
 use crate::tasks::Tasks;
-use crate::{Layers, Phase, slots};
+use crate::{Layers, Phase, Queues, slots};
 use ada_events::{Entry, Families, Master, Member, Refusal, TaskNo};
-use ada_queues::Queues;
 use std::alloc::Global;
 use std::marker::Model;
 

@@ -2,8 +2,7 @@
 //! for each task, and prints the events that it leads to on standard output.
 #![tactic(auto)]
 
-use ada_command_line::{Order, order_of};
-use ada_run::{Ending, Free, InTurn, RunFault, replay, run, status_of};
+use ada_run::{Ending, Free, InTurn, Order, RunFault, order_of, replay, run, status_of};
 use clap::Error;
 use clap::error::ErrorKind;
 use std::io::{Eprint, Input, Print};

@@ -7,7 +7,7 @@ use Rattle.ada_hall.specs.declared.answer.Answer.{Answer}
 use Rattle.ada_hall.specs.declared.answer.Answer.TheVariants.{Group, Refused, Shown}
 use Rattle.ada_hall.specs.Counting.{asked_count}
 use Rattle.ada_hall.specs.declared.answer.KeptAnswer.{KeptAnswer}
-use Rattle.ada_hall.specs.Stations.{Showing}
+use Rattle.ada_hall.specs.PublishedKernels.{Showing}
 use Rattle.ada_hall.specs.Halls.{IsHistory}
 
 -- an answer that isn't a group

@@ -8,12 +8,12 @@ use Rattle.ada_events.specs.Search.{is_some_and}
 use Rattle.ada_events.specs.Says.{Wait, wait_in}
 use Rattle.ada_events.specs.Phases.{lists_task}
 use Rattle.ada_events.specs.Termination.{is_open_terminate}
-use Rattle.ada_records.specs.declared.record.Doing.{Doing}
+use Rattle.ada_records.specs.declared.record.Suspension.{Suspension}
 use Rattle.ada_records.specs.declared.record.Record.{Record}
 use Rattle.ada_records.specs.Records.{freed, record_at}
 
--- what is kept of the latest doing of a task that an event at a position holds up
-abbrev pub held : ℕ → Bool → Doing
+-- what is kept of the latest suspension of a task that an event at a position holds up
+abbrev pub held : ℕ → Bool → Suspension
 held at quittable = record { at = at; joined = false; quittable = quittable; outcome = Held }
 
 -- the wait has an open terminate alternative
@@ -24,13 +24,13 @@ may_terminate event = is_some_and (wait_in event) (λ (w : Wait). is_open_termin
 abbrev pub elaborated_record : Bool → Record → Record
 elaborated_record true r = record r { stage = record r.stage { elaborated = true } }
 elaborated_record false r = record {
-  doing = freed r.doing.outcome;
+  suspension = freed r.suspension.outcome;
   stage = record r.stage { elaborated = true; failed = true; completed = true };
 }
 
 -- a record after all that depend on a master terminated together
 abbrev pub quit_record : Bool → Record → Record
-quit_record true r = record { doing = freed r.doing.outcome; stage = record r.stage { terminated = true } }
+quit_record true r = record { suspension = freed r.suspension.outcome; stage = record r.stage { terminated = true } }
 quit_record false r = r
 
 -- a record after an abort

@@ -16,10 +16,9 @@ use crate::calls::{is_open_at, is_pending, is_queued_at};
 use crate::phases::{has_ended, is_abnormal};
 use crate::tasks::moment;
 use crate::waits::taken_call;
-use ada_events::{Choice, Event, EventTail, Patience, TaskNo};
-use ada_waits::{is_due, way_of};
+use ada_events::{Choice, Event, EventTail, Patience, TaskNo, is_due, way_of};
 
-fn is_lost(events: &[Event], callee: TaskNo) -> bool
+fn is_uncallable(events: &[Event], callee: TaskNo) -> bool
     requires { length events.now < 2 ^ 32 }
     ensures { result ≡ (phases.has_ended (reverse events.now) callee.0
         || phases.is_abnormal (reverse events.now) callee.0) }
@@ -35,7 +34,7 @@ fn calls_in_vain(events: &[Event], event: &Event) -> bool
         || phases.is_abnormal (reverse events.now) c.callee) }
 {
     match event {
-        Event::Called { callee, .. } => is_lost(events, *callee),
+        Event::Called { callee, .. } => is_uncallable(events, *callee),
         _ => false,
     }
 }

@@ -22,7 +22,7 @@ use Rattle.ada_events.specs.Nests.{is_left_close, is_left, is_wait_of, member_at
 use Rattle.ada_events.specs.Termination.{has_empty_queues, is_ready_to_quit}
 use Rattle.ada_tables.specs.declared.phase.Phase.TheVariants.{Unstarted, Active, Held, Quittable, Completed as IsCompleted, Terminated}
 use Rattle.ada_tables.specs.Dependents.{count_below}
-use Rattle.ada_queues.specs.Queues.{QueuedCall}
+use Rattle.ada_tables.specs.Queues.{QueuedCall}
 use Rattle.ada_tables.specs.Standing.{facts_in, caller_of, AreQueued, live_count, unready_count}
 
 -- opens every definition

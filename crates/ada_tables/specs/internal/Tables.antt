@@ -4,7 +4,7 @@ use Rattle.std.specs.Prelude.{◌≡◌, ℕ, ◌<◌, ◌≤◌, ◌&&◌, List
 use Rattle.ada_events.specs.declared.limits.TheConstants.{MOST_SLOTS}
 use Rattle.ada_events.specs.declared.names.Master.{Master}
 use Rattle.ada_tables.specs.Dependents.{Facts, depends_on, count_below}
-use Rattle.ada_queues.specs.Queues.{QueuedCall}
+use Rattle.ada_tables.specs.Queues.{QueuedCall}
 use Rattle.ada_tables.specs.Tables.{declared, slots_before, is_ready}
 
 -- each task may call, the queues are those of all entries, and each task's slots come behind those of the

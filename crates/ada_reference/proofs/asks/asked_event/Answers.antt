@@ -1,6 +1,6 @@
 use Rattle.std.proofs.Common.{w64, reverse, ◌∙◌, arith}
 use Rattle.std.proofs.lemmas.Int.{to_z-of_z}
-use Rattle.ada_waits.proofs.Dues.{wait_asked, call_asked, delay_asked}
+use Rattle.ada_events.proofs.Dues.{wait_asked, call_asked, delay_asked}
 use Rattle.ada_reference.proofs.asks.asked_event.Goals as goal
 
 pub returns-in-Call-clause-ok : goal.returns-in-Call-clause-ok

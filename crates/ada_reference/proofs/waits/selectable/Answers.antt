@@ -1,7 +1,7 @@
 use Rattle.std.proofs.Common.{◌∙◌, ap, ◌++◌, ◌∷◌, [], reverse}
 use Rattle.std.specs.Prelude.{if◌then◌else◌}
 use Rattle.ada_events.specs.Waits.{is_selectable}
-use Rattle.ada_waits.proofs.Lists.{numbers_from_step}
+use Rattle.ada_events.proofs.Lists.{numbers_from_step}
 use Rattle.ada_reference.proofs.waits.selectable.Goals as goal
 
 pub loop-i-preserved : goal.loop-i-preserved

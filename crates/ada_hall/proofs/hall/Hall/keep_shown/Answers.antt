@@ -11,7 +11,7 @@ invariant_of-self g c =
     subst (λ s. open_line s c.self.inside.answers.kept c.args.place ≡ Some c.in-Some.line.now) c.self.invariant.0
     (sym c.open_line.ensures ∙ ap option_copied c.in-Some.is) in (
       c.self.invariant.0,
-      rw c.keep.ensures (hall_notes g.J.Session.script c.self.inside.answers.places c.self.inside.tally c.self.inside.station c.self.inside.names
+      rw c.keep.ensures (hall_notes g.J.Session.script c.self.inside.answers.places c.self.inside.tally c.self.inside.published c.self.inside.names
           c.self.inside.answers.kept c.args.place c.len-events.result c.tasks-tasks.result c.args.answer c.in-Some.line.now c.self.invariant.1 is
           (sym c.is_show.ensures ∙ c.if-is_show.true) c.requires
           c.kernel.ensures.lawful c.kernel.ensures.settled (c.len-events.ensures ∙ ap length (c.journal.ensures.events ∙ c.kernel.ensures.journal))

@@ -1,6 +1,0 @@
--- What only private contracts and invariants cite: no caller meets it.
-pub mod Facing
-pub mod Known
-pub mod Phasing
-pub mod Renesting
-pub mod Requeuing

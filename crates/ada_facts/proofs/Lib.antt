@@ -1,4 +1,0 @@
-pub mod Flagging
-pub mod Hitting
-pub mod Listing
-pub mod Quitting

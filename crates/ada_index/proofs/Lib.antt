@@ -1,7 +1,0 @@
-pub mod Empty
-pub mod Creations
-pub mod Keys
-pub mod Quiet
-pub mod Requests
-pub mod Spent
-pub mod Taking

@@ -1,0 +1,7 @@
+pub mod Empty
+pub mod Creations
+pub mod Keys
+pub mod Quiet
+pub mod Requests
+pub mod Spent
+pub mod FirstSteps

@@ -1,0 +1,90 @@
+-- Events that make no task and move no moment, and an index that notes one.
+use Rattle.std.proofs.Common.{◌≡◌, ℕ, ℤ, Option, None, List, ◌∷◌, length, sym, ap, ◌∙◌, subst}
+use Rattle.std.specs.Option.{unwrap_or}
+use Rattle.std.specs.Vec.{with_items}
+use Rattle.std.proofs.lemmas.List.{with_items_is}
+use Rattle.ada_events.specs.declared.event.Event.{Event}
+use Rattle.ada_events.specs.Lawful.{IsLawful}
+use Rattle.ada_events.specs.Says.{creation_in, moment_in}
+use Rattle.ada_events.specs.Tasks.{moment}
+use Rattle.ada_records.specs.Noting.{HaveAllQueues}
+use Rattle.ada_triggers.specs.Bounds.{IsDueBound, IsStartBound}
+use Rattle.ada_triggers.proofs.Starts.{bound_stays}
+use Rattle.ada_records.specs.declared.record.Record.{Record}
+use Rattle.ada_records.specs.Records.{AreRecords}
+use Rattle.ada_tables.specs.Tables.{TableState}
+use Rattle.ada_tables.specs.Standing.{StandFor}
+use Rattle.ada_agenda.specs.Keeping.{IsAgendaOf}
+use Rattle.ada_agenda.specs.Kinds.{due_in}
+use Rattle.ada_kernel.specs.declared.index.Index.{Index}
+use Rattle.ada_kernel.specs.declared.index.Kept.{Kept}
+use Rattle.ada_kernel.specs.internal.Indexes.{IsIndexOf}
+use Rattle.ada_kernel.proofs.Creations.{made_same}
+
+-- the event makes no task and moves no moment
+pub record IsQuiet (event : Event) : Type 0 where
+  pub makes : creation_in event ≡ None
+  pub ticks : moment_in event ≡ None
+
+-- an event is quiet that is one of a known kind: the last two premises are refl there
+pub quiet_as : (event f : Event) → event ≡ f → creation_in f ≡ None → moment_in f ≡ None → IsQuiet event
+quiet_as event f is makes ticks = record { makes = ap creation_in is ∙ makes; ticks = ap moment_in is ∙ ticks }
+
+-- likewise nobody is suspended for a moment by it
+pub not_due_as : (event f : Event) → event ≡ f → due_in f ≡ None → due_in event ≡ None
+not_due_as event f is due = ap due_in is ∙ due
+
+-- what is kept with other records and tables
+abbrev pub with_kept : Kept → List Record → TableState → Kept
+with_kept kept records tables = record kept { records = with_items kept.records records; tables = tables }
+
+same_moment : (event : Event) (before : List Event) → IsQuiet event → moment (event ∷ before) ≡ moment before
+unfolding moment
+same_moment event before quiet = ap (λ now. unwrap_or now (moment before)) quiet.ticks
+
+-- an index in which records, tables, agenda, the next due moment and the first unstarted task follow such an event is one of the longer journal
+pub noted_from : (index : Index) (event : Event) (before : List Event) (records : List Record) (tables : TableState) (rows : List (List ℕ)) (next : Option ℤ)
+    → (first : ℕ) → IsIndexOf index before → IsLawful (event ∷ before) → IsQuiet event → length records ≡ index.kept.records.len
+    → AreRecords records (event ∷ before) → StandFor tables (event ∷ before) → HaveAllQueues tables (event ∷ before) → IsAgendaOf rows (event ∷ before)
+    → IsDueBound (event ∷ before) next → IsStartBound before first
+    → IsIndexOf (record index { kept = with_kept index.kept records tables; agenda = rows; next_due = next; unstarted = first }) (event ∷ before)
+noted_from index event before records tables rows next first stands lawful quiet long recorded tabled slots agenda due started = record {
+  kept = record {
+    lawful = lawful;
+    recorded = subst (λ (rs : List Record). AreRecords rs (event ∷ before)) (sym (with_items_is index.kept.records records long)) recorded;
+    tabled = tabled;
+    created = made_same index.kept.made.items event before stands.kept.created quiet.makes;
+    timed = stands.kept.timed ∙ sym (same_moment event before quiet);
+  };
+  slots = slots;
+  agenda = agenda;
+  due = due;
+  unstarted = bound_stays event before first started;
+}
+
+-- the same where the first unstarted task stays
+pub noted : (index : Index) (event : Event) (before : List Event) (records : List Record) (tables : TableState) (rows : List (List ℕ)) (next : Option ℤ)
+    → IsIndexOf index before → IsLawful (event ∷ before) → IsQuiet event → length records ≡ index.kept.records.len → AreRecords records (event ∷ before)
+    → StandFor tables (event ∷ before) → HaveAllQueues tables (event ∷ before) → IsAgendaOf rows (event ∷ before) → IsDueBound (event ∷ before) next
+    → IsIndexOf (record index { kept = with_kept index.kept records tables; agenda = rows; next_due = next }) (event ∷ before)
+noted index event before records tables rows next stands lawful quiet long recorded tabled slots agenda due =
+    noted_from index event before records tables rows next index.unstarted stands lawful quiet long recorded tabled slots agenda due stands.unstarted
+
+-- the same where the records, the agenda and the next due moment stay
+pub noted_tables : (index : Index) (event : Event) (before : List Event) (tables : TableState) → IsIndexOf index before → IsLawful (event ∷ before)
+    → IsQuiet event → AreRecords index.kept.records.items (event ∷ before) → StandFor tables (event ∷ before) → HaveAllQueues tables (event ∷ before)
+    → IsAgendaOf index.agenda (event ∷ before) → IsDueBound (event ∷ before) index.next_due
+    → IsIndexOf (record index { kept = record index.kept { tables = tables } }) (event ∷ before)
+noted_tables index event before tables stands lawful quiet recorded tabled slots agenda due = record {
+  kept = record {
+    lawful = lawful;
+    recorded = recorded;
+    tabled = tabled;
+    created = made_same index.kept.made.items event before stands.kept.created quiet.makes;
+    timed = stands.kept.timed ∙ sym (same_moment event before quiet);
+  };
+  slots = slots;
+  agenda = agenda;
+  due = due;
+  unstarted = bound_stays event before index.unstarted stands.unstarted;
+}

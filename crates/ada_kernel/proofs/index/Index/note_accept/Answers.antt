@@ -1,0 +1,34 @@
+use Rattle.std.proofs.Common.{arith, ◌∷◌, refl, ap, subst}
+use Rattle.ada_events.specs.Says.{creation_in, moment_in, call_in, held_in, started_in}
+use Rattle.ada_laws.proofs.LimitLaws.{events_are_few}
+use Rattle.ada_triggers.proofs.Bounds.{bound_kept}
+use Rattle.ada_records.proofs.EventKinds.{holds_of}
+use Rattle.ada_agenda.specs.Keeping.{IsAgendaOf}
+use Rattle.ada_kernel.proofs.Quiet.{quiet_as, not_due_as, noted}
+use Rattle.ada_kernel.proofs.index.Index.note_accept.Goals as goal
+
+pub record_hold-requires-clause-holds : goal.record_hold-requires-clause-holds
+unfolding held_in started_in
+record_hold-requires-clause-holds c = holds_of c.args.event.now _ c.args.by.0 c.requires.accepts refl refl
+
+pub record_hold-requires-clause-room : goal.record_hold-requires-clause-room
+record_hold-requires-clause-room c = omega (arith, events_are_few c.args.journal.now.events c.requires.lawful.0)
+
+pub follow_hold-requires-clause-holds : goal.follow_hold-requires-clause-holds
+unfolding held_in started_in call_in
+follow_hold-requires-clause-holds c = record {
+  plain = holds_of c.args.event.now _ c.args.by.0 c.requires.accepts refl refl;
+  calls = ap call_in c.requires.accepts;
+}
+
+pub returns : goal.returns
+unfolding creation_in moment_in
+returns c =
+    let event = c.args.event.now in
+    let before = c.args.journal.now.events in
+    noted c.args.self.now event before c.record_hold.new.records c.follow_hold.new.tables c.after_accept.new.agenda c.args.self.now.next_due
+    c.requires.stands c.requires.lawful (quiet_as event _ c.requires.accepts refl refl)
+    (omega (arith, c.record_hold.auto.records, c.as_mut_slice.ensures.len)) c.record_hold.ensures c.follow_hold.ensures.stand c.follow_hold.ensures.slots
+    (subst (λ journal. IsAgendaOf c.after_accept.new.agenda (event ∷ journal)) c.view-view.ensures c.after_accept.ensures)
+    (bound_kept event before c.args.self.now.next_due c.requires.lawful c.requires.stands.due
+    (not_due_as event _ c.requires.accepts refl))

@@ -1,0 +1,36 @@
+use Rattle.std.proofs.Common.{arith, ◌∷◌, ◌∙◌, refl, sym, ap, subst}
+use Rattle.ada_events.specs.Says.{creation_in, moment_in, released_in, meeting_in}
+use Rattle.ada_triggers.specs.Bounds.{IsStartBound}
+use Rattle.ada_triggers.proofs.Additions.{nothing_noted}
+use Rattle.ada_agenda.specs.Additions.{adds_nothing}
+use Rattle.ada_records.proofs.EventKinds.{releases_of}
+use Rattle.ada_records.proofs.Noting.{release_holds}
+use Rattle.ada_events.specs.Outcomes.{raised_in}
+use Rattle.ada_records.specs.Noting.{passing_in}
+use Rattle.ada_kernel.proofs.Quiet.{quiet_as, not_due_as, noted_from}
+use Rattle.ada_triggers.proofs.Bounds.{bound_kept}
+use Rattle.ada_kernel.proofs.index.Index.note_activation.Goals as goal
+
+pub holder_at-task-requires : goal.holder_at-task-requires
+unfolding released_in
+holder_at-task-requires c = release_holds c.args.event.now c.args.journal.now.events _ c.requires.lawful (ap released_in c.requires.activates)
+
+pub record_release-requires-clause-frees : goal.record_release-requires-clause-frees
+unfolding released_in meeting_in raised_in
+record_release-requires-clause-frees c = releases_of c.args.event.now _ c.args.start c.requires.activates refl refl refl
+
+pub follow_release-requires-clause-frees : goal.follow_release-requires-clause-frees
+follow_release-requires-clause-frees c = ap passing_in c.requires.activates
+
+pub returns : goal.returns
+unfolding creation_in moment_in
+returns c =
+    let event = c.args.event.now in
+    let before = c.args.journal.now.events in
+    noted_from c.args.self.now event before c.record_release.new.records c.follow_release.new.tables c.args.self.now.agenda c.args.self.now.next_due
+    c.advance.new.self c.requires.stands c.requires.lawful (quiet_as event _ c.requires.activates refl refl)
+    (omega (arith, c.record_release.auto.records, c.as_mut_slice.ensures.len)) c.record_release.ensures c.follow_release.ensures.stand
+    c.follow_release.ensures.slots
+    (nothing_noted event before c.args.self.now.agenda c.requires.lawful c.requires.stands.agenda (ap adds_nothing c.requires.activates))
+    (bound_kept event before c.args.self.now.next_due c.requires.lawful c.requires.stands.due (not_due_as event _ c.requires.activates refl))
+    (subst (λ journal. IsStartBound journal c.advance.new.self) c.view-view.ensures c.advance.ensures)

@@ -1,0 +1,37 @@
+use Rattle.std.proofs.Common.{arith, ◌∙◌, ◌+◌, ◌∷◌, ◌++◌, [], ap, sym, subst}
+use Rattle.ada_laws.proofs.LimitLaws.{events_are_few}
+use Rattle.ada_triggers.proofs.Bounds.{creation_keeps_bound}
+use Rattle.ada_triggers.proofs.Starts.{bound_stays}
+use Rattle.ada_records.proofs.EventKinds.{makes_some}
+use Rattle.ada_view.specs.Views.{AreMade}
+use Rattle.ada_kernel.proofs.Creations.{made_more, creation_made, moment_kept}
+use Rattle.ada_kernel.proofs.index.Index.note_creation.Goals as goal
+
+pub record_creation-requires-clause-makes : goal.record_creation-requires-clause-makes
+record_creation-requires-clause-makes c = makes_some c.args.event.now _ _ _ _ c.requires.makes.is
+
+pub overflow_add-len : goal.overflow_add-len
+overflow_add-len c = record { fits = omega (arith, c.len.ensures, events_are_few c.args.journal.now.events c.requires.lawful.0) }
+
+pub put_creation_keys-requires-clause-creates : goal.put_creation_keys-requires-clause-creates
+put_creation_keys-requires-clause-creates c = makes_some c.args.event.now _ _ _ _ c.requires.makes.is
+
+pub returns-clause-ok : goal.returns-clause-ok
+returns-clause-ok c =
+    let (creation, makes) = creation_made c.args.event.now c.args.master c.args.families.now c.requires.makes in record {
+      kept = record {
+        lawful = c.requires.lawful;
+        recorded = c.record_creation.ensures;
+        tabled = c.in_ok-follow_creation.ensures.stand;
+        created =
+            subst (λ made. AreMade made (c.args.event.now ∷ c.args.journal.now.events))
+            (sym (c.push_reserved.ensures.items ∙ ap (λ made. made ++ (c.len.result + 1) ∷ []) c.in_ok-reserve-2.ensures.items))
+            (made_more c.args.self.now.kept.made.items c.args.event.now c.args.journal.now.events creation (c.len.result + 1) c.requires.stands.kept.created
+            makes (ap (λ n. n + 1) c.len.ensures));
+        timed = c.requires.stands.kept.timed ∙ sym (moment_kept c.args.event.now c.args.journal.now.events c.args.master c.args.families.now c.requires.makes);
+      };
+      slots = c.in_ok-follow_creation.ensures.slots;
+      agenda = c.put_creation_keys.ensures;
+      unstarted = bound_stays c.args.event.now c.args.journal.now.events c.args.self.now.unstarted c.requires.stands.unstarted;
+      due = creation_keeps_bound c.args.event.now c.args.journal.now.events c.args.self.now.next_due creation c.requires.lawful c.requires.stands.due makes;
+    }

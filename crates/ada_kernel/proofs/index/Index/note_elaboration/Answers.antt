@@ -1,0 +1,21 @@
+use Rattle.std.proofs.Common.{arith, ◌∷◌, ◌∙◌, refl, sym, ap, subst}
+use Rattle.ada_events.specs.Says.{creation_in, moment_in}
+use Rattle.ada_agenda.specs.Keeping.{IsAgendaOf}
+use Rattle.ada_triggers.specs.Bounds.{IsStartBound}
+use Rattle.ada_kernel.proofs.Quiet.{quiet_as, not_due_as, noted_from}
+use Rattle.ada_triggers.proofs.Bounds.{bound_kept}
+use Rattle.ada_kernel.proofs.index.Index.note_elaboration.Goals as goal
+
+pub returns : goal.returns
+unfolding creation_in moment_in
+returns c =
+    let event = c.args.event.now in
+    let before = c.args.journal.now.events in
+    noted_from c.args.self.now event before c.record_elaboration.new.records c.follow_elaboration.new.tables c.after_elaboration.new.agenda
+    c.args.self.now.next_due
+    c.after_elaboration.new.first c.requires.stands c.requires.lawful (quiet_as event _ c.requires.comes_up refl refl)
+    (omega (arith, c.record_elaboration.auto.records, c.as_mut_slice.ensures.len)) c.record_elaboration.ensures c.follow_elaboration.ensures.stand
+    c.follow_elaboration.ensures.slots
+    (subst (λ journal. IsAgendaOf c.after_elaboration.new.agenda (event ∷ journal)) c.view-view.ensures c.after_elaboration.ensures.stands)
+    (bound_kept event before c.args.self.now.next_due c.requires.lawful c.requires.stands.due (not_due_as event _ c.requires.comes_up refl))
+    (subst (λ journal. IsStartBound journal c.after_elaboration.new.first) c.view-view.ensures c.after_elaboration.ensures.bound)

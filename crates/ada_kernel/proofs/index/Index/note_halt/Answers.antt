@@ -1,0 +1,19 @@
+use Rattle.std.proofs.Common.{arith, ◌∷◌, refl, subst}
+use Rattle.ada_events.specs.Says.{creation_in, moment_in}
+use Rattle.ada_triggers.proofs.Bounds.{bound_kept}
+use Rattle.ada_triggers.specs.Bounds.{IsStartBound}
+use Rattle.ada_agenda.specs.Keeping.{IsAgendaOf}
+use Rattle.ada_kernel.proofs.Quiet.{quiet_as, not_due_as, noted_from}
+use Rattle.ada_kernel.proofs.index.Index.note_halt.Goals as goal
+
+pub returns : goal.returns
+unfolding creation_in moment_in
+returns c =
+    let event = c.args.event.now in
+    let before = c.args.journal.now.events in
+    noted_from c.args.self.now event before c.record_halt.new.records c.follow_halt.new.tables c.after_halt.new.agenda c.args.self.now.next_due
+    c.after_halt.new.first c.requires.stands c.requires.lawful (quiet_as event _ c.requires.halts refl refl)
+    (omega (arith, c.record_halt.auto.records, c.as_mut_slice.ensures.len)) c.record_halt.ensures c.follow_halt.ensures.stand c.follow_halt.ensures.slots
+    (subst (λ journal. IsAgendaOf c.after_halt.new.agenda (event ∷ journal)) c.view-view.ensures c.after_halt.ensures.stands)
+    (bound_kept event before c.args.self.now.next_due c.requires.lawful c.requires.stands.due (not_due_as event _ c.requires.halts refl))
+    (subst (λ journal. IsStartBound journal c.after_halt.new.first) c.view-view.ensures c.after_halt.ensures.bound)

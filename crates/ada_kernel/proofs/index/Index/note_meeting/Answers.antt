@@ -1,0 +1,27 @@
+use Rattle.std.proofs.Common.{arith, ap, refl}
+use Rattle.ada_events.specs.Says.{creation_in, moment_in}
+use Rattle.ada_triggers.proofs.Additions.{nothing_noted}
+use Rattle.ada_triggers.proofs.Bounds.{bound_kept}
+use Rattle.ada_records.proofs.Noting.{met_holds}
+use Rattle.ada_agenda.specs.Additions.{adds_nothing}
+use Rattle.ada_kernel.proofs.Quiet.{quiet_as, not_due_as, noted}
+use Rattle.ada_kernel.proofs.index.Index.note_meeting.Goals as goal
+
+pub holder_at-caller-requires : goal.holder_at-caller-requires
+holder_at-caller-requires c = (met_holds c.args.event.now c.args.journal.now.events _ _ c.requires.lawful c.requires.meets).0
+
+pub holder_at-acceptor-requires : goal.holder_at-acceptor-requires
+holder_at-acceptor-requires c = (met_holds c.args.event.now c.args.journal.now.events _ _ c.requires.lawful c.requires.meets).1
+
+pub returns : goal.returns
+unfolding creation_in moment_in
+returns c =
+    let event = c.args.event.now in
+    let before = c.args.journal.now.events in
+    noted c.args.self.now event before c.record_meeting.new.records c.follow_meeting.new.tables c.args.self.now.agenda c.args.self.now.next_due
+    c.requires.stands c.requires.lawful (quiet_as event _ c.requires.meets refl refl)
+    (omega (arith, c.record_meeting.auto.records, c.as_mut_slice.ensures.len)) c.record_meeting.ensures c.follow_meeting.ensures.stand
+    c.follow_meeting.ensures.slots
+    (nothing_noted event before c.args.self.now.agenda c.requires.lawful c.requires.stands.agenda (ap adds_nothing c.requires.meets))
+    (bound_kept event before c.args.self.now.next_due c.requires.lawful c.requires.stands.due
+    (not_due_as event _ c.requires.meets refl))

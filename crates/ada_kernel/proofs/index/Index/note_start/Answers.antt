@@ -1,0 +1,26 @@
+use Rattle.std.proofs.Common.{arith, ◌∷◌, ◌∙◌, refl, sym, ap, subst}
+use Rattle.std.specs.Option.{is_some}
+use Rattle.ada_events.specs.declared.event.Event.{Event}
+use Rattle.ada_events.specs.Says.{creation_in, moment_in, start_in}
+use Rattle.ada_laws.proofs.LimitLaws.{events_are_few}
+use Rattle.ada_kernel.proofs.Quiet.{quiet_as, not_due_as, noted}
+use Rattle.ada_triggers.proofs.Bounds.{bound_kept}
+use Rattle.ada_kernel.proofs.index.Index.note_start.Goals as goal
+
+pub put_start_keys-requires-clause-starts : goal.put_start_keys-requires-clause-starts
+unfolding start_in
+put_start_keys-requires-clause-starts c = ap (λ (e : Event). is_some (start_in e)) c.requires.starts
+
+pub record_start-requires-clause-room : goal.record_start-requires-clause-room
+record_start-requires-clause-room c = omega (arith, events_are_few c.args.journal.now.events c.requires.lawful.0)
+
+pub returns : goal.returns
+unfolding creation_in moment_in
+returns c =
+    let event = c.args.event.now in
+    let before = c.args.journal.now.events in
+    noted c.args.self.now event before c.record_start.new.records c.follow_start.new.tables c.put_start_keys.new.agenda c.args.self.now.next_due
+    c.requires.stands c.requires.lawful (quiet_as event _ c.requires.starts refl refl)
+    (omega (arith, c.record_start.auto.records, c.as_mut_slice.ensures.len)) c.record_start.ensures c.follow_start.ensures.stand c.follow_start.ensures.slots
+    c.put_start_keys.ensures
+    (bound_kept event before c.args.self.now.next_due c.requires.lawful c.requires.stands.due (not_due_as event _ c.requires.starts refl))

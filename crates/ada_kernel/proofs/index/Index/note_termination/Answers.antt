@@ -1,0 +1,18 @@
+use Rattle.std.proofs.Common.{arith, ◌∷◌, refl, subst}
+use Rattle.ada_events.specs.Says.{creation_in, moment_in}
+use Rattle.ada_triggers.proofs.Bounds.{bound_kept}
+use Rattle.ada_agenda.specs.Keeping.{IsAgendaOf}
+use Rattle.ada_kernel.proofs.Quiet.{quiet_as, not_due_as, noted}
+use Rattle.ada_kernel.proofs.index.Index.note_termination.Goals as goal
+
+pub returns : goal.returns
+unfolding creation_in moment_in
+returns c =
+    let event = c.args.event.now in
+    let before = c.args.journal.now.events in
+    noted c.args.self.now event before c.record_termination.new.records c.follow_termination.new.tables c.after_termination.new.agenda c.args.self.now.next_due
+    c.requires.stands c.requires.lawful (quiet_as event _ c.requires.goes refl refl)
+    (omega (arith, c.record_termination.auto.records, c.as_mut_slice.ensures.len)) c.record_termination.ensures c.follow_termination.ensures.stand
+    c.follow_termination.ensures.slots
+    (subst (λ journal. IsAgendaOf c.after_termination.new.agenda (event ∷ journal)) c.view-view.ensures c.after_termination.ensures)
+    (bound_kept event before c.args.self.now.next_due c.requires.lawful c.requires.stands.due (not_due_as event _ c.requires.goes refl))

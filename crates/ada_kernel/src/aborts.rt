@@ -1,0 +1,107 @@
+//! Aborts, and the halts that they force (9.10).
+
+ghost use Rattle.std.specs.Prelude.{◌≡◌, ◌∷◌, IfErr, OnOk};
+ghost use Rattle.ada_events.specs.Lawful.{IsLawful};
+ghost use Rattle.ada_events.specs.Steps.{IsRefused};
+ghost use Rattle.ada_events.specs.declared.event.Event.TheVariants.{Aborted as AbortedEvent, Halted as HaltedEvent};
+ghost use Rattle.ada_events.specs.declared.request.Request.TheVariants as asked;
+ghost use Rattle.ada_rows.specs.declared.row.Row.TheVariants as row;
+ghost use Rattle.ada_kernel.specs.internal.Indexes.{IsIndexOf};
+ghost use Rattle.ada_kernel.specs.internal.Stepping.{MayBegin, MayTake, Takes};
+ghost use Rattle.ada_steps.specs.Beginning.{HasBegun};
+
+use crate::index::Index;
+use ada_admission::aborts::refusal_of_abort;
+use ada_events::{Event, Journal, Refusal, TaskList, TaskNo, Tasks};
+use ada_records::aborts::{follow_abort, follow_halt};
+use ada_records::records::{record_abort, record_halt};
+use ada_rows::Row;
+use ada_steps::make_room;
+use ada_triggers::endings::after_halt;
+use ada_triggers::kinds::after_abort;
+use ada_view::hit;
+
+impl Index {
+    // Notes that tasks are aborted, with all that depend on them.
+    fn note_abort(&mut self, journal: &Journal, event: &Event, by: TaskNo, tasks: &[TaskNo])
+        requires lawful { IsLawful (event.now ∷ journal.now.events) }
+        requires stands { IsIndexOf self.old journal.now.events }
+        requires aborts { event.now ≡ AbortedEvent by tasks.now }
+        ensures { IsIndexOf self.new (event.now ∷ journal.now.events) }
+    {
+        let kept = &mut self.kept;
+        let view = kept.view(journal);
+        let hit = hit(&view, tasks);
+        after_abort(&mut self.agenda, &view, event, by, tasks);
+        record_abort(
+            kept.records.as_mut_slice(),
+            journal,
+            event,
+            by,
+            tasks,
+            hit.as_slice(),
+        );
+        follow_abort(&mut kept.tables, &kept.records, journal, event, by, tasks);
+    }
+
+    // Aborts tasks.
+    #[inline(never)]
+    pub(crate) fn begin_abort(
+        &mut self,
+        journal: &mut Journal,
+        by: TaskNo,
+        tasks: &Tasks,
+    ) -> Result<(), Refusal>
+        requires { MayBegin self.old journal.old.events }
+        ensures ok { OnOk result (HasBegun journal.old (asked.Abort by tasks.now) journal.new) }
+        ensures err { IfErr result (λ cause.
+            IsRefused journal.old.events (asked.Abort by tasks.now) cause journal.new.events) }
+        ensures stands { IsIndexOf self.new journal.new.events }
+    {
+        let named = tasks.as_slice();
+        if let Some(cause) = refusal_of_abort(&self.view(journal), by, named) {
+            return Err(cause);
+        }
+        make_room(journal)?;
+        let tasks = TaskList::from_slice(journal.allocator(), named)?;
+        let event = Event::Aborted { by, tasks };
+        self.note_abort(journal, &event, by, named);
+        journal.push_reserved(event);
+        Ok(())
+    }
+
+    // Notes that a task is halted.
+    #[inline(always)]
+    fn note_halt(&mut self, journal: &Journal, event: &Event, task: TaskNo)
+        requires lawful { IsLawful (event.now ∷ journal.now.events) }
+        requires stands { IsIndexOf self.old journal.now.events }
+        requires halts { event.now ≡ HaltedEvent task }
+        ensures { IsIndexOf self.new (event.now ∷ journal.now.events) }
+    {
+        let kept = &mut self.kept;
+        let view = kept.view(journal);
+        after_halt(&mut self.agenda, &mut self.unstarted, &view, event, task);
+        record_halt(kept.records.as_mut_slice(), journal, event, task);
+        follow_halt(&mut kept.tables, &kept.records, journal, event, task);
+    }
+
+    // Halts the task of that number (9.10), where it is to be halted.
+    #[tactic(auto, using(ada_view::proofs::Strangers::no_halt))]
+    #[inline(never)]
+    pub(crate) fn halt(&mut self, journal: &mut Journal, key: u32) -> bool
+        requires { MayTake self.old journal.old row.Halting key }
+        ensures { Takes self.old journal.old row.Halting key result self.new journal.new }
+    {
+        let Some(task) = self.view(journal).task(key) else {
+            return false;
+        };
+        if !self.view(journal).halts(task) {
+            return false;
+        }
+        let step = Event::Halted { task };
+        self.note_halt(journal, &step, task);
+        journal.push_reserved(step);
+        self.drop_key(journal, Row::Halting, key);
+        true
+    }
+}

@@ -1,0 +1,61 @@
+//! The step that a row of the forced steps gives at a key, and the key that gives none any more.
+
+ghost use Rattle.std.specs.Prelude.{◌≡◌, ◌<◌, None};
+ghost use Rattle.ada_rows.specs.Rows.{step_at};
+ghost use Rattle.ada_kernel.specs.internal.Indexes.{IsIndexOf};
+ghost use Rattle.ada_kernel.specs.internal.Stepping.{MayTake, Takes, MayTakeAtRank, TakesAtRank};
+
+use crate::index::Index;
+use ada_events::Journal;
+use ada_rows::Row;
+
+impl Index {
+    // Drops a key at which its row gives nothing any more.
+    #[inline(always)]
+    pub(crate) fn drop_key(&mut self, _journal: &Journal, row: Row, key: u32)
+        requires stands { IsIndexOf self.old _journal.now.events }
+        requires fits { key < 69632 }
+        requires spent { step_at _journal.now.events row key ≡ None }
+        ensures { IsIndexOf self.new _journal.now.events }
+    {
+        self.agenda.remove(row.rank(), key as usize);
+    }
+
+    // Takes the step that a row gives at a key, if it gives one, and says so.
+    #[inline(never)]
+    fn take(&mut self, journal: &mut Journal, row: Row, key: u32) -> bool
+        requires { MayTake self.old journal.old row key }
+        ensures { Takes self.old journal.old row key result self.new journal.new }
+    {
+        match row {
+            Row::Halting => self.halt(journal, key),
+            Row::Failing => self.fail(journal, key),
+            Row::Meeting => self.meet(journal, key),
+            Row::Cancelling => self.cancel(journal, key),
+            Row::Passing => self.pass(journal, key),
+            Row::Waking => self.wake(journal, key),
+            Row::Activating => self.activate(journal, key),
+            Row::Terminating => self.terminate(journal, key),
+            Row::QuittingBody => self.quit_body(journal, key),
+            Row::QuittingBlock => self.quit_block(journal, key),
+            Row::Leaving => self.leave(journal, key),
+        }
+    }
+
+    /// Takes the step that the row of that rank gives at a key, if it gives one, and says so. The key is the agenda's
+    /// first.
+    // Inlined, so that the beginning of a rendezvous, which is mostly what is forced, is one call away.
+    #[inline(always)]
+    pub(crate) fn take_first(&mut self, journal: &mut Journal, rank: usize, key: usize) -> bool
+        requires rank { rank < 11 }
+        requires key { key < 69632 }
+        requires first { MayTakeAtRank self.old journal.old rank key }
+        ensures { TakesAtRank self.old journal.old rank key result self.new journal.new }
+    {
+        match Row::at_rank(rank) {
+            Some(Row::Meeting) => self.meet(journal, key as u32),
+            Some(row) => self.take(journal, row, key as u32),
+            None => false,
+        }
+    }
+}

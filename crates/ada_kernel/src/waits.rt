@@ -1,0 +1,120 @@
+//! Selective waits (9.7.1), and how they end without a call.
+
+ghost use Rattle.std.specs.Prelude.{◌≡◌, ◌∷◌, IfErr, OnOk};
+ghost use Rattle.ada_events.specs.Lawful.{IsLawful};
+ghost use Rattle.ada_events.specs.Steps.{IsRefused};
+ghost use Rattle.ada_events.specs.declared.event.Event.TheVariants.{Waiting as WaitingEvent, Passed as PassedEvent};
+ghost use Rattle.ada_events.specs.declared.request.Request.TheVariants as asked;
+ghost use Rattle.ada_rows.specs.declared.row.Row.TheVariants as row;
+ghost use Rattle.ada_kernel.specs.internal.Indexes.{IsIndexOf};
+ghost use Rattle.ada_kernel.specs.internal.Stepping.{MayBegin, MayTake, Takes};
+ghost use Rattle.ada_steps.specs.Beginning.{HasBegun};
+
+use crate::index::Index;
+use ada_admission::waits::refusal_of_wait;
+use ada_events::{
+    ChoiceList, Choices, Event, EventTail, Journal, Refusal, Tail, TaskNo, Way, asked_tail,
+};
+use ada_records::records::{holder_at, record_hold, record_release};
+use ada_records::suspension::{follow_hold, follow_release};
+use ada_steps::make_room;
+use ada_triggers::calls::after_wait;
+use ada_triggers::moments::tail_due;
+
+impl Index {
+    // Notes a selective wait.
+    fn note_wait(
+        &mut self,
+        journal: &Journal,
+        event: &Event,
+        by: TaskNo,
+        pick: u32,
+        choices: &ChoiceList,
+        tail: &EventTail,
+    )
+        requires lawful { IsLawful (event.now ∷ journal.now.events) }
+        requires stands { IsIndexOf self.old journal.now.events }
+        requires waits { event.now ≡ WaitingEvent by pick choices.now tail.now }
+        ensures { IsIndexOf self.new (event.now ∷ journal.now.events) }
+    {
+        let kept = &mut self.kept;
+        let view = kept.view(journal);
+        after_wait(
+            &mut self.agenda,
+            &view,
+            event,
+            by,
+            pick,
+            choices.as_slice(),
+            tail,
+        );
+        self.next_due = self.next_due.with(tail_due(tail));
+        record_hold(kept.records.as_mut_slice(), journal, event, by);
+        follow_hold(&mut kept.tables, &kept.records, journal, event, by);
+    }
+
+    // Begins a selective wait.
+    #[inline(never)]
+    pub(crate) fn begin_wait(
+        &mut self,
+        journal: &mut Journal,
+        by: TaskNo,
+        choices: &Choices,
+        tail: &Tail,
+        pick: u32,
+    ) -> Result<(), Refusal>
+        requires { MayBegin self.old journal.old.events }
+        ensures ok { OnOk result
+            (HasBegun journal.old (asked.Wait by choices.now tail.now pick) journal.new) }
+        ensures err { IfErr result (λ cause. IsRefused journal.old.events
+            (asked.Wait by choices.now tail.now pick) cause journal.new.events) }
+        ensures stands { IsIndexOf self.new journal.new.events }
+    {
+        let listed = choices.as_slice();
+        if let Some(cause) = refusal_of_wait(&self.view(journal), by, listed, tail) {
+            return Err(cause);
+        }
+        make_room(journal)?;
+        let choices = ChoiceList::from_slice(journal.allocator(), listed)?;
+        let tail = asked_tail(journal.allocator(), self.view(journal).moment(), tail)?;
+        let event = Event::Waiting {
+            by,
+            pick,
+            choices,
+            tail,
+        };
+        if let Event::Waiting { choices, tail, .. } = &event {
+            self.note_wait(journal, &event, by, pick, choices, tail);
+        }
+        journal.push_reserved(event);
+        Ok(())
+    }
+
+    // Notes that a wait ends without a call.
+    fn note_passing(&mut self, journal: &Journal, event: &Event, wait: u32, _way: Way)
+        requires lawful { IsLawful (event.now ∷ journal.now.events) }
+        requires stands { IsIndexOf self.old journal.now.events }
+        requires passes { event.now ≡ PassedEvent wait _way }
+        ensures { IsIndexOf self.new (event.now ∷ journal.now.events) }
+    {
+        let task = holder_at(journal, wait);
+        let kept = &mut self.kept;
+        record_release(kept.records.as_mut_slice(), journal, event, task, wait);
+        follow_release(&mut kept.tables, &kept.records, journal, event, wait, task);
+    }
+
+    // Lets the wait at a position end without a call (9.7.1), where there is a way.
+    #[inline(never)]
+    pub(crate) fn pass(&mut self, journal: &mut Journal, wait: u32) -> bool
+        requires { MayTake self.old journal.old row.Passing wait }
+        ensures { Takes self.old journal.old row.Passing wait result self.new journal.new }
+    {
+        let Some(way) = self.view(journal).passes(wait) else {
+            return false;
+        };
+        let step = Event::Passed { wait, way };
+        self.note_passing(journal, &step, wait, way);
+        journal.push_reserved(step);
+        true
+    }
+}

@@ -1,8 +1,0 @@
-use Rattle.std.proofs.Common.{◌∙◌, ◌+◌, ap, length}
-use Rattle.ada_noting.proofs.Waits.{accept_noted}
-use Rattle.ada_noting.proofs.calls.note_accept.Goals as goal
-
-pub returns : goal.returns
-returns c =
-    accept_noted c.args.event.now c.args.state.now c.args.agenda.now c.put_key.new.agenda c.args._by c.args._pick c.args._entry c.own_key.result
-    c.requires.lawful c.requires.stands c.requires.accepts (c.own_key.ensures.own ∙ ap (λ j. length j + 1) c.journal.ensures) c.put_key.ensures

@@ -1,6 +1,0 @@
-use Rattle.ada_events.specs.Nests.{nest}
-use Rattle.ada_noting.specs.internal.Keys.{Puts, OfFirst, AsBlock}
-use Rattle.ada_noting.proofs.masters.put_blocks.Given as goal
-
-abbrev pub invariant-loop-place : goal.invariant-loop-place
-invariant-loop-place l = Puts l.fn.agenda l.agenda (OfFirst (AsBlock (nest l.state l.fn.task.0)) l.place)

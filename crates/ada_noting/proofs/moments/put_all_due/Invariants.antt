@@ -1,5 +1,0 @@
-use Rattle.ada_noting.specs.internal.Keys.{Puts, OfFirst, AsDue}
-use Rattle.ada_noting.proofs.moments.put_all_due.Given as goal
-
-abbrev pub invariant-loop-number : goal.invariant-loop-number
-invariant-loop-number l = Puts l.fn.agenda l.agenda (OfFirst (AsDue l.state l.tick) l.number)

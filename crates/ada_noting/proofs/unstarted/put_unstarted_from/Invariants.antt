@@ -1,5 +1,0 @@
-use Rattle.ada_noting.specs.internal.Keys.{Puts, OfFirst, AsUnstarted}
-use Rattle.ada_noting.proofs.unstarted.put_unstarted_from.Given as goal
-
-abbrev pub invariant-loop-number : goal.invariant-loop-number
-invariant-loop-number l = Puts l.fn.agenda l.agenda (OfFirst (AsUnstarted l.state) l.number)

@@ -1,9 +1,0 @@
-use Rattle.std.proofs.Common.{◌∙◌}
-use Rattle.ada_records.proofs.Queries.{records_tell}
-use Rattle.ada_queries.proofs.Knowing.{told}
-use Rattle.ada_queries.proofs.queries.outcome.Goals as goal
-
-pub returns : goal.returns
-returns c =
-    let known = c.in_ok-kept.ensures in
-    told _ _ _ known.0 (c.outcome.ensures ∙ (records_tell c.args.state.now c.args.task.0 c.in_ok-kept.kept known.1).outcome)

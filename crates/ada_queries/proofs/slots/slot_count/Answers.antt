@@ -1,6 +1,0 @@
-use Rattle.std.proofs.Common.{◌∙◌}
-use Rattle.ada_queries.proofs.Placing.{slots_told}
-use Rattle.ada_queries.proofs.slots.slot_count.Goals as goal
-
-pub returns : goal.returns
-returns c = c.slots.ensures.all ∙ slots_told _ c.args.state.now c.tables.ensures.stand

@@ -1,4 +1,0 @@
-pub mod Links
-pub mod Nodes
-pub mod Queues
-pub mod internal

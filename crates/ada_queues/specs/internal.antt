@@ -1,4 +1,0 @@
--- What only private modules and invariants cite.
-pub mod Links
-pub mod Nodes
-pub mod Queues

@@ -1,8 +1,0 @@
-use Rattle.ada_refusing.proofs.Doubling.{HasSeen}
-use Rattle.ada_refusing.proofs.activation.has_double_task.Given as goal
-
-abbrev pub invariant-loop-left : goal.invariant-loop-left
-invariant-loop-left l = HasSeen l.tasks l.seen l.left
-
-abbrev pub decreases-loop-left : goal.decreases-loop-left
-decreases-loop-left l = l.left

@@ -1,6 +1,0 @@
-use Rattle.std.proofs.Common.{◌∙◌}
-use Rattle.ada_records.proofs.Queries.{records_tell}
-use Rattle.ada_refusing.proofs.names.is_running.Goals as goal
-
-pub returns : goal.returns
-returns c = c.is_running.ensures ∙ (records_tell c.args.state.now c.args.task.0 c.record.result c.record.ensures.right).runs

@@ -1,7 +1,0 @@
-use Rattle.ada_rows.proofs.Pending.{pending_told}
-use Rattle.ada_rows.proofs.state.State.is_pending.Goals as goal
-
-pub returns-clause-pending : goal.returns-clause-pending
-returns-clause-pending c =
-    pending_told c.args.self.now c.args.by.0 c.record.result.doing.at c.args.at c.args._event.now c.record.ensures.lawful c.record.ensures.right.doing.at
-    c.requires.stands c.requires.holds

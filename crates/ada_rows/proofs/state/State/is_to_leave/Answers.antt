@@ -1,8 +1,0 @@
-use Rattle.std.proofs.Common.{◌∙◌, ap, sym, Some}
-use Rattle.ada_rows.proofs.Leaving.{closed_held}
-use Rattle.ada_rows.proofs.state.State.is_to_leave.Goals as goal
-
-pub are_all_terminated-requires : goal.are_all_terminated-requires
-are_all_terminated-requires c =
-    closed_held c.args.self.now c.args.at c.in-Closed.by c.in-Closed.block c.is_pending.ensures.lawful (c.requires ∙ ap Some c.in-Closed.is)
-    (sym c.is_pending.ensures.pending ∙ c.if-is_pending.true)

@@ -1,3 +1,0 @@
-pub mod Additions
-pub mod Keeping
-pub mod Kinds

@@ -1,0 +1,64 @@
+-- Who is halted when a rendezvous ends or a call fails.
+use Rattle.std.proofs.Common.{◌≡◌, ℕ, Bool, true, List, Some, None, ◌∷◌, sym, ap, ◌∙◌, subst}
+use Rattle.std.specs.Option.{option_map, option_and_then}
+use Rattle.std.proofs.lemmas.Option.{none-some, same_Some}
+use Rattle.ada_events.specs.declared.event.Event.{Event}
+use Rattle.ada_events.specs.declared.event.Event.TheVariants.{Ended, Failed}
+use Rattle.ada_events.specs.declared.names.TaskNo.{TaskNo}
+use Rattle.ada_events.specs.Says.{Call, call_in, call_at}
+use Rattle.ada_events.specs.Phases.{is_abnormal}
+use Rattle.ada_events.specs.Lawful.{IsLawful}
+use Rattle.ada_laws.specs.Calls.{IsCallAt}
+use Rattle.ada_rows.specs.declared.row.Row.{Row}
+use Rattle.ada_rows.specs.declared.row.Row.TheVariants.{Halting}
+use Rattle.ada_agenda.specs.Keeping.{has_key, IsAgendaOf}
+use Rattle.ada_agenda.specs.Kinds.{OfEnd, Adds}
+use Rattle.ada_agenda.specs.Kinds.OfEnd.{halts}
+use Rattle.ada_agenda.proofs.Noting.{grows_same}
+use Rattle.ada_triggers.specs.internal.Keys.{Puts, When, AsKey, AsCallerAt}
+use Rattle.ada_triggers.specs.internal.Keys.AsKey.{itself}
+use Rattle.ada_triggers.specs.internal.Keys.When.{holds_so}
+use Rattle.ada_triggers.specs.internal.Keys.AsCallerAt.{made}
+use Rattle.ada_triggers.proofs.Additions.{noted}
+
+caller_said : (before : List Event) (at : ℕ) (c : Call) → IsCallAt before c at → option_map (λ (c : Call). c.by) (call_at before at) ≡ Some c.by
+caller_said before at c stands = ap (option_map (λ (c : Call). c.by)) (ap (option_and_then call_in) stands.stands ∙ stands.says)
+
+caller_key : (before : List Event) (new : List (List ℕ)) (at caller : ℕ) (row : Row) (key : ℕ)
+    → option_map (λ (c : Call). c.by) (call_at before at) ≡ Some caller
+    → (is_abnormal before caller ≡ true → has_key new Halting caller ≡ true) → AsCallerAt before at row key → has_key new row key ≡ true
+caller_key before new at caller row key is here (made c stands abnormal) =
+    let same = same_Some c.by caller (sym (caller_said before at c stands) ∙ is) in
+    ap (has_key new Halting) same ∙ here (ap (is_abnormal before) (sym same) ∙ abnormal)
+
+pub caller_put : (before : List Event) (old new : List (List ℕ)) (at caller : ℕ) (so : Bool)
+    → option_map (λ (c : Call). c.by) (call_at before at) ≡ Some caller → so ≡ is_abnormal before caller
+    → Puts old new (When so (AsKey Halting caller)) → Puts old new (AsCallerAt before at)
+caller_put before old new at caller so is told puts = record {
+  grows = puts.grows;
+  here = λ row key of.
+      caller_key before new at caller row key is (λ abnormal. puts.here Halting caller (holds_so (told ∙ abnormal) itself)) of;
+}
+
+no_caller_key : (before : List Event) (new : List (List ℕ)) (at : ℕ) (row : Row) (key : ℕ) → option_map (λ (c : Call). c.by) (call_at before at) ≡ None
+    → AsCallerAt before at row key → has_key new row key ≡ true
+no_caller_key before new at row key none (made c stands abnormal) = absurd (none-some c.by (sym none ∙ caller_said before at c stands))
+
+pub no_caller : (before : List Event) (old : List (List ℕ)) (at : ℕ) → option_map (λ (c : Call). c.by) (call_at before at) ≡ None
+    → Puts old old (AsCallerAt before at)
+no_caller before old at none = record { grows = grows_same old; here = λ row key of. no_caller_key before old at row key none of }
+
+end_key : (before : List Event) (call : ℕ) (row : Row) (key : ℕ) → OfEnd before call row key → AsCallerAt before call row key
+end_key before call row key (halts c stands abnormal) = made c stands abnormal
+
+pub end_noted : (event : Event) (before : List Event) (old new : List (List ℕ)) (by : TaskNo) (call : ℕ) (raised : Bool) → IsLawful (event ∷ before)
+    → IsAgendaOf old before → event ≡ Ended by call raised → Puts old new (AsCallerAt before call) → IsAgendaOf new (event ∷ before)
+end_noted event before old new by call raised lawful agenda is puts =
+    noted event before old new (AsCallerAt before call) lawful agenda puts
+    (λ row key added. end_key before call row key (subst (λ (e : Event). Adds before e row key) is added))
+
+pub failure_noted : (event : Event) (before : List Event) (old new : List (List ℕ)) (call : ℕ) → IsLawful (event ∷ before) → IsAgendaOf old before
+    → event ≡ Failed call → Puts old new (AsCallerAt before call) → IsAgendaOf new (event ∷ before)
+failure_noted event before old new call lawful agenda is puts =
+    noted event before old new (AsCallerAt before call) lawful agenda puts
+    (λ row key added. end_key before call row key (subst (λ (e : Event). Adds before e row key) is added))

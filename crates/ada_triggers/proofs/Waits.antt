@@ -1,0 +1,92 @@
+-- What a wait adds to an agenda.
+use Rattle.std.proofs.Common.{◌≡◌, ℕ, ℤ, ◌+◌, Bool, true, false, Option, List, Some, None, [], ◌∷◌, length, sym, refl, ◌∙◌, subst, inl, inr}
+use Rattle.std.specs.Option.{is_some}
+use Rattle.std.proofs.lemmas.Bool.{true≢false, false_from_ne_true}
+use Rattle.ada_events.specs.declared.event.Event.{Event}
+use Rattle.ada_events.specs.declared.event.Event.TheVariants.{Waiting}
+use Rattle.ada_events.specs.declared.event.EventTail.{EventTail}
+use Rattle.ada_events.specs.declared.event.EventTail.TheVariants.{Nothing}
+use Rattle.ada_events.specs.declared.event.Way.{Way}
+use Rattle.ada_events.specs.declared.names.TaskNo.{TaskNo}
+use Rattle.ada_events.specs.declared.names.Choice.{Choice}
+use Rattle.ada_events.specs.declared.names.Entry.{Entry}
+use Rattle.ada_events.specs.Says.{held_in, completed_in}
+use Rattle.ada_events.specs.Tasks.{moment}
+use Rattle.ada_events.specs.Waits.{way_of}
+use Rattle.ada_events.specs.Phases.{is_terminated}
+use Rattle.ada_events.specs.Termination.{is_open_terminate}
+use Rattle.ada_events.specs.Lawful.{IsLawful}
+use Rattle.ada_laws.proofs.Growing.{has_ended-terminated}
+use Rattle.ada_rows.specs.Rows.{step_at}
+use Rattle.ada_rows.specs.declared.row.Row.{Row}
+use Rattle.ada_rows.specs.declared.row.Row.TheVariants.{Meeting, Passing}
+use Rattle.ada_records.proofs.Holding.{holder_ran}
+use Rattle.ada_agenda.specs.Keeping.{IsAgendaOf}
+use Rattle.ada_agenda.specs.Kinds.{itself as own, quitting_row, quitting_key, OfWait, Adds}
+use Rattle.ada_agenda.specs.Kinds.OfWait.{takes, passes, quits as wait_quits}
+use Rattle.ada_agenda.proofs.Noting.{own_is}
+use Rattle.ada_triggers.specs.internal.Keys.{Puts, Both, When, AsKey, AsDependent}
+use Rattle.ada_triggers.specs.internal.Keys.AsKey.{itself}
+use Rattle.ada_triggers.specs.internal.Keys.AsHolder.{quits}
+use Rattle.ada_triggers.specs.internal.Keys.When.{holds_so}
+use Rattle.ada_triggers.specs.internal.Keys.AsDependent.{through}
+use Rattle.ada_triggers.proofs.Additions.{noted_giving}
+use Rattle.ada_triggers.proofs.Putting.{both_put, not_put}
+use Rattle.ada_triggers.proofs.Giving.{quitter}
+use Rattle.ada_triggers.proofs.Ends.{dependent_held}
+
+-- who waits isn't terminated
+waiter_held : (event : Event) (by : TaskNo) (pick : ℕ) (choices : List Choice) (tail : EventTail) → event ≡ Waiting by pick choices tail
+    → held_in event ≡ Some by.0
+unfolding held_in
+waiter_held event by pick choices tail is = rw is refl
+
+waiter_completes : (event : Event) (by : TaskNo) (pick : ℕ) (choices : List Choice) (tail : EventTail) → event ≡ Waiting by pick choices tail
+    → completed_in event ≡ None
+unfolding completed_in
+waiter_completes event by pick choices tail is = rw is refl
+
+waiter_live : (event : Event) (before : List Event) (task : ℕ) → IsLawful (event ∷ before) → held_in event ≡ Some task → is_terminated before task ≡ false
+waiter_live event before task lawful holds =
+    let ran = holder_ran event before task lawful holds in
+    false_from_ne_true (is_terminated before task) (λ ended. true≢false (sym (has_ended-terminated before task ended) ∙ ran.1))
+
+-- all that was put for a wait
+abbrev pub WaitKeys : List Event → ℕ → ℕ → Bool → Bool → Row → ℕ → Type 0
+WaitKeys before by at ends so = Both (Both (AsKey Meeting at) (When ends (AsKey Passing at))) (When so (AsDependent before by))
+
+wait_key : (event step : Event) (before : List Event) (by at : ℕ) (way : Option Way) (ends : Bool) (tail : EventTail) (so : Bool) (row : Row) (key : ℕ)
+    → IsLawful before → completed_in event ≡ None → is_terminated before by ≡ false → at ≡ own before → ends ≡ is_some way
+    → so ≡ is_open_terminate tail → step_at (event ∷ before) row key ≡ Some step → OfWait before by way tail row key
+    → WaitKeys before by at ends so row key
+wait_key event step before by at way ends tail so row key lawful none live same told is gives takes = inl (inl (rw same itself))
+wait_key event step before by at way ends tail so row key lawful none live same told is gives (passes there) =
+    inl (inr (holds_so (told ∙ there) (rw same itself)))
+wait_key event step before by at way ends tail so row key lawful none live same told is gives (wait_quits m opened depends) =
+    let up = dependent_held before by m lawful live depends in
+    inr (holds_so (is ∙ opened) (through up.holder m (quitting_row m) (quitting_key m) live depends up.held (quits m up.held
+    (quitter event step before m none gives))))
+
+pub wait_noted : (event : Event) (before : List Event) (old new : List (List ℕ)) (by : TaskNo) (pick : ℕ) (choices : List Choice) (tail : EventTail)
+    (at : ℕ) (ends so : Bool) → IsLawful (event ∷ before) → IsAgendaOf old before → event ≡ Waiting by pick choices tail → at ≡ length before + 1
+    → ends ≡ is_some (way_of (moment before) choices pick tail) → so ≡ is_open_terminate tail → Puts old new (WaitKeys before by.0 at ends so)
+    → IsAgendaOf new (event ∷ before)
+wait_noted event before old new by pick choices tail at ends so lawful agenda is same told opened puts =
+    noted_giving event before old new (WaitKeys before by.0 at ends so) lawful agenda puts (λ row key step added gives.
+    wait_key event step before by.0 at (way_of (moment before) choices pick tail) ends tail so row key lawful.0
+    (waiter_completes event by pick choices tail is)
+    (waiter_live event before by.0 lawful (waiter_held event by pick choices tail is)) (own_is before at same) told opened
+    gives (subst (λ (e : Event). Adds before e row key) is added))
+
+-- who waits at an open accept statement alone doesn't pass
+open_waits : (now : ℤ) (pick : ℕ) (entry : Entry) → is_some (way_of now (record { guard = true; entry = entry } ∷ []) pick Nothing) ≡ false
+unfolding way_of
+open_waits now pick entry = refl
+
+pub accept_noted : (event : Event) (before : List Event) (old new : List (List ℕ)) (by : TaskNo) (pick : ℕ) (entry : Entry) (at : ℕ)
+    → IsLawful (event ∷ before) → IsAgendaOf old before → event ≡ Waiting by pick (record { guard = true; entry = entry } ∷ []) Nothing
+    → at ≡ length before + 1 → Puts old new (AsKey Meeting at) → IsAgendaOf new (event ∷ before)
+accept_noted event before old new by pick entry at lawful agenda is same puts =
+    wait_noted event before old new by pick (record { guard = true; entry = entry } ∷ []) Nothing at false false lawful agenda is same
+    (sym (open_waits (moment before) pick entry)) refl
+    (both_put old new new _ _ (both_put old new new _ _ puts (not_put new false (AsKey Passing at) refl)) (not_put new false (AsDependent before by.0) refl))

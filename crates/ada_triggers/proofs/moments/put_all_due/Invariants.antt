@@ -1,0 +1,5 @@
+use Rattle.ada_triggers.specs.internal.Keys.{Puts, OfFirst, AsDue}
+use Rattle.ada_triggers.proofs.moments.put_all_due.Given as goal
+
+abbrev pub invariant-loop-number : goal.invariant-loop-number
+invariant-loop-number l = Puts l.fn.agenda l.agenda (OfFirst (AsDue l.view l.tick) l.number)

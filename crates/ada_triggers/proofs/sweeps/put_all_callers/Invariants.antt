@@ -1,0 +1,5 @@
+use Rattle.ada_triggers.specs.internal.Keys.{Puts, OfFirst, AsCaller}
+use Rattle.ada_triggers.proofs.sweeps.put_all_callers.Given as goal
+
+abbrev pub invariant-loop-number : goal.invariant-loop-number
+invariant-loop-number l = Puts l.fn.agenda l.agenda (OfFirst (AsCaller l.view l.callee.0) l.number)

@@ -1,0 +1,22 @@
+use Rattle.std.proofs.Common.{◌∙◌, ◌≤◌, subst}
+use Rattle.ada_events.specs.Tasks.{task_count}
+use Rattle.ada_triggers.specs.internal.Keys.{AsHeld}
+use Rattle.ada_triggers.proofs.Putting.{puts_none, puts_more, puts_all}
+use Rattle.ada_triggers.proofs.sweeps.put_all_held.Goals as goal
+
+pub loop-number-init : goal.loop-number-init
+loop-number-init c = puts_none c.args.agenda.now (AsHeld c.args.view.now c.args.row)
+
+pub put_held-requires-clause-many : goal.put_held-requires-clause-many
+put_held-requires-clause-many c = c.loop-number.invariant.grows.many ∙ c.requires.many
+
+pub loop-number-preserved : goal.loop-number-preserved
+loop-number-preserved c =
+    puts_more c.args.agenda.now c.loop-number.agenda c.put_held.new.agenda (AsHeld c.args.view.now c.args.row) c.loop-number.number c.loop-number.invariant
+    c.put_held.ensures
+
+pub returns : goal.returns
+returns c =
+    puts_all c.args.agenda.now c.loop-number.agenda (AsHeld c.args.view.now c.args.row) c.loop-number.number (task_count c.args.view.now)
+    c.loop-number.invariant
+    (subst (λ n. n ≤ c.loop-number.number) (c.tasks-number-end.ensures.value ∙ c.tables.ensures.stand.many) c.loop-number-test.false)

@@ -1,0 +1,193 @@
+//! What calls and waits add to an agenda.
+
+ghost use Rattle.std.specs.Prelude.{◌≡◌, ◌<◌, true, false, [], ◌∷◌, length};
+ghost use Rattle.std.specs.Option.{is_some, option_map};
+ghost use Rattle.ada_events.specs.Lawful.{IsLawful};
+ghost use Rattle.ada_events.specs.Says.{Call, call_at};
+ghost use Rattle.ada_events.specs.declared.event.Event.TheVariants.{Cancelled as CancelledEvent, Ended as EndedEvent, Failed as FailedEvent};
+ghost use Rattle.ada_events.specs.declared.event.Event.TheVariants.{Waiting as WaitingEvent};
+ghost use Rattle.ada_events.specs.declared.event.EventTail.TheVariants.{Nothing};
+ghost use Rattle.ada_events.specs.declared.names.TaskNo.{TaskNo as Number};
+ghost use Rattle.ada_agenda.specs.Keeping.{IsAgendaOf};
+ghost use Rattle.ada_events.specs.Tasks.{moment};
+ghost use Rattle.ada_events.specs.Termination as ending;
+ghost use Rattle.ada_events.specs.Waits as waits;
+ghost use Rattle.ada_rows.specs.Newly.{IsCallOf};
+ghost use Rattle.ada_triggers.specs.internal.Keys.{Puts, When, AsDependent, AsCalleeAt, AsCallerAt};
+
+use crate::masters::put_dependent;
+use crate::sweeps::{put_key, put_key_if};
+use ada_agenda::Agenda;
+use ada_agenda::keeping::{self, own_key};
+use ada_events::{Choice, Entry, Event, EventTail, TaskNo, way_of};
+use ada_rows::Row;
+use ada_view::View;
+
+// The task that the call at a position calls.
+#[tactic(auto, unfolding(ada_events::specs::Says::call_in))]
+fn callee_at(view: &View, at: u32) -> Option<TaskNo>
+    ensures { option_map (λ (t : Number). t.0) result
+        ≡ option_map (λ (c : Call). c.callee) (call_at view.now at) }
+{
+    match view.event(at) {
+        Some(Event::Called { callee, .. }) => Some(*callee),
+        _ => None,
+    }
+}
+
+/// Puts what the masters may force on which the callee of the call at a position depends.
+pub(crate) fn put_callee(agenda: &mut Agenda, view: &View, at: u32)
+    requires lawful { IsLawful view.now }
+    requires many { length agenda.old ≡ 11 }
+    ensures { Puts agenda.old agenda.new (AsCalleeAt view.now at) }
+{
+    match callee_at(view, at) {
+        Some(callee) => put_dependent(agenda, view, callee),
+        None => (),
+    }
+}
+
+/// Notes that a call is cancelled (9.7.2, 9.7.3): what the masters may force on which its callee depends may be forced.
+pub fn after_cancellation(agenda: &mut Agenda, view: &View, _event: &Event, call: u32)
+    requires lawful { IsLawful (_event.now ∷ view.now) }
+    requires stands { IsAgendaOf agenda.old view.now }
+    requires cancels { _event.now ≡ CancelledEvent call }
+    ensures { IsAgendaOf agenda.new (_event.now ∷ view.now) }
+{
+    put_callee(agenda, view, call);
+}
+
+// The task that made the call at a position.
+#[tactic(auto, unfolding(ada_events::specs::Says::call_in))]
+fn caller_at(view: &View, at: u32) -> Option<TaskNo>
+    ensures { option_map (λ (t : Number). t.0) result
+        ≡ option_map (λ (c : Call). c.by) (call_at view.now at) }
+{
+    match view.event(at) {
+        Some(Event::Called { by, .. }) => Some(*by),
+        _ => None,
+    }
+}
+
+// Puts who made the call at a position, where that is abnormal, into the row of tasks that are halted.
+fn put_caller(agenda: &mut Agenda, view: &View, at: u32)
+    requires many { length agenda.old ≡ 11 }
+    ensures { Puts agenda.old agenda.new (AsCallerAt view.now at) }
+{
+    match caller_at(view, at) {
+        Some(by) => put_key_if(agenda, Row::Halting, by.0 as usize, view.is_abnormal(by)),
+        None => (),
+    }
+}
+
+/// Notes that a rendezvous ends (9.5): that its caller is halted may be forced (9.10).
+pub fn after_end(
+    agenda: &mut Agenda,
+    view: &View,
+    _event: &Event,
+    _by: TaskNo,
+    call: u32,
+    _raised: bool,
+)
+    requires lawful { IsLawful (_event.now ∷ view.now) }
+    requires stands { IsAgendaOf agenda.old view.now }
+    requires ends { _event.now ≡ EndedEvent _by call _raised }
+    ensures { IsAgendaOf agenda.new (_event.now ∷ view.now) }
+{
+    put_caller(agenda, view, call);
+}
+
+/// Notes that a call fails (9.5): that its caller is halted may be forced (9.10).
+pub fn after_failure(agenda: &mut Agenda, view: &View, _event: &Event, failed: u32)
+    requires lawful { IsLawful (_event.now ∷ view.now) }
+    requires stands { IsAgendaOf agenda.old view.now }
+    requires fails { _event.now ≡ FailedEvent failed }
+    ensures { IsAgendaOf agenda.new (_event.now ∷ view.now) }
+{
+    put_caller(agenda, view, failed);
+}
+
+// Whether a wait has an open terminate alternative (9.7.1).
+fn is_open_terminate(tail: &EventTail) -> bool
+    ensures { result ≡ ending.is_open_terminate tail.now }
+{
+    match tail {
+        EventTail::Terminate(guard) => *guard,
+        _ => false,
+    }
+}
+
+// Puts what the masters may force on which a task depends, where that is so.
+#[tactic(auto, using(crate::proofs::Putting::so_put, crate::proofs::Putting::not_put))]
+fn put_dependent_if(agenda: &mut Agenda, view: &View, task: TaskNo, so: bool)
+    requires lawful { IsLawful view.now }
+    requires many { length agenda.old ≡ 11 }
+    ensures { Puts agenda.old agenda.new (When so (AsDependent view.now task.0)) }
+{
+    if so {
+        put_dependent(agenda, view, task);
+    }
+}
+
+// Whether a wait that comes next ends otherwise than by a call, where it takes none (9.7.1).
+fn is_to_pass(view: &View, pick: u32, choices: &[Choice], tail: &EventTail) -> bool
+    ensures { result ≡ is_some (waits.way_of (moment view.now) choices.now pick tail.now) }
+{
+    way_of(view.moment(), choices, pick, tail).is_some()
+}
+
+/// Notes that a task waits selectively (9.7.1): that it takes a call, that it passes, where there is a way, and with an
+/// open terminate alternative what the masters may force on which the task depends, may be forced.
+pub fn after_wait(
+    agenda: &mut Agenda,
+    view: &View,
+    event: &Event,
+    by: TaskNo,
+    pick: u32,
+    choices: &[Choice],
+    tail: &EventTail,
+)
+    requires lawful { IsLawful (event.now ∷ view.now) }
+    requires stands { IsAgendaOf agenda.old view.now }
+    requires waits { event.now ≡ WaitingEvent by pick choices.now tail.now }
+    ensures { IsAgendaOf agenda.new (event.now ∷ view.now) }
+{
+    let own = own_key(view.journal(), event);
+    put_key(agenda, Row::Meeting, own);
+    let passes = is_to_pass(view, pick, choices, tail);
+    put_key_if(agenda, Row::Passing, own, passes);
+    put_dependent_if(agenda, view, by, is_open_terminate(tail));
+}
+
+/// Notes that a task waits at an accept statement alone (9.5): that it takes a call may be forced.
+pub fn after_accept(
+    agenda: &mut Agenda,
+    view: &View,
+    event: &Event,
+    _by: TaskNo,
+    _pick: u32,
+    _entry: Entry,
+)
+    requires lawful { IsLawful (event.now ∷ view.now) }
+    requires stands { IsAgendaOf agenda.old view.now }
+    requires accepts { event.now ≡ WaitingEvent _by _pick
+        (record { guard = true; entry = _entry } ∷ []) Nothing }
+    ensures { IsAgendaOf agenda.new (event.now ∷ view.now) }
+{
+    put_key(agenda, Row::Meeting, own_key(view.journal(), event));
+}
+
+/// Notes that an entry of a task is called (9.5): that the call fails, where the task has ended or is abnormal, that it
+/// is cancelled, where it is given up, and that the wait takes it at which the task is suspended, may be forced.
+#[inline(always)]
+pub fn after_call(agenda: &mut Agenda, view: &View, event: &Event, callee: TaskNo)
+    requires lawful { IsLawful (event.now ∷ view.now) }
+    requires stands { IsAgendaOf agenda.old view.now }
+    requires calls { IsCallOf event.now callee.0 }
+    ensures { IsAgendaOf agenda.new (event.now ∷ view.now) }
+{
+    let at = view.record(callee).suspension.at;
+    let lost = view.is_uncallable(callee);
+    let immediate = view.is_immediate_call(event);
+    keeping::put_call_keys(agenda, view.journal(), event, callee, at, lost, immediate);
+}

@@ -1,0 +1,183 @@
+//! Passes over all tasks that put keys into an agenda.
+
+ghost use Rattle.std.specs.Prelude.{◌≡◌, ◌<◌, ◌&&◌, true, length};
+ghost use Rattle.ada_events.specs.Lawful.{IsLawful};
+ghost use Rattle.ada_events.specs.Search.{is_some_and, event_at};
+ghost use Rattle.ada_events.specs.Tasks.{task_count};
+ghost use Rattle.ada_agenda.specs.Keeping.{Grows, has_key};
+ghost use Rattle.ada_triggers.specs.internal.Keys as keys;
+ghost use Rattle.ada_triggers.specs.internal.Keys.{Puts, OfFirst, When, AsKey, AsHaltable, AsHeld, AsCaller, AsUncallable, calls};
+
+use ada_agenda::Agenda;
+use ada_agenda::keeping::{put, put_at};
+use ada_events::{Event, TaskNo};
+use ada_rows::Row;
+use ada_view::View;
+
+// Puts a key into a row.
+#[tactic(auto, using(crate::proofs::Putting::key_put))]
+pub(crate) fn put_key(agenda: &mut Agenda, row: Row, key: usize)
+    requires many { length agenda.old ≡ 11 }
+    requires fits { key < 69632 }
+    ensures { Puts agenda.old agenda.new (AsKey row key) }
+{
+    put(agenda, row, key);
+}
+
+// Puts a key into a row, where that is so.
+#[tactic(auto, using(crate::proofs::Putting::so_put, crate::proofs::Putting::not_put))]
+pub(crate) fn put_key_if(agenda: &mut Agenda, row: Row, key: usize, so: bool)
+    requires many { length agenda.old ≡ 11 }
+    requires fits { key < 69632 }
+    ensures { Puts agenda.old agenda.new (When so (AsKey row key)) }
+{
+    if so {
+        put_key(agenda, row, key);
+    }
+}
+
+// Whether the task hasn't ended, and isn't the caller in a rendezvous: no other is halted (9.10).
+#[tactic(auto, using(crate::proofs::Halting::may_halt_told))]
+fn may_halt(view: &View, task: TaskNo) -> bool
+    ensures { result ≡ keys.may_halt view.now task.0 }
+{
+    let kept = view.record(task);
+    let meets = kept.suspension.at != 0 && kept.suspension.joined;
+    !kept.has_ended() && !meets
+}
+
+// Puts a task that may be halted into the row of those that are halted.
+fn put_haltable(agenda: &mut Agenda, view: &View, task: TaskNo)
+    requires { length agenda.old ≡ 11 }
+    ensures { Puts agenda.old agenda.new (AsHaltable view.now task.0) }
+{
+    let halts = may_halt(view, task);
+    put_key_if(agenda, Row::Halting, task.0 as usize, halts);
+}
+
+/// Puts the tasks that may be halted into the row of those that are halted.
+pub(crate) fn put_all_haltable(agenda: &mut Agenda, view: &View)
+    requires lawful { IsLawful view.now }
+    requires many { length agenda.old ≡ 11 }
+    ensures { Puts agenda.old agenda.new (OfFirst (AsHaltable view.now) (task_count view.now)) }
+{
+    for number in 0..view.tables().tasks() {
+        put_haltable(agenda, view, TaskNo(number));
+    }
+}
+
+// Whether the event is of the kind of which the row gives a step.
+#[tactic(auto, unfolding(ada_events::specs::Says::call_in, ada_events::specs::Says::start_in, ada_events::specs::Says::closing_in))]
+fn is_of_row(row: Row, event: &Event) -> bool
+    ensures { result ≡ keys.is_of_row row event.now }
+{
+    match row {
+        Row::Failing => matches!(event, Event::Called { .. }),
+        Row::Activating => matches!(event, Event::Started { .. }),
+        Row::Leaving => matches!(event, Event::Closed { .. }),
+        _ => true,
+    }
+}
+
+// Whether an event of that kind stands at the position.
+fn is_of_row_at(view: &View, row: Row, at: u32) -> bool
+    ensures { result ≡ is_some_and (event_at view.now at) (keys.is_of_row row) }
+{
+    match view.event(at) {
+        Some(event) => is_of_row(row, event),
+        None => false,
+    }
+}
+
+// Puts the position at which a task is suspended, if it is, into a row, where the event there is of its kind.
+pub(crate) fn put_held(agenda: &mut Agenda, view: &View, row: Row, task: TaskNo)
+    requires lawful { IsLawful view.now }
+    requires many { length agenda.old ≡ 11 }
+    ensures { Puts agenda.old agenda.new (AsHeld view.now row task.0) }
+{
+    let at = view.record(task).suspension.at;
+    let fits = is_of_row_at(view, row, at);
+    put_at_if(agenda, row, at, fits);
+}
+
+/// Puts the positions at which tasks are suspended at events of its kind into a row.
+pub(crate) fn put_all_held(agenda: &mut Agenda, view: &View, row: Row)
+    requires lawful { IsLawful view.now }
+    requires many { length agenda.old ≡ 11 }
+    ensures { Puts agenda.old agenda.new (OfFirst (AsHeld view.now row) (task_count view.now)) }
+{
+    for number in 0..view.tables().tasks() {
+        put_held(agenda, view, row, TaskNo(number));
+    }
+}
+
+// Puts a position into a row where that is so, unless it is 0, which is none.
+pub(crate) fn put_at_if(agenda: &mut Agenda, row: Row, at: u32, so: bool)
+    requires many { length agenda.old ≡ 11 }
+    requires fits { 0 < at → at < 69632 }
+    ensures grows { Grows agenda.old agenda.new }
+    ensures here { so ≡ true → 0 < at → has_key agenda.new row at ≡ true }
+{
+    if so {
+        put_at(agenda, row, at);
+    }
+}
+
+// Whether the event is a call to the task.
+#[tactic(auto, unfolding(ada_events::specs::Says::call_in))]
+fn is_call_to(event: &Event, callee: TaskNo) -> bool
+    ensures { result ≡ calls callee.0 event.now }
+{
+    match event {
+        Event::Called { callee: called, .. } => called.0 == callee.0,
+        _ => false,
+    }
+}
+
+// Whether a call to the task stands at the position.
+fn calls_at(view: &View, at: u32, callee: TaskNo) -> bool
+    ensures { result ≡ is_some_and (event_at view.now at) (calls callee.0) }
+{
+    match view.event(at) {
+        Some(event) => is_call_to(event, callee),
+        None => false,
+    }
+}
+
+// Puts the call to the callee at which a task is suspended, if it is, into the row of those that fail.
+fn put_caller(agenda: &mut Agenda, view: &View, callee: TaskNo, task: TaskNo)
+    requires lawful { IsLawful view.now }
+    requires many { length agenda.old ≡ 11 }
+    ensures { Puts agenda.old agenda.new (AsCaller view.now callee.0 task.0) }
+{
+    let at = view.record(task).suspension.at;
+    let calls = calls_at(view, at, callee);
+    put_at_if(agenda, Row::Failing, at, calls);
+}
+
+// Puts the calls to a task at which tasks are suspended into the row of those that fail.
+#[inline(never)]
+fn put_all_callers(agenda: &mut Agenda, view: &View, callee: TaskNo)
+    requires lawful { IsLawful view.now }
+    requires many { length agenda.old ≡ 11 }
+    ensures { Puts agenda.old agenda.new
+        (OfFirst (AsCaller view.now callee.0) (task_count view.now)) }
+{
+    for number in 0..view.tables().tasks() {
+        put_caller(agenda, view, callee, TaskNo(number));
+    }
+}
+
+/// Puts the calls to a task into the row of those that fail, unless they failed already, since the task has ended or is
+/// abnormal.
+#[inline(always)]
+#[tactic(auto, using(crate::proofs::Putting::so_put, crate::proofs::Putting::not_put))]
+pub(crate) fn put_uncallable_calls(agenda: &mut Agenda, view: &View, callee: TaskNo)
+    requires lawful { IsLawful view.now }
+    requires many { length agenda.old ≡ 11 }
+    ensures { Puts agenda.old agenda.new (AsUncallable view.now callee.0) }
+{
+    if !view.is_uncallable(callee) {
+        put_all_callers(agenda, view, callee);
+    }
+}

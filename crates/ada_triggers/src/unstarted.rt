@@ -1,0 +1,106 @@
+//! Tasks that were made and never started, in a pass that begins behind those that were.
+
+ghost use Rattle.std.specs.Prelude.{◌≡◌, [], length};
+ghost use Rattle.ada_events.specs.Lawful.{IsLawful};
+ghost use Rattle.ada_events.specs.Tasks.{task_count};
+ghost use Rattle.ada_triggers.specs.Bounds.{IsStartBound};
+ghost use Rattle.ada_triggers.specs.internal.Keys.{Puts, OfFirst, AsUnstarted};
+
+use ada_agenda::Agenda;
+use ada_agenda::keeping::put;
+use ada_events::TaskNo;
+use ada_rows::Row;
+use ada_view::View;
+use std::marker::Model;
+
+/// The number of a task below which each task, but the main program, was started (9.3). Contracts see it as that
+/// number.
+#[derive(Clone, Copy)]
+pub struct FirstUnstarted(u16);
+
+impl Model for FirstUnstarted {
+    ghost use Rattle.std.specs.Prelude.{ℕ};
+
+    ghost Value = { ℕ };
+
+    ghost view = { λ first. first.0 };
+
+    ghost inverse = { λ number. record { 0 = number } };
+}
+
+impl FirstUnstarted {
+    /// The first task that may be made: in the empty journal there is the main program alone.
+    #[tactic(auto, using(crate::proofs::Starts::main_alone))]
+    pub fn new() -> Self
+        ensures first { result ≡ 1 }
+        ensures bound { IsStartBound [] result }
+    {
+        FirstUnstarted(1)
+    }
+
+    // The number.
+    fn number(self) -> u16
+        ensures { result ≡ self }
+    {
+        self.0
+    }
+
+    /// Goes past the tasks that were started since.
+    pub fn advance(&mut self, view: &View)
+        requires lawful { IsLawful view.now }
+        requires bound { IsStartBound view.now self.old }
+        ensures { IsStartBound view.now self.new }
+    {
+        *self = FirstUnstarted(first_unstarted(view, self.number()));
+    }
+}
+
+// The first task from a number on that no start names.
+fn first_unstarted(view: &View, from: u16) -> u16
+    requires lawful { IsLawful view.now }
+    requires bound { IsStartBound view.now from }
+    ensures { IsStartBound view.now result }
+{
+    let tasks = view.tables().tasks();
+    let mut number = from;
+    while number < tasks && view.record(TaskNo(number)).stage.named {
+        number += 1;
+    }
+    number
+}
+
+// Puts a task that was made and never started into the row of those that go.
+fn put_unstarted(agenda: &mut Agenda, view: &View, task: TaskNo)
+    requires lawful { IsLawful view.now }
+    requires many { length agenda.old ≡ 11 }
+    ensures { Puts agenda.old agenda.new (AsUnstarted view.now task.0) }
+{
+    if !view.record(task).stage.named {
+        put(agenda, Row::Terminating, task.0 as usize);
+    }
+}
+
+// Puts those that were never started, of the tasks from a number on, into the row of those that go.
+fn put_unstarted_from(agenda: &mut Agenda, view: &View, from: u16)
+    requires lawful { IsLawful view.now }
+    requires many { length agenda.old ≡ 11 }
+    requires bound { IsStartBound view.now from }
+    ensures { Puts agenda.old agenda.new (OfFirst (AsUnstarted view.now) (task_count view.now)) }
+{
+    for number in from..view.tables().tasks() {
+        put_unstarted(agenda, view, TaskNo(number));
+    }
+}
+
+/// Puts the tasks that were made and never started into the row of those that go.
+pub(crate) fn put_all_unstarted(agenda: &mut Agenda, first: &mut FirstUnstarted, view: &View)
+    requires lawful { IsLawful view.now }
+    requires many { length agenda.old ≡ 11 }
+    requires bound { IsStartBound view.now first.old }
+    ensures put { Puts agenda.old agenda.new
+        (OfFirst (AsUnstarted view.now) (task_count view.now)) }
+    ensures bound { IsStartBound view.now first.new }
+{
+    first.advance(view);
+    put_unstarted_from(agenda, view, first.number());
+}

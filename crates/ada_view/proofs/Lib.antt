@@ -1,0 +1,16 @@
+pub mod Flagging
+pub mod Hitting
+pub mod Listing
+pub mod QuittingDependents
+pub mod Counting
+pub mod Knowing
+pub mod Placing
+pub mod Blocks
+pub mod Choosing
+pub mod Closing
+pub mod Deciding
+pub mod Leaving
+pub mod Orphans
+pub mod Pending
+pub mod Quitting
+pub mod Strangers

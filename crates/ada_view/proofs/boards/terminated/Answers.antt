@@ -1,0 +1,10 @@
+use Rattle.std.proofs.Common.{arith, false}
+use Rattle.std.proofs.lemmas.List.FromFn.{fill_by_all}
+use Rattle.ada_events.specs.Boards.{listed, shows_terminated}
+use Rattle.ada_view.proofs.boards.terminated.Goals as goal
+
+pub returns : goal.returns
+unfolding listed
+returns c =
+    fill_by_all (shows_terminated c.args.view.now) c.loop-task.shown 256 false c.loop-task.invariant.0
+    (λ k below. c.loop-task.invariant.1 k (omega arith))

@@ -1,0 +1,32 @@
+use Rattle.std.proofs.Common.{◌∙◌, length, sym, ap, refl, subst, arith, [], ◌∷◌}
+use Rattle.std.proofs.lemmas.List.{length-append}
+use Rattle.ada_records.specs.Records.{is_hit}
+use Rattle.ada_view.specs.internal.Hitting.{TellsOfLive}
+use Rattle.ada_view.proofs.Hitting.{flags_more}
+use Rattle.ada_view.proofs.Listing.{lists_more, lists_past, lists_all}
+use Rattle.ada_view.proofs.touched.hit.Goals as goal
+use Rattle.ada_view.proofs.touched.hit.Goals.{then-hits, else-hits}
+
+pub loop-number-preserved : goal.loop-number-preserved
+loop-number-preserved c = (
+  ap length c.push.ensures
+      ∙ omega (arith, length-append c.loop-number.flags (c.is_hit-hits.result ∷ []), c.loop-number.invariant.0),
+  subst (λ flags. TellsOfLive c.args.view.now flags (is_hit c.args.view.now c.args.tasks.now)) (sym c.push.ensures)
+      (flags_more c.args.view.now c.loop-number.flags (is_hit c.args.view.now c.args.tasks.now) c.loop-number.number c.is_hit-hits.result
+      c.loop-number.invariant.0 c.loop-number.invariant.1 c.is_hit-hits.ensures),
+  elim c.if-hits.branch [
+    | then-hits w ↦
+        rw (w.hit-is, w.push-then-hits.ensures)
+        (lists_more c.args.view.now c.loop-number.hit (is_hit c.args.view.now c.args.tasks.now) c.loop-number.number
+        (record { 0 = c.loop-number.number }) refl c.loop-number.invariant.2 (λ live. sym w.if-hits.true ∙ c.is_hit-hits.ensures live))
+    | else-hits w ↦
+        rw w.hit-is
+        (lists_past c.args.view.now c.loop-number.hit (is_hit c.args.view.now c.args.tasks.now) c.loop-number.number c.loop-number.invariant.2
+        (λ live. sym w.if-hits.false ∙ c.is_hit-hits.ensures live))
+  ],
+)
+
+pub returns : goal.returns
+returns c =
+    lists_all c.args.view.now c.loop-number.hit (is_hit c.args.view.now c.args.tasks.now) c.loop-number.number c.loop-number.invariant.2
+    (omega (arith, c.loop-number-test.false, c.loop-number.auto.number-end, c.tasks-number-end.ensures.value, c.tables.ensures.stand.many))

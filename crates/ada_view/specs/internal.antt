@@ -1,0 +1,7 @@
+-- What only private contracts and invariants cite: no caller meets it.
+pub mod Hitting
+pub mod Knowing
+pub mod Choosing
+pub mod Deciding
+pub mod Ending
+pub mod Views

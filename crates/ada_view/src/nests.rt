@@ -1,0 +1,77 @@
+//! What a task is within, its frame, and who opened a block.
+
+ghost use Rattle.std.specs.Prelude.{◌≡◌, ◌<◌, ◌∷◌, List};
+ghost use Rattle.std.specs.Option.{option_map};
+ghost use Rattle.ada_events.specs.declared.names.Member.{Member as MemberValue};
+ghost use Rattle.ada_events.specs.declared.names.TaskNo.{TaskNo as Number};
+ghost use Rattle.ada_events.specs.Nests as nests;
+ghost use Rattle.ada_events.specs.Says.{Opening, opening_at};
+ghost use Rattle.ada_events.specs.Tasks.{task_count};
+ghost use Rattle.ada_tables.specs.Layers.{member_of, members};
+
+use crate::View;
+use ada_events::{Event, Master, Member, TaskNo};
+use ada_tables::{Layer, Layers};
+
+// The block that a member is, else this master.
+#[tactic(auto, unfolding(ada_events::specs::Nests::innermost_block))]
+fn with_layer(outer: Master, layer: Layer) -> Master
+    ensures { (rest : List MemberValue) →
+        nests.innermost_block result rest ≡ nests.innermost_block outer (member_of layer ∷ rest) }
+{
+    match layer {
+        Layer::Block { opening, .. } => Master::Block(opening),
+        Layer::Rendezvous { .. } => outer,
+    }
+}
+
+// The last block of some members, else this master.
+fn innermost_block(outer: Master, layers: &[Layer]) -> Master
+    ensures { result ≡ nests.innermost_block outer (members layers.now) }
+{
+    let mut frame = outer;
+    for layer in layers {
+        frame = with_layer(frame, *layer);
+    }
+    frame
+}
+
+impl View<'_> {
+    /// The nest of a task: the blocks and the rendezvous that it is within, outermost first, at most 32.
+    pub fn nest(&self, task: TaskNo) -> &Layers
+        requires { task.0 < task_count self.now }
+        ensures { members result.now ≡ nests.nest self.now task.0 }
+    {
+        self.tables().nest(task)
+    }
+
+    /// The innermost member of a task's nest; none where that is empty.
+    pub fn innermost(&self, task: TaskNo) -> Option<Member>
+        requires { task.0 < task_count self.now }
+        ensures { result ≡ nests.innermost (nests.nest self.now task.0) }
+    {
+        let members = self.nest(task);
+        members.get(members.len().saturating_sub(1))
+    }
+
+    /// The frame of a task: the innermost block that it is in, else its body (9.4).
+    #[tactic(auto, unfolding(ada_events::specs::Nests::frame))]
+    pub fn frame(&self, task: TaskNo) -> Master
+        requires { task.0 < task_count self.now }
+        ensures { result ≡ nests.frame self.now task.0 }
+    {
+        innermost_block(Master::Body(task), self.nest(task).as_slice())
+    }
+
+    /// The task that opened a block; none where no block was opened at that position.
+    #[tactic(auto, unfolding(ada_events::specs::Says::opening_in))]
+    pub fn opener(&self, block: u32) -> Option<TaskNo>
+        ensures { option_map (λ (t : Number). t.0) result
+            ≡ option_map (λ (o : Opening). o.by) (opening_at self.now block) }
+    {
+        match self.event(block) {
+            Some(Event::Opened { by, .. }) => Some(*by),
+            _ => None,
+        }
+    }
+}
