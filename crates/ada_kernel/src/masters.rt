@@ -256,7 +256,7 @@ impl Index {
         let Some(task) = self.view(journal).task(key) else {
             return false;
         };
-        if !self.view(journal).goes(task) {
+        if !self.view(journal).terminates(task) {
             return false;
         }
         let step = Event::Gone { task };

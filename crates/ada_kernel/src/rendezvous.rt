@@ -246,7 +246,7 @@ impl Index {
         requires { MayTake self.old journal.old row.Meeting wait }
         ensures { Takes self.old journal.old row.Meeting wait result self.new journal.new }
     {
-        let Some(call) = self.view(journal).takes(wait) else {
+        let Some(call) = self.view(journal).meets(wait) else {
             return false;
         };
         let step = Event::Met { call, wait };

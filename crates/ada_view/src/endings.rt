@@ -238,7 +238,7 @@ impl<'a> View<'a> {
 
     /// Whether the task terminates by itself (9.3, 9.4): it is completed and its dependents are terminated, or it will
     /// never be activated.
-    pub fn goes(&self, task: TaskNo) -> bool
+    pub fn terminates(&self, task: TaskNo) -> bool
         ensures { step_at self.now row.Terminating task.0 ≡ then_some result (step.Gone task) }
     {
         if task.0 >= self.tables().tasks() {

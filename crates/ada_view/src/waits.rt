@@ -125,7 +125,7 @@ impl<'a> View<'a> {
     /// The call that the wait at the position takes, if there is one (9.5, 9.7.1): the one at the front of the queue of
     /// the open choice that its pick chooses among those with a call.
     #[tactic(auto, unfolding(ada_rows::specs::Rows::step_at))]
-    pub fn takes(&self, at: u32) -> Option<u32>
+    pub fn meets(&self, at: u32) -> Option<u32>
         ensures { step_at self.now row.Meeting at ≡ option_map (λ call. step.Met call at) result }
     {
         match self.event(at) {

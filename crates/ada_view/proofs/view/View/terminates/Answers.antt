@@ -3,7 +3,7 @@ use Rattle.std.specs.Bool.{then_some}
 use Rattle.std.proofs.lemmas.Bool.{le-ltb}
 use Rattle.ada_events.specs.declared.event.Event.TheVariants.{Gone}
 use Rattle.ada_view.proofs.Orphans.{known_goes, unknown_stays}
-use Rattle.ada_view.proofs.view.View.goes.Goals as goal
+use Rattle.ada_view.proofs.view.View.terminates.Goals as goal
 
 pub returns-then-task-tasks : goal.returns-then-task-tasks
 returns-then-task-tasks c =
