@@ -23,7 +23,7 @@ pub use opening::open_hall;
 pub use order::{Order, order_of};
 pub use playing::play;
 pub use report::Report;
-pub use running::{run, run_script};
+pub use running::{read_and_run, run};
 pub use seat::Seat;
 pub use shared::Shared;
 pub use working::work;

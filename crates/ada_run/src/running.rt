@@ -121,12 +121,7 @@ where
 /// The answer is whether the main program is terminated at the end. More than 255 lines that create tasks are
 /// `TooManyTasks`, before any thread starts. Where a thread is refused, no further line is played and nothing is
 /// written; where memory or the writer fails, nothing or a beginning.
-pub fn run_script<R, G, W>(
-    rt: &R,
-    script: &Script,
-    gate: &G,
-    writer: &mut W,
-) -> Result<Ending, RunFault>
+pub fn run<R, G, W>(rt: &R, script: &Script, gate: &G, writer: &mut W) -> Result<Ending, RunFault>
 where
     R: Threads + Wait + Sync + AllocGlobal,
     G: Gate + Sync,
@@ -158,15 +153,20 @@ where
         ⊎ IsTextBroken fault text.now (W.contents writer.old) (W.contents writer.new)) }
 {
     match read_script(rt.alloc(), text) {
-        Ok(script) => run_script(rt, &script, gate, writer),
+        Ok(script) => run(rt, &script, gate, writer),
         Err(fault) => Err(fault),
     }
 }
 
-/// Reads an input whole, at most 823,297 bytes, and then runs it as a script ([`run_script`]).
+/// Reads an input whole, at most 823,297 bytes, and then runs it as a script ([`run`]).
 ///
 /// A fault of the script, or of the reader, comes before anything is written.
-pub fn run<R, G, I, W>(rt: &R, reader: &mut I, gate: &G, writer: &mut W) -> Result<Ending, RunFault>
+pub fn read_and_run<R, G, I, W>(
+    rt: &R,
+    reader: &mut I,
+    gate: &G,
+    writer: &mut W,
+) -> Result<Ending, RunFault>
 where
     R: Threads + Wait + Sync + AllocGlobal,
     G: Gate + Sync,

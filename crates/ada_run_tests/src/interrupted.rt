@@ -1,6 +1,6 @@
 //! Replays and runs over readers of which a read is interrupted. They end there: no read is tried again.
 
-use ada_run::{Ending, InTurn, RunFault, replay, run, status_of};
+use ada_run::{Ending, InTurn, RunFault, read_and_run, replay, status_of};
 use ada_script_tests::rendezvous::{PRINTED, SCRIPT};
 use ada_script_tests::streams::{Interrupted, Pieces};
 use std::process::Abort;
@@ -60,7 +60,7 @@ fn a_run_is_interrupted(rt: HostRuntime) -> Result<(), Fail> {
     for reads_before in 0..READS {
         let mut reader = interrupted(Some(reads_before));
         let mut output = Vec::new(rt.alloc());
-        let outcome = run(&rt, &mut reader, &InTurn, &mut output);
+        let outcome = read_and_run(&rt, &mut reader, &InTurn, &mut output);
         failed_there(&rt, reads_before, &outcome, &reader, &output);
     }
     Ok(())

@@ -1,6 +1,6 @@
 //! Replays and runs where there is memory, and each read and write succeeds.
 
-use ada_run::{Ending, Free, InTurn, replay, run};
+use ada_run::{Ending, Free, InTurn, read_and_run, replay};
 use ada_script_tests::rendezvous::{PRINTED, SCRIPT};
 use std::process::Abort;
 use std::sync::Wait;
@@ -21,7 +21,7 @@ fn replays<R: Abort + AllocGlobal>(rt: &R) -> Result<(), Fail> {
 fn runs_in_turn<R: Threads + Wait + Sync + Abort + AllocGlobal>(rt: &R) -> Result<(), Fail> {
     let mut reader = SCRIPT;
     let mut output = Vec::new(rt.alloc());
-    let outcome = run(rt, &mut reader, &InTurn, &mut output);
+    let outcome = read_and_run(rt, &mut reader, &InTurn, &mut output);
     assert!(rt; matches!(outcome, Ok(Ending::Finished)));
     assert_eq!(rt; output.as_slice(), PRINTED);
     Ok(())
@@ -31,7 +31,7 @@ fn runs_in_turn<R: Threads + Wait + Sync + Abort + AllocGlobal>(rt: &R) -> Resul
 fn runs_free<R: Threads + Wait + Sync + Abort + AllocGlobal>(rt: &R) -> Result<(), Fail> {
     let mut reader = SCRIPT;
     let mut output = Vec::new(rt.alloc());
-    let outcome = run(rt, &mut reader, &Free, &mut output);
+    let outcome = read_and_run(rt, &mut reader, &Free, &mut output);
     assert!(rt; outcome.is_ok());
     assert!(rt; !output.is_empty());
     Ok(())

@@ -1,7 +1,7 @@
 //! Runs of scripts by threads: what they print, in turn and free, and how they end.
 
 use ada_hall::Session;
-use ada_run::{Ending, Free, Gate, InTurn, RunFault, Shared, replay, run, status_of};
+use ada_run::{Ending, Free, Gate, InTurn, RunFault, Shared, read_and_run, replay, status_of};
 use ada_script_tests::rendezvous::SCRIPT;
 use ada_script_tests::streams::Writes;
 use std::alloc::{AllocError, Global};
@@ -59,7 +59,7 @@ fn same<R: Threads + Wait + Sync + Abort + AllocGlobal>(rt: &R, script: &[u8]) -
     let replayed = replay(rt.alloc(), &mut reader, &mut wanted);
     let mut printed = Vec::new(rt.alloc());
     let mut reader = script;
-    let outcome = run(rt, &mut reader, &InTurn, &mut printed);
+    let outcome = read_and_run(rt, &mut reader, &InTurn, &mut printed);
     assert_eq!(rt; status_of(&outcome), status_of(&replayed));
     assert_eq!(rt; printed.as_slice(), wanted.as_slice());
     Ok(())
@@ -125,7 +125,7 @@ impl Gate for Together {
 fn status_behind<R: Threads + Wait + Sync + AllocGlobal, G: Gate + Sync>(rt: &R, gate: &G) -> u8 {
     let mut output = Vec::new(rt.alloc());
     let mut reader = CLIENTS.as_bytes();
-    status_of(&run(rt, &mut reader, gate, &mut output))
+    status_of(&read_and_run(rt, &mut reader, gate, &mut output))
 }
 
 #[test]
@@ -152,7 +152,7 @@ fn lines_with(text: &[u8], beginning: &[u8]) -> usize {
 fn free_runs_end_where_all_wait(rt: HostRuntime) -> Result<(), Fail> {
     let mut output = Vec::new(rt.alloc());
     let mut reader = STUCK;
-    let outcome = run(&rt, &mut reader, &Free, &mut output);
+    let outcome = read_and_run(&rt, &mut reader, &Free, &mut output);
     assert_eq!(rt; status_of(&outcome), 3);
     assert_eq!(rt; lines_with(&output, b"refused"), 1);
     assert_eq!(rt; lines_with(&output, b"refused line 5: NotRunning"), 1);
@@ -196,7 +196,7 @@ fn ends<R: Threads + Wait + Sync + Abort + AllocGlobal>(
     let script = many(rt.alloc(), tasks, last)?;
     let mut reader = script.as_bytes();
     let mut output = Vec::new(rt.alloc());
-    let outcome = run(rt, &mut reader, &InTurn, &mut output);
+    let outcome = read_and_run(rt, &mut reader, &InTurn, &mut output);
     ended(rt, &outcome, text)?;
     assert_eq!(rt; lines_with(&output, b"255 main created T254"), times);
     Ok(())
@@ -217,7 +217,7 @@ fn a_run_whose_output_fails(rt: HostRuntime) -> Result<(), Fail> {
         writes_left: 0,
     };
     let mut reader = SCRIPT;
-    let outcome = run(&rt, &mut reader, &InTurn, &mut writer);
+    let outcome = read_and_run(&rt, &mut reader, &InTurn, &mut writer);
     assert_eq!(rt; status_of(&outcome), 4);
     assert!(rt; matches!(outcome, Err(RunFault::Write)));
     assert!(rt; writer.taken.is_empty());

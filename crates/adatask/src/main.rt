@@ -2,7 +2,7 @@
 //! for each task, and prints the events that it leads to on standard output.
 #![tactic(auto)]
 
-use ada_run::{Ending, Free, InTurn, Order, RunFault, order_of, replay, run, status_of};
+use ada_run::{Ending, Free, InTurn, Order, RunFault, order_of, read_and_run, replay, status_of};
 use clap::Error;
 use clap::error::ErrorKind;
 use std::io::{Eprint, Input, Print};
@@ -36,8 +36,8 @@ where
     let writer = &mut io::writer(rt);
     let outcome = match order {
         Order::Replay => replay(rt.alloc(), reader, writer),
-        Order::Run => run(rt, reader, &InTurn, writer),
-        Order::RunFree => run(rt, reader, &Free, writer),
+        Order::Run => read_and_run(rt, reader, &InTurn, writer),
+        Order::RunFree => read_and_run(rt, reader, &Free, writer),
     };
     end(rt, &outcome)
 }

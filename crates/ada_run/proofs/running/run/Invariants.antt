@@ -1,4 +1,4 @@
-use Rattle.ada_run.proofs.running.run_script.Given as goal
+use Rattle.ada_run.proofs.running.run.Given as goal
 
 abbrev pub ghosts-run_with-J-Ledger : goal.ghosts-run_with-J-Ledger
 ghosts-run_with-J-Ledger g a = record { name = a.blank.name; parts = a.blank.parts }
