@@ -13,10 +13,15 @@ use std::marker::Model;
 /// queue at most, so a link is the number of the linked call's caller.
 #[derive(Clone, Copy)]
 pub(crate) struct Node {
+    /// The call's position. Set by the call, as caller and slot are; the node goes when the call leaves the queue.
     pub(crate) call: u32,
+    /// The task that made the call.
     pub(crate) caller: u16,
+    /// The slot of the entry.
     pub(crate) slot: u16,
+    /// The caller of the call before it, if there is one. Set by the call; changed when that one leaves.
     pub(crate) before: Option<u16>,
+    /// The caller of the call after it, if there is one. Set when that one comes; changed when it leaves.
     pub(crate) after: Option<u16>,
 }
 

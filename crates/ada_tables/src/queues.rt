@@ -10,11 +10,15 @@ use crate::nodes::{Node, Nodes};
 use std::alloc::{AllocError, Global};
 use std::marker::Model;
 
-// The queue of one entry: the callers of its first and last calls, and how many there are.
+// The queue of one entry. A call puts its caller in last; a meeting, a failure, a cancellation and the halt of the
+// caller take it out.
 #[derive(Clone, Copy)]
 struct Queue {
+    // The caller of the first call.
     first: Option<u16>,
+    // The caller of the last call.
     last: Option<u16>,
+    // How many calls there are: COUNT (9.9).
     len: u16,
 }
 

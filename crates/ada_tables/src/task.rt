@@ -12,17 +12,20 @@ use crate::{Layers, Phase};
 use ada_events::{Families, Master, TaskNo};
 use std::mem::size_of;
 
-/// What is kept of a task: the master that it was made under, how many live dependents its body has, the number of the
-/// task that holds its master, its phase, what it is in, and its entries. The main program was made under no master,
-/// and its holder says nothing. What passes over all tasks look at comes first, so that it lies in one line of the
-/// cache.
+/// What is kept of a task. What passes over all tasks look at comes first, so that it lies in one line of the cache.
 #[derive(Drop)]
 pub(crate) struct Task {
+    /// The master that it was made under; none for the main program. Set by its creation.
     pub(crate) master: Option<Master>,
+    /// How many live dependents its body has. A creation raises it, a termination lowers it.
     pub(crate) live: u16,
+    /// The number of the task that holds its master; of the main program it says nothing. Set by its creation.
     pub(crate) holder: u16,
+    /// Set by each event that starts, suspends, releases, completes or terminates the task.
     pub(crate) phase: Phase,
+    /// What it is in. An opening and a meeting put a member in; a leaving, an end and a failure take it out.
     pub(crate) nest: Layers,
+    /// Its entries. Set by its creation.
     pub(crate) families: Families,
 }
 
