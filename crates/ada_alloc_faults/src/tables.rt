@@ -1,6 +1,6 @@
 //! Trials of the tables.
 ghost use Rattle.std.specs.Prelude.{IsTrue};
-ghost use Rattle.ada_tables.specs.internal.Dependents.{IsOpen};
+ghost use Rattle.ada_tables.specs.Dependents.{IsOpen};
 ghost use Rattle.ada_events.specs.declared.names.Master.TheVariants as masters;
 
 use crate::kernels::answer_of;

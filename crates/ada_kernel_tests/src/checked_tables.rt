@@ -1,9 +1,8 @@
 //! The tables behind calls that look at each condition as they run, so that a test proves none.
 ghost use Rattle.std.specs.Prelude.{◌≡◌, ℕ, ◌<◌, true, false, Some, IfOk, OnOk, MatchOption, length};
 ghost use Rattle.ada_events.specs.Nests.{innermost};
-ghost use Rattle.ada_tables.specs.Dependents.{task_at, holds, live_dependents, is_terminated, Stands};
-ghost use Rattle.ada_tables.specs.internal.Dependents.{IsOpen, IsFresh, IsIdle};
-ghost use Rattle.ada_tables.specs.internal.Queues as queues;
+ghost use Rattle.ada_tables.specs.Dependents.{task_at, holds, live_dependents, is_terminated, Stands, IsOpen, IsFresh, IsIdle};
+ghost use Rattle.ada_tables.specs.Queues as queues;
 ghost use Rattle.ada_tables.specs.Tables.{HasEntry};
 
 use ada_events::{Entry, Families, Family, Master, Member, Refusal, TaskNo};

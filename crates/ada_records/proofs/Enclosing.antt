@@ -14,8 +14,7 @@ use Rattle.ada_events.specs.Tasks.{task_count}
 use Rattle.ada_events.specs.Masters.{same_master, reaches, depends_on}
 use Rattle.ada_events.specs.Nests.{nest, innermost_block, frame}
 use Rattle.ada_events.specs.Lawful.{IsLawful}
-use Rattle.ada_tables.specs.Dependents.{has_block, up_to, holds, encloses}
-use Rattle.ada_tables.specs.internal.Dependents.{outside, parent_within}
+use Rattle.ada_tables.specs.Dependents.{has_block, up_to, holds, encloses, outside, parent_within}
 use Rattle.ada_records.specs.Holders.{IsUnder, AreNested}
 use Rattle.ada_records.proofs.NestedBlocks.{nest_properly}
 

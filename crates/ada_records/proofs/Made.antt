@@ -46,8 +46,7 @@ use Rattle.ada_records.proofs.NestKinds.{IsMember, nest_member, others_keep_nest
 use Rattle.ada_records.proofs.NestKinds.IsMember.{of_block, of_rendezvous}
 use Rattle.ada_records.proofs.Unmade.{unmade}
 use Rattle.ada_tables.specs.declared.phase.Phase.TheVariants.{Unstarted}
-use Rattle.ada_tables.specs.Dependents.{Facts, nobody, task_at, holds, is_terminated as ends}
-use Rattle.ada_tables.specs.internal.Dependents.{made_facts, IsOpen}
+use Rattle.ada_tables.specs.Dependents.{Facts, nobody, task_at, holds, is_terminated as ends, made_facts, IsOpen}
 use Rattle.ada_tables.specs.Queues.{QueuedCall, queue_at}
 use Rattle.ada_tables.specs.Tables.{TableState, declared, slots_before, slot_at, HasEntry}
 use Rattle.ada_tables.specs.Standing.{phase_of, facts_in, caller_of, AreQueued, StandFor}

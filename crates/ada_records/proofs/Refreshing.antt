@@ -16,8 +16,7 @@ use Rattle.ada_laws.proofs.Growing.{task_count-same, is_terminated-more}
 use Rattle.ada_records.specs.declared.record.Record.{Record}
 use Rattle.ada_records.specs.Records.{IsRecordOf, AreRecords, record_at}
 use Rattle.ada_tables.specs.declared.phase.Phase.{Phase}
-use Rattle.ada_tables.specs.Dependents.{Facts, nobody, task_at, is_terminated as ends}
-use Rattle.ada_tables.specs.internal.Dependents.{with_phase}
+use Rattle.ada_tables.specs.Dependents.{Facts, nobody, task_at, is_terminated as ends, with_phase}
 use Rattle.ada_tables.specs.Tables.{TableState}
 use Rattle.ada_tables.specs.Standing.{phase_of, facts_in}
 use Rattle.ada_records.specs.Facing.{HoldFacts}

@@ -7,8 +7,7 @@ use Rattle.ada_events.specs.declared.names.Member.TheVariants.{Block, Rendezvous
 use Rattle.ada_events.specs.Tasks.{task_count}
 use Rattle.ada_events.specs.Nests.{innermost}
 use Rattle.ada_events.specs.Lawful.{IsLawful}
-use Rattle.ada_tables.specs.Dependents.{Facts, task_at}
-use Rattle.ada_tables.specs.internal.Dependents.{IsIdle}
+use Rattle.ada_tables.specs.Dependents.{Facts, task_at, IsIdle}
 use Rattle.ada_records.specs.Facing.{HoldFacts}
 use Rattle.ada_records.specs.internal.Renesting.{IsIdleIn, CanLeave}
 use Rattle.ada_records.proofs.Agreeing.{live_alike}

@@ -21,8 +21,7 @@ use Rattle.ada_laws.proofs.Gathering.{Contains-first, Contains-later}
 use Rattle.ada_laws.proofs.Queueing.{same_entry-same}
 use Rattle.ada_laws.proofs.Suspending.{is_suspended-from}
 use Rattle.ada_tables.specs.Dependents.{Facts}
-use Rattle.ada_tables.specs.Queues.{QueuedCall, queue_at}
-use Rattle.ada_tables.specs.internal.Queues.{is_by, waits_in, waits, with_last, without}
+use Rattle.ada_tables.specs.Queues.{QueuedCall, queue_at, is_by, waits_in, waits, with_last, without}
 use Rattle.ada_tables.specs.Tables.{TableState, slot_at, HasEntry}
 use Rattle.ada_tables.specs.Standing.{caller_of, AreQueued}
 use Rattle.ada_tables.proofs.Linking.{any_place}

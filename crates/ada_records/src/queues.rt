@@ -1,7 +1,7 @@
 //! Which queue an event changes, and tables in which queues follow.
 ghost use Rattle.std.specs.Prelude.{◌≡◌, ◌<◌, ◌≤◌, ◌∷◌, length};
 ghost use Rattle.ada_events.specs.Lawful.{IsLawful};
-ghost use Rattle.ada_tables.specs.internal.Queues.{without};
+ghost use Rattle.ada_tables.specs.Queues.{without};
 ghost use Rattle.ada_records.specs.Facing.{HoldFacts, HoldQueues};
 ghost use Rattle.ada_records.specs.Noting.{HaveAllQueues};
 ghost use Rattle.ada_records.specs.internal.Known.{HaveRoomFor};

@@ -15,7 +15,7 @@ use Rattle.ada_tables.specs.internal.Counts.{no_record, record_at, ChangesAlong,
 use Rattle.ada_tables.proofs.Reaching.{body_below, Alike, alike_same, reaches_alike, led_alike, led_from}
 use Rattle.ada_events.specs.declared.names.Family.{Family}
 use Rattle.ada_tables.specs.declared.change.Change.TheVariants.{Added}
-use Rattle.ada_tables.specs.internal.Dependents.{IsOpen}
+use Rattle.ada_tables.specs.Dependents.{IsOpen}
 use Rattle.ada_tables.specs.internal.Counts.{made}
 use Rattle.ada_tables.proofs.Alongs.{along_begins, along_same}
 use Rattle.ada_tables.proofs.Keeping.{count_same, count_le, count_nobody}

@@ -7,8 +7,7 @@ use Rattle.std.proofs.lemmas.List.{get_or-set_same, get_or-set_other, set_past, 
 use Rattle.std.proofs.lemmas.List.Folds.{list_any-append}
 use Rattle.ada_tables.specs.declared.nodes.Node.{Node}
 use Rattle.ada_tables.specs.Nodes.{node_of}
-use Rattle.ada_tables.specs.Queues.{QueuedCall}
-use Rattle.ada_tables.specs.internal.Queues.{is_by, waits_in}
+use Rattle.ada_tables.specs.Queues.{QueuedCall, is_by, waits_in}
 use Rattle.ada_tables.specs.Links.{followed}
 use Rattle.ada_tables.specs.internal.Links.{first_or, last_or, IsChain, relinked_after, relinked_before, joined}
 

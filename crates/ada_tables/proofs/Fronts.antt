@@ -4,12 +4,11 @@ use Rattle.std.specs.Option.{option_map}
 use Rattle.ada_tables.specs.declared.nodes.Node.{Node}
 use Rattle.ada_tables.specs.declared.queues.Queue.{Queue}
 use Rattle.ada_tables.specs.Nodes.{node_of}
-use Rattle.ada_tables.specs.Queues.{QueuedCall, queue_at}
+use Rattle.ada_tables.specs.Queues.{QueuedCall, queue_at, front_call}
 use Rattle.ada_tables.specs.Links.{calls_in}
 use Rattle.ada_tables.specs.internal.Links.{first_or, IsChain, AreLinked, no_queue}
 use Rattle.ada_tables.proofs.Chains.{first_is_waiting, chain_has}
 use Rattle.ada_tables.proofs.Linking.{calls_at}
-use Rattle.ada_tables.specs.internal.Queues.{front_call}
 use Rattle.ada_tables.proofs.Arriving.{node_within}
 
 -- the front's caller is known

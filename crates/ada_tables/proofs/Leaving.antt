@@ -12,8 +12,7 @@ use Rattle.std.proofs.lemmas.Map.Views.{any-filter_same}
 use Rattle.ada_tables.specs.declared.nodes.Node.{Node}
 use Rattle.ada_tables.specs.declared.queues.Queue.{Queue}
 use Rattle.ada_tables.specs.Nodes.{node_of}
-use Rattle.ada_tables.specs.Queues.{QueuedCall}
-use Rattle.ada_tables.specs.internal.Queues.{is_by, waits_in, waits, without}
+use Rattle.ada_tables.specs.Queues.{QueuedCall, is_by, waits_in, waits, without}
 use Rattle.ada_tables.specs.Links.{calls_in}
 use Rattle.ada_tables.specs.internal.Links.{first_or, last_or, IsChain, IsQueue, AreLinked, no_queue, joined}
 use Rattle.ada_tables.proofs.Chains.{AreApart, chain_agrees, chain_slot, chain_cut, chain_joined, not_last, not_first, last_waits, last_is_waiting}

@@ -10,8 +10,7 @@ use Rattle.std.proofs.lemmas.List.Sums.{sum_by-set}
 use Rattle.ada_tables.specs.declared.nodes.Node.{Node}
 use Rattle.ada_tables.specs.declared.queues.Queue.{Queue}
 use Rattle.ada_tables.specs.Nodes.{node_of}
-use Rattle.ada_tables.specs.Queues.{QueuedCall, queue_at}
-use Rattle.ada_tables.specs.internal.Queues.{waits_in, waits}
+use Rattle.ada_tables.specs.Queues.{QueuedCall, queue_at, waits_in, waits}
 use Rattle.ada_tables.specs.Links.{calls_in}
 use Rattle.ada_tables.specs.internal.Links.{IsQueue, AreLinked, no_queue, relinked_after, relinked_before, joined}
 use Rattle.ada_tables.proofs.Chains.{chain_agrees, chain_slot, followed_chain, relinked_after_other, relinked_before_other, changed, changed_same}

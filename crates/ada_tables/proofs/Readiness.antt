@@ -7,8 +7,7 @@ use Rattle.ada_tables.specs.Queues.{QueuedCall}
 use Rattle.ada_tables.specs.declared.phase.Phase.{Phase}
 use Rattle.ada_tables.specs.declared.phase.Phase.TheVariants.{Unstarted, Active, Held, Quittable, Completed, Terminated}
 use Rattle.ada_tables.specs.Dependents.{Facts, task_at, depends_on, is_terminated, count_below, is_live_dependent, live_dependents}
-use Rattle.ada_tables.specs.Tables.{has_no_calls, is_quittable, is_ready, is_unready, unready_dependents}
-use Rattle.ada_tables.specs.internal.Tables.{ready_dependents}
+use Rattle.ada_tables.specs.Tables.{has_no_calls, is_quittable, is_ready, is_unready, unready_dependents, ready_dependents}
 
 one_of_two : (p : Phase) (empty depends : Bool) → (if not (is_terminated p) && depends then 1 else 0)
     ≡ (if (is_quittable p && empty) && depends then 1 else 0) + (if (not (is_terminated p) && not (is_quittable p && empty)) && depends then 1 else 0)

@@ -9,8 +9,7 @@ use Rattle.ada_events.specs.Phases.{is_completed, is_terminated, has_ended, is_s
 use Rattle.ada_events.specs.Nests.{nest}
 use Rattle.ada_events.specs.Termination.{is_ready_to_quit}
 use Rattle.ada_events.specs.Slots.{number_within}
-use Rattle.ada_tables.specs.Dependents.{task_at, reaches, count_below, live_dependents}
-use Rattle.ada_tables.specs.internal.Dependents.{main_facts}
+use Rattle.ada_tables.specs.Dependents.{task_at, reaches, count_below, live_dependents, main_facts}
 use Rattle.ada_tables.specs.Tables.{TableState, unready_dependents, HasEntry}
 use Rattle.ada_tables.specs.Standing.{facts_in, live_count, unready_count, StandFor}
 

@@ -6,15 +6,13 @@ use Rattle.std.proofs.lemmas.List.{length-set}
 use Rattle.ada_tables.specs.declared.nodes.Node.{Node}
 use Rattle.ada_tables.specs.declared.queues.Queue.{Queue}
 use Rattle.ada_tables.specs.Nodes.{node_of}
-use Rattle.ada_tables.specs.Queues.{QueuedCall}
-use Rattle.ada_tables.specs.internal.Queues.{waits, with_last, without}
+use Rattle.ada_tables.specs.Queues.{QueuedCall, waits, with_last, without, Waiting}
 use Rattle.ada_tables.specs.Links.{calls_in}
 use Rattle.ada_tables.specs.internal.Links.{AreLinked, no_queue, joined}
 use Rattle.ada_tables.proofs.Linking.{joined_holders}
 use Rattle.std.proofs.Common.{replicate, take}
 use Rattle.std.proofs.lemmas.List.{get_or_read, take_all}
 use Rattle.ada_tables.specs.Nodes.{KeptNodes}
-use Rattle.ada_tables.specs.Queues.{Waiting}
 use Rattle.ada_tables.proofs.Arriving.{arrived_calls, arrived_linked, last_stands}
 use Rattle.ada_tables.proofs.Leaving.{Leaves, left_queue}
 use Rattle.ada_tables.proofs.Growing.{grown_calls, grown_linked}

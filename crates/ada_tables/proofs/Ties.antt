@@ -7,8 +7,7 @@ use Rattle.std.proofs.lemmas.List.Sums.{sum_by_more_le}
 use Rattle.ada_events.specs.declared.names.Member.{Member}
 use Rattle.ada_events.specs.Entries.{entries_in}
 use Rattle.ada_tables.specs.declared.phase.Phase.{Phase}
-use Rattle.ada_tables.specs.Dependents.{Facts, Known, task_at}
-use Rattle.ada_tables.specs.internal.Dependents.{with_nest, with_phase, main_facts}
+use Rattle.ada_tables.specs.Dependents.{Facts, Known, task_at, with_nest, with_phase, main_facts}
 use Rattle.ada_tables.specs.Queues.{QueuedCall}
 use Rattle.ada_tables.specs.Tables.{declared, slots_before}
 use Rattle.ada_tables.specs.internal.Tables.{AreTied}

@@ -12,7 +12,7 @@ use Rattle.ada_tables.specs.declared.layers.Layer.TheVariants.{Rendezvous as Ren
 use Rattle.ada_tables.specs.declared.phase.Phase.{Phase}
 use Rattle.ada_tables.specs.Layers.{members, member_of}
 use Rattle.ada_tables.specs.internal.Layers.{layer_of, live_at}
-use Rattle.ada_tables.specs.Dependents.{Facts, task_at, has_block, depends_on, is_terminated, live_dependents}
+use Rattle.ada_tables.specs.Dependents.{Facts, task_at, has_block, depends_on, is_terminated, live_dependents, holds, cut, Known}
 use Rattle.ada_tables.specs.Counts.{facts_of, facts}
 use Rattle.ada_tables.specs.internal.Counts.{no_record, record_at, ChangesAlong, StandAlone, AreCounted, IsLed, is_led}
 use Rattle.ada_tables.proofs.Alongs.{facts_at}
@@ -24,8 +24,7 @@ use Rattle.ada_events.specs.Nests.{innermost}
 use Rattle.ada_events.specs.declared.names.Family.{Family}
 use Rattle.ada_tables.specs.declared.phase.Phase.TheVariants.{Unstarted, Active, Held, Quittable, Completed, Terminated}
 use Rattle.ada_tables.specs.declared.change.Change.TheVariants.{Added, Ended}
-use Rattle.ada_tables.specs.Dependents.{holds, cut, Known}
-use Rattle.ada_tables.specs.internal.Dependents.{with_nest, with_phase, IsFresh, IsIdle, IsOpen, made_facts, parent_within, parent_from}
+use Rattle.ada_tables.specs.Dependents.{with_nest, with_phase, IsFresh, IsIdle, IsOpen, made_facts, parent_within, parent_from}
 use Rattle.ada_tables.specs.internal.Layers.{cut_layers}
 use Rattle.ada_tables.specs.internal.Counts.{made}
 use Rattle.ada_tables.proofs.Nesting.{nest_is, pushed_rendezvous, pushed_block, popped_rendezvous, popped_block}

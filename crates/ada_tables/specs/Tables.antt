@@ -59,3 +59,8 @@ is_unready tasks queues task =
 abbrev pub unready_dependents : List Facts → List (List QueuedCall) → Master → ℕ
 unready_dependents tasks queues master =
     count_below (λ task. is_unready tasks queues task && depends_on tasks task master) (length tasks)
+
+-- how many dependents of a master are ready to quit
+abbrev pub ready_dependents : List Facts → List (List QueuedCall) → Master → ℕ
+ready_dependents tasks queues master =
+    count_below (λ task. is_ready tasks queues task && depends_on tasks task master) (length tasks)

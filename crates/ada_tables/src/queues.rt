@@ -2,8 +2,7 @@
 ghost use Rattle.std.specs.Prelude.{◌≡◌, ◌+◌, ◌-◌, ◌<◌, ◌≤◌, true, false, [], ◌++◌, Some, None, OnOk, OnErr, is_none, if◌then◌else◌, ◌==◌, length, replicate};
 ghost use Rattle.std.specs.Option.{option_or};
 ghost use Rattle.ada_events.specs.Search.{all_below};
-ghost use Rattle.ada_tables.specs.Queues.{queue_at};
-ghost use Rattle.ada_tables.specs.internal.Queues.{waits, with_last, without, front_call};
+ghost use Rattle.ada_tables.specs.Queues.{queue_at, waits, with_last, without, front_call};
 ghost use Rattle.ada_events.specs.declared.limits.TheConstants.{MOST_SLOTS, MOST_TASKS};
 
 use crate::nodes::{Node, Nodes};

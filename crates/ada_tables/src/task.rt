@@ -3,8 +3,7 @@ ghost use Rattle.std.specs.Prelude.{◌≡◌, true, false};
 ghost use Rattle.ada_tables.specs.internal.Changes.{changed};
 ghost use Rattle.ada_tables.specs.Layers.{members};
 ghost use Rattle.ada_tables.specs.internal.Layers.{moved_to};
-ghost use Rattle.ada_tables.specs.Dependents.{holds, encloses};
-ghost use Rattle.ada_tables.specs.internal.Dependents.{parent_within};
+ghost use Rattle.ada_tables.specs.Dependents.{holds, encloses, parent_within};
 ghost use Rattle.ada_tables.specs.internal.Counts.{recounted, made};
 
 use crate::change::Change;

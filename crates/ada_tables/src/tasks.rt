@@ -3,10 +3,9 @@ ghost use Rattle.std.specs.Prelude.{◌≡◌, ℕ, ◌+◌, ◌-◌, ◌<◌, �
 ghost use Rattle.std.specs.Option.{ForSome};
 ghost use Rattle.ada_events.specs.Nests.{innermost};
 ghost use Rattle.ada_tables.specs.Layers.{members};
-ghost use Rattle.ada_tables.specs.Dependents.{depends_on, task_at, has_block, holds, cut, is_terminated};
-ghost use Rattle.ada_tables.specs.internal.Dependents.{parent_of, made_facts, with_nest, with_phase};
+ghost use Rattle.ada_tables.specs.Dependents.{depends_on, task_at, has_block, holds, cut, is_terminated, parent_of, made_facts, with_nest, with_phase};
 ghost use Rattle.ada_tables.specs.Dependents.{live_dependents, Stands};
-ghost use Rattle.ada_tables.specs.internal.Dependents.{IsOpen, IsFresh, IsIdle};
+ghost use Rattle.ada_tables.specs.Dependents.{IsOpen, IsFresh, IsIdle};
 ghost use Rattle.ada_tables.specs.Counts.{facts};
 ghost use Rattle.ada_tables.specs.internal.Counts.{ChangesAlong, StandAlone, AreCounted, IsLed};
 ghost use Rattle.ada_events.specs.declared.limits.TheConstants.{MOST_MEMBERS, MOST_TASKS};

@@ -24,8 +24,7 @@ use Rattle.ada_laws.proofs.Searching.{event_at-cases}
 use Rattle.ada_laws.proofs.Accepting.{is_accepted}
 use Rattle.ada_laws.proofs.Stepping.{forced-step}
 use Rattle.ada_laws.proofs.Saying.{held_in-wait}
-use Rattle.ada_tables.specs.Queues.{QueuedCall, queue_at}
-use Rattle.ada_tables.specs.internal.Queues.{front_call}
+use Rattle.ada_tables.specs.Queues.{QueuedCall, queue_at, front_call}
 use Rattle.ada_tables.specs.Tables.{TableState, slot_at, HasEntry}
 use Rattle.ada_tables.specs.Standing.{StandFor}
 use Rattle.ada_tables.specs.Dependents.{Facts}

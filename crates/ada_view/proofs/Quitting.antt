@@ -15,8 +15,7 @@ use Rattle.ada_events.specs.Forced.{task_no, is_to_quit}
 use Rattle.ada_rows.specs.declared.row.Row.TheVariants.{QuittingBody}
 use Rattle.ada_rows.specs.Rows.{step_at}
 use Rattle.ada_tables.specs.Dependents.{live_dependents}
-use Rattle.ada_tables.specs.Tables.{TableState, unready_dependents}
-use Rattle.ada_tables.specs.internal.Tables.{ready_dependents}
+use Rattle.ada_tables.specs.Tables.{TableState, unready_dependents, ready_dependents}
 use Rattle.ada_tables.proofs.Readiness.{ready_all}
 use Rattle.ada_tables.specs.Standing.{StandFor}
 use Rattle.ada_view.specs.internal.Views.{IsHeldBySome}

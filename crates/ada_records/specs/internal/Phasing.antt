@@ -5,8 +5,7 @@ use Rattle.ada_events.specs.declared.names.TaskNo.{TaskNo}
 use Rattle.ada_events.specs.Tasks.{task_count}
 use Rattle.ada_events.specs.Nests.{nest}
 use Rattle.ada_tables.specs.Standing.{phase_of, facts_in}
-use Rattle.ada_tables.specs.Dependents.{Facts, task_at, is_terminated}
-use Rattle.ada_tables.specs.internal.Dependents.{with_phase}
+use Rattle.ada_tables.specs.Dependents.{Facts, task_at, is_terminated, with_phase}
 use Rattle.ada_tables.specs.Tables.{TableState}
 use Rattle.ada_records.specs.declared.record.Record.{Record}
 use Rattle.ada_records.specs.RecordedPhases.{phase_by}

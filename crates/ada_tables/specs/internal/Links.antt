@@ -7,8 +7,7 @@ use Rattle.std.specs.Option.{option_map}
 use Rattle.ada_tables.specs.declared.nodes.Node.{Node}
 use Rattle.ada_tables.specs.declared.queues.Queue.{Queue}
 use Rattle.ada_tables.specs.Nodes.{node_of}
-use Rattle.ada_tables.specs.Queues.{QueuedCall}
-use Rattle.ada_tables.specs.internal.Queues.{waits_in, waits}
+use Rattle.ada_tables.specs.Queues.{QueuedCall, waits_in, waits}
 use Rattle.ada_tables.specs.Links.{calls_in}
 
 -- the caller of the first call, else this link

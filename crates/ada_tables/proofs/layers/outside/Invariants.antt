@@ -1,6 +1,6 @@
 use Rattle.std.proofs.Common.{◌≡◌, None, drop}
 use Rattle.ada_tables.specs.Layers.{members}
-use Rattle.ada_tables.specs.internal.Dependents.{outside}
+use Rattle.ada_tables.specs.Dependents.{outside}
 use Rattle.ada_tables.proofs.layers.outside.Given as goal
 
 abbrev pub invariant-loop-layer : goal.invariant-loop-layer
