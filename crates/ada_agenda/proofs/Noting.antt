@@ -1,7 +1,7 @@
 -- Agendas that are kept up with their journal.
-use Rattle.std.proofs.Common.{◌≡◌, ◌≢◌, ℕ, ◌+◌, ◌<◌, ◌≤◌, Bool, true, Some, List, ◌∷◌, length, sym, refl, ap, ◌∙◌, subst, arith, ◌⊎◌, inl, inr}
+use Rattle.std.proofs.Common.{◌≡◌, ◌≢◌, ℕ, ◌+◌, ◌<◌, ◌≤◌, Bool, true, false, not, ◌==◌, Some, List, ◌∷◌, length, sym, ap, ◌∙◌, subst, arith, ◌⊎◌, inl, inr}
 use Rattle.std.specs.Option.{is_some}
-use Rattle.std.proofs.lemmas.Bool.{cases_eq, cases_lt, false≢true, both_ways}
+use Rattle.std.proofs.lemmas.Bool.{cases_eq, cases_lt, true≢false, false≢true, both_ways, not_from_false, ne_eqb}
 use Rattle.std.proofs.lemmas.Option.{none-some, same_Some}
 use Rattle.ada_events.specs.declared.event.Event.{Event}
 use Rattle.ada_events.specs.declared.event.Event.TheVariants.{Opened, Created, Started, Called, Paused}
@@ -15,13 +15,14 @@ use Rattle.ada_laws.proofs.LimitLaws.{events_are_few, tasks_are_few}
 use Rattle.ada_laws.proofs.Searching.{event_at-within}
 use Rattle.ada_laws.proofs.Suspending.{is_suspended-from, suspended_once}
 use Rattle.ada_rows.specs.declared.row.Row.{Row}
-use Rattle.ada_rows.specs.declared.row.Row.TheVariants.{Halting, Failing, Meeting, Cancelling, Passing, Waking, Activating, Terminating, QuittingBody}
-use Rattle.ada_rows.specs.declared.row.Row.TheVariants.{QuittingBlock, Leaving}
+use Rattle.ada_rows.specs.declared.row.Row.TheVariants.{Failing, Meeting, Cancelling, Waking, Activating, Terminating}
 use Rattle.ada_rows.specs.Newly.{IsCallOf}
 use Rattle.ada_rows.specs.Rows.{rank, step_at}
 use Rattle.ada_agenda.specs.Rows.{keeps}
 use Rattle.ada_records.specs.Records.{IsHeldAt}
-use Rattle.ada_agenda.specs.Keeping.{has_key, IsAgendaOf, Grows}
+use Rattle.ada_agenda.specs.Keeping.{has_key, IsAgendaOf, Grows, Puts, Both, AsKey, When}
+use Rattle.ada_agenda.specs.Keeping.AsKey.{itself as that_key}
+use Rattle.ada_agenda.specs.Keeping.When.{holds_so}
 use Rattle.ada_rows.specs.Touching.{is_uncallable}
 use Rattle.ada_agenda.specs.Kinds.{itself, is_immediate, is_immediate_call, OfCreation, OfStart, OfCall, OfDelay, Adds}
 use Rattle.ada_agenda.specs.Kinds.OfCreation.{goes}
@@ -30,31 +31,22 @@ use Rattle.ada_agenda.specs.Kinds.OfCall.{fails, is_cancelled, is_taken}
 use Rattle.ada_agenda.specs.Kinds.OfDelay.{wakes}
 use Rattle.ada_agenda.proofs.Adding.{agendas_grow}
 
-pub rank_below : (row : Row) → rank row < 11
-rank_below Halting = omega arith
-rank_below Failing = omega arith
-rank_below Meeting = omega arith
-rank_below Cancelling = omega arith
-rank_below Passing = omega arith
-rank_below Waking = omega arith
-rank_below Activating = omega arith
-rank_below Terminating = omega arith
-rank_below QuittingBody = omega arith
-rank_below QuittingBlock = omega arith
-rank_below Leaving = omega arith
-
 -- the position of the newest event, and each older one, finds room in a row
 pub own_fits : (event : Event) (before : List Event) → IsLawful (event ∷ before) → length before + 1 < 69632
 own_fits event before lawful =
     let few : length (event ∷ before) ≤ MOST_EVENTS = events_are_few (event ∷ before) lawful in
     omega arith
 
-pub held_fits : (before : List Event) (task at : ℕ) → IsLawful before → IsHeldAt before task at → 0 < at → at < 69632
-held_fits before task at lawful held some =
-    let h = held.held some in
-    let within : at ≤ length before = event_at-within before at h.event h.stands in
-    let few : length before ≤ MOST_EVENTS = events_are_few before lawful in
-    omega arith
+-- and so does where a task is suspended, or 0 where it isn't
+pub held_fits : (before : List Event) (task at : ℕ) → IsLawful before → IsHeldAt before task at → at < 69632
+held_fits before task at lawful held = elim (cases_lt 0 at) [
+  | inl some ↦
+      let h = held.held some in
+      let within : at ≤ length before = event_at-within before at h.event h.stands in
+      let few : length before ≤ MOST_EVENTS = events_are_few before lawful in
+      omega arith
+  | inr none ↦ omega arith
+]
 
 pub task_fits : (before : List Event) → IsLawful before → task_count before < 69632
 task_fits before lawful =
@@ -62,42 +54,74 @@ task_fits before lawful =
     omega arith
 
 -- what is put in is there, and all that was
-pub put_grows : (old new : List (List ℕ)) (row : Row) (key : ℕ) → length new ≡ length old → keeps new (rank row) key ≡ true
-    → ((r k : ℕ) → (r ≢ rank row) ⊎ (k ≢ key) → keeps new r k ≡ keeps old r k) → Grows old new
-put_grows old new row key many here others = record {
-  many = many;
-  kept = λ other k was.
-      elim (cases_eq (rank other) (rank row)) [
-        | inr apart ↦ others (rank other) k (inl apart) ∙ was
-        | inl same ↦
-            elim (cases_eq k key) [
-              | inr apart ↦ others (rank other) k (inr apart) ∙ was
-              | inl one ↦ ap (λ (r : ℕ). keeps new r k) same ∙ (ap (keeps new (rank row)) one ∙ here)
-            ]
-      ];
+has_this : (new : List (List ℕ)) (at : Row) (k : ℕ) (row : Row) (key : ℕ) → has_key new at k ≡ true → AsKey at k row key → has_key new row key ≡ true
+has_this new at k row key here that_key = here
+
+pub key_put : (old new : List (List ℕ)) (row : Row) (key : ℕ) → has_key new row key ≡ true
+    → ((other : Row) (k : ℕ) → (other ≢ row) ⊎ (k ≢ key) → has_key new other k ≡ has_key old other k) → Puts old new (AsKey row key)
+key_put old new row key here others = record {
+  grows = record {
+    kept = λ other k was.
+        elim (cases_eq (rank other) (rank row)) [
+          | inr apart ↦ others other k (inl (λ same. apart (ap rank same))) ∙ was
+          | inl same ↦
+              elim (cases_eq k key) [
+                | inr apart ↦ others other k (inr apart) ∙ was
+                | inl one ↦ ap (λ (r : ℕ). keeps new r k) same ∙ (ap (keeps new (rank row)) one ∙ here)
+              ]
+        ];
+  };
+  here = λ other k of. has_this new row key other k here of;
 }
 
 pub grows_same : (old : List (List ℕ)) → Grows old old
-grows_same old = record { many = refl; kept = λ row key was. was }
+grows_same old = record { kept = λ row key was. was }
 
 pub grows_on : (old mid new : List (List ℕ)) → Grows old mid → Grows mid new → Grows old new
-grows_on old mid new first second = record { many = second.many ∙ first.many; kept = λ row key was. second.kept row key (first.kept row key was) }
+grows_on old mid new first second = record { kept = λ row key was. second.kept row key (first.kept row key was) }
 
--- an agenda that has all that the event adds
-pub grown : (event : Event) (before : List Event) (old new : List (List ℕ)) → IsLawful (event ∷ before) → IsAgendaOf old before → Grows old new
-    → ((row : Row) (key : ℕ) → Adds before event row key → has_key new row key ≡ true) → IsAgendaOf new (event ∷ before)
-grown event before old new lawful agenda grows all = record {
-  many = grows.many ∙ agenda.many;
-  covers = agendas_grow event before (has_key old) (has_key new) lawful agenda.covers grows.kept (λ row key step added gives. all row key added);
+-- keys that are put where that is so
+so_key : (so : Bool) (Key : Row → ℕ → Type 0) (row : Row) (key : ℕ) → When so Key row key → Key row key
+so_key so Key row key (holds_so is of) = of
+
+pub so_put : (old new : List (List ℕ)) (so : Bool) (Key : Row → ℕ → Type 0) → Puts old new Key → Puts old new (When so Key)
+so_put old new so Key puts = record { grows = puts.grows; here = λ row key of. puts.here row key (so_key so Key row key of) }
+
+not_key : (new : List (List ℕ)) (so : Bool) (Key : Row → ℕ → Type 0) (row : Row) (key : ℕ) → so ≡ false → When so Key row key → has_key new row key ≡ true
+not_key new so Key row key not_so (holds_so is of) = absurd (true≢false (sym is ∙ not_so))
+
+pub not_put : (old : List (List ℕ)) (so : Bool) (Key : Row → ℕ → Type 0) → so ≡ false → Puts old old (When so Key)
+not_put old so Key not_so = record { grows = grows_same old; here = λ row key of. not_key old so Key row key not_so of }
+
+-- what was put stays, and more is put
+pub both_put : (old mid new : List (List ℕ)) (One Other : Row → ℕ → Type 0) → Puts old mid One → Puts mid new Other → Puts old new (Both One Other)
+both_put old mid new One Other one other = record {
+  grows = grows_on old mid new one.grows other.grows;
+  here = λ row key of.
+      elim of [
+        | inl first ↦ other.grows.kept row key (one.here row key first)
+        | inr second ↦ other.here row key second
+      ];
 }
 
--- the same, where those of its keys are there at which a step is given
-pub grown_giving : (event : Event) (before : List Event) (old new : List (List ℕ)) → IsLawful (event ∷ before) → IsAgendaOf old before → Grows old new
-    → ((row : Row) (key : ℕ) (step : Event) → Adds before event row key → step_at (event ∷ before) row key ≡ Some step → has_key new row key ≡ true)
+-- an agenda into which all was put that the event adds
+pub noted : (event : Event) (before : List Event) (old new : List (List ℕ)) (Key : Row → ℕ → Type 0) → IsLawful (event ∷ before) → IsAgendaOf old before
+    → Puts old new Key → ((row : Row) (key : ℕ) → Adds before event row key → Key row key) → IsAgendaOf new (event ∷ before)
+noted event before old new Key lawful agenda puts all = record {
+  covers =
+      agendas_grow event before (has_key old) (has_key new) lawful agenda.covers puts.grows.kept
+      (λ row key step added gives. puts.here row key (all row key added));
+}
+
+-- the same, where those of its keys were put at which a step is given
+pub noted_giving : (event : Event) (before : List Event) (old new : List (List ℕ)) (Key : Row → ℕ → Type 0) → IsLawful (event ∷ before)
+    → IsAgendaOf old before → Puts old new Key
+    → ((row : Row) (key : ℕ) (step : Event) → Adds before event row key → step_at (event ∷ before) row key ≡ Some step → Key row key)
     → IsAgendaOf new (event ∷ before)
-grown_giving event before old new lawful agenda grows all = record {
-  many = grows.many ∙ agenda.many;
-  covers = agendas_grow event before (has_key old) (has_key new) lawful agenda.covers grows.kept all;
+noted_giving event before old new Key lawful agenda puts all = record {
+  covers =
+      agendas_grow event before (has_key old) (has_key new) lawful agenda.covers puts.grows.kept
+      (λ row key step added gives. puts.here row key (all row key step added gives));
 }
 
 pub own_is : (before : List Event) (own : ℕ) → own ≡ length before + 1 → own ≡ itself before
@@ -110,15 +134,14 @@ of_start (Started by tasks) before row key starts added = added
 of_start (Opened by under) before row key starts added = absurd (false≢true starts)
 of_start _ before row key starts added = absurd (false≢true starts)
 
-has_start_key : (before : List Event) (new : List (List ℕ)) (row : Row) (key : ℕ) → has_key new Activating (itself before) ≡ true → OfStart before row key
-    → has_key new row key ≡ true
-has_start_key before new row key here is_over = here
+start_key : (before : List Event) (own : ℕ) (row : Row) (key : ℕ) → own ≡ itself before → OfStart before row key → AsKey Activating own row key
+start_key before own row key same is_over = rw same that_key
 
 pub start_noted : (event : Event) (before : List Event) (old new : List (List ℕ)) (own : ℕ) → IsLawful (event ∷ before) → IsAgendaOf old before
-    → is_some (start_in event) ≡ true → own ≡ length before + 1 → Grows old new → has_key new Activating own ≡ true → IsAgendaOf new (event ∷ before)
-start_noted event before old new own lawful agenda starts same grows here =
-    let here_itself = ap (has_key new Activating) (sym (own_is before own same)) ∙ here in
-    grown event before old new lawful agenda grows (λ row key added. has_start_key before new row key here_itself (of_start event before row key starts added))
+    → is_some (start_in event) ≡ true → own ≡ length before + 1 → Puts old new (AsKey Activating own) → IsAgendaOf new (event ∷ before)
+start_noted event before old new own lawful agenda starts same puts =
+    noted event before old new (AsKey Activating own) lawful agenda puts
+    (λ row key added. start_key before own row key (own_is before own same) (of_start event before row key starts added))
 
 -- a delay
 of_delay : (event : Event) (before : List Event) (row : Row) (key : ℕ) → is_some (delay_in event) ≡ true → Adds before event row key → OfDelay before row key
@@ -126,15 +149,14 @@ unfolding delay_in
 of_delay (Paused by due) before row key delays added = added
 of_delay _ before row key delays added = absurd (false≢true delays)
 
-has_delay_key : (before : List Event) (new : List (List ℕ)) (row : Row) (key : ℕ) → has_key new Waking (itself before) ≡ true → OfDelay before row key
-    → has_key new row key ≡ true
-has_delay_key before new row key here wakes = here
+delay_key : (before : List Event) (own : ℕ) (row : Row) (key : ℕ) → own ≡ itself before → OfDelay before row key → AsKey Waking own row key
+delay_key before own row key same wakes = rw same that_key
 
 pub delay_noted : (event : Event) (before : List Event) (old new : List (List ℕ)) (own : ℕ) → IsLawful (event ∷ before) → IsAgendaOf old before
-    → is_some (delay_in event) ≡ true → own ≡ length before + 1 → Grows old new → has_key new Waking own ≡ true → IsAgendaOf new (event ∷ before)
-delay_noted event before old new own lawful agenda delays same grows here =
-    let here_itself = ap (has_key new Waking) (sym (own_is before own same)) ∙ here in
-    grown event before old new lawful agenda grows (λ row key added. has_delay_key before new row key here_itself (of_delay event before row key delays added))
+    → is_some (delay_in event) ≡ true → own ≡ length before + 1 → Puts old new (AsKey Waking own) → IsAgendaOf new (event ∷ before)
+delay_noted event before old new own lawful agenda delays same puts =
+    noted event before old new (AsKey Waking own) lawful agenda puts
+    (λ row key added. delay_key before own row key (own_is before own same) (of_delay event before row key delays added))
 
 -- a creation
 of_creation : (event : Event) (before : List Event) (row : Row) (key : ℕ) → is_some (creation_in event) ≡ true → Adds before event row key
@@ -143,17 +165,15 @@ unfolding creation_in
 of_creation (Created by under master families) before row key creates added = added
 of_creation _ before row key creates added = absurd (false≢true creates)
 
-has_creation_key : (before : List Event) (new : List (List ℕ)) (row : Row) (key : ℕ) → has_key new Terminating (task_count before) ≡ true
-    → OfCreation before row key
-    → has_key new row key ≡ true
-has_creation_key before new row key here goes = here
+creation_key : (before : List Event) (task : ℕ) (row : Row) (key : ℕ) → task ≡ task_count before → OfCreation before row key
+    → AsKey Terminating task row key
+creation_key before task row key same goes = rw same that_key
 
 pub creation_noted : (event : Event) (before : List Event) (old new : List (List ℕ)) (task : ℕ) → IsLawful (event ∷ before) → IsAgendaOf old before
-    → is_some (creation_in event) ≡ true → task ≡ task_count before → Grows old new → has_key new Terminating task ≡ true → IsAgendaOf new (event ∷ before)
-creation_noted event before old new task lawful agenda creates same grows here =
-    let here_itself = ap (has_key new Terminating) (sym same) ∙ here in
-    grown event before old new lawful agenda grows
-    (λ row key added. has_creation_key before new row key here_itself (of_creation event before row key creates added))
+    → is_some (creation_in event) ≡ true → task ≡ task_count before → Puts old new (AsKey Terminating task) → IsAgendaOf new (event ∷ before)
+creation_noted event before old new task lawful agenda creates same puts =
+    noted event before old new (AsKey Terminating task) lawful agenda puts
+    (λ row key added. creation_key before task row key same (of_creation event before row key creates added))
 
 -- a call
 of_call : (event : Event) (before : List Event) (callee : ℕ) (row : Row) (key : ℕ) → IsCallOf event callee → Adds before event row key
@@ -172,25 +192,27 @@ held_there before task at p lawful held suspended =
       | inr none ↦ absurd (both_ways (is_suspended before task) (held.free (omega arith)) (is_suspended-from before task p suspended))
     ]
 
-pub record HasCallKeys (before : List Event) (new : List (List ℕ)) (callee own at : ℕ) (immediate : Bool) : Type 0 where
-  pub failing : is_uncallable before callee ≡ true → has_key new Failing own ≡ true
-  pub cancelling : immediate ≡ true → has_key new Cancelling own ≡ true
-  pub taking : 0 < at → has_key new Meeting at ≡ true
+-- a position isn't 0
+not_none : (at : ℕ) → 0 < at → not (at == 0) ≡ true
+not_none at some = not_from_false (at == 0) (ne_eqb at 0 (λ none. omega (arith, some, none)))
 
-has_call_key : (before : List Event) (new : List (List ℕ)) (callee at own : ℕ) (immediate : Bool) (row : Row) (key : ℕ) → IsLawful before
-    → IsHeldAt before callee at → own ≡ itself before → HasCallKeys before new callee own at immediate → OfCall before callee immediate row key
-    → has_key new row key ≡ true
-has_call_key before new callee at own immediate row key lawful held same has (fails lost) = ap (has_key new Failing) (sym same) ∙ has.failing lost
-has_call_key before new callee at own immediate row key lawful held same has (is_cancelled gives) =
-    ap (has_key new Cancelling) (sym same) ∙ has.cancelling gives
-has_call_key before new callee at own immediate row key lawful held same has (is_taken p suspended) =
+-- all that is put for a call, where that is so
+abbrev pub CallKeys : ℕ → ℕ → Bool → Bool → Row → ℕ → Type 0
+CallKeys own at lost immediate =
+    Both (Both (When lost (AsKey Failing own)) (When immediate (AsKey Cancelling own))) (When (not (at == 0)) (AsKey Meeting at))
+
+call_key : (before : List Event) (callee at own : ℕ) (immediate : Bool) (row : Row) (key : ℕ) → IsLawful before → IsHeldAt before callee at
+    → own ≡ itself before → OfCall before callee immediate row key → CallKeys own at (is_uncallable before callee) immediate row key
+call_key before callee at own immediate row key lawful held same (fails lost) = inl (inl (holds_so lost (rw same that_key)))
+call_key before callee at own immediate row key lawful held same (is_cancelled gives) = inl (inr (holds_so gives (rw same that_key)))
+call_key before callee at own immediate row key lawful held same (is_taken p suspended) =
     let there = held_there before callee at p lawful held suspended in
-    ap (has_key new Meeting) there.1 ∙ has.taking there.0
+    inr (holds_so (not_none at there.0) (rw there.1 that_key))
 
 pub call_noted : (event : Event) (before : List Event) (old new : List (List ℕ)) (callee at own : ℕ) → IsLawful (event ∷ before) → IsAgendaOf old before
-    → IsCallOf event callee → IsHeldAt before callee at → own ≡ length before + 1 → Grows old new
-    → HasCallKeys before new callee own at (is_immediate_call before event) → IsAgendaOf new (event ∷ before)
-call_noted event before old new callee at own lawful agenda calls held same grows has =
-    grown event before old new lawful agenda grows (λ row key added.
-    has_call_key before new callee at own (is_immediate_call before event) row key lawful.0 held (own_is before own same) has
+    → IsCallOf event callee → IsHeldAt before callee at → own ≡ length before + 1
+    → Puts old new (CallKeys own at (is_uncallable before callee) (is_immediate_call before event)) → IsAgendaOf new (event ∷ before)
+call_noted event before old new callee at own lawful agenda calls held same puts =
+    noted event before old new (CallKeys own at (is_uncallable before callee) (is_immediate_call before event)) lawful agenda puts (λ row key added.
+    call_key before callee at own (is_immediate_call before event) row key lawful.0 held (own_is before own same)
     (of_call event before callee row key calls added))

@@ -1,11 +1,20 @@
 -- Sets of numbers in rows.
-use Rattle.std.proofs.Common.{◌≡◌, ℕ, zero, suc, ◌-◌, ◌<◌, ◌≤◌, true, false, List, [], ◌∷◌, ◌++◌, length, get_or, refl, sym, ap, ◌∙◌, arith, inl, inr}
+use Rattle.std.proofs.Common.{◌≡◌, ◌≢◌, ◌⊎◌, ℕ, zero, suc, ◌-◌, ◌<◌, ◌≤◌, true, false, List, [], ◌∷◌, ◌++◌, length, get_or, refl, sym, ap, ◌∙◌, arith, inl, inr}
 use Rattle.std.proofs.lemmas.Bool.{cases_lt, true≢false, false_from_ne_true}
 use Rattle.std.proofs.lemmas.List.{get_or_past, get_or_append_left, get_or-append_right}
+use Rattle.ada_rows.specs.declared.row.Row.{Row}
+use Rattle.ada_rows.specs.Rows.{rank, IsFirst}
+use Rattle.ada_rows.proofs.Ranks.{one_rank}
 use Rattle.ada_agenda.specs.Bits.{has}
+use Rattle.ada_agenda.specs.Keeping.{has_key}
 use Rattle.ada_agenda.specs.Rows.{keeps}
 use Rattle.ada_agenda.specs.internal.Rows.{AreFilled}
 use Rattle.ada_agenda.proofs.ThreeLevels.{none_held}
+
+-- another row has another place
+pub other_place : (row other : Row) (n k : ℕ) → (other ≢ row) ⊎ (k ≢ n) → (rank other ≢ rank row) ⊎ (k ≢ n)
+other_place row other n k (inl apart) = inl (λ same. apart (one_rank other row same))
+other_place row other n k (inr apart) = inr apart
 
 -- there is nothing beyond the last row
 pub none_beyond : (rows : List (List ℕ)) (r k : ℕ) → length rows ≤ r → keeps rows r k ≡ false
@@ -45,15 +54,27 @@ no_bits words r one zeroth = none_held words r (λ w. elim (cases_lt w 1) [
 ])
 
 -- no row has a number yet
-pub none_filled : (rows : List (List ℕ)) (many : ℕ) → length rows ≡ many → many ≤ 64 → ((r k : ℕ) → keeps rows r k ≡ false) → AreFilled rows no_bit
-none_filled rows many count few none = record {
+pub none_filled : (rows : List (List ℕ)) → length rows ≡ 11 → ((r k : ℕ) → keeps rows r k ≡ false) → AreFilled rows no_bit
+none_filled rows many none = record {
   one = refl;
-  few = omega (arith, count, few);
+  many = many;
   told = λ r k kept. absurd (true≢false (sym kept ∙ none r k));
   known = λ r bit. absurd (true≢false (sym bit ∙ no_bits no_bit r refl refl));
 }
 
 -- where no row has a bit, none has a number
-pub none_kept : (rows : List (List ℕ)) (filled : List ℕ) → AreFilled rows filled → get_or filled 0 0 ≡ 0 → (r k : ℕ) → keeps rows r k ≡ false
-none_kept rows filled tied none r k =
-    false_from_ne_true (keeps rows r k) (λ kept. true≢false (sym (tied.told r k kept) ∙ no_bits filled r tied.one none))
+pub none_kept : (rows : List (List ℕ)) (filled : List ℕ) → AreFilled rows filled → get_or filled 0 0 ≡ 0 → (row : Row) (k : ℕ) → has_key rows row k ≡ false
+none_kept rows filled tied none row k =
+    false_from_ne_true (has_key rows row k) (λ kept. true≢false (sym (tied.told (rank row) k kept) ∙ no_bits filled (rank row) tied.one none))
+
+-- the least number of the row of the least bit is the first of all
+pub first_kept : (rows : List (List ℕ)) (filled : List ℕ) (row : Row) (place number : ℕ) → AreFilled rows filled → rank row ≡ place
+    → ((r : ℕ) → r < place → 0 ≤ r → has filled r ≡ false) → keeps rows place number ≡ true
+    → ((k : ℕ) → k < number → keeps rows place k ≡ false) → IsFirst (has_key rows) row number
+first_kept rows filled row place number tied ranked lower here least = record {
+  here = ap (λ r. keeps rows r number) ranked ∙ here;
+  rows = λ other k less.
+      false_from_ne_true (has_key rows other k) (λ kept.
+      true≢false (sym (tied.told (rank other) k kept) ∙ lower (rank other) (omega (arith, less, ranked)) (omega arith)));
+  keys = λ k less. ap (λ r. keeps rows r k) ranked ∙ least k less;
+}

@@ -1,5 +1,5 @@
 -- Events that give no step at their own position.
-use Rattle.std.proofs.Common.{◌≡◌, true, None, List, ◌∷◌}
+use Rattle.std.proofs.Common.{◌≡◌, true, None, List}
 use Rattle.std.proofs.lemmas.Bool.{false≢true}
 use Rattle.ada_events.specs.declared.event.Event.{Event}
 use Rattle.ada_events.specs.Says.{call_in, wait_in, delay_in, start_in, closing_in, moment_in}

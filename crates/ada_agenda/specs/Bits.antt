@@ -1,5 +1,5 @@
 -- Sets of numbers, each a bit.
-use Rattle.std.specs.Prelude.{ℕ, ◌/◌, ◌%◌, ◌-◌, Bool, List, slice_index_or, ◌==◌}
+use Rattle.std.specs.Prelude.{ℕ, ◌/◌, ◌%◌, Bool, List, slice_index_or, ◌==◌}
 use Rattle.std.specs.Int.{bit_at}
 
 -- the number is in the set

@@ -1,16 +1,21 @@
 //! Sets of numbers in rows, of which the first comes first.
 
-ghost use Rattle.std.specs.Prelude.{◌≡◌, ◌≢◌, ◌<◌, ◌≤◌, ◌⊎◌, ℕ, true, false, length, IfOk, IfSome, IfNone};
-ghost use Rattle.ada_agenda.specs.Rows.{keeps};
+ghost use Rattle.std.specs.Prelude.{◌≡◌, ◌≢◌, ◌<◌, ◌⊎◌, ℕ, true, false, IfOk, IfSome, IfNone};
+ghost use Rattle.ada_rows.specs.Rows.{IsFirst};
+ghost use Rattle.ada_agenda.specs.Keeping.{has_key};
 ghost use Rattle.ada_agenda.specs.internal.Rows.{weight};
 
 use crate::{Numbers, bits};
+use ada_rows::Row;
 use std::alloc::{AllocError, Global};
 use std::marker::Model;
 
-/// What is to be looked at, in rows: numbers below 69,632, of which the least of the first row that has one
-/// comes first. All calls but `new` take no memory, and look at a few words. Contracts see it as the list of
-/// its rows, each as the words of its bits.
+/// How many rows the forced steps have.
+const ROWS: usize = 11;
+
+/// What is to be looked at, in the rows of the forced steps: numbers below 69,632, of which the least of the first
+/// row that has one comes first. All calls but `new` take no memory, and look at a few words. Contracts see it as
+/// the list of its rows, each as the words of its bits.
 #[derive(Drop)]
 pub struct Agenda {
     rows: Vec<Numbers>,
@@ -30,14 +35,13 @@ impl Model for Agenda {
 }
 
 impl Agenda {
-    /// So many rows with nothing in them, at most 64.
-    pub fn new(alloc: Global, rows: usize) -> Result<Self, AllocError>
-        requires { rows ≤ 64 }
-        ensures rows { IfOk result (λ agenda. length agenda ≡ rows) }
-        ensures empty { IfOk result (λ agenda. (row k : ℕ) → keeps agenda row k ≡ false) }
+    /// The rows with nothing in them.
+    pub fn new(alloc: Global) -> Result<Self, AllocError>
+        ensures { IfOk result (λ agenda. (row : Row) (number : ℕ)
+            → has_key agenda row number ≡ false) }
     {
         let mut sets = Vec::new(alloc);
-        for _ in 0..rows {
+        for _ in 0..ROWS {
             sets.push(Numbers::new(alloc)?)?;
         }
         Ok(Agenda {
@@ -47,48 +51,44 @@ impl Agenda {
     }
 
     /// Puts a number into a row, where it may be already.
-    pub fn insert(&mut self, row: usize, number: usize)
-        requires row { row < length self.old }
-        requires number { number < 69632 }
-        ensures rows { length self.new ≡ length self.old }
-        ensures here { keeps self.new row number ≡ true }
-        ensures others { (r k : ℕ) → (r ≢ row) ⊎ (k ≢ number)
-            → keeps self.new r k ≡ keeps self.old r k }
+    #[tactic(auto, using(crate::proofs::RowsHeld::other_place))]
+    pub fn insert(&mut self, row: Row, number: usize)
+        requires { number < 69632 }
+        ensures here { has_key self.new row number ≡ true }
+        ensures others { (other : Row) (k : ℕ) → (other ≢ row) ⊎ (k ≢ number)
+            → has_key self.new other k ≡ has_key self.old other k }
     {
-        self.rows[row].insert(number);
-        bits::insert(&mut self.filled, row);
+        let place = row.rank();
+        self.rows[place].insert(number);
+        bits::insert(&mut self.filled, place);
     }
 
     /// Takes a number out of a row, if it is there.
-    pub fn remove(&mut self, row: usize, number: usize)
-        requires row { row < length self.old }
-        requires number { number < 69632 }
-        ensures rows { length self.new ≡ length self.old }
-        ensures here { keeps self.new row number ≡ false }
-        ensures others { (r k : ℕ) → (r ≢ row) ⊎ (k ≢ number)
-            → keeps self.new r k ≡ keeps self.old r k }
-        ensures fewer { keeps self.old row number ≡ true → weight self.new < weight self.old }
+    #[tactic(auto, using(crate::proofs::RowsHeld::other_place))]
+    pub fn remove(&mut self, row: Row, number: usize)
+        requires { number < 69632 }
+        ensures here { has_key self.new row number ≡ false }
+        ensures others { (other : Row) (k : ℕ) → (other ≢ row) ⊎ (k ≢ number)
+            → has_key self.new other k ≡ has_key self.old other k }
+        ensures fewer { has_key self.old row number ≡ true → weight self.new < weight self.old }
     {
-        self.rows[row].remove(number);
+        self.rows[row.rank()].remove(number);
     }
 
     /// The first row that has a number, and its least, below 69,632.
-    pub fn first(&mut self) -> Option<(usize, usize)>
+    pub fn first(&mut self) -> Option<(Row, usize)>
         ensures same { self.new ≡ self.old }
-        ensures row { IfSome result (λ key. key.0 < length self.new) }
         ensures within { IfSome result (λ key. key.1 < 69632) }
-        ensures here { IfSome result (λ key. keeps self.new key.0 key.1 ≡ true) }
-        ensures rows { IfSome result (λ key. (r k : ℕ) → r < key.0 → keeps self.new r k ≡ false) }
-        ensures least { IfSome result (λ key. (k : ℕ) → k < key.1
-            → keeps self.new key.0 k ≡ false) }
-        ensures none { IfNone result ((r k : ℕ) → keeps self.new r k ≡ false) }
+        ensures first { IfSome result (λ key. IsFirst (has_key self.new) key.0 key.1) }
+        ensures none { IfNone result ((row : Row) (number : ℕ)
+            → has_key self.new row number ≡ false) }
     {
         while self.filled[0] != 0 {
-            let row = bits::least_in(&self.filled, 0);
-            if let Some(number) = self.rows[row].least() {
+            let place = bits::least_in(&self.filled, 0);
+            if let (Some(row), Some(number)) = (Row::at_rank(place), self.rows[place].least()) {
                 return Some((row, number));
             }
-            bits::remove(&mut self.filled, row);
+            bits::remove(&mut self.filled, place);
         }
         None
     }

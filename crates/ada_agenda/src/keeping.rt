@@ -9,7 +9,7 @@ ghost use Rattle.ada_events.specs.Tasks.{task_count};
 ghost use Rattle.ada_rows.specs.Newly.{IsCallOf};
 ghost use Rattle.ada_records.specs.Records.{IsHeldAt};
 ghost use Rattle.ada_rows.specs.Touching.{is_uncallable};
-ghost use Rattle.ada_agenda.specs.Keeping.{has_key, IsAgendaOf, Grows};
+ghost use Rattle.ada_agenda.specs.Keeping.{IsAgendaOf, Puts, AsKey, When};
 ghost use Rattle.ada_agenda.specs.Kinds.{is_immediate_call};
 
 use crate::Agenda;
@@ -17,26 +17,22 @@ use ada_events::{Event, Journal, TaskNo};
 use ada_rows::Row;
 
 /// Puts a key, below 69,632, into a row.
-#[tactic(auto, using(crate::proofs::Noting::rank_below, crate::proofs::Noting::put_grows))]
+#[tactic(auto, using(crate::proofs::Noting::key_put))]
 pub fn put(agenda: &mut Agenda, row: Row, key: usize)
-    requires many { length agenda.old ≡ 11 }
-    requires key { key < 69632 }
-    ensures grows { Grows agenda.old agenda.new }
-    ensures here { has_key agenda.new row key ≡ true }
+    requires { key < 69632 }
+    ensures { Puts agenda.old agenda.new (AsKey row key) }
 {
-    agenda.insert(row.rank(), key);
+    agenda.insert(row, key);
 }
 
-/// Puts a position, below 69,632, into a row, unless it is 0, which is none.
-#[tactic(auto, using(crate::proofs::Noting::grows_same))]
-pub fn put_at(agenda: &mut Agenda, row: Row, at: u32)
-    requires many { length agenda.old ≡ 11 }
-    requires fits { 0 < at → at < 69632 }
-    ensures grows { Grows agenda.old agenda.new }
-    ensures here { 0 < at → has_key agenda.new row at ≡ true }
+/// Puts a key, below 69,632, into a row, if that is so.
+#[tactic(auto, using(crate::proofs::Noting::so_put, crate::proofs::Noting::not_put))]
+pub fn put_if(agenda: &mut Agenda, row: Row, key: usize, so: bool)
+    requires { key < 69632 }
+    ensures { Puts agenda.old agenda.new (When so (AsKey row key)) }
 {
-    if at != 0 {
-        put(agenda, row, at as usize);
+    if so {
+        put(agenda, row, key);
     }
 }
 
@@ -83,19 +79,6 @@ pub fn put_creation_keys(agenda: &mut Agenda, _journal: &Journal, _event: &Event
     put(agenda, Row::Terminating, tasks);
 }
 
-// Puts a key, below 69,632, into a row, where that is so.
-#[tactic(auto, using(crate::proofs::Noting::grows_same))]
-fn put_if(agenda: &mut Agenda, row: Row, key: usize, so: bool)
-    requires many { length agenda.old ≡ 11 }
-    requires key { key < 69632 }
-    ensures grows { Grows agenda.old agenda.new }
-    ensures here { so ≡ true → has_key agenda.new row key ≡ true }
-{
-    if so {
-        put(agenda, row, key);
-    }
-}
-
 /// Notes that an entry of a task is called (9.5), which is suspended at that position, or at none where it is 0: that
 /// the call fails, where the task has ended or is abnormal, that it is cancelled, where it is given up, and that the
 /// wait at which the task is suspended takes it, may be forced.
@@ -120,5 +103,5 @@ pub fn put_call_keys(
     let own = own_key(journal, event);
     put_if(agenda, Row::Failing, own, lost);
     put_if(agenda, Row::Cancelling, own, immediate);
-    put_at(agenda, Row::Meeting, at);
+    put_if(agenda, Row::Meeting, at as usize, at != 0);
 }

@@ -57,8 +57,5 @@ none_at_first QuittingBlock key = refl
 none_at_first Leaving key = refl
 
 -- so any rows are its agenda
-pub empty_agenda : (rows : List (List ℕ)) → length rows ≡ 11 → IsAgendaOf rows []
-empty_agenda rows many = record {
-  many = many;
-  covers = record { kept = λ row key step gives. absurd (none-some step (sym (none_at_first row key) ∙ gives)) };
-}
+pub empty_agenda : (rows : List (List ℕ)) → IsAgendaOf rows []
+empty_agenda rows = record { covers = record { kept = λ row key step gives. absurd (none-some step (sym (none_at_first row key) ∙ gives)) } }

@@ -1,9 +1,9 @@
 -- Keys whose step was taken: their rows give nothing there any more.
-use Rattle.std.proofs.Common.{◌≡◌, ◌≢◌, ◌⊎◌, ℕ, ◌<◌, Bool, false, Option, Some, None, List, ◌∷◌, length, refl, sym, arith}
+use Rattle.std.proofs.Common.{◌≡◌, ◌≢◌, ◌⊎◌, ℕ, ◌<◌, Bool, false, Option, Some, None, List, ◌∷◌, refl, arith}
 use Rattle.std.specs.Bool.{then_some}
 use Rattle.std.specs.Option.{option_and_then}
 use Rattle.std.proofs.lemmas.Bool.{eq-eqb}
-use Rattle.ada_agenda.specs.Rows.{keeps}
+use Rattle.ada_agenda.specs.Keeping.{has_key}
 use Rattle.ada_events.specs.declared.event.Event.{Event}
 use Rattle.ada_events.specs.declared.event.Event.TheVariants.{Halted, Failed, Gone, Met}
 use Rattle.ada_events.specs.declared.names.TaskNo.{TaskNo}
@@ -15,7 +15,7 @@ use Rattle.ada_events.specs.Says.{Call, Wait, call_in, wait_in, completed_in, go
 use Rattle.ada_events.specs.Search.{is_some_and, event_at}
 use Rattle.ada_rows.specs.declared.row.Row.{Row}
 use Rattle.ada_rows.specs.declared.row.Row.TheVariants.{Halting, Failing, Meeting, Terminating}
-use Rattle.ada_rows.specs.Rows.{at_event, rank, step_at}
+use Rattle.ada_rows.specs.Rows.{at_event, step_at}
 use Rattle.ada_laws.proofs.LimitLaws.{events_are_few}
 use Rattle.ada_laws.proofs.Searching.{event_at-within}
 use Rattle.ada_records.proofs.Nesting.{and_false}
@@ -99,13 +99,13 @@ module _ (before : List Event) (call wait : ℕ) where
       omega (arith, event_at-within before wait held.event held.stands, events_are_few before lawful.0)
 
 -- an index stands without a key that gives nothing
-pub stands_without_key : (index : Index) (rows : List (List ℕ)) (journal : List Event) (row : Row) (place key : ℕ) → IsIndexOf index journal
-    → place ≡ rank row → step_at journal row key ≡ None → length rows ≡ length index.agenda
-    → ((r k : ℕ) → (r ≢ place) ⊎ (k ≢ key) → keeps rows r k ≡ keeps index.agenda r k) → IsIndexOf (record index { agenda = rows }) journal
-stands_without_key index rows journal row place key stands ranked none many others = record {
+pub stands_without_key : (index : Index) (rows : List (List ℕ)) (journal : List Event) (row : Row) (key : ℕ) → IsIndexOf index journal
+    → step_at journal row key ≡ None → ((other : Row) (k : ℕ) → (other ≢ row) ⊎ (k ≢ key) → has_key rows other k ≡ has_key index.agenda other k)
+    → IsIndexOf (record index { agenda = rows }) journal
+stands_without_key index rows journal row key stands none others = record {
   kept = stands.kept;
   slots = stands.slots;
-  agenda = key_dropped index.agenda rows journal place key row stands.agenda (sym ranked) none many others;
+  agenda = key_dropped index.agenda rows journal row key stands.agenda none others;
   due = stands.due;
   unstarted = stands.unstarted;
 }

@@ -50,11 +50,11 @@ impl Engine for Index {
     // Inlined, so that no call is made where nothing is forced.
     #[inline(always)]
     fn advance(&mut self, journal: &mut Journal) -> bool {
-        while let Some((rank, key)) = self.agenda.first() {
-            if self.take_first(journal, rank, key) {
+        while let Some((row, key)) = self.agenda.first() {
+            if self.take_first(journal, row, key) {
                 return true;
             }
-            self.agenda.remove(rank, key);
+            self.agenda.remove(row, key);
         }
         false
     }

@@ -12,9 +12,6 @@ use ada_triggers::{FirstUnstarted, NextDue};
 use ada_view::View;
 use std::alloc::Global;
 
-/// How many rows the forced steps have.
-const ROWS: usize = 11;
-
 /// What a journal's view is told by: a record of each task, the tables, the positions of the creations of all tasks,
 /// and the moment in milliseconds.
 #[derive(Drop)]
@@ -66,7 +63,7 @@ impl Index {
         made.reserve(1)?;
         made.push_reserved(0);
         let tables = Tables::new(alloc)?;
-        let agenda = Agenda::new(alloc, ROWS)?;
+        let agenda = Agenda::new(alloc)?;
         let next_due = NextDue::new();
         let unstarted = FirstUnstarted::new();
         let kept = Kept {

@@ -3,7 +3,7 @@
 ghost use Rattle.std.specs.Prelude.{◌≡◌, ◌<◌, None};
 ghost use Rattle.ada_rows.specs.Rows.{step_at};
 ghost use Rattle.ada_kernel.specs.internal.Indexes.{IsIndexOf};
-ghost use Rattle.ada_kernel.specs.internal.Stepping.{MayTake, Takes, MayTakeAtRank, TakesAtRank};
+ghost use Rattle.ada_kernel.specs.internal.Stepping.{MayTake, Takes};
 
 use crate::index::Index;
 use ada_events::Journal;
@@ -18,7 +18,7 @@ impl Index {
         requires spent { step_at _journal.now.events row key ≡ None }
         ensures { IsIndexOf self.new _journal.now.events }
     {
-        self.agenda.remove(row.rank(), key as usize);
+        self.agenda.remove(row, key as usize);
     }
 
     // Takes the step that a row gives at a key, if it gives one, and says so.
@@ -42,20 +42,17 @@ impl Index {
         }
     }
 
-    /// Takes the step that the row of that rank gives at a key, if it gives one, and says so. The key is the agenda's
-    /// first.
+    /// Takes the step that a row gives at a key, if it gives one, and says so. The key is the agenda's first.
     // Inlined, so that the beginning of a rendezvous, which is mostly what is forced, is one call away.
     #[inline(always)]
-    pub(crate) fn take_first(&mut self, journal: &mut Journal, rank: usize, key: usize) -> bool
-        requires rank { rank < 11 }
+    pub(crate) fn take_first(&mut self, journal: &mut Journal, row: Row, key: usize) -> bool
         requires key { key < 69632 }
-        requires first { MayTakeAtRank self.old journal.old rank key }
-        ensures { TakesAtRank self.old journal.old rank key result self.new journal.new }
+        requires first { MayTake self.old journal.old row key }
+        ensures { Takes self.old journal.old row key result self.new journal.new }
     {
-        match Row::at_rank(rank) {
-            Some(Row::Meeting) => self.meet(journal, key as u32),
-            Some(row) => self.take(journal, row, key as u32),
-            None => false,
+        match row {
+            Row::Meeting => self.meet(journal, key as u32),
+            _ => self.take(journal, row, key as u32),
         }
     }
 }

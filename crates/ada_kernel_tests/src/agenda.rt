@@ -1,6 +1,7 @@
 //! What comes first in an agenda.
 
 use ada_agenda::{Agenda, Numbers};
+use ada_rows::Row;
 use std::test::Fail;
 
 // The first and last numbers of words on each level, and of the whole set.
@@ -26,17 +27,17 @@ fn the_least_number_comes_first(rt: HostRuntime) -> Result<(), Fail> {
 
 #[test]
 fn the_first_row_comes_first(rt: HostRuntime) -> Result<(), Fail> {
-    let mut agenda = Agenda::new(rt.alloc(), 11)?;
+    let mut agenda = Agenda::new(rt.alloc())?;
     assert_eq!(rt; agenda.first(), None);
-    agenda.insert(10, 0);
-    agenda.insert(3, 69_631);
-    agenda.insert(3, 4_096);
-    assert_eq!(rt; agenda.first(), Some((3, 4_096)));
-    agenda.remove(3, 4_096);
-    assert_eq!(rt; agenda.first(), Some((3, 69_631)));
-    agenda.remove(3, 69_631);
-    assert_eq!(rt; agenda.first(), Some((10, 0)));
-    agenda.remove(10, 0);
+    agenda.insert(Row::Leaving, 0);
+    agenda.insert(Row::Cancelling, 69_631);
+    agenda.insert(Row::Cancelling, 4_096);
+    assert_eq!(rt; agenda.first(), Some((Row::Cancelling, 4_096)));
+    agenda.remove(Row::Cancelling, 4_096);
+    assert_eq!(rt; agenda.first(), Some((Row::Cancelling, 69_631)));
+    agenda.remove(Row::Cancelling, 69_631);
+    assert_eq!(rt; agenda.first(), Some((Row::Leaving, 0)));
+    agenda.remove(Row::Leaving, 0);
     assert_eq!(rt; agenda.first(), None);
     Ok(())
 }

@@ -1,3 +1,4 @@
 pub mod Keys
+pub mod Ranks
 pub mod TakingNewly
 pub mod TouchedKeys

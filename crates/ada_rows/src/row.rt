@@ -1,6 +1,6 @@
 //! The rows of the forced steps.
 
-ghost use Rattle.std.specs.Prelude.{◌≡◌, ◌≤◌, IfSome, IfNone};
+ghost use Rattle.std.specs.Prelude.{◌≡◌, ◌<◌, ◌≤◌, IfSome, IfNone};
 ghost use Rattle.ada_rows.specs.Rows as rows;
 
 /// What a journal forces, in the order in which it is forced: of the rows that give a step the first one
@@ -34,7 +34,8 @@ pub enum Row {
 impl Row {
     /// The place of the row among the rows, 0 to 10.
     pub fn rank(self) -> usize
-        ensures { result ≡ rows.rank self }
+        ensures rank { result ≡ rows.rank self }
+        ensures below { result < 11 }
     {
         match self {
             Row::Halting => 0,

@@ -15,40 +15,26 @@ use Rattle.ada_rows.specs.Rows.{step_at}
 use Rattle.ada_rows.specs.declared.row.Row.{Row}
 use Rattle.ada_rows.specs.declared.row.Row.TheVariants.{Failing, QuittingBlock, Leaving}
 use Rattle.ada_agenda.specs.Additions.{adds_nothing}
-use Rattle.ada_agenda.specs.Keeping.{has_key, IsAgendaOf}
+use Rattle.ada_agenda.specs.Keeping.{has_key, IsAgendaOf, Puts, Both, AsKey}
 use Rattle.ada_agenda.specs.Kinds.{itself as own, IsOpenCallTo, IsHit, OfClose, OfAbort, Adds}
 use Rattle.ada_agenda.specs.Kinds.OfClose.{leaves as close_leaves, quits as close_quits, abandons as close_abandons}
 use Rattle.ada_agenda.specs.Kinds.OfAbort.{halts as abort_halts, fails as abort_fails}
 use Rattle.ada_agenda.proofs.Acting.{created_exists}
 use Rattle.ada_agenda.proofs.Adding.{agendas_stay}
-use Rattle.ada_agenda.proofs.Noting.{grown, grown_giving, own_is}
+use Rattle.ada_agenda.proofs.Noting.{noted, noted_giving, own_is}
 use Rattle.ada_agenda.proofs.Places.{closing_open}
-use Rattle.ada_triggers.specs.internal.Keys.{Puts, Both, OfFirst, AsKey, AsHaltable, AsHeld, AsUnstarted}
-use Rattle.ada_triggers.specs.internal.Keys.When.{holds_so}
-use Rattle.ada_triggers.specs.internal.Keys.AsKey.{itself}
+use Rattle.ada_triggers.specs.internal.Keys.{OfFirst, AsHaltable, AsHeld, AsUnstarted}
+use Rattle.ada_agenda.specs.Keeping.When.{holds_so}
+use Rattle.ada_agenda.specs.Keeping.AsKey.{itself}
 use Rattle.ada_triggers.specs.internal.Keys.AsHeld.{held}
 use Rattle.ada_triggers.specs.internal.Keys.AsUnstarted.{goes}
 use Rattle.ada_triggers.proofs.Halting.{haltable}
 use Rattle.ada_triggers.proofs.Holding.{block_fits}
 
--- an agenda into which all was put that the event adds
-pub noted : (event : Event) (before : List Event) (old new : List (List ℕ)) (Key : Row → ℕ → Type 0) → IsLawful (event ∷ before) → IsAgendaOf old before
-    → Puts old new Key → ((row : Row) (key : ℕ) → Adds before event row key → Key row key) → IsAgendaOf new (event ∷ before)
-noted event before old new Key lawful agenda puts all =
-    grown event before old new lawful agenda puts.grows (λ row key added. puts.here row key (all row key added))
-
--- the same, where those of its keys are there at which a step is given
-pub noted_giving : (event : Event) (before : List Event) (old new : List (List ℕ)) (Key : Row → ℕ → Type 0) → IsLawful (event ∷ before)
-    → IsAgendaOf old before → Puts old new Key
-    → ((row : Row) (key : ℕ) (step : Event) → Adds before event row key → step_at (event ∷ before) row key ≡ Some step → Key row key)
-    → IsAgendaOf new (event ∷ before)
-noted_giving event before old new Key lawful agenda puts all =
-    grown_giving event before old new lawful agenda puts.grows (λ row key step added gives. puts.here row key (all row key step added gives))
-
 pub nothing_noted : (event : Event) (before : List Event) (old : List (List ℕ)) → IsLawful (event ∷ before) → IsAgendaOf old before
     → adds_nothing event ≡ true → IsAgendaOf old (event ∷ before)
 nothing_noted event before old lawful agenda nothing =
-    record { many = agenda.many; covers = agendas_stay event before (has_key old) lawful agenda.covers nothing }
+    record { covers = agendas_stay event before (has_key old) lawful agenda.covers nothing }
 
 -- a close
 closing_here : (event : Event) (by : TaskNo) (block : ℕ) → event ≡ Closed by block → closing_in event ≡ Some (record { by = by.0; block = block })

@@ -19,7 +19,7 @@ use Rattle.ada_records.specs.Records.{IsHeldAt}
 use Rattle.ada_agenda.specs.Keeping.{IsAgendaOf}
 use Rattle.ada_agenda.specs.Kinds.{due_in, OfTick, Adds}
 use Rattle.ada_agenda.specs.Kinds.OfTick.{comes_due}
-use Rattle.ada_agenda.proofs.Noting.{grown, grows_same, held_there}
+use Rattle.ada_agenda.proofs.Noting.{noted, grows_same, held_there}
 use Rattle.ada_triggers.specs.Bounds.{IsSuspendedUntil, IsDueBound}
 use Rattle.ada_triggers.specs.internal.Bounds.{IsBoundOfFirst, IsDueAfter}
 
@@ -122,8 +122,12 @@ nothing_due before now bound row key is early (comes_due r p due) =
 pub early_tick_noted : (event : Event) (before : List Event) (old : List (List ℕ)) (now : ℤ) (bound : Option ℤ) → IsLawful (event ∷ before)
     → IsAgendaOf old before → IsDueBound before bound → event ≡ Ticked now → is_due now bound ≡ false → IsAgendaOf old (event ∷ before)
 early_tick_noted event before old now bound lawful agenda is ticks early =
-    grown event before old old lawful agenda (grows_same old) (λ row key added.
-    absurd (nothing_due before now bound row key is early (subst (λ (e : Event). Adds before e row key) ticks added)))
+    noted event before old old (Adds before event) lawful agenda
+    (record {
+      grows = grows_same old;
+      here = λ row key added. absurd (nothing_due before now bound row key is early (subst (λ (e : Event). Adds before e row key) ticks added));
+    })
+    (λ row key added. added)
 
 -- the moment that one of the first so many tasks waits for
 pub first_none : (journal : List Event) (now : ℤ) (bound : Option ℤ) → IsBoundOfFirst journal now 0 bound

@@ -19,18 +19,17 @@ use Rattle.ada_laws.proofs.Growing.{is_terminated-more, has_ended-terminated}
 use Rattle.ada_rows.specs.Rows.{step_at}
 use Rattle.ada_rows.specs.declared.row.Row.{Row}
 use Rattle.ada_records.specs.Records.{IsHeldAt}
-use Rattle.ada_agenda.specs.Keeping.{has_key, IsAgendaOf}
+use Rattle.ada_agenda.specs.Keeping.{has_key, IsAgendaOf, Puts, Both}
 use Rattle.ada_agenda.specs.Kinds.{quitting_row, quitting_key, OfCompletion, OfHalt, OfCancellation, Adds}
 use Rattle.ada_agenda.specs.Kinds.OfCompletion.{quits as task_quits}
 use Rattle.ada_agenda.specs.Kinds.OfHalt.{completes, quits_block, empties}
 use Rattle.ada_agenda.specs.Kinds.OfCancellation.{quits as quits_with}
-use Rattle.ada_agenda.proofs.Noting.{grows_same, held_there}
+use Rattle.ada_agenda.proofs.Noting.{grows_same, held_there, noted_giving}
 use Rattle.ada_records.proofs.Owners.{has_contained}
-use Rattle.ada_triggers.specs.internal.Keys.{Puts, Both, AsCompletion, AsHolder, AsDependent, AsCalleeAt, may_quit}
+use Rattle.ada_triggers.specs.internal.Keys.{AsCompletion, AsHolder, AsDependent, AsCalleeAt, may_quit}
 use Rattle.ada_triggers.specs.internal.Keys.AsHolder.{quits}
 use Rattle.ada_triggers.specs.internal.Keys.AsDependent.{through}
 use Rattle.ada_triggers.specs.internal.Keys.AsCalleeAt.{called}
-use Rattle.ada_triggers.proofs.Additions.{noted_giving}
 use Rattle.ada_triggers.proofs.Giving.{quitter, quitter_of}
 use Rattle.ada_triggers.proofs.Ends.{dependent_held, completion_key}
 

@@ -11,15 +11,14 @@ use Rattle.ada_events.specs.Lawful.{IsLawful}
 use Rattle.ada_laws.specs.Calls.{IsCallAt}
 use Rattle.ada_rows.specs.declared.row.Row.{Row}
 use Rattle.ada_rows.specs.declared.row.Row.TheVariants.{Halting}
-use Rattle.ada_agenda.specs.Keeping.{has_key, IsAgendaOf}
+use Rattle.ada_agenda.specs.Keeping.{has_key, IsAgendaOf, Puts, When, AsKey}
 use Rattle.ada_agenda.specs.Kinds.{OfEnd, Adds}
 use Rattle.ada_agenda.specs.Kinds.OfEnd.{halts}
-use Rattle.ada_agenda.proofs.Noting.{grows_same}
-use Rattle.ada_triggers.specs.internal.Keys.{Puts, When, AsKey, AsCallerAt}
-use Rattle.ada_triggers.specs.internal.Keys.AsKey.{itself}
-use Rattle.ada_triggers.specs.internal.Keys.When.{holds_so}
+use Rattle.ada_agenda.proofs.Noting.{grows_same, noted}
+use Rattle.ada_triggers.specs.internal.Keys.{AsCallerAt}
+use Rattle.ada_agenda.specs.Keeping.AsKey.{itself}
+use Rattle.ada_agenda.specs.Keeping.When.{holds_so}
 use Rattle.ada_triggers.specs.internal.Keys.AsCallerAt.{made}
-use Rattle.ada_triggers.proofs.Additions.{noted}
 
 caller_said : (before : List Event) (at : ℕ) (c : Call) → IsCallAt before c at → option_map (λ (c : Call). c.by) (call_at before at) ≡ Some c.by
 caller_said before at c stands = ap (option_map (λ (c : Call). c.by)) (ap (option_and_then call_in) stands.stands ∙ stands.says)

@@ -1,5 +1,5 @@
 -- What is due by a tick.
-use Rattle.std.proofs.Common.{◌≡◌, ℕ, zero, suc, ℤ, ◌<◌, ◌≤◌, true, List, Some, None, ◌∷◌, length, sym, ap, ◌∙◌, subst, arith}
+use Rattle.std.proofs.Common.{◌≡◌, ℕ, ℤ, ◌<◌, ◌≤◌, Bool, true, List, Some, None, ◌∷◌, length, sym, ap, ◌∙◌, subst, arith}
 use Rattle.std.specs.Prelude.{int_le}
 use Rattle.std.proofs.lemmas.Option.{none-some, same_Some}
 use Rattle.ada_events.specs.declared.event.Event.{Event}
@@ -15,37 +15,36 @@ use Rattle.ada_laws.proofs.Searching.{event_at-within}
 use Rattle.ada_laws.proofs.Suspending.{suspended_exists}
 use Rattle.ada_rows.specs.declared.row.Row.{Row}
 use Rattle.ada_records.specs.Records.{IsHeldAt}
-use Rattle.ada_records.proofs.Existing.{positive}
-use Rattle.ada_agenda.specs.Keeping.{has_key, IsAgendaOf, Grows}
+use Rattle.ada_agenda.specs.Keeping.{has_key, IsAgendaOf, Puts, AsKey, When}
+use Rattle.ada_agenda.specs.Keeping.AsKey.{itself}
+use Rattle.ada_agenda.specs.Keeping.When.{holds_so}
 use Rattle.ada_agenda.specs.Kinds.{due_in, due_row, OfTick, Adds}
 use Rattle.ada_agenda.specs.Kinds.OfTick.{comes_due}
-use Rattle.ada_agenda.proofs.Noting.{grows_same, held_there}
-use Rattle.ada_triggers.specs.internal.Keys.{Puts, OfFirst, AsDue, AsDueAt, is_due_by}
+use Rattle.ada_agenda.proofs.Noting.{grows_same, held_there, noted}
+use Rattle.ada_triggers.specs.internal.Keys.{OfFirst, AsDue, AsDueAt, is_due_by}
 use Rattle.ada_triggers.specs.internal.Keys.AsDue.{comes}
 use Rattle.ada_triggers.specs.internal.Keys.AsDueAt.{comes_at}
-use Rattle.ada_triggers.proofs.Additions.{noted}
+use Rattle.ada_triggers.proofs.Putting.{covered_put}
 
--- an event stands at a position that isn't 0
-some_position : (journal : List Event) (at : ℕ) (e : Event) → event_at journal at ≡ Some e → 0 < at
-some_position journal zero e stands = absurd (positive journal e stands)
-some_position journal (suc at) e stands = omega arith
-
+-- an event stands at a position that is a key
 pub position_fits : (journal : List Event) (at : ℕ) (e : Event) → IsLawful journal → event_at journal at ≡ Some e → at < 69632
 position_fits journal at e lawful stands =
     let within : at ≤ length journal = event_at-within journal at e stands in
     let few : length journal ≤ MOST_EVENTS = events_are_few journal lawful in
     omega (arith, within, few)
 
-due_key : (journal : List Event) (new : List (List ℕ)) (tick : Event) (at : ℕ) (e : Event) (row : Row) (key : ℕ) → event_at journal at ≡ Some e
-    → (is_due_by tick e ≡ true → 0 < at → has_key new (due_row e) at ≡ true) → AsDueAt journal tick at row key → has_key new row key ≡ true
-due_key journal new tick at e row key stands here (comes_at f there due) =
+due_key : (journal : List Event) (tick : Event) (at : ℕ) (e : Event) (in_row : Row) (so : Bool) (row : Row) (key : ℕ) → event_at journal at ≡ Some e
+    → in_row ≡ due_row e → so ≡ is_due_by tick e → AsDueAt journal tick at row key → When so (AsKey in_row at) row key
+due_key journal tick at e in_row so row key stands rows so_is (comes_at f there due) =
     let same : e ≡ f = same_Some e f (sym stands ∙ there) in
-    ap (λ (d : Event). has_key new (due_row d) at) (sym same) ∙ here (ap (is_due_by tick) same ∙ due) (some_position journal at e stands)
+    let one : in_row ≡ due_row f = rows ∙ ap due_row same in
+    holds_so (so_is ∙ ap (is_due_by tick) same ∙ due) (rw one itself)
 
-pub due_put : (journal : List Event) (old new : List (List ℕ)) (tick : Event) (at : ℕ) (e : Event) → event_at journal at ≡ Some e → Grows old new
-    → (is_due_by tick e ≡ true → 0 < at → has_key new (due_row e) at ≡ true) → Puts old new (AsDueAt journal tick at)
-due_put journal old new tick at e stands grows here =
-    record { grows = grows; here = λ row key of. due_key journal new tick at e row key stands here of }
+pub due_put : (journal : List Event) (old new : List (List ℕ)) (tick : Event) (at : ℕ) (e : Event) (in_row : Row) (so : Bool) → event_at journal at ≡ Some e
+    → in_row ≡ due_row e → so ≡ is_due_by tick e → Puts old new (When so (AsKey in_row at)) → Puts old new (AsDueAt journal tick at)
+due_put journal old new tick at e in_row so stands rows so_is puts =
+    covered_put old new (AsDueAt journal tick at) (When so (AsKey in_row at)) puts (λ row key of.
+    due_key journal tick at e in_row so row key stands rows so_is of)
 
 no_due_key : (journal : List Event) (new : List (List ℕ)) (tick : Event) (at : ℕ) (row : Row) (key : ℕ) → event_at journal at ≡ None
     → AsDueAt journal tick at row key → has_key new row key ≡ true

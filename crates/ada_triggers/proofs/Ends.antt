@@ -28,7 +28,7 @@ use Rattle.ada_rows.specs.Touching.{is_uncallable}
 use Rattle.ada_rows.specs.Rows.{step_at}
 use Rattle.ada_rows.specs.declared.row.Row.{Row}
 use Rattle.ada_rows.specs.declared.row.Row.TheVariants.{Failing, Activating, Terminating, QuittingBody, Leaving}
-use Rattle.ada_agenda.specs.Keeping.{has_key, IsAgendaOf}
+use Rattle.ada_agenda.specs.Keeping.{has_key, IsAgendaOf, Puts, Both}
 use Rattle.ada_agenda.specs.Kinds.{quitting_row, quitting_key, IsOpenCallTo, OfElaboration, OfCompletion, OfTermination, Adds}
 use Rattle.ada_agenda.specs.Kinds.OfElaboration.{activates as task_up}
 use Rattle.ada_agenda.specs.Kinds.OfCompletion.{goes as task_goes, quits as body_quits, fails as call_fails, activates as start_ends}
@@ -36,22 +36,21 @@ use Rattle.ada_agenda.specs.Kinds.OfCompletion.{abandons as task_abandons}
 use Rattle.ada_agenda.specs.Kinds.OfTermination.{fails as end_fails, activates as end_activates, goes as end_goes, quits as end_quits, leaves as end_leaves}
 use Rattle.ada_agenda.proofs.Acting.{created_exists}
 use Rattle.ada_agenda.proofs.Depending.{quits_live}
-use Rattle.ada_agenda.proofs.Noting.{grows_same}
+use Rattle.ada_agenda.proofs.Noting.{grows_same, noted, noted_giving}
 use Rattle.ada_agenda.proofs.Refining.{task_step}
 use Rattle.ada_records.specs.Holders.{IsHeld}
 use Rattle.ada_records.proofs.LiveHolders.{of_master}
 use Rattle.ada_records.proofs.Owners.{has_contained}
 use Rattle.ada_view.proofs.Orphans.{gone_stays}
-use Rattle.ada_triggers.specs.internal.Keys.{Puts, Both, OfFirst, AsHeld, AsCaller, AsUncallable, AsDependent, AsActivation, AsCompletion}
-use Rattle.ada_triggers.specs.internal.Keys.AsKey.{itself}
+use Rattle.ada_triggers.specs.internal.Keys.{OfFirst, AsHeld, AsCaller, AsUncallable, AsDependent, AsActivation, AsCompletion}
+use Rattle.ada_agenda.specs.Keeping.AsKey.{itself}
 use Rattle.ada_triggers.specs.internal.Keys.AsHeld.{held}
 use Rattle.ada_triggers.specs.internal.Keys.AsUnstarted.{goes}
 use Rattle.ada_triggers.specs.internal.Keys.AsCaller.{fails}
-use Rattle.ada_triggers.specs.internal.Keys.When.{holds_so}
+use Rattle.ada_agenda.specs.Keeping.When.{holds_so}
 use Rattle.ada_triggers.specs.internal.Keys.AsHolder.{quits, goes as holder_goes, leaves}
 use Rattle.ada_triggers.specs.internal.Keys.AsDependent.{through}
 use Rattle.ada_triggers.specs.internal.Keys.AsActivation.{activates}
-use Rattle.ada_triggers.proofs.Additions.{noted, noted_giving}
 use Rattle.ada_triggers.proofs.Giving.{goer, quitter}
 
 -- a master on which a live task depends is held

@@ -18,7 +18,7 @@ use Rattle.ada_laws.proofs.Framing.{IsBlockOf}
 use Rattle.ada_rows.specs.declared.row.Row.{Row}
 use Rattle.ada_rows.specs.declared.row.Row.TheVariants.{Terminating, QuittingBody, QuittingBlock, Leaving}
 use Rattle.ada_tables.specs.Dependents.{has_block, holds}
-use Rattle.ada_agenda.specs.Keeping.{has_key}
+use Rattle.ada_agenda.specs.Keeping.{has_key, Puts, Both, When, AsKey}
 use Rattle.ada_agenda.specs.Kinds.{quitting_row, quitting_key}
 use Rattle.ada_agenda.proofs.Noting.{grows_same}
 use Rattle.ada_records.proofs.Owners.{block_in_nest, contains_block, has_contained}
@@ -26,9 +26,9 @@ use Rattle.ada_tables.specs.declared.layers.Layer.{Layer}
 use Rattle.ada_tables.specs.Layers.{member_of, members}
 use Rattle.std.proofs.lemmas.List.{length-map}
 use Rattle.ada_triggers.proofs.Putting.{puts_more, puts_all}
-use Rattle.ada_triggers.specs.internal.Keys.{Puts, Both, When, OfFirst, AsKey, AsHeld, AsMember, AsBlock, AsHolder, may_go, may_quit}
-use Rattle.ada_triggers.specs.internal.Keys.AsKey.{itself}
-use Rattle.ada_triggers.specs.internal.Keys.When.{holds_so}
+use Rattle.ada_triggers.specs.internal.Keys.{OfFirst, AsHeld, AsMember, AsBlock, AsHolder, may_go, may_quit}
+use Rattle.ada_agenda.specs.Keeping.AsKey.{itself}
+use Rattle.ada_agenda.specs.Keeping.When.{holds_so}
 use Rattle.ada_triggers.specs.internal.Keys.AsHeld.{held}
 use Rattle.ada_triggers.specs.internal.Keys.AsMember.{block}
 use Rattle.ada_triggers.specs.internal.Keys.AsHolder.{quits, goes, leaves}

@@ -20,12 +20,12 @@ use Rattle.ada_laws.proofs.Depending.{depends_exists}
 use Rattle.ada_laws.proofs.Parents.{tasks_depend_by_parents}
 use Rattle.ada_rows.specs.declared.row.Row.{Row}
 use Rattle.ada_tables.specs.Dependents.{holds, encloses}
-use Rattle.ada_agenda.specs.Keeping.{has_key, Grows}
+use Rattle.ada_agenda.specs.Keeping.{has_key, Grows, Puts}
 use Rattle.ada_agenda.proofs.Noting.{grows_same, grows_on}
 use Rattle.ada_records.proofs.LiveHolders.{within, masters_are_held}
 use Rattle.ada_records.proofs.Enclosing.{reaches_held}
 use Rattle.ada_records.proofs.Owners.{block_in_nest, one_holder}
-use Rattle.ada_triggers.specs.internal.Keys.{Puts, AsHolder, AsDependent, holder_of, holder_above}
+use Rattle.ada_triggers.specs.internal.Keys.{AsHolder, AsDependent, holder_of, holder_above}
 use Rattle.ada_triggers.specs.internal.Keys.AsDependent.{through}
 
 pub holds_enclosed : (task : ℕ) (members : List Member) (from to : Master) → encloses task members from to ≡ true → holds task members to ≡ true

@@ -27,13 +27,13 @@ use Rattle.ada_rows.specs.Rows.{step_at}
 use Rattle.ada_rows.specs.declared.row.Row.{Row}
 use Rattle.ada_rows.specs.declared.row.Row.TheVariants.{Terminating, QuittingBody, QuittingBlock, Leaving}
 use Rattle.ada_tables.specs.Dependents.{holds, encloses}
-use Rattle.ada_agenda.specs.Keeping.{has_key, IsAgendaOf}
+use Rattle.ada_agenda.specs.Keeping.{has_key, IsAgendaOf, Puts, Both}
 use Rattle.ada_agenda.specs.Kinds.{quitting_row, quitting_key, IsLeaving, OfTermination, OfQuit, Adds}
 use Rattle.ada_agenda.specs.Kinds.OfTermination.{fails as end_fails, activates as end_activates, goes as end_goes, quits as end_quits, leaves as end_leaves}
 use Rattle.ada_agenda.specs.Kinds.OfQuit.{ends, abandons}
 use Rattle.ada_agenda.proofs.Acting.{created_exists}
 use Rattle.ada_agenda.proofs.Depending.{quits_live}
-use Rattle.ada_agenda.proofs.Noting.{grows_same, grown_giving}
+use Rattle.ada_agenda.proofs.Noting.{grows_same, noted_giving}
 use Rattle.ada_agenda.proofs.Quitting.{IsQuitter, live_depends}
 use Rattle.ada_agenda.proofs.Refining.{task_step, position_step, quits_body, quits_block}
 use Rattle.ada_agenda.proofs.Releases.{same_event}
@@ -41,7 +41,7 @@ use Rattle.ada_agenda.proofs.Waiting.{at_wait}
 use Rattle.ada_records.specs.Holders.{IsHeld}
 use Rattle.ada_records.proofs.Enclosing.{reaches_held}
 use Rattle.ada_records.proofs.Owners.{has_contained, one_holder}
-use Rattle.ada_triggers.specs.internal.Keys.{Puts, Both, OfFirst, AsUnstarted, AsHolder, AsDependent, AsMaster, holder_of}
+use Rattle.ada_triggers.specs.internal.Keys.{OfFirst, AsUnstarted, AsHolder, AsDependent, AsMaster, holder_of}
 use Rattle.ada_triggers.specs.internal.Keys.AsUnstarted.{goes}
 use Rattle.ada_triggers.specs.internal.Keys.AsHolder.{quits, goes as holder_goes, leaves}
 use Rattle.ada_triggers.specs.internal.Keys.AsDependent.{through}
@@ -260,7 +260,8 @@ has_quit_key m step before old new row key lawful agenda puts gives added =
 pub quit_noted : (event : Event) (before : List Event) (old new : List (List ℕ)) (m : Master) → IsLawful (event ∷ before) → IsAgendaOf old before
     → event ≡ Quit m → Puts old new (QuitKeys before m) → IsAgendaOf new (event ∷ before)
 quit_noted event before old new m lawful agenda is puts =
-    grown_giving event before old new lawful agenda puts.grows (λ row key step added gives.
+    noted_giving event before old new (λ row key. has_key new row key ≡ true) lawful agenda
+    (record { grows = puts.grows; here = λ row key has. has }) (λ row key step added gives.
     has_quit_key m step before old new row key (subst (λ (e : Event). IsLawful (e ∷ before)) is lawful) agenda puts
     (subst (λ (e : Event). step_at (e ∷ before) row key ≡ Some step) is gives) (subst (λ (e : Event). Adds before e row key) is added))
 

@@ -21,17 +21,15 @@ use Rattle.ada_rows.specs.Rows.{step_at}
 use Rattle.ada_rows.specs.declared.row.Row.{Row}
 use Rattle.ada_rows.specs.declared.row.Row.TheVariants.{Meeting, Passing}
 use Rattle.ada_records.proofs.Holding.{holder_ran}
-use Rattle.ada_agenda.specs.Keeping.{IsAgendaOf}
+use Rattle.ada_agenda.specs.Keeping.{IsAgendaOf, Puts, Both, When, AsKey}
 use Rattle.ada_agenda.specs.Kinds.{itself as own, quitting_row, quitting_key, OfWait, Adds}
 use Rattle.ada_agenda.specs.Kinds.OfWait.{takes, passes, quits as wait_quits}
-use Rattle.ada_agenda.proofs.Noting.{own_is}
-use Rattle.ada_triggers.specs.internal.Keys.{Puts, Both, When, AsKey, AsDependent}
-use Rattle.ada_triggers.specs.internal.Keys.AsKey.{itself}
+use Rattle.ada_agenda.proofs.Noting.{own_is, noted_giving, both_put, not_put}
+use Rattle.ada_triggers.specs.internal.Keys.{AsDependent}
+use Rattle.ada_agenda.specs.Keeping.AsKey.{itself}
 use Rattle.ada_triggers.specs.internal.Keys.AsHolder.{quits}
-use Rattle.ada_triggers.specs.internal.Keys.When.{holds_so}
+use Rattle.ada_agenda.specs.Keeping.When.{holds_so}
 use Rattle.ada_triggers.specs.internal.Keys.AsDependent.{through}
-use Rattle.ada_triggers.proofs.Additions.{noted_giving}
-use Rattle.ada_triggers.proofs.Putting.{both_put, not_put}
 use Rattle.ada_triggers.proofs.Giving.{quitter}
 use Rattle.ada_triggers.proofs.Ends.{dependent_held}
 

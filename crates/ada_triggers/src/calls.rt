@@ -1,6 +1,6 @@
 //! What calls and waits add to an agenda.
 
-ghost use Rattle.std.specs.Prelude.{◌≡◌, ◌<◌, true, false, [], ◌∷◌, length};
+ghost use Rattle.std.specs.Prelude.{◌≡◌, true, false, [], ◌∷◌};
 ghost use Rattle.std.specs.Option.{is_some, option_map};
 ghost use Rattle.ada_events.specs.Lawful.{IsLawful};
 ghost use Rattle.ada_events.specs.Says.{Call, call_at};
@@ -8,17 +8,16 @@ ghost use Rattle.ada_events.specs.declared.event.Event.TheVariants.{Cancelled as
 ghost use Rattle.ada_events.specs.declared.event.Event.TheVariants.{Waiting as WaitingEvent};
 ghost use Rattle.ada_events.specs.declared.event.EventTail.TheVariants.{Nothing};
 ghost use Rattle.ada_events.specs.declared.names.TaskNo.{TaskNo as Number};
-ghost use Rattle.ada_agenda.specs.Keeping.{IsAgendaOf};
+ghost use Rattle.ada_agenda.specs.Keeping.{IsAgendaOf, Puts, When};
 ghost use Rattle.ada_events.specs.Tasks.{moment};
 ghost use Rattle.ada_events.specs.Termination as ending;
 ghost use Rattle.ada_events.specs.Waits as waits;
 ghost use Rattle.ada_rows.specs.Newly.{IsCallOf};
-ghost use Rattle.ada_triggers.specs.internal.Keys.{Puts, When, AsDependent, AsCalleeAt, AsCallerAt};
+ghost use Rattle.ada_triggers.specs.internal.Keys.{AsDependent, AsCalleeAt, AsCallerAt};
 
 use crate::masters::put_dependent;
-use crate::sweeps::{put_key, put_key_if};
 use ada_agenda::Agenda;
-use ada_agenda::keeping::{self, own_key};
+use ada_agenda::keeping::{self, own_key, put, put_if};
 use ada_events::{Choice, Entry, Event, EventTail, TaskNo, way_of};
 use ada_rows::Row;
 use ada_view::View;
@@ -37,8 +36,7 @@ fn callee_at(view: &View, at: u32) -> Option<TaskNo>
 
 /// Puts what the masters may force on which the callee of the call at a position depends.
 pub(crate) fn put_callee(agenda: &mut Agenda, view: &View, at: u32)
-    requires lawful { IsLawful view.now }
-    requires many { length agenda.old ≡ 11 }
+    requires { IsLawful view.now }
     ensures { Puts agenda.old agenda.new (AsCalleeAt view.now at) }
 {
     match callee_at(view, at) {
@@ -71,11 +69,10 @@ fn caller_at(view: &View, at: u32) -> Option<TaskNo>
 
 // Puts who made the call at a position, where that is abnormal, into the row of tasks that are halted.
 fn put_caller(agenda: &mut Agenda, view: &View, at: u32)
-    requires many { length agenda.old ≡ 11 }
     ensures { Puts agenda.old agenda.new (AsCallerAt view.now at) }
 {
     match caller_at(view, at) {
-        Some(by) => put_key_if(agenda, Row::Halting, by.0 as usize, view.is_abnormal(by)),
+        Some(by) => put_if(agenda, Row::Halting, by.0 as usize, view.is_abnormal(by)),
         None => (),
     }
 }
@@ -118,10 +115,9 @@ fn is_open_terminate(tail: &EventTail) -> bool
 }
 
 // Puts what the masters may force on which a task depends, where that is so.
-#[tactic(auto, using(crate::proofs::Putting::so_put, crate::proofs::Putting::not_put))]
+#[tactic(auto, using(ada_agenda::proofs::Noting::so_put, ada_agenda::proofs::Noting::not_put))]
 fn put_dependent_if(agenda: &mut Agenda, view: &View, task: TaskNo, so: bool)
-    requires lawful { IsLawful view.now }
-    requires many { length agenda.old ≡ 11 }
+    requires { IsLawful view.now }
     ensures { Puts agenda.old agenda.new (When so (AsDependent view.now task.0)) }
 {
     if so {
@@ -153,9 +149,9 @@ pub fn after_wait(
     ensures { IsAgendaOf agenda.new (event.now ∷ view.now) }
 {
     let own = own_key(view.journal(), event);
-    put_key(agenda, Row::Meeting, own);
+    put(agenda, Row::Meeting, own);
     let passes = is_to_pass(view, pick, choices, tail);
-    put_key_if(agenda, Row::Passing, own, passes);
+    put_if(agenda, Row::Passing, own, passes);
     put_dependent_if(agenda, view, by, is_open_terminate(tail));
 }
 
@@ -174,7 +170,7 @@ pub fn after_accept(
         (record { guard = true; entry = _entry } ∷ []) Nothing }
     ensures { IsAgendaOf agenda.new (event.now ∷ view.now) }
 {
-    put_key(agenda, Row::Meeting, own_key(view.journal(), event));
+    put(agenda, Row::Meeting, own_key(view.journal(), event));
 }
 
 /// Notes that an entry of a task is called (9.5): that the call fails, where the task has ended or is abnormal, that it

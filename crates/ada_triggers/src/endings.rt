@@ -1,6 +1,6 @@
 //! What the end of a task adds to an agenda: a completion, a halt, a termination.
 
-ghost use Rattle.std.specs.Prelude.{◌≡◌, ◌<◌, true, false, ◌∷◌, length};
+ghost use Rattle.std.specs.Prelude.{◌≡◌, ◌<◌, true, false, ◌∷◌};
 ghost use Rattle.std.specs.Option.{option_map};
 ghost use Rattle.ada_events.specs.Lawful.{IsLawful};
 ghost use Rattle.ada_events.specs.Says.{Creation, creation_in};
@@ -8,15 +8,16 @@ ghost use Rattle.ada_events.specs.Tasks.{creation_of, task_count};
 ghost use Rattle.ada_events.specs.declared.names.TaskNo.{TaskNo as Number};
 ghost use Rattle.ada_events.specs.declared.event.Event.TheVariants.{Completed as CompletedEvent, Elaborated as ElaboratedEvent, Halted as HaltedEvent};
 ghost use Rattle.ada_events.specs.declared.event.Event.TheVariants.{Gone as GoneEvent, Quit as QuitEvent};
-ghost use Rattle.ada_agenda.specs.Keeping.{IsAgendaOf};
+ghost use Rattle.ada_agenda.specs.Keeping.{IsAgendaOf, Puts};
 ghost use Rattle.ada_triggers.specs.Bounds.{IsStartBound};
-ghost use Rattle.ada_triggers.specs.internal.Keys.{Puts, AsActivation, AsCompletion};
+ghost use Rattle.ada_triggers.specs.internal.Keys.{AsActivation, AsCompletion};
 
 use crate::calls::put_callee;
 use crate::masters::{put_dependent, put_holder, put_master};
-use crate::sweeps::{put_held, put_key, put_key_if, put_uncallable_calls};
+use crate::sweeps::{put_held, put_uncallable_calls};
 use crate::unstarted::{FirstUnstarted, put_all_unstarted};
 use ada_agenda::Agenda;
+use ada_agenda::keeping::{put, put_if};
 use ada_events::{Event, Master, TaskNo};
 use ada_rows::Row;
 use ada_view::View;
@@ -47,8 +48,7 @@ fn maker(view: &View, task: TaskNo) -> Option<TaskNo>
 // Puts the start that names a task, at which its maker is suspended, into the row of activations that end.
 #[inline(never)]
 fn put_start(agenda: &mut Agenda, view: &View, task: TaskNo)
-    requires lawful { IsLawful view.now }
-    requires many { length agenda.old ≡ 11 }
+    requires { IsLawful view.now }
     ensures { Puts agenda.old agenda.new (AsActivation view.now task) }
 {
     match maker(view, task) {
@@ -60,8 +60,7 @@ fn put_start(agenda: &mut Agenda, view: &View, task: TaskNo)
 // The same, unless the start no longer waits for the task.
 #[inline(always)]
 fn put_activation(agenda: &mut Agenda, view: &View, task: TaskNo)
-    requires lawful { IsLawful view.now }
-    requires many { length agenda.old ≡ 11 }
+    requires { IsLawful view.now }
     ensures { Puts agenda.old agenda.new (AsActivation view.now task) }
 {
     if !view.is_done_activating(task) {
@@ -73,15 +72,14 @@ fn put_activation(agenda: &mut Agenda, view: &View, task: TaskNo)
 // live.
 fn put_completion(agenda: &mut Agenda, first: &mut FirstUnstarted, view: &View, task: TaskNo)
     requires lawful { IsLawful view.now }
-    requires many { length agenda.old ≡ 11 }
     requires known { task.0 < task_count view.now }
     requires bound { IsStartBound view.now first.old }
     ensures put { Puts agenda.old agenda.new (AsCompletion view.now task) }
     ensures bound { IsStartBound view.now first.new }
 {
-    put_key(agenda, Row::Terminating, task.0 as usize);
+    put(agenda, Row::Terminating, task.0 as usize);
     let lives = view.has_live_dependents(task);
-    put_key_if(agenda, Row::QuittingBody, task.0 as usize, lives);
+    put_if(agenda, Row::QuittingBody, task.0 as usize, lives);
     put_uncallable_calls(agenda, view, task);
     put_activation(agenda, view, task);
     put_all_unstarted(agenda, first, view);

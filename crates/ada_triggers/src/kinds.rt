@@ -1,17 +1,15 @@
 //! What a close and an abort add to an agenda.
 
-ghost use Rattle.std.specs.Prelude.{◌≡◌, true, false, ◌∷◌, length};
+ghost use Rattle.std.specs.Prelude.{◌≡◌, ◌∷◌};
 ghost use Rattle.ada_events.specs.Lawful.{IsLawful};
-ghost use Rattle.ada_events.specs.Nests.{nest};
-ghost use Rattle.ada_events.specs.Tasks.{task_count};
 ghost use Rattle.ada_events.specs.declared.event.Event.TheVariants.{Closed as ClosedEvent, Aborted as AbortedEvent};
 ghost use Rattle.ada_triggers.specs.Bounds.{IsStartBound};
 ghost use Rattle.ada_agenda.specs.Keeping.{IsAgendaOf};
 
-use crate::sweeps::{put_all_haltable, put_all_held, put_key};
+use crate::sweeps::{put_all_haltable, put_all_held};
 use crate::unstarted::{FirstUnstarted, put_all_unstarted};
 use ada_agenda::Agenda;
-use ada_agenda::keeping::own_key;
+use ada_agenda::keeping::{own_key, put};
 use ada_events::{Event, TaskNo};
 use ada_rows::Row;
 use ada_view::View;
@@ -33,8 +31,8 @@ pub fn after_close(
     ensures stands { IsAgendaOf agenda.new (event.now ∷ view.now) }
     ensures bound { IsStartBound view.now first.new }
 {
-    put_key(agenda, Row::Leaving, own_key(view.journal(), event));
-    put_key(agenda, Row::QuittingBlock, block as usize);
+    put(agenda, Row::Leaving, own_key(view.journal(), event));
+    put(agenda, Row::QuittingBlock, block as usize);
     put_all_unstarted(agenda, first, view);
 }
 

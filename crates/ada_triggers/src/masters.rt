@@ -9,10 +9,12 @@ ghost use Rattle.ada_events.specs.Tasks.{task_count};
 ghost use Rattle.ada_events.specs.declared.names.TaskNo.{TaskNo as Number};
 ghost use Rattle.ada_events.specs.declared.names.Member.TheVariants.{Block as BlockMember};
 ghost use Rattle.ada_triggers.specs.internal.Keys as keys;
-ghost use Rattle.ada_triggers.specs.internal.Keys.{Puts, OfFirst, AsMember, AsBlock, AsHolder, AsDependent, AsMaster};
+ghost use Rattle.ada_agenda.specs.Keeping.{Puts};
+ghost use Rattle.ada_triggers.specs.internal.Keys.{OfFirst, AsMember, AsBlock, AsHolder, AsDependent, AsMaster};
 
-use crate::sweeps::{put_held, put_key, put_key_if};
+use crate::sweeps::put_held;
 use ada_agenda::Agenda;
+use ada_agenda::keeping::{put, put_if};
 use ada_events::{Master, Member, TaskNo};
 use ada_rows::Row;
 use ada_view::View;
@@ -41,12 +43,11 @@ fn holder_above(view: &View, task: TaskNo) -> Option<TaskNo>
 // Puts a member that is a block into the row in which blocks quit.
 #[tactic(auto, using(crate::proofs::Holding::member_put, crate::proofs::Holding::rendezvous_put))]
 fn put_member(agenda: &mut Agenda, member: Member)
-    requires many { length agenda.old ≡ 11 }
-    requires fits { (p : ℕ) → member ≡ BlockMember p → p < 69632 }
+    requires { (p : ℕ) → member ≡ BlockMember p → p < 69632 }
     ensures { Puts agenda.old agenda.new (AsMember (Some member)) }
 {
     match member {
-        Member::Block(position) => put_key(agenda, Row::QuittingBlock, position as usize),
+        Member::Block(position) => put(agenda, Row::QuittingBlock, position as usize),
         Member::Rendezvous(_) => (),
     }
 }
@@ -54,8 +55,7 @@ fn put_member(agenda: &mut Agenda, member: Member)
 // Puts the member, where there is one, so.
 #[tactic(auto, using(crate::proofs::Holding::none_put))]
 fn put_layer(agenda: &mut Agenda, member: Option<Member>)
-    requires many { length agenda.old ≡ 11 }
-    requires fits { (p : ℕ) → member ≡ Some (BlockMember p) → p < 69632 }
+    requires { (p : ℕ) → member ≡ Some (BlockMember p) → p < 69632 }
     ensures { Puts agenda.old agenda.new (AsMember member) }
 {
     if let Some(member) = member {
@@ -66,7 +66,6 @@ fn put_layer(agenda: &mut Agenda, member: Option<Member>)
 // Puts the blocks that a task is within into the row in which blocks quit.
 fn put_blocks(agenda: &mut Agenda, view: &View, task: TaskNo)
     requires lawful { IsLawful view.now }
-    requires many { length agenda.old ≡ 11 }
     requires known { task.0 < task_count view.now }
     ensures { Puts agenda.old agenda.new
         (OfFirst (AsBlock (nest view.now task.0)) (length (nest view.now task.0))) }
@@ -96,13 +95,12 @@ fn may_go(view: &View, task: TaskNo) -> bool
 /// leaves the block at whose close it is suspended.
 pub(crate) fn put_holder(agenda: &mut Agenda, view: &View, task: TaskNo)
     requires lawful { IsLawful view.now }
-    requires many { length agenda.old ≡ 11 }
     requires known { task.0 < task_count view.now }
     ensures { Puts agenda.old agenda.new (AsHolder view.now task.0) }
 {
     let key = task.0 as usize;
-    put_key_if(agenda, Row::Terminating, key, may_go(view, task));
-    put_key_if(agenda, Row::QuittingBody, key, is_completed(view, task));
+    put_if(agenda, Row::Terminating, key, may_go(view, task));
+    put_if(agenda, Row::QuittingBody, key, is_completed(view, task));
     put_held(agenda, view, Row::Leaving, task);
     put_blocks(agenda, view, task);
 }
@@ -110,7 +108,6 @@ pub(crate) fn put_holder(agenda: &mut Agenda, view: &View, task: TaskNo)
 // Puts what the masters may force on which a task depends that isn't terminated.
 fn put_outward(agenda: &mut Agenda, view: &View, task: TaskNo)
     requires lawful { IsLawful view.now }
-    requires many { length agenda.old ≡ 11 }
     requires known { task.0 < task_count view.now }
     requires live { is_terminated view.now task.0 ≡ false }
     ensures { Puts agenda.old agenda.new (AsDependent view.now task.0) }
@@ -124,8 +121,7 @@ fn put_outward(agenda: &mut Agenda, view: &View, task: TaskNo)
 
 /// Puts what the masters may force on which a task depends, unless it is terminated.
 pub(crate) fn put_dependent(agenda: &mut Agenda, view: &View, task: TaskNo)
-    requires lawful { IsLawful view.now }
-    requires many { length agenda.old ≡ 11 }
+    requires { IsLawful view.now }
     ensures { Puts agenda.old agenda.new (AsDependent view.now task.0) }
 {
     if task.0 >= view.tables().tasks() {
@@ -139,7 +135,6 @@ pub(crate) fn put_dependent(agenda: &mut Agenda, view: &View, task: TaskNo)
 /// Puts what a master may force, and what those may on which the task depends that holds it.
 pub(crate) fn put_master(agenda: &mut Agenda, view: &View, master: Master)
     requires lawful { IsLawful view.now }
-    requires many { length agenda.old ≡ 11 }
     requires known { (task : ℕ) → keys.holder_of view.now master ≡ Some task
         → task < task_count view.now }
     ensures { Puts agenda.old agenda.new (AsMaster view.now master) }

@@ -1,19 +1,19 @@
 //! What a tick adds to an agenda: what is due by it, where it reaches the next due moment.
 
-ghost use Rattle.std.specs.Prelude.{◌≡◌, ◌<◌, ◌∷◌, Some, length};
+ghost use Rattle.std.specs.Prelude.{◌≡◌, ◌∷◌, Some};
 ghost use Rattle.ada_events.specs.Lawful.{IsLawful};
 ghost use Rattle.ada_events.specs.Search.{event_at};
 ghost use Rattle.ada_events.specs.Tasks.{task_count};
 ghost use Rattle.ada_events.specs.declared.event.Event.TheVariants.{Ticked as TickedEvent};
-ghost use Rattle.ada_agenda.specs.Keeping.{IsAgendaOf};
+ghost use Rattle.ada_agenda.specs.Keeping.{IsAgendaOf, Puts};
 ghost use Rattle.ada_agenda.specs.Kinds as kinds;
 ghost use Rattle.ada_triggers.specs.Bounds.{IsDueBound};
 ghost use Rattle.ada_triggers.specs.internal.Keys as keys;
-ghost use Rattle.ada_triggers.specs.internal.Keys.{Puts, OfFirst, AsDue, AsDueAt};
+ghost use Rattle.ada_triggers.specs.internal.Keys.{OfFirst, AsDue, AsDueAt};
 
 use crate::next_due::NextDue;
-use crate::sweeps::put_at_if;
 use ada_agenda::Agenda;
+use ada_agenda::keeping::put_if;
 use ada_events::waits::{is_due, least_due};
 use ada_events::{Event, EventTail, TaskNo};
 use ada_rows::Row;
@@ -66,17 +66,15 @@ fn is_due_by(tick: &Event, event: &Event) -> bool
 // Puts the position of an event into the row of what happens where its moment comes.
 fn put_due_event(agenda: &mut Agenda, _state: &View, tick: &Event, at: u32, event: &Event)
     requires lawful { IsLawful _state.now }
-    requires many { length agenda.old ≡ 11 }
     requires stands { event_at _state.now at ≡ Some event.now }
     ensures { Puts agenda.old agenda.new (AsDueAt _state.now tick.now at) }
 {
-    put_at_if(agenda, due_row(event), at, is_due_by(tick, event));
+    put_if(agenda, due_row(event), at as usize, is_due_by(tick, event));
 }
 
 // Puts a position into the row of what happens there where its moment comes.
 fn put_due_at(agenda: &mut Agenda, view: &View, tick: &Event, at: u32)
-    requires lawful { IsLawful view.now }
-    requires many { length agenda.old ≡ 11 }
+    requires { IsLawful view.now }
     ensures { Puts agenda.old agenda.new (AsDueAt view.now tick.now at) }
 {
     match view.event(at) {
@@ -87,8 +85,7 @@ fn put_due_at(agenda: &mut Agenda, view: &View, tick: &Event, at: u32)
 
 // Puts the position at which a task is suspended, if it is, into the row of what happens there where its moment comes.
 fn put_due(agenda: &mut Agenda, view: &View, tick: &Event, task: TaskNo)
-    requires lawful { IsLawful view.now }
-    requires many { length agenda.old ≡ 11 }
+    requires { IsLawful view.now }
     ensures { Puts agenda.old agenda.new (AsDue view.now tick.now task.0) }
 {
     put_due_at(agenda, view, tick, view.record(task).suspension.at);
@@ -96,8 +93,7 @@ fn put_due(agenda: &mut Agenda, view: &View, tick: &Event, task: TaskNo)
 
 // Puts all that is due.
 fn put_all_due(agenda: &mut Agenda, view: &View, tick: &Event)
-    requires lawful { IsLawful view.now }
-    requires many { length agenda.old ≡ 11 }
+    requires { IsLawful view.now }
     ensures { Puts agenda.old agenda.new
         (OfFirst (AsDue view.now tick.now) (task_count view.now)) }
 {

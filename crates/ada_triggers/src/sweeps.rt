@@ -1,40 +1,18 @@
 //! Passes over all tasks that put keys into an agenda.
 
-ghost use Rattle.std.specs.Prelude.{◌≡◌, ◌<◌, ◌&&◌, true, length};
+ghost use Rattle.std.specs.Prelude.{◌≡◌, ◌&&◌, true};
 ghost use Rattle.ada_events.specs.Lawful.{IsLawful};
 ghost use Rattle.ada_events.specs.Search.{is_some_and, event_at};
 ghost use Rattle.ada_events.specs.Tasks.{task_count};
-ghost use Rattle.ada_agenda.specs.Keeping.{Grows, has_key};
+ghost use Rattle.ada_agenda.specs.Keeping.{Puts};
 ghost use Rattle.ada_triggers.specs.internal.Keys as keys;
-ghost use Rattle.ada_triggers.specs.internal.Keys.{Puts, OfFirst, When, AsKey, AsHaltable, AsHeld, AsCaller, AsUncallable, calls};
+ghost use Rattle.ada_triggers.specs.internal.Keys.{OfFirst, AsHaltable, AsHeld, AsCaller, AsUncallable, calls};
 
 use ada_agenda::Agenda;
-use ada_agenda::keeping::{put, put_at};
+use ada_agenda::keeping::put_if;
 use ada_events::{Event, TaskNo};
 use ada_rows::Row;
 use ada_view::View;
-
-// Puts a key into a row.
-#[tactic(auto, using(crate::proofs::Putting::key_put))]
-pub(crate) fn put_key(agenda: &mut Agenda, row: Row, key: usize)
-    requires many { length agenda.old ≡ 11 }
-    requires fits { key < 69632 }
-    ensures { Puts agenda.old agenda.new (AsKey row key) }
-{
-    put(agenda, row, key);
-}
-
-// Puts a key into a row, where that is so.
-#[tactic(auto, using(crate::proofs::Putting::so_put, crate::proofs::Putting::not_put))]
-pub(crate) fn put_key_if(agenda: &mut Agenda, row: Row, key: usize, so: bool)
-    requires many { length agenda.old ≡ 11 }
-    requires fits { key < 69632 }
-    ensures { Puts agenda.old agenda.new (When so (AsKey row key)) }
-{
-    if so {
-        put_key(agenda, row, key);
-    }
-}
 
 // Whether the task hasn't ended, and isn't the caller in a rendezvous: no other is halted (9.10).
 #[tactic(auto, using(crate::proofs::Halting::may_halt_told))]
@@ -48,17 +26,15 @@ fn may_halt(view: &View, task: TaskNo) -> bool
 
 // Puts a task that may be halted into the row of those that are halted.
 fn put_haltable(agenda: &mut Agenda, view: &View, task: TaskNo)
-    requires { length agenda.old ≡ 11 }
     ensures { Puts agenda.old agenda.new (AsHaltable view.now task.0) }
 {
     let halts = may_halt(view, task);
-    put_key_if(agenda, Row::Halting, task.0 as usize, halts);
+    put_if(agenda, Row::Halting, task.0 as usize, halts);
 }
 
 /// Puts the tasks that may be halted into the row of those that are halted.
 pub(crate) fn put_all_haltable(agenda: &mut Agenda, view: &View)
-    requires lawful { IsLawful view.now }
-    requires many { length agenda.old ≡ 11 }
+    requires { IsLawful view.now }
     ensures { Puts agenda.old agenda.new (OfFirst (AsHaltable view.now) (task_count view.now)) }
 {
     for number in 0..view.tables().tasks() {
@@ -91,35 +67,21 @@ fn is_of_row_at(view: &View, row: Row, at: u32) -> bool
 
 // Puts the position at which a task is suspended, if it is, into a row, where the event there is of its kind.
 pub(crate) fn put_held(agenda: &mut Agenda, view: &View, row: Row, task: TaskNo)
-    requires lawful { IsLawful view.now }
-    requires many { length agenda.old ≡ 11 }
+    requires { IsLawful view.now }
     ensures { Puts agenda.old agenda.new (AsHeld view.now row task.0) }
 {
     let at = view.record(task).suspension.at;
     let fits = is_of_row_at(view, row, at);
-    put_at_if(agenda, row, at, fits);
+    put_if(agenda, row, at as usize, fits);
 }
 
 /// Puts the positions at which tasks are suspended at events of its kind into a row.
 pub(crate) fn put_all_held(agenda: &mut Agenda, view: &View, row: Row)
-    requires lawful { IsLawful view.now }
-    requires many { length agenda.old ≡ 11 }
+    requires { IsLawful view.now }
     ensures { Puts agenda.old agenda.new (OfFirst (AsHeld view.now row) (task_count view.now)) }
 {
     for number in 0..view.tables().tasks() {
         put_held(agenda, view, row, TaskNo(number));
-    }
-}
-
-// Puts a position into a row where that is so, unless it is 0, which is none.
-pub(crate) fn put_at_if(agenda: &mut Agenda, row: Row, at: u32, so: bool)
-    requires many { length agenda.old ≡ 11 }
-    requires fits { 0 < at → at < 69632 }
-    ensures grows { Grows agenda.old agenda.new }
-    ensures here { so ≡ true → 0 < at → has_key agenda.new row at ≡ true }
-{
-    if so {
-        put_at(agenda, row, at);
     }
 }
 
@@ -146,20 +108,18 @@ fn calls_at(view: &View, at: u32, callee: TaskNo) -> bool
 
 // Puts the call to the callee at which a task is suspended, if it is, into the row of those that fail.
 fn put_caller(agenda: &mut Agenda, view: &View, callee: TaskNo, task: TaskNo)
-    requires lawful { IsLawful view.now }
-    requires many { length agenda.old ≡ 11 }
+    requires { IsLawful view.now }
     ensures { Puts agenda.old agenda.new (AsCaller view.now callee.0 task.0) }
 {
     let at = view.record(task).suspension.at;
     let calls = calls_at(view, at, callee);
-    put_at_if(agenda, Row::Failing, at, calls);
+    put_if(agenda, Row::Failing, at as usize, calls);
 }
 
 // Puts the calls to a task at which tasks are suspended into the row of those that fail.
 #[inline(never)]
 fn put_all_callers(agenda: &mut Agenda, view: &View, callee: TaskNo)
-    requires lawful { IsLawful view.now }
-    requires many { length agenda.old ≡ 11 }
+    requires { IsLawful view.now }
     ensures { Puts agenda.old agenda.new
         (OfFirst (AsCaller view.now callee.0) (task_count view.now)) }
 {
@@ -171,10 +131,9 @@ fn put_all_callers(agenda: &mut Agenda, view: &View, callee: TaskNo)
 /// Puts the calls to a task into the row of those that fail, unless they failed already, since the task has ended or is
 /// abnormal.
 #[inline(always)]
-#[tactic(auto, using(crate::proofs::Putting::so_put, crate::proofs::Putting::not_put))]
+#[tactic(auto, using(ada_agenda::proofs::Noting::so_put, ada_agenda::proofs::Noting::not_put))]
 pub(crate) fn put_uncallable_calls(agenda: &mut Agenda, view: &View, callee: TaskNo)
-    requires lawful { IsLawful view.now }
-    requires many { length agenda.old ≡ 11 }
+    requires { IsLawful view.now }
     ensures { Puts agenda.old agenda.new (AsUncallable view.now callee.0) }
 {
     if !view.is_uncallable(callee) {

@@ -1,13 +1,14 @@
 //! Tasks that were made and never started, in a pass that begins behind those that were.
 
-ghost use Rattle.std.specs.Prelude.{◌≡◌, [], length};
+ghost use Rattle.std.specs.Prelude.{◌≡◌, []};
 ghost use Rattle.ada_events.specs.Lawful.{IsLawful};
 ghost use Rattle.ada_events.specs.Tasks.{task_count};
 ghost use Rattle.ada_triggers.specs.Bounds.{IsStartBound};
-ghost use Rattle.ada_triggers.specs.internal.Keys.{Puts, OfFirst, AsUnstarted};
+ghost use Rattle.ada_agenda.specs.Keeping.{Puts};
+ghost use Rattle.ada_triggers.specs.internal.Keys.{OfFirst, AsUnstarted};
 
 use ada_agenda::Agenda;
-use ada_agenda::keeping::put;
+use ada_agenda::keeping::put_if;
 use ada_events::TaskNo;
 use ada_rows::Row;
 use ada_view::View;
@@ -71,19 +72,16 @@ fn first_unstarted(view: &View, from: u16) -> u16
 
 // Puts a task that was made and never started into the row of those that go.
 fn put_unstarted(agenda: &mut Agenda, view: &View, task: TaskNo)
-    requires lawful { IsLawful view.now }
-    requires many { length agenda.old ≡ 11 }
+    requires { IsLawful view.now }
     ensures { Puts agenda.old agenda.new (AsUnstarted view.now task.0) }
 {
-    if !view.record(task).stage.named {
-        put(agenda, Row::Terminating, task.0 as usize);
-    }
+    let waits = !view.record(task).stage.named;
+    put_if(agenda, Row::Terminating, task.0 as usize, waits);
 }
 
 // Puts those that were never started, of the tasks from a number on, into the row of those that go.
 fn put_unstarted_from(agenda: &mut Agenda, view: &View, from: u16)
     requires lawful { IsLawful view.now }
-    requires many { length agenda.old ≡ 11 }
     requires bound { IsStartBound view.now from }
     ensures { Puts agenda.old agenda.new (OfFirst (AsUnstarted view.now) (task_count view.now)) }
 {
@@ -95,7 +93,6 @@ fn put_unstarted_from(agenda: &mut Agenda, view: &View, from: u16)
 /// Puts the tasks that were made and never started into the row of those that go.
 pub(crate) fn put_all_unstarted(agenda: &mut Agenda, first: &mut FirstUnstarted, view: &View)
     requires lawful { IsLawful view.now }
-    requires many { length agenda.old ≡ 11 }
     requires bound { IsStartBound view.now first.old }
     ensures put { Puts agenda.old agenda.new
         (OfFirst (AsUnstarted view.now) (task_count view.now)) }

@@ -5,7 +5,7 @@ use Rattle.ada_events.specs.Forced.{forced}
 use Rattle.ada_events.specs.Journals.{Kept}
 use Rattle.ada_events.specs.Lawful.{IsSettled}
 use Rattle.ada_rows.specs.declared.row.Row.{Row}
-use Rattle.ada_rows.specs.Rows.{rank, step_at}
+use Rattle.ada_rows.specs.Rows.{step_at}
 use Rattle.ada_kernel.specs.declared.index.Index.{Index}
 use Rattle.ada_kernel.specs.internal.Indexes.{IsIndexOf}
 
@@ -32,12 +32,3 @@ pub record HasTaken (journal after : Kept) : Type 0 where
 abbrev pub Takes : Index → Kept → Row → ℕ → Bool → Index → Kept → Type 0
 Takes index journal row key true then after = HasTaken journal after × IsIndexOf then after.events
 Takes index journal row key false then after = (step_at journal.events row key ≡ None) × (then ≡ index) × (after ≡ journal)
-
--- the same of the row of a rank
-abbrev pub MayTakeAtRank : Index → Kept → ℕ → ℕ → Type 0
-MayTakeAtRank index journal place key = (row : Row) → rank row ≡ place → MayTake index journal row key
-
-pub record TakesAtRank (index : Index) (journal : Kept) (place key : ℕ) (taken : Bool) (then : Index) (after : Kept) : Type 0 where
-  pub row : Row
-  pub ranked : rank row ≡ place
-  pub takes : Takes index journal row key taken then after

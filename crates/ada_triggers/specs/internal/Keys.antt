@@ -1,5 +1,5 @@
 -- Keys that are put into an agenda together, and who holds what a task was made under.
-use Rattle.std.specs.Prelude.{◌≡◌, ◌⊎◌, ℕ, ◌<◌, ◌==◌, ◌||◌, ◌&&◌, Bool, true, false, not, Option, Some, List, slice_get}
+use Rattle.std.specs.Prelude.{◌≡◌, ℕ, ◌<◌, ◌==◌, ◌||◌, ◌&&◌, Bool, true, false, not, Option, Some, List, slice_get}
 use Rattle.std.specs.Option.{is_some, option_map, option_and_then}
 use Rattle.ada_events.specs.declared.event.Event.{Event}
 use Rattle.ada_events.specs.declared.names.Master.{Master}
@@ -22,31 +22,14 @@ use Rattle.ada_rows.specs.Touching.{is_uncallable}
 use Rattle.ada_rows.specs.declared.row.Row.{Row}
 use Rattle.ada_rows.specs.declared.row.Row.TheVariants.{Halting, Failing, Activating, Terminating, QuittingBody, QuittingBlock, Leaving}
 use Rattle.ada_tables.specs.Dependents.{holds}
-use Rattle.ada_agenda.specs.Keeping.{has_key, Grows}
+use Rattle.ada_agenda.specs.Keeping.{Both, When, AsKey}
 use Rattle.ada_agenda.specs.Kinds.{quitting_row, quitting_key, due_in, due_row, IsActivationOf}
-
--- the later sets keep all that the earlier ones do, and each of these keys
-pub record Puts (old new : List (List ℕ)) (Key : Row → ℕ → Type 0) : Type 0 where
-  pub grows : Grows old new
-  pub here : (row : Row) (key : ℕ) → Key row key → has_key new row key ≡ true
 
 -- the keys of one of the first so many tasks
 pub record OfFirst (Key : ℕ → Row → ℕ → Type 0) (many : ℕ) (row : Row) (key : ℕ) : Type 0 where
   pub task : ℕ
   pub among : task < many
   pub of : Key task row key
-
--- these keys and those
-abbrev pub Both : (Row → ℕ → Type 0) → (Row → ℕ → Type 0) → Row → ℕ → Type 0
-Both One Other row key = One row key ⊎ Other row key
-
--- these keys, where that is so
-pub data When (so : Bool) (Key : Row → ℕ → Type 0) (row : Row) (key : ℕ) : Type 0 where
-  holds_so : so ≡ true → Key row key → When so Key row key
-
--- that key, in that row
-pub data AsKey (at : Row) (k : ℕ) : Row → ℕ → Type 0 where
-  itself : AsKey at k at k
 
 -- the event is of the kind of which that row gives a step: a call that fails, a start that is over, a close that is left
 abbrev pub is_of_row : Row → Event → Bool

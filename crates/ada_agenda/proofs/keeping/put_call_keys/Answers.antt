@@ -1,25 +1,20 @@
-use Rattle.std.proofs.Common.{◌∙◌}
+use Rattle.std.proofs.Common.{subst}
 use Rattle.ada_rows.specs.declared.row.Row.TheVariants.{Failing, Cancelling}
-use Rattle.ada_agenda.proofs.Noting.{held_fits, grows_on, call_noted}
+use Rattle.ada_agenda.specs.Keeping.{Puts, AsKey, When}
+use Rattle.ada_agenda.proofs.Noting.{held_fits, both_put, call_noted}
 use Rattle.ada_agenda.proofs.keeping.put_call_keys.Goals as goal
 
-pub put_at-requires-clause-fits : goal.put_at-requires-clause-fits
-put_at-requires-clause-fits c some =
-    held_fits c.args.journal.now.events c.args._callee.0 c.args.at c.requires.lawful.0 c.requires.waits some
+pub put_if-requires-3 : goal.put_if-requires-3
+put_if-requires-3 c = held_fits c.args.journal.now.events c.args._callee.0 c.args.at c.requires.lawful.0 c.requires.waits
 
 pub returns : goal.returns
 returns c =
+    let old = c.args.agenda.now in
+    let one = c.put_if.new.agenda in
+    let two = c.put_if-2.new.agenda in
     let own = c.own_key-own.result in
-    let one = c.put_if.ensures in
-    let two = c.put_if-2.ensures in
-    let three = c.put_at.ensures in
-    call_noted c.args.event.now c.args.journal.now.events c.args.agenda.now c.put_at.new.agenda c.args._callee.0 c.args.at own c.requires.lawful
-    c.requires.stands
-    c.requires.calls c.requires.waits c.own_key-own.ensures.own
-    (grows_on c.args.agenda.now c.put_if-2.new.agenda c.put_at.new.agenda
-    (grows_on c.args.agenda.now c.put_if.new.agenda c.put_if-2.new.agenda one.grows two.grows) three.grows)
-    (record {
-      failing = λ lost. three.grows.kept Failing own (two.grows.kept Failing own (one.here (c.requires.lost ∙ lost)));
-      cancelling = λ gives. three.grows.kept Cancelling own (two.here (c.requires.immediate ∙ gives));
-      taking = three.here;
-    })
+    let fails = subst (λ so. Puts old one (When so (AsKey Failing own))) c.requires.lost c.put_if.ensures in
+    let cancels = subst (λ so. Puts one two (When so (AsKey Cancelling own))) c.requires.immediate c.put_if-2.ensures in
+    call_noted c.args.event.now c.args.journal.now.events old c.put_if-3.new.agenda c.args._callee.0 c.args.at own c.requires.lawful
+    c.requires.stands c.requires.calls c.requires.waits c.own_key-own.ensures.own
+    (both_put old two c.put_if-3.new.agenda _ _ (both_put old one two _ _ fails cancels) c.put_if-3.ensures)

@@ -6,8 +6,8 @@ use Rattle.ada_triggers.proofs.calls.put_caller.Goals as goal
 
 pub returns-in-Some : goal.returns-in-Some
 returns-in-Some c =
-    caller_put c.args.view.now c.args.agenda.now c.put_key_if.new.agenda c.args.at c.in-Some.by.0 c.is_abnormal.result
-    (sym c.caller_at.ensures ∙ ap (option_map (λ (t : TaskNo). t.0)) c.in-Some.is) c.is_abnormal.ensures c.put_key_if.ensures
+    caller_put c.args.view.now c.args.agenda.now c.put_if.new.agenda c.args.at c.in-Some.by.0 c.is_abnormal.result
+    (sym c.caller_at.ensures ∙ ap (option_map (λ (t : TaskNo). t.0)) c.in-Some.is) c.is_abnormal.ensures c.put_if.ensures
 
 pub returns-in-None : goal.returns-in-None
 returns-in-None c =

@@ -1,6 +1,6 @@
 use Rattle.std.proofs.Common.{inr}
 use Rattle.ada_records.proofs.TaskEnds.{completion_exists}
-use Rattle.ada_triggers.proofs.Putting.{both_put}
+use Rattle.ada_agenda.proofs.Noting.{both_put}
 use Rattle.ada_triggers.proofs.Callees.{halt_noted}
 use Rattle.ada_triggers.proofs.endings.after_halt.Goals as goal
 

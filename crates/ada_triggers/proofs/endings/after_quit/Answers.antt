@@ -1,4 +1,4 @@
-use Rattle.ada_triggers.proofs.Putting.{both_put}
+use Rattle.ada_agenda.proofs.Noting.{both_put}
 use Rattle.ada_triggers.proofs.Quitting.{quit_noted, master_held}
 use Rattle.ada_triggers.proofs.endings.after_quit.Goals as goal
 

@@ -1,4 +1,4 @@
-use Rattle.ada_triggers.proofs.Putting.{both_put}
+use Rattle.ada_agenda.proofs.Noting.{both_put}
 use Rattle.ada_triggers.proofs.Ends.{termination_noted}
 use Rattle.ada_triggers.proofs.endings.after_termination.Goals as goal
 

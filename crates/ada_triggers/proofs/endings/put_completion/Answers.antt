@@ -1,7 +1,7 @@
 use Rattle.std.proofs.Common.{subst}
 use Rattle.ada_rows.specs.declared.row.Row.TheVariants.{QuittingBody}
-use Rattle.ada_triggers.specs.internal.Keys.{Puts, When, AsKey}
-use Rattle.ada_triggers.proofs.Putting.{both_put}
+use Rattle.ada_agenda.specs.Keeping.{Puts, When, AsKey}
+use Rattle.ada_agenda.proofs.Noting.{both_put}
 use Rattle.ada_triggers.proofs.endings.put_completion.Goals as goal
 
 pub returns-clause-put : goal.returns-clause-put
@@ -9,10 +9,10 @@ returns-clause-put c =
     let old = c.args.agenda.now in
     both_put old c.put_activation.new.agenda c.put_all_unstarted.new.agenda _ _
     (both_put old c.put_uncallable_calls.new.agenda c.put_activation.new.agenda _ _
-    (both_put old c.put_key_if.new.agenda c.put_uncallable_calls.new.agenda _ _
-    (both_put old c.put_key.new.agenda c.put_key_if.new.agenda _ _ c.put_key.ensures
-    (subst (λ so. Puts c.put_key.new.agenda c.put_key_if.new.agenda (When so (AsKey QuittingBody c.args.task.0))) c.has_live_dependents-lives.ensures
-    c.put_key_if.ensures))
+    (both_put old c.put_if.new.agenda c.put_uncallable_calls.new.agenda _ _
+    (both_put old c.put.new.agenda c.put_if.new.agenda _ _ c.put.ensures
+    (subst (λ so. Puts c.put.new.agenda c.put_if.new.agenda (When so (AsKey QuittingBody c.args.task.0))) c.has_live_dependents-lives.ensures
+    c.put_if.ensures))
     c.put_uncallable_calls.ensures)
     c.put_activation.ensures)
     c.put_all_unstarted.ensures.put

@@ -1,4 +1,4 @@
-use Rattle.ada_triggers.proofs.Putting.{both_put}
+use Rattle.ada_agenda.proofs.Noting.{both_put}
 use Rattle.ada_triggers.proofs.Additions.{abort_noted}
 use Rattle.ada_triggers.proofs.kinds.after_abort.Goals as goal
 

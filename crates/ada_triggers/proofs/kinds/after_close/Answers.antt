@@ -1,10 +1,10 @@
 use Rattle.std.proofs.Common.{◌∙◌, ◌+◌, ap, length}
-use Rattle.ada_triggers.proofs.Putting.{both_put}
+use Rattle.ada_agenda.proofs.Noting.{both_put}
 use Rattle.ada_triggers.proofs.Additions.{closed_fits, close_noted}
 use Rattle.ada_triggers.proofs.kinds.after_close.Goals as goal
 
-pub put_key-requires-2-clause-fits : goal.put_key-requires-2-clause-fits
-put_key-requires-2-clause-fits c = closed_fits c.args.event.now c.args.view.now c.args._by c.args.block c.requires.lawful c.requires.closes
+pub put-requires-2 : goal.put-requires-2
+put-requires-2 c = closed_fits c.args.event.now c.args.view.now c.args._by c.args.block c.requires.lawful c.requires.closes
 
 pub returns-clause-stands : goal.returns-clause-stands
 returns-clause-stands c =
@@ -12,5 +12,5 @@ returns-clause-stands c =
     close_noted c.args.event.now c.args.view.now old c.put_all_unstarted.new.agenda c.args._by c.args.block c.own_key.result c.requires.lawful
     c.requires.stands
     c.requires.closes (c.own_key.ensures.own ∙ ap (λ j. length j + 1) c.journal.ensures)
-    (both_put old c.put_key-2.new.agenda c.put_all_unstarted.new.agenda _ _
-    (both_put old c.put_key.new.agenda c.put_key-2.new.agenda _ _ c.put_key.ensures c.put_key-2.ensures) c.put_all_unstarted.ensures.put)
+    (both_put old c.put-2.new.agenda c.put_all_unstarted.new.agenda _ _
+    (both_put old c.put.new.agenda c.put-2.new.agenda _ _ c.put.ensures c.put-2.ensures) c.put_all_unstarted.ensures.put)

@@ -6,8 +6,8 @@ use Rattle.ada_triggers.proofs.Putting.{puts_none}
 use Rattle.ada_triggers.proofs.Holding.{blocks_put, all_blocks_put, got_fits}
 use Rattle.ada_triggers.proofs.masters.put_blocks.Goals as goal
 
-pub put_layer-requires-clause-fits : goal.put_layer-requires-clause-fits
-put_layer-requires-clause-fits c p is =
+pub put_layer-requires : goal.put_layer-requires
+put_layer-requires c p is =
     got_fits c.args.view.now c.args.task.0 c.loop-place.place p _ c.get.result c.requires.lawful
     (c.nest-layers.ensures ∙ ap (λ (f : Facts). f.nest) (c.tables.ensures.stand.tasks c.args.task.0 c.requires.known)) c.get.ensures is
 

@@ -1,5 +1,6 @@
 use Rattle.ada_events.specs.Nests.{nest}
-use Rattle.ada_triggers.specs.internal.Keys.{Puts, OfFirst, AsBlock}
+use Rattle.ada_agenda.specs.Keeping.{Puts}
+use Rattle.ada_triggers.specs.internal.Keys.{OfFirst, AsBlock}
 use Rattle.ada_triggers.proofs.masters.put_blocks.Given as goal
 
 abbrev pub invariant-loop-place : goal.invariant-loop-place

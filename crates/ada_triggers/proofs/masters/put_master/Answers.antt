@@ -1,16 +1,13 @@
 use Rattle.std.proofs.Common.{◌∙◌, ap, sym}
 use Rattle.std.specs.Option.{option_map}
 use Rattle.ada_events.specs.declared.names.TaskNo.{TaskNo}
-use Rattle.ada_triggers.proofs.Putting.{both_put}
+use Rattle.ada_agenda.proofs.Noting.{both_put}
 use Rattle.ada_triggers.proofs.Quitting.{master_put, unheld_put}
 use Rattle.ada_triggers.proofs.masters.put_master.Goals as goal
 
 pub put_holder-requires-clause-known : goal.put_holder-requires-clause-known
 put_holder-requires-clause-known c =
     c.requires.known _ (sym c.holder_of.ensures ∙ ap (option_map (λ (t : TaskNo). t.0)) c.in-Some.is)
-
-pub put_dependent-requires-clause-many : goal.put_dependent-requires-clause-many
-put_dependent-requires-clause-many c = c.put_holder.ensures.grows.many ∙ c.requires.many
 
 pub returns-in-Some : goal.returns-in-Some
 returns-in-Some c =

@@ -7,9 +7,6 @@ use Rattle.ada_triggers.proofs.masters.put_outward.Goals as goal
 pub loop-holder-init : goal.loop-holder-init
 loop-holder-init c = way_begins c.args.view.now c.args.task.0 c.args.agenda.now c.requires.known c.requires.live
 
-pub put_holder-requires-clause-many : goal.put_holder-requires-clause-many
-put_holder-requires-clause-many c = c.loop-holder.invariant.grows.many ∙ c.requires.many
-
 pub put_holder-requires-clause-known : goal.put_holder-requires-clause-known
 put_holder-requires-clause-known c =
     holder_known c.args.view.now c.args.task.0 c.loop-holder.inner.0 _ c.args.agenda.now c.loop-holder.agenda c.requires.lawful c.loop-holder.invariant

@@ -7,9 +7,6 @@ use Rattle.ada_triggers.proofs.moments.put_all_due.Goals as goal
 pub loop-number-init : goal.loop-number-init
 loop-number-init c = puts_none c.args.agenda.now (AsDue c.args.view.now c.args.tick.now)
 
-pub put_due-requires-clause-many : goal.put_due-requires-clause-many
-put_due-requires-clause-many c = c.loop-number.invariant.grows.many ∙ c.requires.many
-
 pub loop-number-preserved : goal.loop-number-preserved
 loop-number-preserved c =
     puts_more c.args.agenda.now c.loop-number.agenda c.put_due.new.agenda (AsDue c.args.view.now c.args.tick.now) c.loop-number.number c.loop-number.invariant

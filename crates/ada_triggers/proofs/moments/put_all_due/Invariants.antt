@@ -1,4 +1,5 @@
-use Rattle.ada_triggers.specs.internal.Keys.{Puts, OfFirst, AsDue}
+use Rattle.ada_agenda.specs.Keeping.{Puts}
+use Rattle.ada_triggers.specs.internal.Keys.{OfFirst, AsDue}
 use Rattle.ada_triggers.proofs.moments.put_all_due.Given as goal
 
 abbrev pub invariant-loop-number : goal.invariant-loop-number

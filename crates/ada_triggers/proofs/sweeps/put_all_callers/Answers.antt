@@ -7,9 +7,6 @@ use Rattle.ada_triggers.proofs.sweeps.put_all_callers.Goals as goal
 pub loop-number-init : goal.loop-number-init
 loop-number-init c = puts_none c.args.agenda.now (AsCaller c.args.view.now c.args.callee.0)
 
-pub put_caller-requires-clause-many : goal.put_caller-requires-clause-many
-put_caller-requires-clause-many c = c.loop-number.invariant.grows.many ∙ c.requires.many
-
 pub loop-number-preserved : goal.loop-number-preserved
 loop-number-preserved c =
     puts_more c.args.agenda.now c.loop-number.agenda c.put_caller.new.agenda (AsCaller c.args.view.now c.args.callee.0) c.loop-number.number

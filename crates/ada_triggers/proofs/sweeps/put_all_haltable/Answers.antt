@@ -7,9 +7,6 @@ use Rattle.ada_triggers.proofs.sweeps.put_all_haltable.Goals as goal
 pub loop-number-init : goal.loop-number-init
 loop-number-init c = puts_none c.args.agenda.now (AsHaltable c.args.view.now)
 
-pub put_haltable-requires : goal.put_haltable-requires
-put_haltable-requires c = c.loop-number.invariant.grows.many ∙ c.requires.many
-
 pub loop-number-preserved : goal.loop-number-preserved
 loop-number-preserved c =
     puts_more c.args.agenda.now c.loop-number.agenda c.put_haltable.new.agenda (AsHaltable c.args.view.now) c.loop-number.number c.loop-number.invariant

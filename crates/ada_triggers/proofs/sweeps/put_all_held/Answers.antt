@@ -7,9 +7,6 @@ use Rattle.ada_triggers.proofs.sweeps.put_all_held.Goals as goal
 pub loop-number-init : goal.loop-number-init
 loop-number-init c = puts_none c.args.agenda.now (AsHeld c.args.view.now c.args.row)
 
-pub put_held-requires-clause-many : goal.put_held-requires-clause-many
-put_held-requires-clause-many c = c.loop-number.invariant.grows.many ∙ c.requires.many
-
 pub loop-number-preserved : goal.loop-number-preserved
 loop-number-preserved c =
     puts_more c.args.agenda.now c.loop-number.agenda c.put_held.new.agenda (AsHeld c.args.view.now c.args.row) c.loop-number.number c.loop-number.invariant

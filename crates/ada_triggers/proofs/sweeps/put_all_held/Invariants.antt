@@ -1,4 +1,5 @@
-use Rattle.ada_triggers.specs.internal.Keys.{Puts, OfFirst, AsHeld}
+use Rattle.ada_agenda.specs.Keeping.{Puts}
+use Rattle.ada_triggers.specs.internal.Keys.{OfFirst, AsHeld}
 use Rattle.ada_triggers.proofs.sweeps.put_all_held.Given as goal
 
 abbrev pub invariant-loop-number : goal.invariant-loop-number

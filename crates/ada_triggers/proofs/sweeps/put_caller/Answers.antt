@@ -1,12 +1,11 @@
-use Rattle.std.proofs.Common.{◌∙◌}
 use Rattle.ada_agenda.proofs.Noting.{held_fits}
 use Rattle.ada_triggers.proofs.Putting.{caller_put}
 use Rattle.ada_triggers.proofs.sweeps.put_caller.Goals as goal
 
-pub put_at_if-requires-clause-fits : goal.put_at_if-requires-clause-fits
-put_at_if-requires-clause-fits c some = held_fits c.args.view.now c.args.task.0 _ c.requires.lawful c.record-at.ensures.right.suspension.at some
+pub put_if-requires : goal.put_if-requires
+put_if-requires c = held_fits c.args.view.now c.args.task.0 _ c.requires c.record-at.ensures.right.suspension.at
 
 pub returns : goal.returns
 returns c =
-    caller_put c.args.view.now c.args.agenda.now c.put_at_if.new.agenda c.args.callee.0 c.args.task.0 c.record-at.result.suspension.at c.requires.lawful
-    c.record-at.ensures.right.suspension.at c.put_at_if.ensures.grows (λ called some. c.put_at_if.ensures.here (c.calls_at-calls.ensures ∙ called) some)
+    caller_put c.args.view.now c.args.agenda.now c.put_if.new.agenda c.args.callee.0 c.args.task.0 c.record-at.result.suspension.at _ c.requires
+    c.record-at.ensures.right.suspension.at c.calls_at-calls.ensures c.put_if.ensures

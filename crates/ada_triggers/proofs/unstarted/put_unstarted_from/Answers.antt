@@ -8,9 +8,6 @@ use Rattle.ada_triggers.proofs.unstarted.put_unstarted_from.Goals as goal
 pub loop-number-init : goal.loop-number-init
 loop-number-init c = none_below c.args.view.now c.args.agenda.now c.args.from c.requires.bound
 
-pub put_unstarted-requires-clause-many : goal.put_unstarted-requires-clause-many
-put_unstarted-requires-clause-many c = c.loop-number.invariant.grows.many ∙ c.requires.many
-
 pub loop-number-preserved : goal.loop-number-preserved
 loop-number-preserved c =
     puts_more c.args.agenda.now c.loop-number.agenda c.put_unstarted.new.agenda (AsUnstarted c.args.view.now) c.loop-number.number c.loop-number.invariant

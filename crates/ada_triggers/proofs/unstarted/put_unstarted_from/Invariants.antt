@@ -1,4 +1,5 @@
-use Rattle.ada_triggers.specs.internal.Keys.{Puts, OfFirst, AsUnstarted}
+use Rattle.ada_agenda.specs.Keeping.{Puts}
+use Rattle.ada_triggers.specs.internal.Keys.{OfFirst, AsUnstarted}
 use Rattle.ada_triggers.proofs.unstarted.put_unstarted_from.Given as goal
 
 abbrev pub invariant-loop-number : goal.invariant-loop-number

@@ -17,4 +17,4 @@ loop-preserved c = (
 
 pub invariant_of-result : goal.invariant_of-result
 invariant_of-result c =
-    none_filled c.loop.sets.items c.args.rows (omega (arith, c.loop.invariant.0, c.loop-test.false, c.loop.auto.counter-end)) c.requires c.loop.invariant.1
+    none_filled c.loop.sets.items (omega (arith, c.loop.invariant.0, c.loop-test.false, c.loop.auto.counter-end)) c.loop.invariant.1

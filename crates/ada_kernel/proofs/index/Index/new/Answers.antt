@@ -25,7 +25,7 @@ returns-clause-ok c = record {
     timed = refl;
   };
   slots = ap length c.in_ok-tables.ensures.queues;
-  agenda = empty_agenda c.in_ok-agenda.agenda c.in_ok-agenda.ensures.rows;
+  agenda = empty_agenda c.in_ok-agenda.agenda;
   due = c.new-next_due.ensures.bound;
   unstarted = c.new-unstarted.ensures.bound;
 }
