@@ -20,7 +20,8 @@ use Rattle.ada_rows.specs.Newly.{IsCallOf}
 use Rattle.ada_rows.specs.Rows.{rank, step_at}
 use Rattle.ada_agenda.specs.Rows.{keeps}
 use Rattle.ada_records.specs.Records.{IsHeldAt}
-use Rattle.ada_agenda.specs.Keeping.{has_key, IsAgendaOf, Grows, Puts, Both, AsKey, When}
+use Rattle.ada_agenda.specs.Keeping.{has_key, IsAgendaOf, Grows, Puts, AsKey, When}
+use Rattle.ada_agenda.specs.internal.Keeping.{Both}
 use Rattle.ada_agenda.specs.Keeping.AsKey.{itself as that_key}
 use Rattle.ada_agenda.specs.Keeping.When.{holds_so}
 use Rattle.ada_rows.specs.Touching.{is_uncallable}

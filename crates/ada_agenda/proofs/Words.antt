@@ -9,7 +9,8 @@ use Rattle.std.proofs.lemmas.List.Sums.{sum_by-set}
 use Rattle.std.proofs.lemmas.List.{length-set, get_or-set_same, get_or-set_other}
 use Rattle.std.proofs.lemmas.Nat.Bits.{bit_at-zero, bit_at_set_same, bit_at_set_other, bit_at_clear_same, bit_at_clear_other, bit_at-trailing_zeros}
 use Rattle.ada_agenda.specs.Bits.{has}
-use Rattle.ada_agenda.specs.internal.Bits.{with_bit, without_bit, word_sum, AreHeads}
+use Rattle.ada_agenda.specs.internal.Bits.{with_bit, without_bit, AreHeads}
+use Rattle.ada_agenda.specs.Bits.{word_sum}
 
 pub set_here : (words : List ℕ) (n : ℕ) → n < 64 * length words → has (with_bit words n) n ≡ true
 unfolding has

@@ -1,5 +1,5 @@
 -- Agendas that are kept as sets of numbers, one for each row of the forced steps, and keys that are put into them.
-use Rattle.std.specs.Prelude.{◌≡◌, ◌⊎◌, ℕ, Bool, true, List}
+use Rattle.std.specs.Prelude.{◌≡◌, ℕ, Bool, true, List}
 use Rattle.ada_events.specs.declared.event.Event.{Event}
 use Rattle.ada_rows.specs.declared.row.Row.{Row}
 use Rattle.ada_rows.specs.Rows.{rank, IsAgenda}
@@ -25,10 +25,6 @@ pub record Puts (old new : List (List ℕ)) (Key : Row → ℕ → Type 0) : Typ
 -- that key, in that row
 pub data AsKey (at : Row) (k : ℕ) : Row → ℕ → Type 0 where
   itself : AsKey at k at k
-
--- these keys and those
-abbrev pub Both : (Row → ℕ → Type 0) → (Row → ℕ → Type 0) → Row → ℕ → Type 0
-Both One Other row key = One row key ⊎ Other row key
 
 -- these keys, where that is so
 pub data When (so : Bool) (Key : Row → ℕ → Type 0) (row : Row) (key : ℕ) : Type 0 where

@@ -3,7 +3,7 @@
 ghost use Rattle.std.specs.Prelude.{◌≡◌, ◌≢◌, ◌<◌, ◌⊎◌, ℕ, true, false, IfOk, IfSome, IfNone};
 ghost use Rattle.ada_rows.specs.Rows.{IsFirst};
 ghost use Rattle.ada_agenda.specs.Keeping.{has_key};
-ghost use Rattle.ada_agenda.specs.internal.Rows.{weight};
+ghost use Rattle.ada_agenda.specs.Rows.{weight};
 
 use crate::{Numbers, bits};
 use ada_rows::Row;

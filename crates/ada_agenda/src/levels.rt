@@ -2,7 +2,8 @@
 
 ghost use Rattle.std.specs.Prelude.{◌≡◌, ◌≢◌, ℕ, ◌<◌, ◌*◌, true, false, length, slice_index};
 ghost use Rattle.ada_agenda.specs.Bits.{has};
-ghost use Rattle.ada_agenda.specs.internal.Bits.{without_bit, word_sum, AreHeads, AreLevels};
+ghost use Rattle.ada_agenda.specs.internal.Bits.{without_bit, AreHeads, AreLevels};
+ghost use Rattle.ada_agenda.specs.Bits.{word_sum};
 
 use crate::bits::{insert, least_in, remove};
 

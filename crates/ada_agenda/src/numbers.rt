@@ -2,7 +2,7 @@
 
 ghost use Rattle.std.specs.Prelude.{◌≡◌, ◌≢◌, ◌<◌, ℕ, true, false, length, slice_index_or, IfOk, IfSome, IfNone};
 ghost use Rattle.ada_agenda.specs.Bits.{has};
-ghost use Rattle.ada_agenda.specs.internal.Bits.{word_sum};
+ghost use Rattle.ada_agenda.specs.Bits.{word_sum};
 
 use crate::levels::{first, put, take};
 use ada_events::limits::MOST_EVENTS;

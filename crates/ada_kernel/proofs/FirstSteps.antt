@@ -1,7 +1,7 @@
 -- Meeting the step at the first key, and what it leaves where there is none.
 use Rattle.std.proofs.Common.{◌≡◌, ◌≢◌, ◌⊎◌, ℕ, ◌+◌, ◌<◌, ◌≤◌, Bool, true, false, Some, List, ◌∷◌, sym, ap, ◌∙◌, subst}
 use Rattle.std.proofs.lemmas.Bool.{false≢true}
-use Rattle.ada_agenda.specs.internal.Rows.{weight}
+use Rattle.ada_agenda.specs.Rows.{weight}
 use Rattle.ada_events.specs.declared.event.Event.{Event}
 use Rattle.ada_events.specs.Forced.{forced}
 use Rattle.ada_events.specs.Journals.{Kept}

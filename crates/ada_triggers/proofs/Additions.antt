@@ -15,7 +15,8 @@ use Rattle.ada_rows.specs.Rows.{step_at}
 use Rattle.ada_rows.specs.declared.row.Row.{Row}
 use Rattle.ada_rows.specs.declared.row.Row.TheVariants.{Failing, QuittingBlock, Leaving}
 use Rattle.ada_agenda.specs.Additions.{adds_nothing}
-use Rattle.ada_agenda.specs.Keeping.{has_key, IsAgendaOf, Puts, Both, AsKey}
+use Rattle.ada_agenda.specs.Keeping.{has_key, IsAgendaOf, Puts, AsKey}
+use Rattle.ada_agenda.specs.internal.Keeping.{Both}
 use Rattle.ada_agenda.specs.Kinds.{itself as own, IsOpenCallTo, IsHit, OfClose, OfAbort, Adds}
 use Rattle.ada_agenda.specs.Kinds.OfClose.{leaves as close_leaves, quits as close_quits, abandons as close_abandons}
 use Rattle.ada_agenda.specs.Kinds.OfAbort.{halts as abort_halts, fails as abort_fails}

@@ -19,7 +19,8 @@ use Rattle.ada_laws.proofs.Growing.{is_terminated-more, has_ended-terminated}
 use Rattle.ada_rows.specs.Rows.{step_at}
 use Rattle.ada_rows.specs.declared.row.Row.{Row}
 use Rattle.ada_records.specs.Records.{IsHeldAt}
-use Rattle.ada_agenda.specs.Keeping.{has_key, IsAgendaOf, Puts, Both}
+use Rattle.ada_agenda.specs.Keeping.{has_key, IsAgendaOf, Puts}
+use Rattle.ada_agenda.specs.internal.Keeping.{Both}
 use Rattle.ada_agenda.specs.Kinds.{quitting_row, quitting_key, OfCompletion, OfHalt, OfCancellation, Adds}
 use Rattle.ada_agenda.specs.Kinds.OfCompletion.{quits as task_quits}
 use Rattle.ada_agenda.specs.Kinds.OfHalt.{completes, quits_block, empties}

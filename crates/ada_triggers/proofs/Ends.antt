@@ -28,7 +28,8 @@ use Rattle.ada_rows.specs.Touching.{is_uncallable}
 use Rattle.ada_rows.specs.Rows.{step_at}
 use Rattle.ada_rows.specs.declared.row.Row.{Row}
 use Rattle.ada_rows.specs.declared.row.Row.TheVariants.{Failing, Activating, Terminating, QuittingBody, Leaving}
-use Rattle.ada_agenda.specs.Keeping.{has_key, IsAgendaOf, Puts, Both}
+use Rattle.ada_agenda.specs.Keeping.{has_key, IsAgendaOf, Puts}
+use Rattle.ada_agenda.specs.internal.Keeping.{Both}
 use Rattle.ada_agenda.specs.Kinds.{quitting_row, quitting_key, IsOpenCallTo, OfElaboration, OfCompletion, OfTermination, Adds}
 use Rattle.ada_agenda.specs.Kinds.OfElaboration.{activates as task_up}
 use Rattle.ada_agenda.specs.Kinds.OfCompletion.{goes as task_goes, quits as body_quits, fails as call_fails, activates as start_ends}

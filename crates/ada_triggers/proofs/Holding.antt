@@ -18,7 +18,8 @@ use Rattle.ada_laws.proofs.Framing.{IsBlockOf}
 use Rattle.ada_rows.specs.declared.row.Row.{Row}
 use Rattle.ada_rows.specs.declared.row.Row.TheVariants.{Terminating, QuittingBody, QuittingBlock, Leaving}
 use Rattle.ada_tables.specs.Dependents.{has_block, holds}
-use Rattle.ada_agenda.specs.Keeping.{has_key, Puts, Both, When, AsKey}
+use Rattle.ada_agenda.specs.Keeping.{has_key, Puts, When, AsKey}
+use Rattle.ada_agenda.specs.internal.Keeping.{Both}
 use Rattle.ada_agenda.specs.Kinds.{quitting_row, quitting_key}
 use Rattle.ada_agenda.proofs.Noting.{grows_same}
 use Rattle.ada_records.proofs.Owners.{block_in_nest, contains_block, has_contained}

@@ -21,7 +21,8 @@ use Rattle.ada_rows.specs.Rows.{step_at}
 use Rattle.ada_rows.specs.declared.row.Row.{Row}
 use Rattle.ada_rows.specs.declared.row.Row.TheVariants.{Meeting, Passing}
 use Rattle.ada_records.proofs.Holding.{holder_ran}
-use Rattle.ada_agenda.specs.Keeping.{IsAgendaOf, Puts, Both, When, AsKey}
+use Rattle.ada_agenda.specs.Keeping.{IsAgendaOf, Puts, When, AsKey}
+use Rattle.ada_agenda.specs.internal.Keeping.{Both}
 use Rattle.ada_agenda.specs.Kinds.{itself as own, quitting_row, quitting_key, OfWait, Adds}
 use Rattle.ada_agenda.specs.Kinds.OfWait.{takes, passes, quits as wait_quits}
 use Rattle.ada_agenda.proofs.Noting.{own_is, noted_giving, both_put, not_put}

@@ -1,6 +1,5 @@
 -- Sets of numbers, each a bit.
 use Rattle.std.specs.Prelude.{◌≡◌, ℕ, ◌*◌, ◌/◌, ◌%◌, ◌-◌, ◌^◌, ◌<◌, ◌≤◌, true, not, List, length, slice_index_or, slice_set, ◌==◌, bit_and, bit_or}
-use Rattle.std.specs.List.{sum_by}
 use Rattle.ada_agenda.specs.Bits.{has}
 
 -- the words with one bit set, and with one cleared
@@ -9,10 +8,6 @@ with_bit words n = slice_set words (n / 64) (bit_or (slice_index_or words (n / 6
 
 abbrev pub without_bit : List ℕ → ℕ → List ℕ
 without_bit words n = slice_set words (n / 64) (bit_and (slice_index_or words (n / 64) 0) (2 ^ 64 - 1 - 1 * 2 ^ (n % 64) % 2 ^ 64))
-
--- the sum of the words, which falls when a bit is cleared
-abbrev pub word_sum : List ℕ → ℕ
-word_sum words = sum_by (λ word. word) words
 
 -- the upper level has exactly the words that aren't empty
 pub record AreHeads (low high : List ℕ) : Type 0 where

@@ -1,13 +1,7 @@
 -- Sets of numbers in rows.
 use Rattle.std.specs.Prelude.{◌≡◌, ℕ, ◌<◌, true, List, length}
-use Rattle.std.specs.List.{sum_by}
 use Rattle.ada_agenda.specs.Bits.{has}
-use Rattle.ada_agenda.specs.internal.Bits.{word_sum}
 use Rattle.ada_agenda.specs.Rows.{keeps}
-
--- the sum of the words of all rows, which falls when a number is taken out
-abbrev pub weight : List (List ℕ) → ℕ
-weight rows = sum_by word_sum rows
 
 -- there is a set for each row; a row that has a number has its bit, and a bit is one of a row
 pub record AreFilled (rows : List (List ℕ)) (filled : List ℕ) : Type 0 where

@@ -22,7 +22,8 @@ use Rattle.ada_rows.specs.Touching.{is_uncallable}
 use Rattle.ada_rows.specs.declared.row.Row.{Row}
 use Rattle.ada_rows.specs.declared.row.Row.TheVariants.{Halting, Failing, Activating, Terminating, QuittingBody, QuittingBlock, Leaving}
 use Rattle.ada_tables.specs.Dependents.{holds}
-use Rattle.ada_agenda.specs.Keeping.{Both, When, AsKey}
+use Rattle.ada_agenda.specs.Keeping.{When, AsKey}
+use Rattle.ada_agenda.specs.internal.Keeping.{Both}
 use Rattle.ada_agenda.specs.Kinds.{quitting_row, quitting_key, due_in, due_row, IsActivationOf}
 
 -- the keys of one of the first so many tasks

@@ -1,5 +1,5 @@
 use Rattle.std.proofs.Common.{◌≡◌}
-use Rattle.ada_agenda.specs.internal.Bits.{word_sum}
+use Rattle.ada_agenda.specs.Bits.{word_sum}
 use Rattle.ada_agenda.specs.internal.Rows.{AreFilled}
 use Rattle.ada_agenda.proofs.agenda.Agenda.first.Given as goal
 

@@ -1,5 +1,5 @@
 use Rattle.std.proofs.Common.{◌≡◌}
-use Rattle.ada_agenda.specs.internal.Rows.{weight}
+use Rattle.ada_agenda.specs.Rows.{weight}
 use Rattle.ada_kernel.specs.internal.Indexes.{IsIndexOf}
 use Rattle.ada_kernel.proofs.answering.IndexEngine.advance.Given as goal
 
