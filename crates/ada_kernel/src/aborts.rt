@@ -33,15 +33,9 @@ impl Index {
         let view = kept.view(journal);
         let hit = hit(&view, tasks);
         after_abort(&mut self.agenda, &view, event, by, tasks);
-        record_abort(
-            kept.records.as_mut_slice(),
-            journal,
-            event,
-            by,
-            tasks,
-            hit.as_slice(),
-        );
-        follow_abort(&mut kept.tables, &kept.records, journal, event, by, tasks);
+        let records = kept.records.as_mut_slice();
+        record_abort(records, hit.as_slice());
+        follow_abort(&mut kept.tables, records, journal, event, by, tasks);
     }
 
     // Aborts tasks.
@@ -81,8 +75,9 @@ impl Index {
         let kept = &mut self.kept;
         let view = kept.view(journal);
         after_halt(&mut self.agenda, &mut self.unstarted, &view, event, task);
-        record_halt(kept.records.as_mut_slice(), journal, event, task);
-        follow_halt(&mut kept.tables, &kept.records, journal, event, task);
+        let records = kept.records.as_mut_slice();
+        record_halt(records, task);
+        follow_halt(&mut kept.tables, records, journal, event, task);
     }
 
     // Halts the task of that number (9.10), where it is to be halted.

@@ -15,7 +15,9 @@ use ada_admission::activation::{refusal_of_activate, refusal_of_elaborated};
 use ada_agenda::keeping;
 use ada_events::{Event, Journal, Refusal, TaskList, TaskNo, Tasks};
 use ada_records::activation::{follow_elaboration, follow_start};
-use ada_records::records::{holder_at, record_elaboration, record_release, record_start};
+use ada_records::records::{
+    activation_outcome, holder_at, record_elaboration, record_release, record_start,
+};
 use ada_records::suspension::follow_release;
 use ada_steps::make_room;
 use ada_triggers::endings::after_elaboration;
@@ -30,8 +32,9 @@ impl Index {
     {
         let kept = &mut self.kept;
         keeping::put_start_keys(&mut self.agenda, journal, event);
-        record_start(kept.records.as_mut_slice(), journal, event, by, tasks);
-        follow_start(&mut kept.tables, &kept.records, journal, event, by, tasks);
+        let records = kept.records.as_mut_slice();
+        record_start(records, by, journal.len() + 1, tasks);
+        follow_start(&mut kept.tables, records, journal, event, by, tasks);
     }
 
     // Starts the activation of tasks.
@@ -70,8 +73,9 @@ impl Index {
         let kept = &mut self.kept;
         let view = kept.view(journal);
         after_elaboration(&mut self.agenda, &mut self.unstarted, &view, event, by, ok);
-        record_elaboration(kept.records.as_mut_slice(), journal, event, by, ok);
-        follow_elaboration(&mut kept.tables, &kept.records, journal, event, by, ok);
+        let records = kept.records.as_mut_slice();
+        record_elaboration(records, by, ok);
+        follow_elaboration(&mut kept.tables, records, journal, event, by, ok);
     }
 
     // Ends a task's own activation, by an exception where `ok` is false.
@@ -99,18 +103,19 @@ impl Index {
     }
 
     // Notes that an activation ends, and goes past the tasks that were started, so that nothing later has to.
-    fn note_activation(&mut self, journal: &Journal, event: &Event, start: u32, _ok: bool)
+    fn note_activation(&mut self, journal: &Journal, event: &Event, start: u32, ok: bool)
         requires lawful { IsLawful (event.now ∷ journal.now.events) }
         requires stands { IsIndexOf self.old journal.now.events }
-        requires activates { event.now ≡ ActivatedEvent start _ok }
+        requires activates { event.now ≡ ActivatedEvent start ok }
         ensures { IsIndexOf self.new (event.now ∷ journal.now.events) }
     {
         let task = holder_at(journal, start);
         let kept = &mut self.kept;
         let view = kept.view(journal);
         self.unstarted.advance(&view);
-        record_release(kept.records.as_mut_slice(), journal, event, task, start);
-        follow_release(&mut kept.tables, &kept.records, journal, event, start, task);
+        let records = kept.records.as_mut_slice();
+        record_release(records, task, activation_outcome(ok));
+        follow_release(&mut kept.tables, records, journal, event, start, task);
     }
 
     // Ends the activation that started at a position (9.3), where all its tasks are done.

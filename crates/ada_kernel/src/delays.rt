@@ -13,7 +13,7 @@ ghost use Rattle.ada_steps.specs.Beginning.{HasBegun};
 use crate::index::Index;
 use ada_admission::delays::{refusal_of_delay, refusal_of_tick};
 use ada_agenda::keeping::put_delay_keys;
-use ada_events::{Event, Journal, Refusal, TaskNo, due_after};
+use ada_events::{Event, Journal, Outcome, Refusal, TaskNo, due_after};
 use ada_records::records::{holder_at, record_hold, record_release};
 use ada_records::suspension::{follow_hold, follow_release, follow_tick};
 use ada_steps::make_room;
@@ -31,8 +31,9 @@ impl Index {
         let kept = &mut self.kept;
         put_delay_keys(&mut self.agenda, journal, event);
         self.next_due = self.next_due.with(Some(due));
-        record_hold(kept.records.as_mut_slice(), journal, event, by);
-        follow_hold(&mut kept.tables, &kept.records, journal, event, by);
+        let records = kept.records.as_mut_slice();
+        record_hold(records, by, journal.len() + 1, false);
+        follow_hold(&mut kept.tables, records, journal, event, by);
     }
 
     // Delays a task by a duration.
@@ -69,8 +70,9 @@ impl Index {
     {
         let task = holder_at(journal, pause);
         let kept = &mut self.kept;
-        record_release(kept.records.as_mut_slice(), journal, event, task, pause);
-        follow_release(&mut kept.tables, &kept.records, journal, event, pause, task);
+        let records = kept.records.as_mut_slice();
+        record_release(records, task, Outcome::Awake);
+        follow_release(&mut kept.tables, records, journal, event, pause, task);
     }
 
     // Ends the delay at a position (9.6), where its moment has come.

@@ -18,7 +18,9 @@ use ada_admission::masters::{
     refusal_of_close, refusal_of_complete, refusal_of_create, refusal_of_open,
 };
 use ada_agenda::keeping::put_creation_keys;
-use ada_events::{Event, Families, FamilyList, Journal, Master, Refusal, TaskNo, member_position};
+use ada_events::{
+    Event, Families, FamilyList, Journal, Master, Outcome, Refusal, TaskNo, member_position,
+};
 use ada_records::masters::{
     follow_completion, follow_creation, follow_leaving, follow_opening, follow_quitting,
     follow_termination,
@@ -54,7 +56,7 @@ impl Index {
         self.kept.records.reserve(1)?;
         self.kept.made.reserve(1)?;
         follow_creation(&mut self.kept.tables, journal, event, master, families)?;
-        record_creation(&mut self.kept.records, journal, event);
+        record_creation(&mut self.kept.records);
         self.kept.made.push_reserved(journal.len() + 1);
         put_creation_keys(&mut self.agenda, journal, event, tasks);
         Ok(())
@@ -142,8 +144,9 @@ impl Index {
             by,
             block,
         );
-        record_hold(kept.records.as_mut_slice(), journal, event, by);
-        follow_hold(&mut kept.tables, &kept.records, journal, event, by);
+        let records = kept.records.as_mut_slice();
+        record_hold(records, by, journal.len() + 1, false);
+        follow_hold(&mut kept.tables, records, journal, event, by);
     }
 
     // Closes a task's innermost block.
@@ -175,8 +178,9 @@ impl Index {
     {
         let task = holder_at(journal, close);
         let kept = &mut self.kept;
-        record_release(kept.records.as_mut_slice(), journal, event, task, close);
-        follow_leaving(&mut kept.tables, &kept.records, journal, event, close, task);
+        let records = kept.records.as_mut_slice();
+        record_release(records, task, Outcome::BlockLeft);
+        follow_leaving(&mut kept.tables, records, journal, event, close, task);
     }
 
     // Lets the block be left that is closed at a position (9.4), where all its dependents are terminated.
@@ -204,8 +208,9 @@ impl Index {
         let kept = &mut self.kept;
         let view = kept.view(journal);
         after_completion(&mut self.agenda, &mut self.unstarted, &view, event, by);
-        record_completion(kept.records.as_mut_slice(), journal, event, by);
-        follow_completion(&mut kept.tables, &kept.records, journal, event, by);
+        let records = kept.records.as_mut_slice();
+        record_completion(records, by);
+        follow_completion(&mut kept.tables, records, journal, event, by);
     }
 
     // Completes a task.
@@ -242,8 +247,9 @@ impl Index {
         let kept = &mut self.kept;
         let view = kept.view(journal);
         after_termination(&mut self.agenda, &view, event, task);
-        record_termination(kept.records.as_mut_slice(), journal, event, task);
-        follow_termination(&mut kept.tables, &kept.records, journal, event, task);
+        let records = kept.records.as_mut_slice();
+        record_termination(records, task);
+        follow_termination(&mut kept.tables, records, journal, event, task);
     }
 
     // Lets the task of that number terminate by itself (9.3, 9.4), where it is to.
@@ -278,16 +284,11 @@ impl Index {
         let view = kept.view(journal);
         let dependents = dependents(&view, master);
         after_quit(&mut self.agenda, &mut self.unstarted, &view, event, master);
-        record_quit(
-            kept.records.as_mut_slice(),
-            journal,
-            event,
-            master,
-            dependents.as_slice(),
-        );
+        let records = kept.records.as_mut_slice();
+        record_quit(records, dependents.as_slice());
         follow_quitting(
             &mut kept.tables,
-            &kept.records,
+            records,
             journal,
             event,
             master,

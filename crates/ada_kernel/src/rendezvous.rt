@@ -17,8 +17,8 @@ ghost use Rattle.ada_events.specs.declared.request.Tail.TheVariants.{Nothing};
 use crate::index::Index;
 use ada_admission::rendezvous::{refusal_of_accept, refusal_of_call, refusal_of_end};
 use ada_events::{
-    Choice, ChoiceList, Entry, Event, EventTail, Journal, Patience, Refusal, TaskNo, call_due,
-    member_position,
+    Choice, ChoiceList, Entry, Event, EventTail, Journal, Outcome, Patience, Refusal, TaskNo,
+    call_due, member_position,
 };
 use ada_records::records::{holder_at, record_end, record_hold, record_meeting, record_release};
 use ada_records::rendezvous::{
@@ -52,16 +52,9 @@ impl Index {
         let view = kept.view(journal);
         calls::after_call(&mut self.agenda, &view, event, callee);
         self.next_due = self.next_due.with(due);
-        record_hold(kept.records.as_mut_slice(), journal, event, by);
-        follow_call(
-            &mut kept.tables,
-            &kept.records,
-            journal,
-            event,
-            by,
-            callee,
-            entry,
-        );
+        let records = kept.records.as_mut_slice();
+        record_hold(records, by, journal.len() + 1, false);
+        follow_call(&mut kept.tables, records, journal, event, by, callee, entry);
     }
 
     // Answers a call (9.5).
@@ -111,8 +104,9 @@ impl Index {
         let kept = &mut self.kept;
         let view = kept.view(journal);
         calls::after_accept(&mut self.agenda, &view, event, by, pick, entry);
-        record_hold(kept.records.as_mut_slice(), journal, event, by);
-        follow_hold(&mut kept.tables, &kept.records, journal, event, by);
+        let records = kept.records.as_mut_slice();
+        record_hold(records, by, journal.len() + 1, false);
+        follow_hold(&mut kept.tables, records, journal, event, by);
     }
 
     // Answers an accept statement (9.5): a wait with one open choice and nothing else.
@@ -162,24 +156,9 @@ impl Index {
         let kept = &mut self.kept;
         let view = kept.view(journal);
         calls::after_end(&mut self.agenda, &view, event, by, call, raised);
-        record_end(
-            kept.records.as_mut_slice(),
-            journal,
-            event,
-            by,
-            caller,
-            call,
-            raised,
-        );
-        follow_end(
-            &mut kept.tables,
-            &kept.records,
-            journal,
-            event,
-            by,
-            caller,
-            call,
-        );
+        let records = kept.records.as_mut_slice();
+        record_end(records, by, caller, raised);
+        follow_end(&mut kept.tables, records, journal, event, by, caller, call);
     }
 
     // Answers the end of an accept statement (9.5), by an exception where `raised` is true (11.5).
@@ -218,19 +197,12 @@ impl Index {
         let caller = holder_at(journal, call);
         let acceptor = holder_at(journal, wait);
         let choice = self.view(journal).choice_met(wait);
-        record_meeting(
-            self.kept.records.as_mut_slice(),
-            journal,
-            event,
-            caller,
-            acceptor,
-            call,
-            wait,
-            choice,
-        );
+        let kept = &mut self.kept;
+        let records = kept.records.as_mut_slice();
+        record_meeting(records, caller, acceptor, call, choice);
         follow_meeting(
-            &mut self.kept.tables,
-            &self.kept.records,
+            &mut kept.tables,
+            records,
             journal,
             event,
             call,
@@ -268,15 +240,9 @@ impl Index {
         let kept = &mut self.kept;
         let view = kept.view(journal);
         calls::after_failure(&mut self.agenda, &view, event, call);
-        record_release(kept.records.as_mut_slice(), journal, event, caller, call);
-        follow_failure(
-            &mut kept.tables,
-            &kept.records,
-            journal,
-            event,
-            call,
-            caller,
-        );
+        let records = kept.records.as_mut_slice();
+        record_release(records, caller, Outcome::TaskingError);
+        follow_failure(&mut kept.tables, records, journal, event, call, caller);
     }
 
     // Lets the call at a position fail (9.5, 9.10), where it is to fail.
@@ -306,15 +272,9 @@ impl Index {
         let kept = &mut self.kept;
         let view = kept.view(journal);
         calls::after_cancellation(&mut self.agenda, &view, event, call);
-        record_release(kept.records.as_mut_slice(), journal, event, caller, call);
-        follow_cancellation(
-            &mut kept.tables,
-            &kept.records,
-            journal,
-            event,
-            call,
-            caller,
-        );
+        let records = kept.records.as_mut_slice();
+        record_release(records, caller, Outcome::Cancelled);
+        follow_cancellation(&mut kept.tables, records, journal, event, call, caller);
     }
 
     // Cancels the call at a position (9.7.2, 9.7.3), where it is to be cancelled.

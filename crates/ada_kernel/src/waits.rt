@@ -15,7 +15,7 @@ use ada_admission::waits::refusal_of_wait;
 use ada_events::{
     ChoiceList, Choices, Event, EventTail, Journal, Refusal, Tail, TaskNo, Way, asked_tail,
 };
-use ada_records::records::{holder_at, record_hold, record_release};
+use ada_records::records::{holder_at, may_terminate, record_hold, record_release, took};
 use ada_records::suspension::{follow_hold, follow_release};
 use ada_steps::make_room;
 use ada_triggers::calls::after_wait;
@@ -49,8 +49,9 @@ impl Index {
             tail,
         );
         self.next_due = self.next_due.with(tail_due(tail));
-        record_hold(kept.records.as_mut_slice(), journal, event, by);
-        follow_hold(&mut kept.tables, &kept.records, journal, event, by);
+        let records = kept.records.as_mut_slice();
+        record_hold(records, by, journal.len() + 1, may_terminate(tail));
+        follow_hold(&mut kept.tables, records, journal, event, by);
     }
 
     // Begins a selective wait.
@@ -91,16 +92,17 @@ impl Index {
     }
 
     // Notes that a wait ends without a call.
-    fn note_passing(&mut self, journal: &Journal, event: &Event, wait: u32, _way: Way)
+    fn note_passing(&mut self, journal: &Journal, event: &Event, wait: u32, way: Way)
         requires lawful { IsLawful (event.now ∷ journal.now.events) }
         requires stands { IsIndexOf self.old journal.now.events }
-        requires passes { event.now ≡ PassedEvent wait _way }
+        requires passes { event.now ≡ PassedEvent wait way }
         ensures { IsIndexOf self.new (event.now ∷ journal.now.events) }
     {
         let task = holder_at(journal, wait);
         let kept = &mut self.kept;
-        record_release(kept.records.as_mut_slice(), journal, event, task, wait);
-        follow_release(&mut kept.tables, &kept.records, journal, event, wait, task);
+        let records = kept.records.as_mut_slice();
+        record_release(records, task, took(way));
+        follow_release(&mut kept.tables, records, journal, event, wait, task);
     }
 
     // Lets the wait at a position end without a call (9.7.1), where there is a way.

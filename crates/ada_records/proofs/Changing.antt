@@ -11,7 +11,8 @@ use Rattle.ada_events.specs.Says.{creation_in}
 use Rattle.ada_events.specs.Phases.{lists_task}
 use Rattle.ada_laws.proofs.Growing.{task_count-same}
 use Rattle.ada_records.specs.declared.record.Record.{Record}
-use Rattle.ada_records.specs.Records.{no_record, record_at, IsRecordOf, AreRecords, ListsLive}
+use Rattle.ada_records.specs.Records.{no_record, record_at, IsRecordOf, AreRecords}
+use Rattle.ada_records.specs.Noted.{HaveRecords}
 use Rattle.ada_records.specs.internal.Records.{HaveChanged}
 
 -- a change after which the same change says nothing new
@@ -40,10 +41,10 @@ changed_more change first now tasks i d new once so_far below known is = record 
       ];
 }
 
--- who is listed has a record
-pub listed_within : (before : List Event) (records now : List Record) (tasks : List TaskNo) (test : ℕ → Bool) (k : ℕ) (d : TaskNo) → AreRecords records before
-    → ListsLive before tasks test → length now ≡ length records → k < length tasks → (get_or tasks k d).0 < length now
-listed_within before records now tasks test k d stand lists same below = omega (arith, lists.exist k d below, stand.many, same)
+-- the records of listed tasks are there while none is added or lost
+pub still_there : (tasks : List TaskNo) (records now : List Record) (k : ℕ) (d : TaskNo) → HaveRecords tasks records → length now ≡ length records
+    → k < length tasks → (get_or tasks k d).0 < length now
+still_there tasks records now k d there same below = omega (arith, there k d below, same)
 
 -- the records of all listed tasks changed by an event that makes none
 pub all_changed : (change : Bool → Record → Record) (event : Event) (before : List Event) (records now : List Record) (tasks : List TaskNo) (i : ℕ)

@@ -24,7 +24,7 @@ use Rattle.ada_laws.proofs.Suspending.{is_suspended-from, suspended_cases, suspe
 use Rattle.ada_records.specs.declared.record.Suspension.{Suspension}
 use Rattle.ada_records.specs.Latest.{latest_outcome}
 use Rattle.ada_records.specs.Records.{IsHeldAt, IsDoingOf}
-use Rattle.ada_records.specs.internal.Records.{may_terminate}
+use Rattle.ada_records.specs.Noted.{may_terminate}
 use Rattle.ada_records.proofs.Callers.{IsAtTerminate, at_terminate}
 use Rattle.ada_records.proofs.Holding.{hold_only, held_newest, held_same, held_released, held_ended, suspended_later}
 use Rattle.ada_records.proofs.LatestOutcomes.{holds_are_held, releases_decide, others_keep_outcomes}

@@ -1,14 +1,13 @@
 -- What each kind of event says of the records.
 use Rattle.std.proofs.Common.{◌≡◌, ℕ, ℤ, Bool, false, Some, None, IsSome, List, [], ◌∷◌, sym, refl, ap, ◌∙◌, subst}
 use Rattle.ada_events.specs.declared.event.Event.{Event}
-use Rattle.ada_events.specs.declared.event.Event.TheVariants.{Created, Ended, Opened, Ticked}
+use Rattle.ada_events.specs.declared.event.Event.TheVariants.{Created, Opened, Ticked}
 use Rattle.ada_events.specs.declared.names.Family.{Family}
 use Rattle.ada_events.specs.declared.names.Master.{Master}
 use Rattle.ada_events.specs.declared.names.TaskNo.{TaskNo}
-use Rattle.ada_events.specs.declared.outcome.Outcome.TheVariants.{Served}
 use Rattle.ada_events.specs.Says.{held_in, released_in, completed_in, gone_in, quit_in, started_in, aborted_in, elaborated_in, failed_in, meeting_in}
 use Rattle.ada_events.specs.Says.{creation_in}
-use Rattle.ada_events.specs.Outcomes.{raised_in, released_to}
+use Rattle.ada_events.specs.Outcomes.{raised_in}
 use Rattle.ada_events.specs.Lawful.{IsLawful}
 use Rattle.ada_laws.proofs.Growing.{task_count-same}
 use Rattle.ada_records.specs.declared.record.Record.{Record}
@@ -21,16 +20,6 @@ holds_of e x task is holds starts = record { holds = ap held_in is ∙ holds; st
 pub releases_of : (e x : Event) (position : ℕ) → e ≡ x → released_in x ≡ Some position → meeting_in x ≡ None → raised_in x ≡ None → IsPlainRelease e position
 releases_of e x position is releases meets raises =
     record { releases = ap released_in is ∙ releases; meets = ap meeting_in is ∙ meets; raises = ap raised_in is ∙ raises }
-
-pub ended_plainly : (e : Event) (by : TaskNo) (call : ℕ) (raised : Bool) → e ≡ Ended by call raised → raised ≡ false → IsPlainRelease e call
-unfolding released_in meeting_in raised_in
-ended_plainly e by call raised is plainly = releases_of e (Ended by call false) call (is ∙ ap (Ended by call) plainly) refl refl refl
-
--- what becomes of a call whose rendezvous ends without an exception
-pub ended_serves : (e : Event) (before : List Event) (by : TaskNo) (call : ℕ) (raised : Bool) → e ≡ Ended by call raised → raised ≡ false
-    → released_to before e ≡ Served
-unfolding released_to
-ended_serves e before by call raised is plainly = ap (released_to before) (is ∙ ap (Ended by call) plainly)
 
 pub makes_some : (e : Event) (by : TaskNo) (under master : Master) (families : List Family) → e ≡ Created by under master families → IsSome (creation_in e)
 unfolding creation_in

@@ -1,11 +1,12 @@
 -- Whom an event names exists.
-use Rattle.std.proofs.Common.{◌≡◌, ℕ, zero, suc, ◌<◌, true, false, not, ◌||◌, eqb, Some, None, List, [], ◌∷◌, length, get_or, ap, sym, ◌∙◌, subst, refl, arith}
+use Rattle.std.proofs.Common.{◌≡◌, ℕ, zero, suc, ◌<◌, Bool, true, false, not, ◌||◌, eqb, Option, Some, None, List, [], ◌∷◌, length, get_or, ap, sym, ◌∙◌, subst, refl, arith}
 use Rattle.std.proofs.Common.{inl, inr}
 use Rattle.std.specs.Option.{option_map_or}
 use Rattle.std.specs.List.{list_any}
 use Rattle.std.proofs.lemmas.Bool.{or_cases, or_parts, not-false, false≢true, eqb-true, ltb-true}
 use Rattle.std.proofs.lemmas.Option.{same_Some, none-some}
 use Rattle.ada_events.specs.declared.event.Event.{Event}
+use Rattle.ada_events.specs.declared.event.Event.TheVariants as kind
 use Rattle.ada_events.specs.declared.names.TaskNo.{TaskNo}
 use Rattle.ada_events.specs.declared.request.Request.{Request}
 use Rattle.ada_events.specs.declared.request.Request.TheVariants as request
@@ -70,6 +71,27 @@ pub raiser_exists : (event : Event) (before : List Event) (u : ℕ) → MayFollo
 raiser_exists event before u (inl forces) says = absurd (none-some u (sym (row-raises_none before event (forced-row before event forces)) ∙ says))
 raiser_exists event before u (inr asked) says =
     asker_exists before asked.request u asked.accepted (raised_in-asked before asked.request u (ap raised_in (sym asked.becomes) ∙ says))
+
+-- the task that ends a rendezvous
+abbrev ender_in : Event → Option ℕ
+ender_in (kind.Ended by call raised) = Some by.0
+ender_in _ = None
+
+row_ends_none : (journal : List Event) (event : Event) → IsRow journal event → ender_in event ≡ None
+row_ends_none journal event (halts v below halt) = refl
+row_ends_none journal event _ = refl
+
+asked_ends : (journal : List Event) (r : Request) (u : ℕ) → ender_in (asked_event journal r) ≡ Some u → asker r ≡ Some u
+unfolding asked_event asker
+asked_ends journal (request.End by raised) u says = says
+asked_ends journal _ u says = absurd (none-some u says)
+
+pub ender_exists : (event : Event) (before : List Event) (by : TaskNo) (call : ℕ) (raised : Bool) → MayFollow before event → event ≡ kind.Ended by call raised
+    → by.0 < task_count before
+ender_exists event before by call raised (inl forces) is =
+    absurd (none-some by.0 (sym (row_ends_none before event (forced-row before event forces)) ∙ ap ender_in is))
+ender_exists event before by call raised (inr asked) is =
+    asker_exists before asked.request by.0 asked.accepted (asked_ends before asked.request by.0 (ap ender_in (sym asked.becomes) ∙ ap ender_in is))
 
 -- whom an event ends exists
 pub ends_exists : (event : Event) (before : List Event) (u : ℕ) → MayFollow before event → ends event before u ≡ true → u < task_count before

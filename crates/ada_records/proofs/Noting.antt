@@ -8,7 +8,7 @@ use Rattle.ada_events.specs.declared.event.Event.{Event}
 use Rattle.ada_events.specs.declared.event.Event.TheVariants.{Ended, Met}
 use Rattle.ada_events.specs.declared.names.TaskNo.{TaskNo}
 use Rattle.ada_events.specs.declared.outcome.Outcome.{Outcome}
-use Rattle.ada_events.specs.declared.outcome.Outcome.TheVariants.{Held, Raised, Accepted}
+use Rattle.ada_events.specs.declared.outcome.Outcome.TheVariants.{Held, Raised, Served, Accepted}
 use Rattle.ada_events.specs.Search.{is_number, is_some_and, event_at}
 use Rattle.ada_events.specs.Says.{Meeting, held_in, released_in, meeting_in, creation_in}
 use Rattle.ada_events.specs.Outcomes.{raised_in, released_to, choice_met}
@@ -24,14 +24,14 @@ use Rattle.ada_records.specs.declared.record.Suspension.{Suspension}
 use Rattle.ada_records.specs.declared.record.Record.{Record}
 use Rattle.ada_records.specs.declared.record.Stage.{Stage}
 use Rattle.ada_records.specs.Records.{no_record, record_at, IsDoingOf, IsStageOf, IsRecordOf, AreRecords, HoldsSomebody, IsPlainHold, IsPlainRelease, freed}
-use Rattle.ada_records.specs.internal.Records.{may_terminate}
+use Rattle.ada_records.specs.Noted.{may_terminate}
 use Rattle.ada_records.proofs.Holding.{hold_only, quiet_ends, holder_ran}
 use Rattle.ada_records.proofs.QueueChanges.{ends}
 use Rattle.ada_records.proofs.Saying.{IsPlain, number_none, number_other, no_meeting, other_call, release_only, held_apart, met_frees, call_not_wait}
 use Rattle.ada_records.proofs.Saying.{is_met-now, unmet_same, met_says}
 use Rattle.ada_records.proofs.Doings.{held_there, doing_held, doing_released, doing_later, doing_same, doing_ended, same_outcome}
 use Rattle.ada_records.proofs.LatestOutcomes.{what_is_released_held, raisers_have_raised}
-use Rattle.ada_records.proofs.Existing.{positive, raiser_exists}
+use Rattle.ada_records.proofs.Existing.{positive}
 use Rattle.ada_records.proofs.Stages.{stage_after, stage_more, stage_plain}
 
 -- a record that stays, of a task that the event doesn't touch
@@ -199,10 +199,10 @@ records_release event before records task position now lawful old frees held is 
     unreleased event before records task other position lawful old known differs kept.some held frees.releases
     (number_none other (raised_in event) frees.raises) (no_meeting event (doing_at records other) frees.meets))
 
-raising_says : (e : Event) (by : TaskNo) (call : ℕ) → e ≡ Ended by call true → (released_in e ≡ Some call) × (raised_in e ≡ Some by.0) × (meeting_in e ≡ None)
-    × ((before : List Event) → released_to before e ≡ Raised)
+raising_says : (by : TaskNo) (call : ℕ) → (released_in (Ended by call true) ≡ Some call) × (raised_in (Ended by call true) ≡ Some by.0)
+    × (meeting_in (Ended by call true) ≡ None) × ((before : List Event) → released_to before (Ended by call true) ≡ Raised)
 unfolding released_in raised_in meeting_in released_to
-raising_says e by call is = (ap released_in is, ap raised_in is, ap meeting_in is, λ before. ap (released_to before) is)
+raising_says by call = (refl, refl, refl, λ before. refl)
 
 met_raises_none : (call wait : ℕ) → raised_in (Met call wait) ≡ None
 unfolding raised_in
@@ -212,28 +212,22 @@ met_becomes : (before : List Event) (call wait : ℕ) → released_to before (Me
 unfolding released_to
 met_becomes before call wait = refl
 
--- the task exists that ends a rendezvous by an exception
-pub raiser_within : (event : Event) (before : List Event) (records : List Record) (by : TaskNo) (call : ℕ) → IsLawful (event ∷ before)
-    → AreRecords records before → event ≡ Ended by call true → by.0 < length records
-raiser_within event before records by call lawful old raising =
-    omega (arith, raiser_exists event before by.0 lawful.1 (raising_says event by call raising).1, old.many)
-
 pub within_set : (records : List Record) (i n : ℕ) (now : Record) → n < length records → n < length (set records i now)
 within_set records i n now below = omega (arith, below, length-set records i now)
 
 -- the records after a task ended a rendezvous by an exception
-pub records_raised : (event : Event) (before : List Event) (records : List Record) (by : TaskNo) (caller call : ℕ) (calls raises : Record)
-    → IsLawful (event ∷ before) → AreRecords records before → event ≡ Ended by call true → IsSuspendedAt before caller call
+pub records_raised : (before : List Event) (records : List Record) (by : TaskNo) (caller call : ℕ) (calls raises : Record)
+    → IsLawful (Ended by call true ∷ before) → AreRecords records before → by.0 < length records → IsSuspendedAt before caller call
     → calls ≡ record (record_at records caller) { suspension = freed Raised }
     → raises ≡ record (record_at (set records caller calls) by.0) {
       suspension = record (record_at
           (set records caller calls) by.0).suspension { outcome = Raised };
     }
-    → AreRecords (set (set records caller calls) by.0 raises) (event ∷ before)
-records_raised event before records by caller p calls raises lawful old raising held calls_is raises_is =
+    → AreRecords (set (set records caller calls) by.0 raises) (Ended by call true ∷ before)
+records_raised before records by caller p calls raises lawful old has_by held calls_is raises_is =
+    let event = Ended by p true in
     let kept = kept_at before records caller p lawful.0 old held in
-    let has_by = raiser_within event before records by p lawful old raising in
-    let says = raising_says event by p raising in
+    let says = raising_says by p in
     let only = release_only event p says.0 in
     let quiet_caller : is_number caller (raised_in event) ≡ false = unraised event before caller p lawful held in
     let differs : by.0 ≢ caller = λ same. true≢false (sym (is_number-from caller (raised_in event) (says.1 ∙ ap Some same)) ∙ quiet_caller) in
@@ -257,6 +251,14 @@ records_raised event before records by caller p calls raises lawful old raising 
     unreleased event before records caller other p lawful old known not_caller kept.some held says.0
     (number_other other by.0 (raised_in event) says.1 not_by) (no_meeting event (doing_at records other) says.2))
 
+-- the records after a task ended a rendezvous otherwise
+pub records_served : (before : List Event) (records : List Record) (by : TaskNo) (caller call : ℕ) (now : Record) → IsLawful (Ended by call false ∷ before)
+    → AreRecords records before → IsSuspendedAt before caller call → now ≡ record (record_at records caller) { suspension = freed Served }
+    → AreRecords (set records caller now) (Ended by call false ∷ before)
+unfolding released_in meeting_in raised_in released_to
+records_served before records by caller call now lawful old held is =
+    records_release (Ended by call false) before records caller call now lawful old (record { releases = refl; meets = refl; raises = refl }) held is
+
 -- the call and the wait between which a rendezvous begins hold somebody up
 pub met_holds : (event : Event) (before : List Event) (call wait : ℕ) → IsLawful (event ∷ before) → event ≡ Met call wait → HoldsSomebody before call
     × HoldsSomebody before wait
@@ -268,26 +270,25 @@ met_holds event before call wait lawful met =
     )
 
 -- the records after a rendezvous began
-pub records_met : (event : Event) (before : List Event) (records : List Record) (caller acceptor call wait choice : ℕ) (waits calls : Record)
-    → IsLawful (event ∷ before) → AreRecords records before → event ≡ Met call wait → IsSuspendedAt before caller call → IsSuspendedAt before acceptor wait
+pub records_met : (before : List Event) (records : List Record) (caller acceptor call wait choice : ℕ) (waits calls : Record)
+    → IsLawful (Met call wait ∷ before) → AreRecords records before → IsSuspendedAt before caller call → IsSuspendedAt before acceptor wait
     → choice ≡ choice_met before wait → waits ≡ record (record_at records acceptor) { suspension = freed (Accepted call choice) }
     → calls ≡ record (record_at (set records acceptor waits) caller) {
       suspension = record (record_at
           (set records acceptor waits) caller).suspension { joined = true };
     }
-    → AreRecords (set (set records acceptor waits) caller calls) (event ∷ before)
-records_met event before records caller acceptor call wait choice waits calls lawful old met at_call at_wait chosen waits_is calls_is =
+    → AreRecords (set (set records acceptor waits) caller calls) (Met call wait ∷ before)
+records_met before records caller acceptor call wait choice waits calls lawful old at_call at_wait chosen waits_is calls_is =
+    let event = Met call wait in
     let calling = kept_at before records caller call lawful.0 old at_call in
     let waiting = kept_at before records acceptor wait lawful.0 old at_wait in
-    let frees : released_in event ≡ Some wait = ap released_in met ∙ (met_frees call wait).0 in
-    let meets : option_map (λ (m : Meeting). m.call) (meeting_in event) ≡ Some call = ap (λ e. option_map (λ (m : Meeting). m.call) (meeting_in e)) met
-    ∙ (met_frees call wait).1 in
+    let frees : released_in event ≡ Some wait = (met_frees call wait).0 in
+    let meets : option_map (λ (m : Meeting). m.call) (meeting_in event) ≡ Some call = (met_frees call wait).1 in
     let only = release_only event wait frees in
-    let raises : raised_in event ≡ None = ap raised_in met ∙ met_raises_none call wait in
-    let apart : call ≢ wait = call_not_wait event before call wait lawful met in
+    let raises : raised_in event ≡ None = met_raises_none call wait in
+    let apart : call ≢ wait = call_not_wait event before call wait lawful refl in
     let differs : caller ≢ acceptor = λ same. apart (sym calling.at ∙ ap (λ n. doing_at records n) same ∙ waiting.at) in
-    let becomes : released_to before event ≡ Accepted call choice = ap (released_to before) met ∙ met_becomes before call wait
-    ∙ ap (Accepted call) (sym chosen) in
+    let becomes : released_to before event ≡ Accepted call choice = met_becomes before call wait ∙ ap (Accepted call) (sym chosen) in
     let unfreed : is_number (doing_at records caller) (released_in event)
     ≡ false = number_other (doing_at records caller) wait (released_in event) frees (λ same. apart (sym calling.at ∙ same)) in
     let is : calls ≡ record (record_at records caller) { suspension = record (record_at records caller).suspension { joined = true } } =

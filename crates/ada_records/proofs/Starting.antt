@@ -50,10 +50,6 @@ start_stage before by tasks task kept old = stage_more (Started by tasks) before
 abbrev pub with_starter : List Event → List Record → ℕ → List Record
 with_starter before records by = set records by (record (record_at records by) { suspension = starting before })
 
--- after the first so many tasks were named
-pub named_none : (first : List Record) (tasks : List TaskNo) → HaveChanged start_record first first tasks 0
-named_none first tasks = record { same = refl; each = λ task below. refl }
-
 pub start_twice : (before : Bool) (r : Record) → start_record true (start_record before r) ≡ start_record true r
 start_twice true r = twice (not (r.stage.completed || r.stage.terminated)) r.stage.started
   where
@@ -70,22 +66,6 @@ unfolding started_in
 named_exists event before by tasks k d lawful is below =
     subst (λ (ts : List TaskNo). k < length ts → (get_or ts k d).0 < task_count before) (ap started_in is)
     (λ within. started_at_exists event before k d lawful.1 within) below
-
--- so there is a record of each, also once the starter's is changed
-pub named_within : (event : Event) (before : List Event) (records : List Record) (by : TaskNo) (now : Record) (tasks named : List TaskNo) (k : ℕ) (d : TaskNo)
-    → IsLawful (event ∷ before) → AreRecords records before → event ≡ Started by tasks → named ≡ tasks → k < length named
-    → (get_or named k d).0 < length (set records by.0 now)
-named_within event before records by now tasks named k d lawful old starts same below =
-    let known : (get_or tasks k d).0 < task_count before = named_exists event before by tasks k d lawful starts
-    (subst (λ (ts : List TaskNo). k < length ts) same below) in
-    let exists : (get_or named k d).0 < task_count before = subst (λ (ts : List TaskNo). (get_or ts k d).0 < task_count before) (sym same) known in
-    omega (arith, exists, old.many, length-set records by.0 now)
-
-pub named_still : (event : Event) (before : List Event) (records now : List Record) (by : TaskNo) (first : Record) (tasks named : List TaskNo) (k : ℕ)
-    (d : TaskNo) → IsLawful (event ∷ before) → AreRecords records before → event ≡ Started by tasks → named ≡ tasks → k < length named
-    → length now ≡ length (set records by.0 first) → (get_or named k d).0 < length now
-named_still event before records now by first tasks named k d lawful old starts same below many =
-    omega (arith, named_within event before records by first tasks named k d lawful old starts same below, many)
 
 -- the task exists that starts the activation
 pub starter_exists : (event : Event) (before : List Event) (by : TaskNo) (tasks : List TaskNo) → IsLawful (event ∷ before) → event ≡ Started by tasks
@@ -132,17 +112,13 @@ started_records before records now by tasks lawful old has_by all =
     }
 
 -- the records after a start
-pub records_started : (event : Event) (before : List Event) (records now : List Record) (suspension : Suspension) (by : TaskNo)
-    (tasks named : List TaskNo) (i : ℕ)
-    → IsLawful (event ∷ before) → AreRecords records before → event ≡ Started by tasks → named ≡ tasks → suspension ≡ starting before
-    → HaveChanged start_record (set records by.0 (record (record_at records by.0) { suspension = suspension })) now named i → length named ≤ i
-    → i ≤ length named
-    → AreRecords now (event ∷ before)
-records_started event before records now suspension by tasks named i lawful old starts same is so_far above below =
-    let all : i ≡ length named = omega (arith, above, below) in
-    subst (λ (e : Event). AreRecords now (e ∷ before)) (sym starts)
-    (started_records before records now by tasks (subst (λ (e : Event). IsLawful (e ∷ before)) starts lawful) old
-    (omega (arith, starter_exists event before by tasks lawful starts, old.many))
-    (subst (λ (ts : List TaskNo). HaveChanged start_record (with_starter before records by.0) now ts (length ts)) same
-    (subst (λ (k : Suspension). HaveChanged start_record (set records by.0 (record (record_at records by.0) { suspension = k })) now named (length named)) is
-    (subst (λ (n : ℕ). HaveChanged start_record (set records by.0 (record (record_at records by.0) { suspension = suspension })) now named n) all so_far))))
+pub records_started : (before : List Event) (records now : List Record) (suspension : Suspension) (by : TaskNo) (tasks : List TaskNo) (i : ℕ)
+    → IsLawful (Started by tasks ∷ before) → AreRecords records before → by.0 < length records → suspension ≡ starting before
+    → HaveChanged start_record (set records by.0 (record (record_at records by.0) { suspension = suspension })) now tasks i → length tasks ≤ i
+    → i ≤ length tasks
+    → AreRecords now (Started by tasks ∷ before)
+records_started before records now suspension by tasks i lawful old has_by is so_far above below =
+    let all : i ≡ length tasks = omega (arith, above, below) in
+    started_records before records now by tasks lawful old has_by
+    (subst (λ (k : Suspension). HaveChanged start_record (set records by.0 (record (record_at records by.0) { suspension = k })) now tasks (length tasks)) is
+    (subst (λ (n : ℕ). HaveChanged start_record (set records by.0 (record (record_at records by.0) { suspension = suspension })) now tasks n) all so_far))

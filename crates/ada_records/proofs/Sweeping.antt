@@ -138,33 +138,24 @@ abort_once flag r =
     again false true was = refl
     again false false was = refl
 
-quit_makes_none : (e : Event) (m : Master) → e ≡ event.Quit m → creation_in e ≡ None
-unfolding creation_in
-quit_makes_none e m says = ap creation_in says
-
-abort_makes_none : (e : Event) (by : TaskNo) (tasks : List TaskNo) → e ≡ event.Aborted by tasks → creation_in e ≡ None
-unfolding creation_in
-abort_makes_none e by tasks says = ap creation_in says
-
 -- all records after all that depend on a master terminated together
-pub records_quit : (e : Event) (before : List Event) (m : Master) (records now : List Record) (tasks : List TaskNo) (i : ℕ) → IsLawful (e ∷ before)
-    → e ≡ event.Quit m → AreRecords records before → ListsLive before tasks (λ u. depends_on before u m) → HaveChanged quit_live_record records now tasks i
-    → length tasks ≤ i → AreRecords now (e ∷ before)
-records_quit e before m records now tasks i lawful says stand lists changed whole =
-    all_changed quit_live_record e before records now tasks i stand (quit_makes_none e m says) changed whole (λ task known.
-    rw says (quit_flagged before m task (record_at records task) (lists_task task tasks) (record_at records task).stage.terminated
-    (subst (λ (x : Event). IsLawful (x ∷ before)) says lawful) refl (lists.tells task (omega (arith, known, stand.many))) (stand.each task known)))
+pub records_quit : (before : List Event) (m : Master) (records now : List Record) (tasks : List TaskNo) (i : ℕ) → IsLawful (event.Quit m ∷ before)
+    → AreRecords records before → ListsLive before tasks (λ u. depends_on before u m) → HaveChanged quit_live_record records now tasks i
+    → length tasks ≤ i → AreRecords now (event.Quit m ∷ before)
+unfolding creation_in
+records_quit before m records now tasks i lawful stand lists changed whole =
+    all_changed quit_live_record (event.Quit m) before records now tasks i stand refl changed whole (λ task known.
+    quit_flagged before m task (record_at records task) (lists_task task tasks) (record_at records task).stage.terminated
+    lawful refl (lists.tells task (omega (arith, known, stand.many))) (stand.each task known))
 
 -- all records after an abort
-pub records_aborted : (e : Event) (before : List Event) (by : TaskNo) (aborted : List TaskNo) (records now : List Record) (tasks : List TaskNo) (i : ℕ)
-    → IsLawful (e ∷ before) → e ≡ event.Aborted by aborted → AreRecords records before → ListsLive before tasks (is_hit before aborted)
-    → HaveChanged abort_record records now tasks i → length tasks ≤ i → AreRecords now (e ∷ before)
-records_aborted e before by aborted records now tasks i lawful says stand lists changed whole =
-    all_changed abort_record e before records now tasks i stand (abort_makes_none e by aborted says) changed whole (λ task known.
+pub records_aborted : (before : List Event) (by : TaskNo) (aborted : List TaskNo) (records now : List Record) (tasks : List TaskNo) (i : ℕ)
+    → IsLawful (event.Aborted by aborted ∷ before) → AreRecords records before → ListsLive before tasks (is_hit before aborted)
+    → HaveChanged abort_record records now tasks i → length tasks ≤ i → AreRecords now (event.Aborted by aborted ∷ before)
+unfolding creation_in
+records_aborted before by aborted records now tasks i lawful stand lists changed whole =
+    all_changed abort_record (event.Aborted by aborted) before records now tasks i stand refl changed whole (λ task known.
     let exists : task < task_count before = omega (arith, known, stand.many) in
     let was = record_at records task in
-    rw (
-      says,
-      abort_flagged before aborted task was (lists_task task tasks) was.stage.terminated refl (lists.tells task exists) (stand.each task known),
-    )
-    (abort_record_of before by aborted task was (subst (λ (x : Event). IsLawful (x ∷ before)) says lawful) exists (stand.each task known)))
+    rw (abort_flagged before aborted task was (lists_task task tasks) was.stage.terminated refl (lists.tells task exists) (stand.each task known))
+    (abort_record_of before by aborted task was lawful exists (stand.each task known)))

@@ -100,48 +100,34 @@ halted_records before records task now lawful old within is =
     records_end (Halted task) before records task.0 now lawful old (halted_touches before task) within (rw (eq-eqb task.0 task.0 refl) refl)
     (rw (eq-eqb task.0 task.0 refl) is)
 
-gone_records : (before : List Event) (records : List Record) (task : TaskNo) (now : Record) → IsLawful (Gone task ∷ before) → AreRecords records before
+-- the records after a task terminated by itself
+pub records_gone : (before : List Event) (records : List Record) (task : TaskNo) (now : Record) → IsLawful (Gone task ∷ before) → AreRecords records before
     → task.0 < length records → now ≡ record {
       suspension = freed (record_at records task.0).suspension.outcome;
       stage = record (record_at records task.0).stage
           { terminated = true };
     } → AreRecords (set records task.0 now) (Gone task ∷ before)
 unfolding held_in released_in completed_in gone_in quit_in started_in aborted_in elaborated_in failed_in meeting_in creation_in raised_in
-gone_records before records task now lawful old within is =
+records_gone before records task now lawful old within is =
     records_end (Gone task) before records task.0 now lawful old (gone_touches before task) within (rw (eq-eqb task.0 task.0 refl) refl)
     (rw (eq-eqb task.0 task.0 refl) is)
 
 -- the records after a task completed
 pub records_completed : (event : Event) (before : List Event) (records : List Record) (task : TaskNo) (now : Record) → IsLawful (event ∷ before)
-    → AreRecords records before → IsCompletion event task
+    → AreRecords records before → IsCompletion event task → task.0 < length records
     → now ≡ record { suspension = freed (record_at records task.0).suspension.outcome; stage = record (record_at records task.0).stage { completed = true } }
     → AreRecords (set records task.0 now) (event ∷ before)
-records_completed event before records task now lawful old completes is =
-    let within : task.0 < length records = omega (arith, completion_exists event before task lawful completes, old.many) in
-    by_way completes within
-  where
-    by_way : IsCompletion event task → task.0 < length records → AreRecords (set records task.0 now) (event ∷ before)
-    by_way (inl by_itself) within =
-        subst (λ (e : Event). AreRecords (set records task.0 now) (e ∷ before)) (sym by_itself)
-        (completed_records before records task now (subst (λ (e : Event). IsLawful (e ∷ before)) by_itself lawful) old within is)
-    by_way (inr halts) within =
-        subst (λ (e : Event). AreRecords (set records task.0 now) (e ∷ before)) (sym halts)
-        (halted_records before records task now (subst (λ (e : Event). IsLawful (e ∷ before)) halts lawful) old within is)
+records_completed event before records task now lawful old (inl by_itself) within is =
+    subst (λ (e : Event). AreRecords (set records task.0 now) (e ∷ before)) (sym by_itself)
+    (completed_records before records task now (subst (λ (e : Event). IsLawful (e ∷ before)) by_itself lawful) old within is)
+records_completed event before records task now lawful old (inr halts) within is =
+    subst (λ (e : Event). AreRecords (set records task.0 now) (e ∷ before)) (sym halts)
+    (halted_records before records task now (subst (λ (e : Event). IsLawful (e ∷ before)) halts lawful) old within is)
 
 -- the task exists that goes
 pub goer_exists : (event : Event) (before : List Event) (task : TaskNo) → IsLawful (event ∷ before) → event ≡ Gone task → task.0 < task_count before
 unfolding gone_in
 goer_exists event before task lawful is = gone_exists event before task.0 lawful.1 (ap gone_in is)
-
--- the records after a task terminated by itself
-pub records_gone : (event : Event) (before : List Event) (records : List Record) (task : TaskNo) (now : Record) → IsLawful (event ∷ before)
-    → AreRecords records before → event ≡ Gone task
-    → now ≡ record { suspension = freed (record_at records task.0).suspension.outcome; stage = record (record_at records task.0).stage { terminated = true } }
-    → AreRecords (set records task.0 now) (event ∷ before)
-records_gone event before records task now lawful old goes is =
-    subst (λ (e : Event). AreRecords (set records task.0 now) (e ∷ before)) (sym goes)
-    (gone_records before records task now (subst (λ (e : Event). IsLawful (e ∷ before)) goes lawful) old
-    (omega (arith, goer_exists event before task lawful goes, old.many)) is)
 
 -- the task exists that ends its activation
 pub elaborator_exists : (event : Event) (before : List Event) (by : TaskNo) (ok : Bool) → IsLawful (event ∷ before) → event ≡ Elaborated by ok
@@ -149,11 +135,12 @@ pub elaborator_exists : (event : Event) (before : List Event) (by : TaskNo) (ok 
 unfolding elaborated_in
 elaborator_exists event before by ok lawful is = elaborated_exists event before by.0 lawful.1 (ap elaborated_in is)
 
-elaborated_records : (before : List Event) (records : List Record) (by : TaskNo) (ok : Bool) (now : Record) → IsLawful (Elaborated by ok ∷ before)
+-- the records after a task ended its activation
+pub records_elaborated : (before : List Event) (records : List Record) (by : TaskNo) (ok : Bool) (now : Record) → IsLawful (Elaborated by ok ∷ before)
     → AreRecords records before → by.0 < length records → now ≡ elaborated_record ok (record_at records by.0)
     → AreRecords (set records by.0 now) (Elaborated by ok ∷ before)
 unfolding held_in released_in completed_in gone_in quit_in started_in aborted_in elaborated_in failed_in meeting_in creation_in raised_in
-elaborated_records before records by true now lawful old within is =
+records_elaborated before records by true now lawful old within is =
     records_one (Elaborated by true) before records by.0 now lawful old (elaborated_touches before by true) within
     (subst (IsRecordOf (Elaborated by true ∷ before) by.0) (sym is) (record {
       suspension = doing_same (Elaborated by true) before by.0 (record_at records by.0).suspension lawful
@@ -161,15 +148,6 @@ elaborated_records before records by true now lawful old within is =
       stage = subst (IsStageOf (Elaborated by true ∷ before) by.0) (rw (eq-eqb by.0 by.0 refl) refl)
           (stage_more (Elaborated by true) before by.0 (record_at records by.0).stage (old.each by.0 within).stage);
     }))
-elaborated_records before records by false now lawful old within is =
+records_elaborated before records by false now lawful old within is =
     records_end (Elaborated by false) before records by.0 now lawful old (elaborated_touches before by false) within (rw (eq-eqb by.0 by.0 refl) refl)
     (rw (eq-eqb by.0 by.0 refl) is)
-
--- the records after a task ended its activation
-pub records_elaborated : (event : Event) (before : List Event) (records : List Record) (by : TaskNo) (ok : Bool) (now : Record) → IsLawful (event ∷ before)
-    → AreRecords records before → event ≡ Elaborated by ok → now ≡ elaborated_record ok (record_at records by.0)
-    → AreRecords (set records by.0 now) (event ∷ before)
-records_elaborated event before records by ok now lawful old elaborates is =
-    subst (λ (e : Event). AreRecords (set records by.0 now) (e ∷ before)) (sym elaborates)
-    (elaborated_records before records by ok now (subst (λ (e : Event). IsLawful (e ∷ before)) elaborates lawful) old
-    (omega (arith, elaborator_exists event before by ok lawful elaborates, old.many)) is)

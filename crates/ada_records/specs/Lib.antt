@@ -9,3 +9,4 @@ pub mod Pending
 pub mod RecordedPhases
 pub mod Following
 pub mod Noting
+pub mod Noted

@@ -4,10 +4,7 @@ use Rattle.ada_events.specs.declared.event.Event.{Event}
 use Rattle.ada_events.specs.declared.event.Event.TheVariants.{Completed, Halted}
 use Rattle.ada_events.specs.declared.names.TaskNo.{TaskNo}
 use Rattle.ada_events.specs.declared.outcome.Outcome.TheVariants.{Held}
-use Rattle.ada_events.specs.Search.{is_some_and}
-use Rattle.ada_events.specs.Says.{Wait, wait_in}
 use Rattle.ada_events.specs.Phases.{lists_task}
-use Rattle.ada_events.specs.Termination.{is_open_terminate}
 use Rattle.ada_records.specs.declared.record.Suspension.{Suspension}
 use Rattle.ada_records.specs.declared.record.Record.{Record}
 use Rattle.ada_records.specs.Records.{freed, record_at}
@@ -15,10 +12,6 @@ use Rattle.ada_records.specs.Records.{freed, record_at}
 -- what is kept of the latest suspension of a task that an event at a position holds up
 abbrev pub held : ℕ → Bool → Suspension
 held at quittable = record { at = at; joined = false; quittable = quittable; outcome = Held }
-
--- the wait has an open terminate alternative
-abbrev pub may_terminate : Event → Bool
-may_terminate event = is_some_and (wait_in event) (λ (w : Wait). is_open_terminate w.tail)
 
 -- a record after its task ended its activation (9.3)
 abbrev pub elaborated_record : Bool → Record → Record

@@ -2,6 +2,5 @@ use Rattle.ada_records.proofs.Unmade.{records_made}
 use Rattle.ada_records.proofs.records.record_creation.Goals as goal
 
 pub returns : goal.returns
-returns c =
-    records_made c.args._event.now c.args._journal.now.events c.args.records.now.items _ _ c.requires.lawful c.requires.stand c.requires.makes
-    c.push_reserved.ensures.items c.of_new_task.ensures
+returns c = λ event makes before lawful old.
+    records_made event before c.args.records.now.items _ _ lawful old makes c.push_reserved.ensures.items c.of_new_task.ensures

@@ -1,4 +1,4 @@
-use Rattle.std.proofs.Common.{arith, ◌∙◌, ◌+◌, ◌∷◌, ◌++◌, [], ap, sym, subst}
+use Rattle.std.proofs.Common.{arith, ◌∙◌, ◌+◌, ◌∷◌, ◌++◌, [], ap, sym, subst, rules}
 use Rattle.ada_laws.proofs.LimitLaws.{events_are_few}
 use Rattle.ada_triggers.proofs.Bounds.{creation_keeps_bound}
 use Rattle.ada_triggers.proofs.Starts.{bound_stays}
@@ -6,9 +6,6 @@ use Rattle.ada_records.proofs.EventKinds.{makes_some}
 use Rattle.ada_view.specs.Views.{AreMade}
 use Rattle.ada_kernel.proofs.Creations.{made_more, creation_made, moment_kept}
 use Rattle.ada_kernel.proofs.index.Index.note_creation.Goals as goal
-
-pub record_creation-requires-clause-makes : goal.record_creation-requires-clause-makes
-record_creation-requires-clause-makes c = makes_some c.args.event.now _ _ _ _ c.requires.makes.is
 
 pub overflow_add-len : goal.overflow_add-len
 overflow_add-len c = record { fits = omega (arith, c.len.ensures, events_are_few c.args.journal.now.events c.requires.lawful.0) }
@@ -21,7 +18,9 @@ returns-clause-ok c =
     let (creation, makes) = creation_made c.args.event.now c.args.master c.args.families.now c.requires.makes in record {
       kept = record {
         lawful = c.requires.lawful;
-        recorded = c.record_creation.ensures;
+        recorded =
+          c.record_creation.ensures c.args.event.now (makes_some c.args.event.now _ _ _ _ c.requires.makes.is) c.args.journal.now.events c.requires.lawful
+          (search rules);
         tabled = c.in_ok-follow_creation.ensures.stand;
         created =
             subst (λ made. AreMade made (c.args.event.now ∷ c.args.journal.now.events))

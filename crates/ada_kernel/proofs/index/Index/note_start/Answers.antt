@@ -1,18 +1,40 @@
-use Rattle.std.proofs.Common.{arith, ◌∷◌, ◌∙◌, refl, sym, ap, subst}
+use Rattle.std.proofs.Common.{arith, ◌∷◌, ◌∙◌, refl, sym, ap, subst, ◌+◌}
 use Rattle.std.specs.Option.{is_some}
 use Rattle.ada_events.specs.declared.event.Event.{Event}
 use Rattle.ada_events.specs.Says.{creation_in, moment_in, start_in}
 use Rattle.ada_laws.proofs.LimitLaws.{events_are_few}
 use Rattle.ada_kernel.proofs.Quiet.{quiet_as, not_due_as, noted}
 use Rattle.ada_triggers.proofs.Bounds.{bound_kept}
+use Rattle.ada_records.proofs.Starting.{starter_exists, named_exists}
+use Rattle.ada_kernel.proofs.Recorded.{recorded_task, noted_as}
+use Rattle.ada_records.specs.Records.{AreRecords}
 use Rattle.ada_kernel.proofs.index.Index.note_start.Goals as goal
+use Rattle.ada_kernel.proofs.index.Index.note_start.Goals.{After-record_start}
 
 pub put_start_keys-requires-clause-starts : goal.put_start_keys-requires-clause-starts
 unfolding start_in
 put_start_keys-requires-clause-starts c = ap (λ (e : Event). is_some (start_in e)) c.requires.starts
 
-pub record_start-requires-clause-room : goal.record_start-requires-clause-room
-record_start-requires-clause-room c = omega (arith, events_are_few c.args.journal.now.events c.requires.lawful.0)
+pub overflow_add-len : goal.overflow_add-len
+overflow_add-len c = record { fits = omega (arith, c.len.ensures, events_are_few c.args.journal.now.events c.requires.lawful.0) }
+
+pub record_start-requires-clause-by : goal.record_start-requires-clause-by
+record_start-requires-clause-by c =
+    recorded_task _ _ c.args.journal.now.events c.args.by.0 c.as_mut_slice-records.ensures.value c.requires.stands.kept.recorded
+    (starter_exists c.args.event.now c.args.journal.now.events c.args.by c.args.tasks.now c.requires.lawful c.requires.starts)
+
+pub record_start-requires-clause-tasks : goal.record_start-requires-clause-tasks
+record_start-requires-clause-tasks c = λ i d below.
+    recorded_task _ _ c.args.journal.now.events _ c.as_mut_slice-records.ensures.value c.requires.stands.kept.recorded
+    (named_exists c.args.event.now c.args.journal.now.events c.args.by c.args.tasks.now i d c.requires.lawful c.requires.starts below)
+
+recorded : (c : After-record_start) → AreRecords c.record_start.new.records (c.args.event.now ∷ c.args.journal.now.events)
+recorded c =
+    noted_as c.args.event.now _ c.args.journal.now.events _ _ _ (c.record_start.ensures c.args.journal.now.events (ap (λ n. n + 1) (sym c.len.ensures))) c.requires.starts
+    c.as_mut_slice-records.ensures.value c.requires.lawful c.requires.stands.kept.recorded
+
+pub follow_start-requires-clause-records : goal.follow_start-requires-clause-records
+follow_start-requires-clause-records c = recorded ((goal.at.follow_start-requires-clause-records c).After-record_start)
 
 pub returns : goal.returns
 unfolding creation_in moment_in
@@ -21,6 +43,6 @@ returns c =
     let before = c.args.journal.now.events in
     noted c.args.self.now event before c.record_start.new.records c.follow_start.new.tables c.put_start_keys.new.agenda c.args.self.now.next_due
     c.requires.stands c.requires.lawful (quiet_as event _ c.requires.starts refl refl)
-    (omega (arith, c.record_start.auto.records, c.as_mut_slice.ensures.len)) c.record_start.ensures c.follow_start.ensures.stand c.follow_start.ensures.slots
+    (omega (arith, c.record_start.auto.records, c.as_mut_slice-records.ensures.len)) (recorded ((goal.at.returns c).After-record_start)) c.follow_start.ensures.stand c.follow_start.ensures.slots
     c.put_start_keys.ensures
     (bound_kept event before c.args.self.now.next_due c.requires.lawful c.requires.stands.due (not_due_as event _ c.requires.starts refl))
