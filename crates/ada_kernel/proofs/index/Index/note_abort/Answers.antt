@@ -1,4 +1,4 @@
-use Rattle.std.proofs.Common.{arith, ◌∷◌, ◌∙◌, refl, sym, ap, subst, rules}
+use Rattle.std.proofs.Common.{arith, ◌∷◌, refl, subst, rules}
 use Rattle.ada_events.specs.Says.{creation_in, moment_in}
 use Rattle.ada_agenda.specs.Keeping.{IsAgendaOf}
 use Rattle.ada_kernel.proofs.Quiet.{quiet_as, not_due_as, noted}

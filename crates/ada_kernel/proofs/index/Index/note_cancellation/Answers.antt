@@ -1,4 +1,4 @@
-use Rattle.std.proofs.Common.{arith, ◌∷◌, ◌∙◌, refl, sym, ap, subst}
+use Rattle.std.proofs.Common.{arith, ◌∷◌, refl, ap, subst}
 use Rattle.ada_events.specs.Says.{creation_in, moment_in, released_in, meeting_in}
 use Rattle.ada_agenda.specs.Keeping.{IsAgendaOf}
 use Rattle.ada_records.proofs.Noting.{release_holds}

@@ -1,4 +1,4 @@
-use Rattle.std.proofs.Common.{arith, ◌∷◌, ◌∙◌, refl, sym, ap, subst, inl}
+use Rattle.std.proofs.Common.{arith, ◌∷◌, refl, subst, inl}
 use Rattle.ada_events.specs.Says.{creation_in, moment_in}
 use Rattle.ada_agenda.specs.Keeping.{IsAgendaOf}
 use Rattle.ada_triggers.specs.Bounds.{IsStartBound}

@@ -1,4 +1,4 @@
-use Rattle.std.proofs.Common.{arith, ◌∷◌, ◌∙◌, refl, sym, ap, subst}
+use Rattle.std.proofs.Common.{arith, ◌∷◌, refl, ap}
 use Rattle.ada_events.specs.Says.{creation_in, moment_in, released_in, meeting_in}
 use Rattle.ada_triggers.proofs.Additions.{nothing_noted}
 use Rattle.ada_agenda.specs.Additions.{adds_nothing}

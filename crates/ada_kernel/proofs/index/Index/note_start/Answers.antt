@@ -1,4 +1,4 @@
-use Rattle.std.proofs.Common.{arith, ◌∷◌, ◌∙◌, refl, sym, ap, subst, ◌+◌}
+use Rattle.std.proofs.Common.{arith, refl, sym, ap, ◌+◌}
 use Rattle.std.specs.Option.{is_some}
 use Rattle.ada_events.specs.declared.event.Event.{Event}
 use Rattle.ada_events.specs.Says.{creation_in, moment_in, start_in}
