@@ -1,5 +1,5 @@
 -- What each kind of event says of the records.
-use Rattle.std.proofs.Common.{◌≡◌, ℕ, ℤ, Bool, false, Some, None, IsSome, List, [], ◌∷◌, sym, refl, ap, ◌∙◌, subst}
+use Rattle.std.proofs.Common.{◌≡◌, ℕ, ℤ, Some, None, IsSome, List, [], ◌∷◌, sym, refl, ap, ◌∙◌, subst}
 use Rattle.ada_events.specs.declared.event.Event.{Event}
 use Rattle.ada_events.specs.declared.event.Event.TheVariants.{Created, Opened, Ticked}
 use Rattle.ada_events.specs.declared.names.Family.{Family}

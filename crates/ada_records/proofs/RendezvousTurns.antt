@@ -16,18 +16,18 @@ use Rattle.ada_events.specs.Asks.{asked_event, member_position}
 use Rattle.ada_events.specs.Lawful.{IsLawful, MayFollow}
 use Rattle.ada_events.specs.Nests.{nest, innermost}
 use Rattle.ada_events.specs.Refusals.{refusal, is_not_in_accept, is_rendezvous}
-use Rattle.ada_events.specs.Says.{Call, creation_in, opening_in, call_in, call_at, meeting_in, released_in, completed_in, held_in, started_in}
+use Rattle.ada_events.specs.Says.{Call, creation_in, opening_in, call_in, call_at, meeting_in, released_in, held_in, started_in}
 use Rattle.ada_laws.specs.Suspension.{IsSuspendedAt}
 use Rattle.ada_laws.proofs.Accepting.{is_accepted}
 use Rattle.ada_laws.proofs.Rows.{IsRow, forced-row}
 use Rattle.ada_laws.proofs.Rows.IsRow.{fails}
 use Rattle.ada_tables.specs.Tables.{TableState}
 use Rattle.ada_records.specs.declared.nests.NestChange.TheVariants.{Nothing as SameNests, Enters, EndsRendezvous}
-use Rattle.ada_records.specs.declared.queues.QueueChange.TheVariants.{Nothing as SameQueues, Joins, Leaves}
+use Rattle.ada_records.specs.declared.queues.QueueChange.TheVariants.{Joins, Leaves}
 use Rattle.ada_records.specs.Noting.{MakesCall, EndsCall}
 use Rattle.ada_records.specs.internal.Known.{AreKnown}
 use Rattle.ada_records.proofs.NestTurns.{nests_kept, nests_cancelled, nests_of_end, nests_met, accepted_by_callee}
-use Rattle.ada_records.proofs.QueueTurns.{queues_called, queues_kept, queues_ended, queues_met}
+use Rattle.ada_records.proofs.QueueTurns.{queues_called, queues_ended, queues_met}
 use Rattle.ada_records.proofs.Room.{needs_no_room}
 use Rattle.ada_records.proofs.TouchedTasks.{held_touches, released_touches}
 

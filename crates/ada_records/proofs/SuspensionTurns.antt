@@ -1,6 +1,5 @@
 -- What the events change in queues and nests that hold a task up or let it go on and do no more, and whose phase.
-use Rattle.std.proofs.Common.{◌≡◌, ℕ, ℤ, Some, None, IsSome, Option, List, [], ◌∷◌, refl, sym, ap, ◌∙◌, subst}
-use Rattle.std.proofs.lemmas.Bool.{false≢true}
+use Rattle.std.proofs.Common.{◌≡◌, ℕ, ℤ, Some, None, List, ◌∷◌, refl, ap}
 use Rattle.std.proofs.lemmas.Option.{none-some}
 use Rattle.ada_events.specs.declared.event.Event.{Event}
 use Rattle.ada_events.specs.declared.event.Event.TheVariants as kind

@@ -1,20 +1,19 @@
 -- Records that stand for a journal: each field is what the definitions give.
-use Rattle.std.specs.Prelude.{◌≡◌, ℕ, ◌<◌, Bool, true, false, not, ◌==◌, ◌||◌, ◌&&◌, Some, None, IsSome, List, [], length, slice_index_or}
+use Rattle.std.specs.Prelude.{◌≡◌, ℕ, ◌<◌, Bool, false, not, ◌==◌, ◌||◌, ◌&&◌, Some, None, List, [], length, slice_index_or}
 use Rattle.std.specs.List.{list_any}
 use Rattle.ada_events.specs.declared.event.Event.{Event}
-use Rattle.ada_events.specs.declared.event.Event.TheVariants.{Aborted, Met, Quit}
 use Rattle.ada_events.specs.declared.names.TaskNo.{TaskNo}
 use Rattle.ada_events.specs.declared.names.Master.TheVariants.{Body}
 use Rattle.ada_events.specs.declared.outcome.Outcome.{Outcome}
 use Rattle.ada_events.specs.declared.outcome.Outcome.TheVariants.{Dead, Nothing}
-use Rattle.ada_events.specs.Says.{creation_in, held_in, started_in, released_in, meeting_in}
+use Rattle.ada_events.specs.Says.{held_in, started_in, released_in, meeting_in}
 use Rattle.ada_events.specs.Tasks.{task_count}
 use Rattle.ada_events.specs.Masters.{depends_on}
 use Rattle.ada_events.specs.Phases.{has_start, is_started, is_elaborated, has_failed, is_completed, has_ended, is_abnormal, is_terminated, lists_task}
 use Rattle.ada_events.specs.Phases.{is_suspended}
 use Rattle.ada_events.specs.Calls.{is_met}
 use Rattle.ada_events.specs.Termination.{is_at_open_terminate}
-use Rattle.ada_events.specs.Outcomes.{raised_in, choice_met}
+use Rattle.ada_events.specs.Outcomes.{raised_in}
 use Rattle.ada_laws.specs.Suspension.{IsSuspendedAt}
 use Rattle.ada_records.specs.declared.record.Suspension.{Suspension}
 use Rattle.ada_records.specs.declared.record.Stage.{Stage}

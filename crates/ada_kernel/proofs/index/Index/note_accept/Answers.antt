@@ -42,7 +42,8 @@ returns c =
     let before = c.args.journal.now.events in
     noted c.args.self.now event before c.record_hold.new.records c.follow_hold.new.tables c.after_accept.new.agenda c.args.self.now.next_due
     c.requires.stands c.requires.lawful (quiet_as event _ c.requires.accepts refl refl)
-    (omega (arith, c.record_hold.auto.records, c.as_mut_slice-records.ensures.len)) (recorded ((goal.at.returns c).After-record_hold)) c.follow_hold.ensures.stand c.follow_hold.ensures.slots
+    (omega (arith, c.record_hold.auto.records, c.as_mut_slice-records.ensures.len))
+    (recorded ((goal.at.returns c).After-record_hold)) c.follow_hold.ensures.stand c.follow_hold.ensures.slots
     (subst (λ journal. IsAgendaOf c.after_accept.new.agenda (event ∷ journal)) c.view-view.ensures c.after_accept.ensures)
     (bound_kept event before c.args.self.now.next_due c.requires.lawful c.requires.stands.due
     (not_due_as event _ c.requires.accepts refl))

@@ -1,4 +1,4 @@
-use Rattle.std.proofs.Common.{arith, ◌∷◌, ◌∙◌, refl, sym, ap, subst}
+use Rattle.std.proofs.Common.{arith, ◌∷◌, refl, sym, ap, subst}
 use Rattle.ada_events.specs.Says.{creation_in, moment_in, released_in, meeting_in}
 use Rattle.ada_triggers.specs.Bounds.{IsStartBound}
 use Rattle.ada_triggers.proofs.Additions.{nothing_noted}
@@ -28,7 +28,8 @@ record_release-requires c =
 recorded : (c : After-record_release) → AreRecords c.record_release.new.records (c.args.event.now ∷ c.args.journal.now.events)
 unfolding released_in meeting_in raised_in released_to
 recorded c =
-    noted_release c.args.event.now _ c.args.journal.now.events _ _ _ _ c.args.start _ c.record_release.ensures c.requires.activates refl refl refl (sym c.activation_outcome.ensures)
+    noted_release c.args.event.now _ c.args.journal.now.events _ _ _ _ c.args.start _ c.record_release.ensures c.requires.activates refl refl refl
+    (sym c.activation_outcome.ensures)
     c.holder_at-task.ensures c.as_mut_slice-records.ensures.value c.requires.lawful c.requires.stands.kept.recorded
 
 pub follow_release-requires-clause-records : goal.follow_release-requires-clause-records
@@ -41,7 +42,8 @@ returns c =
     let before = c.args.journal.now.events in
     noted_from c.args.self.now event before c.record_release.new.records c.follow_release.new.tables c.args.self.now.agenda c.args.self.now.next_due
     c.advance.new.self c.requires.stands c.requires.lawful (quiet_as event _ c.requires.activates refl refl)
-    (omega (arith, c.record_release.auto.records, c.as_mut_slice-records.ensures.len)) (recorded ((goal.at.returns c).After-record_release)) c.follow_release.ensures.stand
+    (omega (arith, c.record_release.auto.records, c.as_mut_slice-records.ensures.len))
+    (recorded ((goal.at.returns c).After-record_release)) c.follow_release.ensures.stand
     c.follow_release.ensures.slots
     (nothing_noted event before c.args.self.now.agenda c.requires.lawful c.requires.stands.agenda (ap adds_nothing c.requires.activates))
     (bound_kept event before c.args.self.now.next_due c.requires.lawful c.requires.stands.due (not_due_as event _ c.requires.activates refl))

@@ -41,7 +41,8 @@ returns c =
     let before = c.args.journal.now.events in
     noted c.args.self.now event before c.record_hold.new.records c.follow_call.new.tables c.after_call.new.agenda _ c.requires.stands c.requires.lawful
     (quiet_as event _ c.requires.calls refl refl)
-    (omega (arith, c.record_hold.auto.records, c.as_mut_slice-records.ensures.len)) (recorded ((goal.at.returns c).After-record_hold)) c.follow_call.ensures.stand c.follow_call.ensures.slots
+    (omega (arith, c.record_hold.auto.records, c.as_mut_slice-records.ensures.len))
+    (recorded ((goal.at.returns c).After-record_hold)) c.follow_call.ensures.stand c.follow_call.ensures.slots
     (subst (λ journal. IsAgendaOf c.after_call.new.agenda (event ∷ journal)) c.view-view.ensures c.after_call.ensures)
     (subst (IsDueBound (event ∷ before))
     (ap (earlier c.args.self.now.next_due) (ap due_in c.requires.calls) ∙ sym c.with-self.ensures)

@@ -1,4 +1,4 @@
-use Rattle.std.proofs.Common.{arith, ◌∷◌, ◌∙◌, refl, sym, ap, subst}
+use Rattle.std.proofs.Common.{arith, ◌∷◌, refl, ap, subst}
 use Rattle.ada_events.specs.Says.{creation_in, moment_in, released_in, meeting_in}
 use Rattle.ada_agenda.specs.Keeping.{IsAgendaOf}
 use Rattle.ada_records.proofs.Noting.{release_holds}
@@ -16,7 +16,8 @@ holder_at-caller-requires c = release_holds c.args.event.now c.args.journal.now.
 
 pub record_release-requires : goal.record_release-requires
 record_release-requires c =
-    suspended_recorded _ _ c.args.journal.now.events c.holder_at-caller.result.0 c.args.call c.as_mut_slice-records.ensures.value c.requires.stands.kept.recorded
+    suspended_recorded _ _ c.args.journal.now.events c.holder_at-caller.result.0 c.args.call c.as_mut_slice-records.ensures.value
+    c.requires.stands.kept.recorded
     c.requires.lawful.0 c.holder_at-caller.ensures
 
 recorded : (c : After-record_release) → AreRecords c.record_release.new.records (c.args.event.now ∷ c.args.journal.now.events)
@@ -35,7 +36,8 @@ returns c =
     let before = c.args.journal.now.events in
     noted c.args.self.now event before c.record_release.new.records c.follow_cancellation.new.tables c.after_cancellation.new.agenda c.args.self.now.next_due
     c.requires.stands c.requires.lawful (quiet_as event _ c.requires.cancels refl refl)
-    (omega (arith, c.record_release.auto.records, c.as_mut_slice-records.ensures.len)) (recorded ((goal.at.returns c).After-record_release)) c.follow_cancellation.ensures.stand
+    (omega (arith, c.record_release.auto.records, c.as_mut_slice-records.ensures.len))
+    (recorded ((goal.at.returns c).After-record_release)) c.follow_cancellation.ensures.stand
     c.follow_cancellation.ensures.slots
     (subst (λ journal. IsAgendaOf c.after_cancellation.new.agenda (event ∷ journal)) c.view-view.ensures c.after_cancellation.ensures)
     (bound_kept event before c.args.self.now.next_due c.requires.lawful c.requires.stands.due (not_due_as event _ c.requires.cancels refl))

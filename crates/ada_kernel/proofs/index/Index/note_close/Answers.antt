@@ -1,4 +1,4 @@
-use Rattle.std.proofs.Common.{arith, ◌∷◌, ◌∙◌, refl, sym, ap, subst, ◌+◌}
+use Rattle.std.proofs.Common.{arith, ◌∷◌, refl, ap, subst, ◌+◌}
 use Rattle.ada_events.specs.Says.{creation_in, moment_in, call_in, held_in, started_in, wait_in}
 use Rattle.ada_agenda.specs.Keeping.{IsAgendaOf}
 use Rattle.ada_triggers.specs.Bounds.{IsStartBound}
@@ -43,7 +43,8 @@ returns c =
     let before = c.args.journal.now.events in
     noted_from c.args.self.now event before c.record_hold.new.records c.follow_hold.new.tables c.after_close.new.agenda c.args.self.now.next_due
     c.after_close.new.first c.requires.stands c.requires.lawful (quiet_as event _ c.requires.closes refl refl)
-    (omega (arith, c.record_hold.auto.records, c.as_mut_slice-records.ensures.len)) (recorded ((goal.at.returns c).After-record_hold)) c.follow_hold.ensures.stand c.follow_hold.ensures.slots
+    (omega (arith, c.record_hold.auto.records, c.as_mut_slice-records.ensures.len))
+    (recorded ((goal.at.returns c).After-record_hold)) c.follow_hold.ensures.stand c.follow_hold.ensures.slots
     (subst (λ journal. IsAgendaOf c.after_close.new.agenda (event ∷ journal)) c.view-view.ensures c.after_close.ensures.stands)
     (bound_kept event before c.args.self.now.next_due c.requires.lawful c.requires.stands.due (not_due_as event _ c.requires.closes refl))
     (subst (λ journal. IsStartBound journal c.after_close.new.first) c.view-view.ensures c.after_close.ensures.bound)

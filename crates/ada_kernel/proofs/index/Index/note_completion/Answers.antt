@@ -1,4 +1,4 @@
-use Rattle.std.proofs.Common.{arith, ◌∷◌, ◌∙◌, refl, sym, ap, subst, inl}
+use Rattle.std.proofs.Common.{arith, ◌∷◌, refl, subst, inl}
 use Rattle.ada_events.specs.Says.{creation_in, moment_in}
 use Rattle.ada_agenda.specs.Keeping.{IsAgendaOf}
 use Rattle.ada_triggers.specs.Bounds.{IsStartBound}
@@ -6,22 +6,12 @@ use Rattle.ada_kernel.proofs.Quiet.{quiet_as, not_due_as, noted_from}
 use Rattle.ada_triggers.proofs.Bounds.{bound_kept}
 use Rattle.ada_records.proofs.TaskEnds.{completion_exists}
 use Rattle.ada_kernel.proofs.Recorded.{recorded_task, noted_as}
-use Rattle.ada_records.specs.Records.{AreRecords}
 use Rattle.ada_kernel.proofs.index.Index.note_completion.Goals as goal
-use Rattle.ada_kernel.proofs.index.Index.note_completion.Goals.{After-record_completion}
 
 pub record_completion-requires : goal.record_completion-requires
 record_completion-requires c =
     recorded_task _ _ c.args.journal.now.events c.args.by.0 c.as_mut_slice-records.ensures.value c.requires.stands.kept.recorded
     (completion_exists c.args.event.now c.args.journal.now.events c.args.by c.requires.lawful (inl c.requires.completes))
-
-recorded : (c : After-record_completion) → AreRecords c.record_completion.new.records (c.args.event.now ∷ c.args.journal.now.events)
-recorded c =
-    noted_as c.args.event.now _ c.args.journal.now.events _ _ _ (c.record_completion.ensures c.args.journal.now.events) c.requires.completes
-    c.as_mut_slice-records.ensures.value c.requires.lawful c.requires.stands.kept.recorded
-
-pub follow_completion-requires-clause-records : goal.follow_completion-requires-clause-records
-follow_completion-requires-clause-records c = recorded ((goal.at.follow_completion-requires-clause-records c).After-record_completion)
 
 pub returns : goal.returns
 unfolding creation_in moment_in
@@ -31,8 +21,10 @@ returns c =
     noted_from c.args.self.now event before c.record_completion.new.records c.follow_completion.new.tables c.after_completion.new.agenda
     c.args.self.now.next_due
     c.after_completion.new.first c.requires.stands c.requires.lawful (quiet_as event _ c.requires.completes refl refl)
-    (omega (arith, c.record_completion.auto.records, c.as_mut_slice-records.ensures.len)) (recorded ((goal.at.returns c).After-record_completion)) c.follow_completion.ensures.stand
-    c.follow_completion.ensures.slots
+    (omega (arith, c.record_completion.auto.records, c.as_mut_slice-records.ensures.len))
+    (noted_as event _ before _ _ _ (c.record_completion.ensures before) c.requires.completes
+    c.as_mut_slice-records.ensures.value c.requires.lawful c.requires.stands.kept.recorded)
+    c.follow_completion.ensures.stand c.follow_completion.ensures.slots
     (subst (λ journal. IsAgendaOf c.after_completion.new.agenda (event ∷ journal)) c.view-view.ensures c.after_completion.ensures.stands)
     (bound_kept event before c.args.self.now.next_due c.requires.lawful c.requires.stands.due (not_due_as event _ c.requires.completes refl))
     (subst (λ journal. IsStartBound journal c.after_completion.new.first) c.view-view.ensures c.after_completion.ensures.bound)

@@ -19,8 +19,8 @@ returns-clause-ok c =
       kept = record {
         lawful = c.requires.lawful;
         recorded =
-          c.record_creation.ensures c.args.event.now (makes_some c.args.event.now _ _ _ _ c.requires.makes.is) c.args.journal.now.events c.requires.lawful
-          (search rules);
+            c.record_creation.ensures c.args.event.now (makes_some c.args.event.now _ _ _ _ c.requires.makes.is) c.args.journal.now.events c.requires.lawful
+            (search rules);
         tabled = c.in_ok-follow_creation.ensures.stand;
         created =
             subst (λ made. AreMade made (c.args.event.now ∷ c.args.journal.now.events))

@@ -51,7 +51,8 @@ returns c =
     let before = c.args.journal.now.events in
     noted c.args.self.now event before c.record_hold.new.records c.follow_hold.new.tables c.put_delay_keys.new.agenda _
     c.requires.stands c.requires.lawful (quiet_as event _ c.requires.delays refl refl)
-    (omega (arith, c.record_hold.auto.records, c.as_mut_slice-records.ensures.len)) (recorded ((goal.at.returns c).After-record_hold)) c.follow_hold.ensures.stand c.follow_hold.ensures.slots
+    (omega (arith, c.record_hold.auto.records, c.as_mut_slice-records.ensures.len))
+    (recorded ((goal.at.returns c).After-record_hold)) c.follow_hold.ensures.stand c.follow_hold.ensures.slots
     c.put_delay_keys.ensures
     (subst (IsDueBound (event ∷ before))
     (ap (earlier c.args.self.now.next_due) (ap due_in c.requires.delays)

@@ -1,4 +1,4 @@
-use Rattle.std.proofs.Common.{arith, ◌∷◌, ◌∙◌, refl, sym, ap, subst}
+use Rattle.std.proofs.Common.{arith, ◌∷◌, refl, subst}
 use Rattle.ada_events.specs.Says.{creation_in, moment_in}
 use Rattle.ada_agenda.specs.Keeping.{IsAgendaOf}
 use Rattle.ada_triggers.specs.Bounds.{IsStartBound}
@@ -6,22 +6,12 @@ use Rattle.ada_kernel.proofs.Quiet.{quiet_as, not_due_as, noted_from}
 use Rattle.ada_triggers.proofs.Bounds.{bound_kept}
 use Rattle.ada_records.proofs.TaskEnds.{elaborator_exists}
 use Rattle.ada_kernel.proofs.Recorded.{recorded_task, noted_as}
-use Rattle.ada_records.specs.Records.{AreRecords}
 use Rattle.ada_kernel.proofs.index.Index.note_elaboration.Goals as goal
-use Rattle.ada_kernel.proofs.index.Index.note_elaboration.Goals.{After-record_elaboration}
 
 pub record_elaboration-requires : goal.record_elaboration-requires
 record_elaboration-requires c =
     recorded_task _ _ c.args.journal.now.events c.args.by.0 c.as_mut_slice-records.ensures.value c.requires.stands.kept.recorded
     (elaborator_exists c.args.event.now c.args.journal.now.events c.args.by c.args.ok c.requires.lawful c.requires.comes_up)
-
-recorded : (c : After-record_elaboration) → AreRecords c.record_elaboration.new.records (c.args.event.now ∷ c.args.journal.now.events)
-recorded c =
-    noted_as c.args.event.now _ c.args.journal.now.events _ _ _ (c.record_elaboration.ensures c.args.journal.now.events) c.requires.comes_up
-    c.as_mut_slice-records.ensures.value c.requires.lawful c.requires.stands.kept.recorded
-
-pub follow_elaboration-requires-clause-records : goal.follow_elaboration-requires-clause-records
-follow_elaboration-requires-clause-records c = recorded ((goal.at.follow_elaboration-requires-clause-records c).After-record_elaboration)
 
 pub returns : goal.returns
 unfolding creation_in moment_in
@@ -31,8 +21,10 @@ returns c =
     noted_from c.args.self.now event before c.record_elaboration.new.records c.follow_elaboration.new.tables c.after_elaboration.new.agenda
     c.args.self.now.next_due
     c.after_elaboration.new.first c.requires.stands c.requires.lawful (quiet_as event _ c.requires.comes_up refl refl)
-    (omega (arith, c.record_elaboration.auto.records, c.as_mut_slice-records.ensures.len)) (recorded ((goal.at.returns c).After-record_elaboration)) c.follow_elaboration.ensures.stand
-    c.follow_elaboration.ensures.slots
+    (omega (arith, c.record_elaboration.auto.records, c.as_mut_slice-records.ensures.len))
+    (noted_as event _ before _ _ _ (c.record_elaboration.ensures before) c.requires.comes_up
+    c.as_mut_slice-records.ensures.value c.requires.lawful c.requires.stands.kept.recorded)
+    c.follow_elaboration.ensures.stand c.follow_elaboration.ensures.slots
     (subst (λ journal. IsAgendaOf c.after_elaboration.new.agenda (event ∷ journal)) c.view-view.ensures c.after_elaboration.ensures.stands)
     (bound_kept event before c.args.self.now.next_due c.requires.lawful c.requires.stands.due (not_due_as event _ c.requires.comes_up refl))
     (subst (λ journal. IsStartBound journal c.after_elaboration.new.first) c.view-view.ensures c.after_elaboration.ensures.bound)

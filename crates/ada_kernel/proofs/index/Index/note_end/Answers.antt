@@ -21,12 +21,14 @@ record_end-requires-clause-by c =
 
 pub record_end-requires-clause-caller : goal.record_end-requires-clause-caller
 record_end-requires-clause-caller c =
-    suspended_recorded _ _ c.args.journal.now.events c.holder_at-caller.result.0 c.args.call c.as_mut_slice-records.ensures.value c.requires.stands.kept.recorded
+    suspended_recorded _ _ c.args.journal.now.events c.holder_at-caller.result.0 c.args.call c.as_mut_slice-records.ensures.value
+    c.requires.stands.kept.recorded
     c.requires.lawful.0 c.holder_at-caller.ensures
 
 recorded : (c : After-record_end) → AreRecords c.record_end.new.records (c.args.event.now ∷ c.args.journal.now.events)
 recorded c =
-    noted_as c.args.event.now _ c.args.journal.now.events _ _ _ (c.record_end.ensures c.args.journal.now.events c.args.call c.holder_at-caller.ensures) c.requires.ends
+    noted_as c.args.event.now _ c.args.journal.now.events _ _ _ (c.record_end.ensures c.args.journal.now.events c.args.call c.holder_at-caller.ensures)
+    c.requires.ends
     c.as_mut_slice-records.ensures.value c.requires.lawful c.requires.stands.kept.recorded
 
 pub follow_end-requires-clause-records : goal.follow_end-requires-clause-records
@@ -39,7 +41,8 @@ returns c =
     let before = c.args.journal.now.events in
     noted c.args.self.now event before c.record_end.new.records c.follow_end.new.tables c.after_end.new.agenda c.args.self.now.next_due
     c.requires.stands c.requires.lawful (quiet_as event _ c.requires.ends refl refl)
-    (omega (arith, c.record_end.auto.records, c.as_mut_slice-records.ensures.len)) (recorded ((goal.at.returns c).After-record_end)) c.follow_end.ensures.stand c.follow_end.ensures.slots
+    (omega (arith, c.record_end.auto.records, c.as_mut_slice-records.ensures.len))
+    (recorded ((goal.at.returns c).After-record_end)) c.follow_end.ensures.stand c.follow_end.ensures.slots
     (subst (λ journal. IsAgendaOf c.after_end.new.agenda (event ∷ journal)) c.view-view.ensures c.after_end.ensures)
     (bound_kept event before c.args.self.now.next_due c.requires.lawful c.requires.stands.due
     (not_due_as event _ c.requires.ends refl))

@@ -6,22 +6,12 @@ use Rattle.ada_agenda.specs.Keeping.{IsAgendaOf}
 use Rattle.ada_kernel.proofs.Quiet.{quiet_as, not_due_as, noted_from}
 use Rattle.ada_records.proofs.TaskEnds.{completion_exists}
 use Rattle.ada_kernel.proofs.Recorded.{recorded_task, noted_as}
-use Rattle.ada_records.specs.Records.{AreRecords}
 use Rattle.ada_kernel.proofs.index.Index.note_halt.Goals as goal
-use Rattle.ada_kernel.proofs.index.Index.note_halt.Goals.{After-record_halt}
 
 pub record_halt-requires : goal.record_halt-requires
 record_halt-requires c =
     recorded_task _ _ c.args.journal.now.events c.args.task.0 c.as_mut_slice-records.ensures.value c.requires.stands.kept.recorded
     (completion_exists c.args.event.now c.args.journal.now.events c.args.task c.requires.lawful (inr c.requires.halts))
-
-recorded : (c : After-record_halt) → AreRecords c.record_halt.new.records (c.args.event.now ∷ c.args.journal.now.events)
-recorded c =
-    noted_as c.args.event.now _ c.args.journal.now.events _ _ _ (c.record_halt.ensures c.args.journal.now.events) c.requires.halts
-    c.as_mut_slice-records.ensures.value c.requires.lawful c.requires.stands.kept.recorded
-
-pub follow_halt-requires-clause-records : goal.follow_halt-requires-clause-records
-follow_halt-requires-clause-records c = recorded ((goal.at.follow_halt-requires-clause-records c).After-record_halt)
 
 pub returns : goal.returns
 unfolding creation_in moment_in
@@ -30,7 +20,10 @@ returns c =
     let before = c.args.journal.now.events in
     noted_from c.args.self.now event before c.record_halt.new.records c.follow_halt.new.tables c.after_halt.new.agenda c.args.self.now.next_due
     c.after_halt.new.first c.requires.stands c.requires.lawful (quiet_as event _ c.requires.halts refl refl)
-    (omega (arith, c.record_halt.auto.records, c.as_mut_slice-records.ensures.len)) (recorded ((goal.at.returns c).After-record_halt)) c.follow_halt.ensures.stand c.follow_halt.ensures.slots
+    (omega (arith, c.record_halt.auto.records, c.as_mut_slice-records.ensures.len))
+    (noted_as event _ before _ _ _ (c.record_halt.ensures before) c.requires.halts
+    c.as_mut_slice-records.ensures.value c.requires.lawful c.requires.stands.kept.recorded)
+    c.follow_halt.ensures.stand c.follow_halt.ensures.slots
     (subst (λ journal. IsAgendaOf c.after_halt.new.agenda (event ∷ journal)) c.view-view.ensures c.after_halt.ensures.stands)
     (bound_kept event before c.args.self.now.next_due c.requires.lawful c.requires.stands.due (not_due_as event _ c.requires.halts refl))
     (subst (λ journal. IsStartBound journal c.after_halt.new.first) c.view-view.ensures c.after_halt.ensures.bound)

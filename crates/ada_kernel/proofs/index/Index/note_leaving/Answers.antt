@@ -1,4 +1,4 @@
-use Rattle.std.proofs.Common.{arith, ◌∷◌, ◌∙◌, refl, sym, ap, subst}
+use Rattle.std.proofs.Common.{arith, ◌∷◌, refl, ap}
 use Rattle.ada_events.specs.Says.{creation_in, moment_in, released_in, meeting_in}
 use Rattle.ada_triggers.proofs.Additions.{nothing_noted}
 use Rattle.ada_agenda.specs.Additions.{adds_nothing}
@@ -36,7 +36,8 @@ returns c =
     let before = c.args.journal.now.events in
     noted c.args.self.now event before c.record_release.new.records c.follow_leaving.new.tables c.args.self.now.agenda c.args.self.now.next_due
     c.requires.stands c.requires.lawful (quiet_as event _ c.requires.leaves refl refl)
-    (omega (arith, c.record_release.auto.records, c.as_mut_slice-records.ensures.len)) (recorded ((goal.at.returns c).After-record_release)) c.follow_leaving.ensures.stand
+    (omega (arith, c.record_release.auto.records, c.as_mut_slice-records.ensures.len))
+    (recorded ((goal.at.returns c).After-record_release)) c.follow_leaving.ensures.stand
     c.follow_leaving.ensures.slots
     (nothing_noted event before c.args.self.now.agenda c.requires.lawful c.requires.stands.agenda (ap adds_nothing c.requires.leaves))
     (bound_kept event before c.args.self.now.next_due c.requires.lawful c.requires.stands.due (not_due_as event _ c.requires.leaves refl))

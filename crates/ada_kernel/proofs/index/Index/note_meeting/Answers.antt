@@ -1,4 +1,4 @@
-use Rattle.std.proofs.Common.{arith, ap, refl, ◌∷◌, rules}
+use Rattle.std.proofs.Common.{arith, ap, refl, rules}
 use Rattle.ada_events.specs.Says.{creation_in, moment_in}
 use Rattle.ada_triggers.proofs.Additions.{nothing_noted}
 use Rattle.ada_triggers.proofs.Bounds.{bound_kept}
@@ -6,9 +6,7 @@ use Rattle.ada_records.proofs.Noting.{met_holds}
 use Rattle.ada_agenda.specs.Additions.{adds_nothing}
 use Rattle.ada_kernel.proofs.Quiet.{quiet_as, not_due_as, noted}
 use Rattle.ada_kernel.proofs.Recorded.{suspended_recorded, noted_as}
-use Rattle.ada_records.specs.Records.{AreRecords}
 use Rattle.ada_kernel.proofs.index.Index.note_meeting.Goals as goal
-use Rattle.ada_kernel.proofs.index.Index.note_meeting.Goals.{After-record_meeting}
 
 pub holder_at-caller-requires : goal.holder_at-caller-requires
 holder_at-caller-requires c = (met_holds c.args.event.now c.args.journal.now.events _ _ c.requires.lawful c.requires.meets).0
@@ -18,21 +16,15 @@ holder_at-acceptor-requires c = (met_holds c.args.event.now c.args.journal.now.e
 
 pub record_meeting-requires-clause-caller : goal.record_meeting-requires-clause-caller
 record_meeting-requires-clause-caller c =
-    suspended_recorded _ _ c.args.journal.now.events c.holder_at-caller.result.0 c.args.call c.as_mut_slice-records.ensures.value c.requires.stands.kept.recorded
+    suspended_recorded _ _ c.args.journal.now.events c.holder_at-caller.result.0 c.args.call c.as_mut_slice-records.ensures.value
+    c.requires.stands.kept.recorded
     c.requires.lawful.0 c.holder_at-caller.ensures
 
 pub record_meeting-requires-clause-acceptor : goal.record_meeting-requires-clause-acceptor
 record_meeting-requires-clause-acceptor c =
-    suspended_recorded _ _ c.args.journal.now.events c.holder_at-acceptor.result.0 c.args.wait c.as_mut_slice-records.ensures.value c.requires.stands.kept.recorded
+    suspended_recorded _ _ c.args.journal.now.events c.holder_at-acceptor.result.0 c.args.wait c.as_mut_slice-records.ensures.value
+    c.requires.stands.kept.recorded
     c.requires.lawful.0 c.holder_at-acceptor.ensures
-
-recorded : (c : After-record_meeting) → AreRecords c.record_meeting.new.records (c.args.event.now ∷ c.args.journal.now.events)
-recorded c =
-    noted_as c.args.event.now _ c.args.journal.now.events _ _ _ (c.record_meeting.ensures c.args.journal.now.events c.args.wait c.holder_at-caller.ensures c.holder_at-acceptor.ensures (search rules)) c.requires.meets
-    c.as_mut_slice-records.ensures.value c.requires.lawful c.requires.stands.kept.recorded
-
-pub follow_meeting-requires-clause-records : goal.follow_meeting-requires-clause-records
-follow_meeting-requires-clause-records c = recorded ((goal.at.follow_meeting-requires-clause-records c).After-record_meeting)
 
 pub returns : goal.returns
 unfolding creation_in moment_in
@@ -41,8 +33,11 @@ returns c =
     let before = c.args.journal.now.events in
     noted c.args.self.now event before c.record_meeting.new.records c.follow_meeting.new.tables c.args.self.now.agenda c.args.self.now.next_due
     c.requires.stands c.requires.lawful (quiet_as event _ c.requires.meets refl refl)
-    (omega (arith, c.record_meeting.auto.records, c.as_mut_slice-records.ensures.len)) (recorded ((goal.at.returns c).After-record_meeting)) c.follow_meeting.ensures.stand
-    c.follow_meeting.ensures.slots
+    (omega (arith, c.record_meeting.auto.records, c.as_mut_slice-records.ensures.len))
+    (noted_as event _ before _ _ _ (c.record_meeting.ensures before c.args.wait c.holder_at-caller.ensures c.holder_at-acceptor.ensures (search rules))
+    c.requires.meets
+    c.as_mut_slice-records.ensures.value c.requires.lawful c.requires.stands.kept.recorded)
+    c.follow_meeting.ensures.stand c.follow_meeting.ensures.slots
     (nothing_noted event before c.args.self.now.agenda c.requires.lawful c.requires.stands.agenda (ap adds_nothing c.requires.meets))
     (bound_kept event before c.args.self.now.next_due c.requires.lawful c.requires.stands.due
     (not_due_as event _ c.requires.meets refl))

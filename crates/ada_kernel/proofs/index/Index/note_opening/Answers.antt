@@ -1,4 +1,4 @@
-use Rattle.std.proofs.Common.{arith, ◌∷◌, ◌∙◌, refl, sym, ap, subst}
+use Rattle.std.proofs.Common.{◌∷◌, refl, sym, ap, subst}
 use Rattle.ada_events.specs.Says.{creation_in, moment_in}
 use Rattle.ada_triggers.proofs.Bounds.{bound_kept}
 use Rattle.ada_triggers.proofs.Additions.{nothing_noted}

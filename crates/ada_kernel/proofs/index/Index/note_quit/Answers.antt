@@ -1,4 +1,4 @@
-use Rattle.std.proofs.Common.{◌≡◌, true, arith, ◌∷◌, ◌∙◌, refl, sym, ap, subst, rules}
+use Rattle.std.proofs.Common.{◌≡◌, true, arith, ◌∷◌, refl, sym, subst, rules}
 use Rattle.ada_events.specs.Says.{creation_in, moment_in}
 use Rattle.ada_agenda.specs.Keeping.{IsAgendaOf}
 use Rattle.ada_triggers.specs.Bounds.{IsStartBound}
@@ -31,7 +31,8 @@ returns c =
     let before = c.args.journal.now.events in
     noted_from c.args.self.now event before c.record_quit.new.records c.follow_quitting.new.tables c.after_quit.new.agenda c.args.self.now.next_due
     c.after_quit.new.first c.requires.stands c.requires.lawful (quiet_as event _ c.requires.quits refl refl)
-    (omega (arith, c.record_quit.auto.records, c.as_mut_slice-records.ensures.len)) (recorded ((goal.at.returns c).After-record_quit)) c.follow_quitting.ensures.stand
+    (omega (arith, c.record_quit.auto.records, c.as_mut_slice-records.ensures.len))
+    (recorded ((goal.at.returns c).After-record_quit)) c.follow_quitting.ensures.stand
     c.follow_quitting.ensures.slots
     (subst (λ journal. IsAgendaOf c.after_quit.new.agenda (event ∷ journal)) c.view-view.ensures c.after_quit.ensures.stands)
     (bound_kept event before c.args.self.now.next_due c.requires.lawful c.requires.stands.due (not_due_as event _ c.requires.quits refl))

@@ -1,4 +1,4 @@
-use Rattle.std.proofs.Common.{arith, ◌∷◌, ◌∙◌, refl, sym, ap, subst, ◌+◌}
+use Rattle.std.proofs.Common.{arith, refl, sym, ap, ◌+◌}
 use Rattle.std.specs.Option.{is_some}
 use Rattle.ada_events.specs.declared.event.Event.{Event}
 use Rattle.ada_events.specs.Says.{creation_in, moment_in, start_in}
@@ -7,9 +7,7 @@ use Rattle.ada_kernel.proofs.Quiet.{quiet_as, not_due_as, noted}
 use Rattle.ada_triggers.proofs.Bounds.{bound_kept}
 use Rattle.ada_records.proofs.Starting.{starter_exists, named_exists}
 use Rattle.ada_kernel.proofs.Recorded.{recorded_task, noted_as}
-use Rattle.ada_records.specs.Records.{AreRecords}
 use Rattle.ada_kernel.proofs.index.Index.note_start.Goals as goal
-use Rattle.ada_kernel.proofs.index.Index.note_start.Goals.{After-record_start}
 
 pub put_start_keys-requires-clause-starts : goal.put_start_keys-requires-clause-starts
 unfolding start_in
@@ -28,14 +26,6 @@ record_start-requires-clause-tasks c = λ i d below.
     recorded_task _ _ c.args.journal.now.events _ c.as_mut_slice-records.ensures.value c.requires.stands.kept.recorded
     (named_exists c.args.event.now c.args.journal.now.events c.args.by c.args.tasks.now i d c.requires.lawful c.requires.starts below)
 
-recorded : (c : After-record_start) → AreRecords c.record_start.new.records (c.args.event.now ∷ c.args.journal.now.events)
-recorded c =
-    noted_as c.args.event.now _ c.args.journal.now.events _ _ _ (c.record_start.ensures c.args.journal.now.events (ap (λ n. n + 1) (sym c.len.ensures))) c.requires.starts
-    c.as_mut_slice-records.ensures.value c.requires.lawful c.requires.stands.kept.recorded
-
-pub follow_start-requires-clause-records : goal.follow_start-requires-clause-records
-follow_start-requires-clause-records c = recorded ((goal.at.follow_start-requires-clause-records c).After-record_start)
-
 pub returns : goal.returns
 unfolding creation_in moment_in
 returns c =
@@ -43,6 +33,9 @@ returns c =
     let before = c.args.journal.now.events in
     noted c.args.self.now event before c.record_start.new.records c.follow_start.new.tables c.put_start_keys.new.agenda c.args.self.now.next_due
     c.requires.stands c.requires.lawful (quiet_as event _ c.requires.starts refl refl)
-    (omega (arith, c.record_start.auto.records, c.as_mut_slice-records.ensures.len)) (recorded ((goal.at.returns c).After-record_start)) c.follow_start.ensures.stand c.follow_start.ensures.slots
+    (omega (arith, c.record_start.auto.records, c.as_mut_slice-records.ensures.len))
+    (noted_as event _ before _ _ _ (c.record_start.ensures before (ap (λ n. n + 1) (sym c.len.ensures))) c.requires.starts
+    c.as_mut_slice-records.ensures.value c.requires.lawful c.requires.stands.kept.recorded)
+    c.follow_start.ensures.stand c.follow_start.ensures.slots
     c.put_start_keys.ensures
     (bound_kept event before c.args.self.now.next_due c.requires.lawful c.requires.stands.due (not_due_as event _ c.requires.starts refl))

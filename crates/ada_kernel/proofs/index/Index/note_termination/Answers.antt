@@ -5,22 +5,12 @@ use Rattle.ada_agenda.specs.Keeping.{IsAgendaOf}
 use Rattle.ada_kernel.proofs.Quiet.{quiet_as, not_due_as, noted}
 use Rattle.ada_records.proofs.TaskEnds.{goer_exists}
 use Rattle.ada_kernel.proofs.Recorded.{recorded_task, noted_as}
-use Rattle.ada_records.specs.Records.{AreRecords}
 use Rattle.ada_kernel.proofs.index.Index.note_termination.Goals as goal
-use Rattle.ada_kernel.proofs.index.Index.note_termination.Goals.{After-record_termination}
 
 pub record_termination-requires : goal.record_termination-requires
 record_termination-requires c =
     recorded_task _ _ c.args.journal.now.events c.args.task.0 c.as_mut_slice-records.ensures.value c.requires.stands.kept.recorded
     (goer_exists c.args.event.now c.args.journal.now.events c.args.task c.requires.lawful c.requires.goes)
-
-recorded : (c : After-record_termination) → AreRecords c.record_termination.new.records (c.args.event.now ∷ c.args.journal.now.events)
-recorded c =
-    noted_as c.args.event.now _ c.args.journal.now.events _ _ _ (c.record_termination.ensures c.args.journal.now.events) c.requires.goes
-    c.as_mut_slice-records.ensures.value c.requires.lawful c.requires.stands.kept.recorded
-
-pub follow_termination-requires-clause-records : goal.follow_termination-requires-clause-records
-follow_termination-requires-clause-records c = recorded ((goal.at.follow_termination-requires-clause-records c).After-record_termination)
 
 pub returns : goal.returns
 unfolding creation_in moment_in
@@ -29,7 +19,9 @@ returns c =
     let before = c.args.journal.now.events in
     noted c.args.self.now event before c.record_termination.new.records c.follow_termination.new.tables c.after_termination.new.agenda c.args.self.now.next_due
     c.requires.stands c.requires.lawful (quiet_as event _ c.requires.goes refl refl)
-    (omega (arith, c.record_termination.auto.records, c.as_mut_slice-records.ensures.len)) (recorded ((goal.at.returns c).After-record_termination)) c.follow_termination.ensures.stand
-    c.follow_termination.ensures.slots
+    (omega (arith, c.record_termination.auto.records, c.as_mut_slice-records.ensures.len))
+    (noted_as event _ before _ _ _ (c.record_termination.ensures before) c.requires.goes
+    c.as_mut_slice-records.ensures.value c.requires.lawful c.requires.stands.kept.recorded)
+    c.follow_termination.ensures.stand c.follow_termination.ensures.slots
     (subst (λ journal. IsAgendaOf c.after_termination.new.agenda (event ∷ journal)) c.view-view.ensures c.after_termination.ensures)
     (bound_kept event before c.args.self.now.next_due c.requires.lawful c.requires.stands.due (not_due_as event _ c.requires.goes refl))

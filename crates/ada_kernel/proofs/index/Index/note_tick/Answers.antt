@@ -1,4 +1,4 @@
-use Rattle.std.proofs.Common.{arith, ◌∷◌, ◌∙◌, refl, sym, ap, subst, w64}
+use Rattle.std.proofs.Common.{◌∷◌, ◌∙◌, sym, ap, subst, w64}
 use Rattle.std.proofs.lemmas.Int.{to_z-of_z}
 use Rattle.ada_events.specs.Says.{creation_in}
 use Rattle.ada_agenda.specs.Keeping.{IsAgendaOf}

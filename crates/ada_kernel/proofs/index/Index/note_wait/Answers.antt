@@ -45,7 +45,8 @@ returns c =
     let before = c.args.journal.now.events in
     noted c.args.self.now event before c.record_hold.new.records c.follow_hold.new.tables c.after_wait.new.agenda _
     c.requires.stands c.requires.lawful (quiet_as event _ c.requires.waits refl refl)
-    (omega (arith, c.record_hold.auto.records, c.as_mut_slice-records.ensures.len)) (recorded ((goal.at.returns c).After-record_hold)) c.follow_hold.ensures.stand c.follow_hold.ensures.slots
+    (omega (arith, c.record_hold.auto.records, c.as_mut_slice-records.ensures.len))
+    (recorded ((goal.at.returns c).After-record_hold)) c.follow_hold.ensures.stand c.follow_hold.ensures.slots
     (subst (λ journal. IsAgendaOf c.after_wait.new.agenda (event ∷ journal)) c.view-view.ensures c.after_wait.ensures)
     (subst (IsDueBound (event ∷ before))
     (ap (earlier c.args.self.now.next_due) (ap due_in c.requires.waits ∙ sym c.tail_due.ensures) ∙ sym c.with-self.ensures)
