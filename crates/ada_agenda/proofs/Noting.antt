@@ -18,6 +18,7 @@ use Rattle.ada_rows.specs.declared.row.Row.{Row}
 use Rattle.ada_rows.specs.declared.row.Row.TheVariants.{Failing, Meeting, Cancelling, Waking, Activating, Terminating}
 use Rattle.ada_rows.specs.Newly.{IsCallOf}
 use Rattle.ada_rows.specs.Rows.{rank, step_at}
+use Rattle.ada_agenda.specs.declared.numbers.TheConstants.{MOST_KEYS}
 use Rattle.ada_agenda.specs.Rows.{keeps}
 use Rattle.ada_records.specs.Records.{IsHeldAt}
 use Rattle.ada_agenda.specs.Keeping.{has_key, IsAgendaOf, Grows, Puts, AsKey, When}
@@ -33,13 +34,13 @@ use Rattle.ada_agenda.specs.Kinds.OfDelay.{wakes}
 use Rattle.ada_agenda.proofs.Adding.{agendas_grow}
 
 -- the position of the newest event, and each older one, finds room in a row
-pub own_fits : (event : Event) (before : List Event) → IsLawful (event ∷ before) → length before + 1 < 69632
+pub own_fits : (event : Event) (before : List Event) → IsLawful (event ∷ before) → length before + 1 < MOST_KEYS
 own_fits event before lawful =
     let few : length (event ∷ before) ≤ MOST_EVENTS = events_are_few (event ∷ before) lawful in
     omega arith
 
 -- and so does where a task is suspended, or 0 where it isn't
-pub held_fits : (before : List Event) (task at : ℕ) → IsLawful before → IsHeldAt before task at → at < 69632
+pub held_fits : (before : List Event) (task at : ℕ) → IsLawful before → IsHeldAt before task at → at < MOST_KEYS
 held_fits before task at lawful held = elim (cases_lt 0 at) [
   | inl some ↦
       let h = held.held some in
@@ -49,7 +50,7 @@ held_fits before task at lawful held = elim (cases_lt 0 at) [
   | inr none ↦ omega arith
 ]
 
-pub task_fits : (before : List Event) → IsLawful before → task_count before < 69632
+pub task_fits : (before : List Event) → IsLawful before → task_count before < MOST_KEYS
 task_fits before lawful =
     let few : task_count before ≤ MOST_TASKS = tasks_are_few before lawful in
     omega arith

@@ -5,6 +5,7 @@ use Rattle.std.specs.Int.{bit_at}
 use Rattle.std.proofs.lemmas.Bool.{cases_eq, cases_lt, ne_eqb, true≢false, false_from_ne_true}
 use Rattle.std.proofs.lemmas.List.{length-set, get_or_past}
 use Rattle.std.proofs.lemmas.Nat.Bits.{bit_at-zero}
+use Rattle.ada_agenda.specs.declared.numbers.TheConstants.{MOST_KEYS}
 use Rattle.ada_agenda.specs.Bits.{has}
 use Rattle.ada_agenda.specs.internal.Bits.{with_bit, without_bit, AreHeads, AreLevels}
 use Rattle.ada_agenda.proofs.Words.{set_others, heads_put, heads_emptied, heads_kept, word_some}
@@ -16,7 +17,7 @@ length-with_bit words n = length-set words (n / 64) (bit_or (get_or words (n / 6
 pub length-without_bit : (words : List ℕ) (n : ℕ) → length (without_bit words n) ≡ length words
 length-without_bit words n = length-set words (n / 64) (bit_and (get_or words (n / 64) 0) (2 ^ 64 - 1 - 1 * 2 ^ (n % 64) % 2 ^ 64))
 
-pub levels_put : (low mid top : List ℕ) (n : ℕ) → AreLevels low mid top → n < 69632
+pub levels_put : (low mid top : List ℕ) (n : ℕ) → AreLevels low mid top → n < MOST_KEYS
     → AreLevels (with_bit low n) (with_bit mid (n / 64)) (with_bit top (n / 64 / 64))
 levels_put low mid top n levels within =
     let below : n < 64 * length low = omega (arith, levels.words) in
@@ -36,7 +37,7 @@ levels_put low mid top n levels within =
     }
 
 -- a number is taken out of a word that keeps others
-pub levels_kept : (low mid top : List ℕ) (n : ℕ) → AreLevels low mid top → n < 69632 → (get_or (without_bit low n) (n / 64) 0 == 0) ≡ false
+pub levels_kept : (low mid top : List ℕ) (n : ℕ) → AreLevels low mid top → n < MOST_KEYS → (get_or (without_bit low n) (n / 64) 0 == 0) ≡ false
     → AreLevels (without_bit low n) mid top
 levels_kept low mid top n levels within some = record {
   words = length-without_bit low n ∙ levels.words;
@@ -48,7 +49,7 @@ levels_kept low mid top n levels within some = record {
 }
 
 -- a number is taken out of a word that it empties, and the word's bit above
-pub levels_emptied : (low mid top top' : List ℕ) (n : ℕ) → AreLevels low mid top → n < 69632 → get_or (without_bit low n) (n / 64) 0 ≡ 0
+pub levels_emptied : (low mid top top' : List ℕ) (n : ℕ) → AreLevels low mid top → n < MOST_KEYS → get_or (without_bit low n) (n / 64) 0 ≡ 0
     → AreHeads (without_bit mid (n / 64)) top' → length top' ≡ length top → ((k : ℕ) → has top' k ≡ true → has top k ≡ true)
     → AreLevels (without_bit low n) (without_bit mid (n / 64)) top'
 levels_emptied low mid top top' n levels within empty heads many tops = record {
@@ -61,7 +62,7 @@ levels_emptied low mid top top' n levels within empty heads many tops = record {
 }
 
 -- where the topmost word is 0, no number is in the set
-pub none_stands : (low mid top : List ℕ) (k : ℕ) → AreLevels low mid top → get_or top 0 0 ≡ 0 → has low k ≡ true → k < 69632 → ⊥
+pub none_stands : (low mid top : List ℕ) (k : ℕ) → AreLevels low mid top → get_or top 0 0 ≡ 0 → has low k ≡ true → k < MOST_KEYS → ⊥
 none_stands low mid top k levels none stands within =
     let middle : has mid (k / 64) ≡ true = levels.low_heads.heads (k / 64) (omega (arith, levels.words)) ∙ rw (word_some low k stands) refl in
     let topmost : has top (k / 64 / 64) ≡ true = levels.mid_heads.heads (k / 64 / 64) (omega (arith, levels.heads)) ∙ rw (word_some mid (k / 64) middle) refl in
@@ -104,7 +105,7 @@ all_zero words n many zeros w = elim (cases_lt w n) [
 
 -- where the topmost word is 0, the set is empty
 pub none_stand : (low mid top : List ℕ) (k : ℕ) → AreLevels low mid top → get_or top 0 0 ≡ 0 → has low k ≡ false
-none_stand low mid top k levels none = elim (cases_lt k 69632) [
+none_stand low mid top k levels none = elim (cases_lt k MOST_KEYS) [
   | inl within ↦ false_from_ne_true (has low k) (λ stands. none_stands low mid top k levels none stands within)
   | inr beyond ↦ false_from_ne_true (has low k) (λ stands.
       let past : get_or low (k / 64) 0 ≡ 0 = get_or_past low (k / 64) 0 (omega (arith, levels.words)) in

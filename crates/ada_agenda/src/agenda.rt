@@ -2,6 +2,7 @@
 
 ghost use Rattle.std.specs.Prelude.{◌≡◌, ◌≢◌, ◌<◌, ◌⊎◌, ℕ, true, false, IfOk, IfSome, IfNone};
 ghost use Rattle.ada_rows.specs.Rows.{IsFirst};
+ghost use Rattle.ada_agenda.specs.declared.numbers.TheConstants.{MOST_KEYS};
 ghost use Rattle.ada_agenda.specs.Keeping.{has_key};
 ghost use Rattle.ada_agenda.specs.Rows.{weight};
 
@@ -13,9 +14,9 @@ use std::marker::Model;
 /// How many rows the forced steps have.
 const ROWS: usize = 11;
 
-/// What is to be looked at, in the rows of the forced steps: numbers below 69,632, of which the least of the first
-/// row that has one comes first. All calls but `new` take no memory, and look at a few words. Contracts see it as
-/// the list of its rows, each as the words of its bits.
+/// What is to be looked at, in the rows of the forced steps: numbers below `MOST_KEYS`, of which the least of the
+/// first row that has one comes first. All calls but `new` take no memory, and look at a few words. Contracts see it
+/// as the list of its rows, each as the words of its bits.
 #[derive(Drop)]
 pub struct Agenda {
     rows: Vec<Numbers>,
@@ -53,7 +54,7 @@ impl Agenda {
     /// Puts a number into a row, where it may be already.
     #[tactic(auto, using(crate::proofs::RowsHeld::other_place))]
     pub fn insert(&mut self, row: Row, number: usize)
-        requires { number < 69632 }
+        requires { number < MOST_KEYS }
         ensures here { has_key self.new row number ≡ true }
         ensures others { (other : Row) (k : ℕ) → (other ≢ row) ⊎ (k ≢ number)
             → has_key self.new other k ≡ has_key self.old other k }
@@ -66,7 +67,7 @@ impl Agenda {
     /// Takes a number out of a row, if it is there.
     #[tactic(auto, using(crate::proofs::RowsHeld::other_place))]
     pub fn remove(&mut self, row: Row, number: usize)
-        requires { number < 69632 }
+        requires { number < MOST_KEYS }
         ensures here { has_key self.new row number ≡ false }
         ensures others { (other : Row) (k : ℕ) → (other ≢ row) ⊎ (k ≢ number)
             → has_key self.new other k ≡ has_key self.old other k }
@@ -75,10 +76,10 @@ impl Agenda {
         self.rows[row.rank()].remove(number);
     }
 
-    /// The first row that has a number, and its least, below 69,632.
+    /// The first row that has a number, and its least, below `MOST_KEYS`.
     pub fn first(&mut self) -> Option<(Row, usize)>
         ensures same { self.new ≡ self.old }
-        ensures within { IfSome result (λ key. key.1 < 69632) }
+        ensures within { IfSome result (λ key. key.1 < MOST_KEYS) }
         ensures first { IfSome result (λ key. IsFirst (has_key self.new) key.0 key.1) }
         ensures none { IfNone result ((row : Row) (number : ℕ)
             → has_key self.new row number ≡ false) }

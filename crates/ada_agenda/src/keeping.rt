@@ -9,6 +9,7 @@ ghost use Rattle.ada_events.specs.Tasks.{task_count};
 ghost use Rattle.ada_rows.specs.Newly.{IsCallOf};
 ghost use Rattle.ada_records.specs.Records.{IsHeldAt};
 ghost use Rattle.ada_rows.specs.Touching.{is_uncallable};
+ghost use Rattle.ada_agenda.specs.declared.numbers.TheConstants.{MOST_KEYS};
 ghost use Rattle.ada_agenda.specs.Keeping.{IsAgendaOf, Puts, AsKey, When};
 ghost use Rattle.ada_agenda.specs.Kinds.{is_immediate_call};
 
@@ -16,19 +17,19 @@ use crate::Agenda;
 use ada_events::{Event, Journal, TaskNo};
 use ada_rows::Row;
 
-/// Puts a key, below 69,632, into a row.
+/// Puts a key, below `MOST_KEYS`, into a row.
 #[tactic(auto, using(crate::proofs::Noting::key_put))]
 pub fn put(agenda: &mut Agenda, row: Row, key: usize)
-    requires { key < 69632 }
+    requires { key < MOST_KEYS }
     ensures { Puts agenda.old agenda.new (AsKey row key) }
 {
     agenda.insert(row, key);
 }
 
-/// Puts a key, below 69,632, into a row, if that is so.
+/// Puts a key, below `MOST_KEYS`, into a row, if that is so.
 #[tactic(auto, using(crate::proofs::Noting::so_put, crate::proofs::Noting::not_put))]
 pub fn put_if(agenda: &mut Agenda, row: Row, key: usize, so: bool)
-    requires { key < 69632 }
+    requires { key < MOST_KEYS }
     ensures { Puts agenda.old agenda.new (When so (AsKey row key)) }
 {
     if so {
@@ -40,7 +41,7 @@ pub fn put_if(agenda: &mut Agenda, row: Row, key: usize, so: bool)
 pub fn own_key(journal: &Journal, _event: &Event) -> usize
     requires lawful { IsLawful (_event.now ∷ journal.now.events) }
     ensures own { result ≡ length journal.now.events + 1 }
-    ensures fits { result < 69632 }
+    ensures fits { result < MOST_KEYS }
 {
     journal.len() as usize + 1
 }

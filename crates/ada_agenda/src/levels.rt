@@ -1,6 +1,7 @@
 //! Three levels of bits: the least number of all is found by one word of each.
 
 ghost use Rattle.std.specs.Prelude.{◌≡◌, ◌≢◌, ℕ, ◌<◌, ◌*◌, true, false, length, slice_index};
+ghost use Rattle.ada_agenda.specs.declared.numbers.TheConstants.{MOST_KEYS};
 ghost use Rattle.ada_agenda.specs.Bits.{has};
 ghost use Rattle.ada_agenda.specs.internal.Bits.{without_bit, AreHeads, AreLevels};
 ghost use Rattle.ada_agenda.specs.Bits.{word_sum};
@@ -10,7 +11,7 @@ use crate::bits::{insert, least_in, remove};
 /// Puts a number into the set.
 pub fn put(low: &mut [u64], mid: &mut [u64], top: &mut [u64], number: usize)
     requires levels { AreLevels low.old mid.old top.old }
-    requires within { number < 69632 }
+    requires within { number < MOST_KEYS }
     ensures levels { AreLevels low.new mid.new top.new }
     ensures here { has low.new number ≡ true }
     ensures others { (k : ℕ) → k ≢ number → has low.new k ≡ has low.old k }
@@ -38,7 +39,7 @@ fn take_head(mid: &mut [u64], top: &mut [u64], number: usize)
 /// Takes a number out of the set.
 pub fn take(low: &mut [u64], mid: &mut [u64], top: &mut [u64], number: usize)
     requires levels { AreLevels low.old mid.old top.old }
-    requires within { number < 69632 }
+    requires within { number < MOST_KEYS }
     ensures levels { AreLevels low.new mid.new top.new }
     ensures here { has low.new number ≡ false }
     ensures others { (k : ℕ) → k ≢ number → has low.new k ≡ has low.old k }
@@ -54,7 +55,7 @@ pub fn take(low: &mut [u64], mid: &mut [u64], top: &mut [u64], number: usize)
 pub fn first(low: &[u64], mid: &[u64], top: &[u64]) -> usize
     requires levels { AreLevels low.now mid.now top.now }
     requires some { 0 < slice_index top.now 0 }
-    ensures within { result < 69632 }
+    ensures within { result < MOST_KEYS }
     ensures here { has low.now result ≡ true }
     ensures least { (k : ℕ) → k < result → has low.now k ≡ false }
 {

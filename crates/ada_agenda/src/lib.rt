@@ -11,4 +11,4 @@ mod levels;
 mod numbers;
 
 pub use agenda::Agenda;
-pub use numbers::Numbers;
+pub use numbers::{MOST_KEYS, Numbers};

@@ -1,6 +1,7 @@
 //! A set of small numbers.
 
 ghost use Rattle.std.specs.Prelude.{◌≡◌, ◌≢◌, ◌<◌, ℕ, true, false, length, slice_index_or, IfOk, IfSome, IfNone};
+ghost use Rattle.ada_agenda.specs.declared.numbers.TheConstants.{MOST_KEYS};
 ghost use Rattle.ada_agenda.specs.Bits.{has};
 ghost use Rattle.ada_agenda.specs.Bits.{word_sum};
 
@@ -14,8 +15,13 @@ const WORDS: usize = 1_088;
 
 const HEADS: usize = 17;
 
-// Each position of a journal is such a number.
-const _: () = prove!(MOST_EVENTS < 64 * WORDS);
+/// The most keys of a row: all are below this number.
+pub const MOST_KEYS: usize = 69_632;
+
+const _: () = prove!(MOST_KEYS == 64 * WORDS);
+
+// Each position of a journal is such a key.
+const _: () = prove!(MOST_EVENTS < MOST_KEYS);
 
 /// So many words of no bit.
 fn zeros(alloc: Global, count: usize) -> Result<Vec<u64>, AllocError>
@@ -26,7 +32,7 @@ fn zeros(alloc: Global, count: usize) -> Result<Vec<u64>, AllocError>
     vec![in alloc; 0u64; count]
 }
 
-/// A set of numbers below 69,632. Whether a number is in it, putting one in, taking one out, and the least
+/// A set of numbers below `MOST_KEYS`. Whether a number is in it, putting one in, taking one out, and the least
 /// of all each look at a few words; none takes memory. Contracts see it as the words of its bits.
 #[derive(Drop)]
 pub struct Numbers {
@@ -62,7 +68,7 @@ impl Numbers {
 
     /// Puts a number in, which may be there already.
     pub fn insert(&mut self, number: usize)
-        requires { number < 69632 }
+        requires { number < MOST_KEYS }
         ensures here { has self.new number ≡ true }
         ensures others { (k : ℕ) → k ≢ number → has self.new k ≡ has self.old k }
     {
@@ -71,7 +77,7 @@ impl Numbers {
 
     /// Takes a number out, if it is there.
     pub fn remove(&mut self, number: usize)
-        requires { number < 69632 }
+        requires { number < MOST_KEYS }
         ensures here { has self.new number ≡ false }
         ensures others { (k : ℕ) → k ≢ number → has self.new k ≡ has self.old k }
         ensures fewer { has self.old number ≡ true → word_sum self.new < word_sum self.old }
@@ -81,7 +87,7 @@ impl Numbers {
 
     /// The least number of the set.
     pub fn least(&self) -> Option<usize>
-        ensures within { IfSome result (λ n. n < 69632) }
+        ensures within { IfSome result (λ n. n < MOST_KEYS) }
         ensures here { IfSome result (λ n. has self.now n ≡ true) }
         ensures least { IfSome result (λ n. (k : ℕ) → k < n → has self.now k ≡ false) }
         ensures none { IfNone result ((k : ℕ) → has self.now k ≡ false) }

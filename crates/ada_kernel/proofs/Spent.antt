@@ -3,6 +3,7 @@ use Rattle.std.proofs.Common.{◌≡◌, ◌≢◌, ◌⊎◌, ℕ, ◌<◌, Boo
 use Rattle.std.specs.Bool.{then_some}
 use Rattle.std.specs.Option.{option_and_then}
 use Rattle.std.proofs.lemmas.Bool.{eq-eqb}
+use Rattle.ada_agenda.specs.declared.numbers.TheConstants.{MOST_KEYS}
 use Rattle.ada_agenda.specs.Keeping.{has_key}
 use Rattle.ada_events.specs.declared.event.Event.{Event}
 use Rattle.ada_events.specs.declared.event.Event.TheVariants.{Halted, Failed, Gone, Met}
@@ -68,7 +69,7 @@ module _ (before : List Event) (call : ℕ) where
   failed_no_more = at_none (event_at (Failed call ∷ before) call)
 
   -- a call that fails stands at a position that is a key
-  pub failed_fits : IsLawful (Failed call ∷ before) → call < 69632
+  pub failed_fits : IsLawful (Failed call ∷ before) → call < MOST_KEYS
   unfolding released_in
   failed_fits lawful =
       let held = (release_holds (Failed call) before call lawful refl).held in
@@ -93,7 +94,7 @@ module _ (before : List Event) (call wait : ℕ) where
   met_no_more = none_taken (event_at (Met call wait ∷ before) wait)
 
   -- a wait stands at a position that is a key
-  pub met_fits : IsLawful (Met call wait ∷ before) → wait < 69632
+  pub met_fits : IsLawful (Met call wait ∷ before) → wait < MOST_KEYS
   met_fits lawful =
       let held = (met_holds (Met call wait) before call wait lawful refl).1.held in
       omega (arith, event_at-within before wait held.event held.stands, events_are_few before lawful.0)

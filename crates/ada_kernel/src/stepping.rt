@@ -4,6 +4,7 @@ ghost use Rattle.std.specs.Prelude.{◌≡◌, ◌<◌, None};
 ghost use Rattle.ada_rows.specs.Rows.{step_at};
 ghost use Rattle.ada_kernel.specs.internal.Indexes.{IsIndexOf};
 ghost use Rattle.ada_kernel.specs.internal.Stepping.{MayTake, Takes};
+ghost use Rattle.ada_agenda.specs.declared.numbers.TheConstants.{MOST_KEYS};
 
 use crate::index::Index;
 use ada_events::Journal;
@@ -14,7 +15,7 @@ impl Index {
     #[inline(always)]
     pub(crate) fn drop_key(&mut self, _journal: &Journal, row: Row, key: u32)
         requires stands { IsIndexOf self.old _journal.now.events }
-        requires fits { key < 69632 }
+        requires fits { key < MOST_KEYS }
         requires spent { step_at _journal.now.events row key ≡ None }
         ensures { IsIndexOf self.new _journal.now.events }
     {
@@ -46,7 +47,7 @@ impl Index {
     // Inlined, so that the beginning of a rendezvous, which is mostly what is forced, is one call away.
     #[inline(always)]
     pub(crate) fn take_first(&mut self, journal: &mut Journal, row: Row, key: usize) -> bool
-        requires key { key < 69632 }
+        requires key { key < MOST_KEYS }
         requires first { MayTake self.old journal.old row key }
         ensures { Takes self.old journal.old row key result self.new journal.new }
     {

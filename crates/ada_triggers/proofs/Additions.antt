@@ -14,6 +14,7 @@ use Rattle.ada_laws.proofs.Suspending.{suspended_exists}
 use Rattle.ada_rows.specs.Rows.{step_at}
 use Rattle.ada_rows.specs.declared.row.Row.{Row}
 use Rattle.ada_rows.specs.declared.row.Row.TheVariants.{Failing, QuittingBlock, Leaving}
+use Rattle.ada_agenda.specs.declared.numbers.TheConstants.{MOST_KEYS}
 use Rattle.ada_agenda.specs.Additions.{adds_nothing}
 use Rattle.ada_agenda.specs.Keeping.{has_key, IsAgendaOf, Puts, AsKey}
 use Rattle.ada_agenda.specs.internal.Keeping.{Both}
@@ -42,7 +43,7 @@ closing_here : (event : Event) (by : TaskNo) (block : ℕ) → event ≡ Closed 
 unfolding closing_in
 closing_here event by block is = rw is refl
 
-pub closed_fits : (event : Event) (before : List Event) (by : TaskNo) (block : ℕ) → IsLawful (event ∷ before) → event ≡ Closed by block → block < 69632
+pub closed_fits : (event : Event) (before : List Event) (by : TaskNo) (block : ℕ) → IsLawful (event ∷ before) → event ≡ Closed by block → block < MOST_KEYS
 closed_fits event before by block lawful is =
     block_fits before by.0 block lawful.0 (closing_open event before (record { by = by.0; block = block }) lawful.1 (closing_here event by block is)).block
 

@@ -15,6 +15,7 @@ use Rattle.ada_laws.proofs.Searching.{event_at-within}
 use Rattle.ada_laws.proofs.Suspending.{suspended_exists}
 use Rattle.ada_rows.specs.declared.row.Row.{Row}
 use Rattle.ada_records.specs.Records.{IsHeldAt}
+use Rattle.ada_agenda.specs.declared.numbers.TheConstants.{MOST_KEYS}
 use Rattle.ada_agenda.specs.Keeping.{has_key, IsAgendaOf, Puts, AsKey, When}
 use Rattle.ada_agenda.specs.Keeping.AsKey.{itself}
 use Rattle.ada_agenda.specs.Keeping.When.{holds_so}
@@ -27,7 +28,7 @@ use Rattle.ada_triggers.specs.internal.Keys.AsDueAt.{comes_at}
 use Rattle.ada_triggers.proofs.Putting.{covered_put}
 
 -- an event stands at a position that is a key
-pub position_fits : (journal : List Event) (at : ℕ) (e : Event) → IsLawful journal → event_at journal at ≡ Some e → at < 69632
+pub position_fits : (journal : List Event) (at : ℕ) (e : Event) → IsLawful journal → event_at journal at ≡ Some e → at < MOST_KEYS
 position_fits journal at e lawful stands =
     let within : at ≤ length journal = event_at-within journal at e stands in
     let few : length journal ≤ MOST_EVENTS = events_are_few journal lawful in

@@ -18,6 +18,7 @@ use Rattle.ada_laws.proofs.Framing.{IsBlockOf}
 use Rattle.ada_rows.specs.declared.row.Row.{Row}
 use Rattle.ada_rows.specs.declared.row.Row.TheVariants.{Terminating, QuittingBody, QuittingBlock, Leaving}
 use Rattle.ada_tables.specs.Dependents.{has_block, holds}
+use Rattle.ada_agenda.specs.declared.numbers.TheConstants.{MOST_KEYS}
 use Rattle.ada_agenda.specs.Keeping.{has_key, Puts, When, AsKey}
 use Rattle.ada_agenda.specs.internal.Keeping.{Both}
 use Rattle.ada_agenda.specs.Kinds.{quitting_row, quitting_key}
@@ -43,7 +44,7 @@ unfolding number_of
 block_number same = ap number_of same
 
 -- the position of a block finds room in a row
-pub block_fits : (journal : List Event) (task p : ℕ) → IsLawful journal → IsBlockOf journal task p → p < 69632
+pub block_fits : (journal : List Event) (task p : ℕ) → IsLawful journal → IsBlockOf journal task p → p < MOST_KEYS
 block_fits journal task p lawful of =
     let within : p ≤ length journal = event_at-within journal p of.event of.stands in
     let few : length journal ≤ MOST_EVENTS = events_are_few journal lawful in
@@ -56,7 +57,7 @@ member_is members place b is =
       | inr past ↦ absurd (none-some (BlockMember b) (sym past.1 ∙ is))
     ]
 
-pub member_fits : (journal : List Event) (task place p : ℕ) → IsLawful journal → slice_get (nest journal task) place ≡ Some (BlockMember p) → p < 69632
+pub member_fits : (journal : List Event) (task place p : ℕ) → IsLawful journal → slice_get (nest journal task) place ≡ Some (BlockMember p) → p < MOST_KEYS
 member_fits journal task place p lawful is = block_fits journal task p lawful (block_in_nest journal task p (member_is (nest journal task) place p is)).0
 
 -- a block of a nest stands at a place of it
@@ -131,6 +132,6 @@ all_blocks_put old new all layers place puts same enough =
     puts_all old new (AsBlock all) place (length all) puts (omega (arith, many, enough))
 
 pub got_fits : (journal : List Event) (task place p : ℕ) (members : List Member) (member : Option Member) → IsLawful journal → members ≡ nest journal task
-    → member ≡ slice_get members place → member ≡ Some (BlockMember p) → p < 69632
+    → member ≡ slice_get members place → member ≡ Some (BlockMember p) → p < MOST_KEYS
 got_fits journal task place p members member lawful same got is =
     member_fits journal task place p lawful (ap (λ m. slice_get m place) (sym same) ∙ (sym got ∙ is))

@@ -9,6 +9,7 @@ ghost use Rattle.ada_events.specs.Tasks.{task_count};
 ghost use Rattle.ada_events.specs.declared.names.TaskNo.{TaskNo as Number};
 ghost use Rattle.ada_events.specs.declared.names.Member.TheVariants.{Block as BlockMember};
 ghost use Rattle.ada_triggers.specs.internal.Keys as keys;
+ghost use Rattle.ada_agenda.specs.declared.numbers.TheConstants.{MOST_KEYS};
 ghost use Rattle.ada_agenda.specs.Keeping.{Puts};
 ghost use Rattle.ada_triggers.specs.internal.Keys.{OfFirst, AsMember, AsBlock, AsHolder, AsDependent, AsMaster};
 
@@ -43,7 +44,7 @@ fn holder_above(view: &View, task: TaskNo) -> Option<TaskNo>
 // Puts a member that is a block into the row in which blocks quit.
 #[tactic(auto, using(crate::proofs::Holding::member_put, crate::proofs::Holding::rendezvous_put))]
 fn put_member(agenda: &mut Agenda, member: Member)
-    requires { (p : ℕ) → member ≡ BlockMember p → p < 69632 }
+    requires { (p : ℕ) → member ≡ BlockMember p → p < MOST_KEYS }
     ensures { Puts agenda.old agenda.new (AsMember (Some member)) }
 {
     match member {
@@ -55,7 +56,7 @@ fn put_member(agenda: &mut Agenda, member: Member)
 // Puts the member, where there is one, so.
 #[tactic(auto, using(crate::proofs::Holding::none_put))]
 fn put_layer(agenda: &mut Agenda, member: Option<Member>)
-    requires { (p : ℕ) → member ≡ Some (BlockMember p) → p < 69632 }
+    requires { (p : ℕ) → member ≡ Some (BlockMember p) → p < MOST_KEYS }
     ensures { Puts agenda.old agenda.new (AsMember member) }
 {
     if let Some(member) = member {
