@@ -66,7 +66,7 @@ fn publish<J: Naming, R: Wait>(rt: &R, writer: &mut BoardWriter<J>, board: Board
 }
 
 impl<J: Naming> PublishedKernel<J> {
-    /// A published on a new kernel, with nothing published.
+    /// A new kernel, with nothing published.
     pub fn new(kernel: Kernel, writer: BoardWriter<J>) -> PublishedKernel<J>
         requires kernel { kernel ≡ [] }
         requires writer { writer ≡ record { published = []; offered = [] } }

@@ -1,4 +1,4 @@
--- Meeting the step at the first key, and what it leaves where there is none.
+-- Taking the step at the first key, and what it leaves where there is none.
 use Rattle.std.proofs.Common.{◌≡◌, ◌≢◌, ◌⊎◌, ℕ, ◌+◌, ◌<◌, ◌≤◌, Bool, true, false, Some, List, ◌∷◌, sym, ap, ◌∙◌, subst}
 use Rattle.std.proofs.lemmas.Bool.{false≢true}
 use Rattle.ada_agenda.specs.Rows.{weight}

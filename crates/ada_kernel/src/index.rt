@@ -12,8 +12,8 @@ use ada_triggers::{FirstUnstarted, NextDue};
 use ada_view::View;
 use std::alloc::Global;
 
-/// What a journal's view is told by: a record of each task, the tables, the positions of the creations of all tasks,
-/// and the moment in milliseconds.
+/// What a view of a journal takes beside it: a record of each task, the tables, the positions of the creations of all
+/// tasks, and the moment in milliseconds.
 #[derive(Drop)]
 pub(crate) struct Kept {
     pub(crate) records: Vec<Record>,
@@ -40,7 +40,7 @@ impl Kept {
     }
 }
 
-/// What is kept of a journal beside the journal: what its view is told by, the agenda of where a step may be forced,
+/// What is kept of a journal beside the journal: what a view of it takes, the agenda of where a step may be forced,
 /// the next moment for which a task is suspended, and the first task that may not be started.
 #[derive(Drop)]
 pub struct Index {

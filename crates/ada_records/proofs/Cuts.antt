@@ -1,4 +1,4 @@
--- Meeting a member out of a nest keeps all else, since no member stands there twice.
+-- Taking a member out of a nest keeps all else, since no member stands there twice.
 use Rattle.std.proofs.Common.{◌≡◌, ℕ, List, [], ◌∷◌, refl, sym, ap, subst, inl, inr}
 use Rattle.std.specs.List.{filter, Contains}
 use Rattle.std.proofs.lemmas.Bool.{cases_eq, eq-eqb, ne_eqb}
