@@ -1,9 +1,9 @@
 -- Sets of numbers in rows.
-use Rattle.std.proofs.Common.{◌≡◌, ◌≢◌, ◌⊎◌, ℕ, zero, suc, ◌-◌, ◌<◌, ◌≤◌, true, false, List, [], ◌∷◌, ◌++◌, length, get_or, refl, sym, ap, ◌∙◌, arith, inl, inr}
+use Rattle.std.proofs.Common.{◌≡◌, ◌≢◌, ◌⊎◌, ℕ, zero, suc, ◌-◌, ◌≤◌, false, List, [], ◌∷◌, ◌++◌, length, get_or, refl, sym, ap, ◌∙◌, arith, inl, inr}
 use Rattle.std.proofs.lemmas.Bool.{cases_lt, true≢false, false_from_ne_true}
 use Rattle.std.proofs.lemmas.List.{get_or_past, get_or_append_left, get_or-append_right}
 use Rattle.ada_rows.specs.declared.row.Row.{Row}
-use Rattle.ada_rows.specs.Rows.{rank, IsFirst}
+use Rattle.ada_rows.specs.Rows.{rank}
 use Rattle.ada_rows.proofs.Ranks.{one_rank}
 use Rattle.ada_agenda.specs.Bits.{has}
 use Rattle.ada_agenda.specs.Keeping.{has_key}
@@ -20,12 +20,6 @@ other_place row other n k (inr apart) = inr apart
 pub none_beyond : (rows : List (List ℕ)) (r k : ℕ) → length rows ≤ r → keeps rows r k ≡ false
 none_beyond rows r k beyond =
     ap (λ words. has words k) (get_or_past rows r [] beyond) ∙ none_held [] k (λ w. get_or_past [] w 0 (omega arith))
-
-pub none_in_all : (rows : List (List ℕ)) → ((r k : ℕ) → r < length rows → keeps rows r k ≡ false) → (r k : ℕ) → keeps rows r k ≡ false
-none_in_all rows none r k = elim (cases_lt r (length rows)) [
-  | inl within ↦ none r k within
-  | inr beyond ↦ none_beyond rows r k beyond
-]
 
 -- one row with nothing in it
 pub one_row : (words : List ℕ) → ((k : ℕ) → has words k ≡ false) → (r k : ℕ) → keeps (words ∷ []) r k ≡ false
@@ -66,15 +60,3 @@ none_filled rows many none = record {
 pub none_kept : (rows : List (List ℕ)) (filled : List ℕ) → AreFilled rows filled → get_or filled 0 0 ≡ 0 → (row : Row) (k : ℕ) → has_key rows row k ≡ false
 none_kept rows filled tied none row k =
     false_from_ne_true (has_key rows row k) (λ kept. true≢false (sym (tied.told (rank row) k kept) ∙ no_bits filled (rank row) tied.one none))
-
--- the least number of the row of the least bit is the first of all
-pub first_kept : (rows : List (List ℕ)) (filled : List ℕ) (row : Row) (place number : ℕ) → AreFilled rows filled → rank row ≡ place
-    → ((r : ℕ) → r < place → 0 ≤ r → has filled r ≡ false) → keeps rows place number ≡ true
-    → ((k : ℕ) → k < number → keeps rows place k ≡ false) → IsFirst (has_key rows) row number
-first_kept rows filled row place number tied ranked lower here least = record {
-  here = ap (λ r. keeps rows r number) ranked ∙ here;
-  rows = λ other k less.
-      false_from_ne_true (has_key rows other k) (λ kept.
-      true≢false (sym (tied.told (rank other) k kept) ∙ lower (rank other) (omega (arith, less, ranked)) (omega arith)));
-  keys = λ k less. ap (λ r. keeps rows r k) ranked ∙ least k less;
-}

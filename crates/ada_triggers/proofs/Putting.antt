@@ -9,7 +9,7 @@ use Rattle.ada_laws.specs.Calls.{IsCallAt}
 use Rattle.ada_rows.specs.declared.row.Row.{Row}
 use Rattle.ada_rows.specs.declared.row.Row.TheVariants.{Failing}
 use Rattle.ada_records.specs.Records.{IsHeldAt}
-use Rattle.ada_agenda.specs.Keeping.{Grows, Puts, AsKey, When}
+use Rattle.ada_agenda.specs.Keeping.{Puts, AsKey, When}
 use Rattle.ada_agenda.proofs.Noting.{grows_same, grows_on, held_there}
 use Rattle.ada_triggers.specs.internal.Keys.{OfFirst, AsHeld, AsCaller, is_of_row, calls}
 use Rattle.ada_agenda.specs.Keeping.AsKey.{itself}
@@ -19,16 +19,6 @@ use Rattle.ada_agenda.specs.Keeping.When.{holds_so}
 
 pub puts_none : (old : List (List ℕ)) (Key : ℕ → Row → ℕ → Type 0) → Puts old old (OfFirst Key 0)
 puts_none old Key = record { grows = grows_same old; here = λ row key first. absurd (omega (arith, first.among)) }
-
--- what was put stays
-pub still_puts : (old mid new : List (List ℕ)) (Key : Row → ℕ → Type 0) → Puts old mid Key → Grows mid new → Puts old new Key
-still_puts old mid new Key puts grows = record {
-  grows = grows_on old mid new puts.grows grows;
-  here = λ row key of. grows.kept row key (puts.here row key of);
-}
-
-pub later_puts : (old mid new : List (List ℕ)) (Key : Row → ℕ → Type 0) → Grows old mid → Puts mid new Key → Puts old new Key
-later_puts old mid new Key grows puts = record { grows = grows_on old mid new grows puts.grows; here = puts.here }
 
 -- those of one more task
 pub puts_more : (old mid new : List (List ℕ)) (Key : ℕ → Row → ℕ → Type 0) (n : ℕ) → Puts old mid (OfFirst Key n) → Puts mid new (Key n)
