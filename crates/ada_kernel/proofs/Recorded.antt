@@ -10,7 +10,10 @@ use Rattle.ada_laws.specs.Suspension.{IsSuspendedAt}
 use Rattle.ada_laws.proofs.Suspending.{suspended_exists}
 use Rattle.ada_records.specs.declared.record.Record.{Record}
 use Rattle.ada_records.specs.Noted.{HaveNotedAfter, HaveNotedHold, HaveNotedRelease, may_terminate}
+use Rattle.ada_records.specs.Noting.{HaveAllQueues}
 use Rattle.ada_records.specs.Records.{AreRecords}
+use Rattle.ada_tables.specs.Standing.{StandFor}
+use Rattle.ada_tables.specs.Tables.{TableState}
 use Rattle.ada_records.proofs.EventKinds.{holds_of, releases_of}
 use Rattle.ada_records.proofs.Holding.{holder_ran}
 
@@ -51,3 +54,11 @@ pub noted_release : (event x : Event) (before : List Event) (records lent new : 
     → AreRecords new (event ∷ before)
 noted_release event x before records lent new task position outcome noted is releases meets raises becomes held same lawful stand =
     noted event before position (releases_of event x position is releases meets raises) held (ap (released_to before) is ∙ becomes) lawful (rw same stand)
+
+-- the tables, after they followed an event of a known kind
+pub followed_as : (event x : Event) (before : List Event) (records : List Record) (old new : TableState)
+    → (IsLawful (x ∷ before) → AreRecords records (x ∷ before) → StandFor old before → HaveAllQueues old before
+    → StandFor new (x ∷ before) × HaveAllQueues new (x ∷ before)) → event ≡ x → IsLawful (event ∷ before) → AreRecords records (event ∷ before)
+    → StandFor old before → HaveAllQueues old before → StandFor new (event ∷ before) × HaveAllQueues new (event ∷ before)
+followed_as event x before records old new follows is lawful right stand slots =
+    rw is (follows (subst (λ e. IsLawful (e ∷ before)) is lawful) (subst (λ e. AreRecords records (e ∷ before)) is right) stand slots)

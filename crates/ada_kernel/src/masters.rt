@@ -249,7 +249,7 @@ impl Index {
         after_termination(&mut self.agenda, &view, event, task);
         let records = kept.records.as_mut_slice();
         record_termination(records, task);
-        follow_termination(&mut kept.tables, records, journal, event, task);
+        follow_termination(&mut kept.tables, records, task);
     }
 
     // Lets the task of that number terminate by itself (9.3, 9.4), where it is to.

@@ -56,3 +56,4 @@ pub mod SuspensionTurns
 pub mod Requeued
 pub mod Followed
 pub mod Made
+pub mod Phased

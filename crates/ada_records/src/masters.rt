@@ -1,6 +1,6 @@
 //! Tables that follow the making of a task, blocks that are opened and left, and tasks that complete and terminate
 //! (9.1, 9.4).
-ghost use Rattle.std.specs.Prelude.{◌≡◌, ◌∷◌, OnOk, OnErr, IfErr};
+ghost use Rattle.std.specs.Prelude.{◌≡◌, ◌∷◌, OnOk, OnErr, IfErr, ◌<◌, length};
 ghost use Rattle.ada_events.specs.Lawful.{IsLawful};
 ghost use Rattle.ada_events.specs.Masters.{depends_on};
 ghost use Rattle.ada_events.specs.declared.event.Event.TheVariants.{Opened as OpenedEvent, Left as LeftEvent, Completed as CompletedEvent};
@@ -8,12 +8,12 @@ ghost use Rattle.ada_events.specs.declared.event.Event.TheVariants.{Gone as Gone
 ghost use Rattle.ada_laws.specs.Suspension.{IsSuspendedAt};
 ghost use Rattle.ada_tables.specs.Standing.{StandFor};
 ghost use Rattle.ada_records.specs.Records.{AreRecords, ListsLive};
-ghost use Rattle.ada_records.specs.Noting.{HaveAllQueues, MakesTask};
+ghost use Rattle.ada_records.specs.Noting.{HaveFollowed, HaveAllQueues, MakesTask};
 
 use crate::Record;
 use crate::changes::follow_changes;
 use crate::nests::{NestChange, change_nests};
-use crate::phasing::refresh_dependents;
+use crate::phasing::{refresh, refresh_dependents};
 use crate::queues::{QueueChange, change_queues};
 use ada_events::{Event, Families, Journal, Master, Member, Refusal, TaskNo};
 use ada_tables::Tables;
@@ -107,24 +107,12 @@ pub fn follow_completion(
 }
 
 /// Lets tables follow the termination of a task by itself, which changes its phase and no more (9.4).
-pub fn follow_termination(
-    tables: &mut Tables,
-    records: &[Record],
-    journal: &Journal,
-    event: &Event,
-    task: TaskNo,
-)
-    requires lawful { IsLawful (event.now ∷ journal.now.events) }
-    requires goes { event.now ≡ GoneEvent task }
-    requires stand { StandFor tables.old journal.now.events }
-    requires slots { HaveAllQueues tables.old journal.now.events }
-    requires records { AreRecords records.now (event.now ∷ journal.now.events) }
-    ensures stand { StandFor tables.new (event.now ∷ journal.now.events) }
-    ensures slots { HaveAllQueues tables.new (event.now ∷ journal.now.events) }
+pub fn follow_termination(tables: &mut Tables, records: &[Record], task: TaskNo)
+    requires tabled { task.0 < length tables.old.tasks }
+    requires recorded { task.0 < length records.now }
+    ensures { HaveFollowed (GoneEvent task) records.now tables.old tables.new }
 {
-    let queues = QueueChange::Nothing;
-    let nests = NestChange::Nothing;
-    follow_changes(tables, records, journal, event, queues, nests, Some(task));
+    refresh(tables, task, &records[task.0 as usize]);
 }
 
 /// Lets tables follow the termination of all that depend on a master, of whom the list has those that aren't terminated

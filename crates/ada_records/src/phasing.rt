@@ -13,8 +13,8 @@ use crate::phases::phase_of;
 use ada_events::{Event, Journal, Master, TaskNo};
 use ada_tables::{Phase, Tables};
 
-// Gives a task the phase that its record tells, unless it is terminated.
-fn refresh(tables: &mut Tables, task: TaskNo, kept: &Record)
+/// Gives a task the phase that its record tells, unless it is terminated.
+pub(crate) fn refresh(tables: &mut Tables, task: TaskNo, kept: &Record)
     requires { task.0 < length tables.old.tasks }
     ensures { tables.new ≡ refreshed task.0 kept.now tables.old }
 {
