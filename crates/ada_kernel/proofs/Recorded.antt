@@ -1,16 +1,17 @@
--- What each kind of event asks of the records, and leaves of them.
+-- What each kind of event asks of the records and the tables, and leaves of them.
 use Rattle.std.proofs.Common.{◌≡◌, ℕ, ◌+◌, ◌<◌, Bool, Some, None, List, [], ◌∷◌, length, sym, ap, subst, ◌∙◌, arith}
 use Rattle.ada_events.specs.declared.event.Event.{Event}
 use Rattle.ada_events.specs.declared.outcome.Outcome.{Outcome}
 use Rattle.ada_events.specs.Lawful.{IsLawful}
 use Rattle.ada_events.specs.Outcomes.{raised_in, released_to}
-use Rattle.ada_events.specs.Says.{held_in, started_in, released_in, meeting_in}
+use Rattle.ada_events.specs.Says.{call_in, held_in, started_in, released_in, meeting_in}
 use Rattle.ada_events.specs.Tasks.{task_count}
 use Rattle.ada_laws.specs.Suspension.{IsSuspendedAt}
 use Rattle.ada_laws.proofs.Suspending.{suspended_exists}
 use Rattle.ada_records.specs.declared.record.Record.{Record}
 use Rattle.ada_records.specs.Noted.{HaveNotedAfter, HaveNotedHold, HaveNotedRelease, may_terminate}
-use Rattle.ada_records.specs.Noting.{HaveAllQueues}
+use Rattle.ada_records.specs.Followed.{StandAfter, HaveFollowedAfter, HaveFollowedHold, HaveFollowedRelease}
+use Rattle.ada_records.specs.Noting.{passing_in}
 use Rattle.ada_records.specs.Records.{AreRecords}
 use Rattle.ada_tables.specs.Standing.{StandFor}
 use Rattle.ada_tables.specs.Tables.{TableState}
@@ -55,10 +56,38 @@ pub noted_release : (event x : Event) (before : List Event) (records lent new : 
 noted_release event x before records lent new task position outcome noted is releases meets raises becomes held same lawful stand =
     noted event before position (releases_of event x position is releases meets raises) held (ap (released_to before) is ∙ becomes) lawful (rw same stand)
 
+-- the tables hold each task that exists
+pub tabled_task : (tables : TableState) (journal : List Event) (task : ℕ) → StandFor tables journal → task < task_count journal → task < length tables.tasks
+tabled_task tables journal task stand exists = omega (arith, exists, stand.many)
+
+pub suspended_tabled : (tables : TableState) (journal : List Event) (task position : ℕ) → StandFor tables journal → IsLawful journal
+    → IsSuspendedAt journal task position → task < length tables.tasks
+suspended_tabled tables journal task position stand lawful held =
+    tabled_task tables journal task stand (suspended_exists journal task position lawful held)
+
+pub holder_tabled : (event x : Event) (before : List Event) (tables : TableState) (task : ℕ) → event ≡ x → held_in x ≡ Some task
+    → StandFor tables before → IsLawful (event ∷ before) → task < length tables.tasks
+holder_tabled event x before tables task is holds stand lawful =
+    tabled_task tables before task stand (holder_ran event before task lawful (ap held_in is ∙ holds)).0
+
 -- the tables, after they followed an event of a known kind
-pub followed_as : (event x : Event) (before : List Event) (records : List Record) (old new : TableState)
-    → (IsLawful (x ∷ before) → AreRecords records (x ∷ before) → StandFor old before → HaveAllQueues old before
-    → StandFor new (x ∷ before) × HaveAllQueues new (x ∷ before)) → event ≡ x → IsLawful (event ∷ before) → AreRecords records (event ∷ before)
-    → StandFor old before → HaveAllQueues old before → StandFor new (event ∷ before) × HaveAllQueues new (event ∷ before)
-followed_as event x before records old new follows is lawful right stand slots =
-    rw is (follows (subst (λ e. IsLawful (e ∷ before)) is lawful) (subst (λ e. AreRecords records (e ∷ before)) is right) stand slots)
+pub followed_as : (event x : Event) (before : List Event) (records : List Record) (old new : TableState) → HaveFollowedAfter before x records old new
+    → event ≡ x → HaveFollowedAfter before event records old new
+followed_as event x before records old new follows is = subst (λ (e : Event). HaveFollowedAfter before e records old new) (sym is) follows
+
+-- so those that follow without the records
+pub stand_as : (event x : Event) (before : List Event) (old new : TableState) → (IsLawful (x ∷ before) → StandAfter before x old new) → event ≡ x
+    → IsLawful (event ∷ before) → StandAfter before event old new
+stand_as event x before old new stand is = subst (λ (e : Event). IsLawful (e ∷ before) → StandAfter before e old new) (sym is) stand
+
+-- likewise a hold: the premises on what it says are refl there
+pub followed_hold : (event x : Event) (before : List Event) (records : List Record) (old new : TableState) (task : ℕ) → HaveFollowedHold task records old new
+    → event ≡ x → held_in x ≡ Some task → started_in x ≡ [] → call_in x ≡ None → HaveFollowedAfter before event records old new
+followed_hold event x before records old new task follows is holds starts calls =
+    follows event before (record { plain = holds_of event x task is holds starts; calls = ap call_in is ∙ calls })
+
+-- and a release
+pub followed_release : (event x : Event) (before : List Event) (records : List Record) (old new : TableState) (task position : ℕ)
+    → HaveFollowedRelease task records old new → event ≡ x → passing_in x ≡ Some position → IsSuspendedAt before task position
+    → HaveFollowedAfter before event records old new
+followed_release event x before records old new task position follows is frees held = follows event before position (ap passing_in is ∙ frees) held

@@ -13,7 +13,7 @@ ghost use Rattle.ada_steps.specs.Beginning.{HasBegun};
 use crate::index::Index;
 use ada_admission::aborts::refusal_of_abort;
 use ada_events::{Event, Journal, Refusal, TaskList, TaskNo, Tasks};
-use ada_records::aborts::{follow_abort, follow_halt};
+use ada_records::aborts::follow_halt;
 use ada_records::records::{record_abort, record_halt};
 use ada_rows::Row;
 use ada_steps::make_room;
@@ -35,7 +35,6 @@ impl Index {
         after_abort(&mut self.agenda, &view, event, by, tasks);
         let records = kept.records.as_mut_slice();
         record_abort(records, hit.as_slice());
-        follow_abort(&mut kept.tables, records, journal, event, by, tasks);
     }
 
     // Aborts tasks.
@@ -77,7 +76,7 @@ impl Index {
         after_halt(&mut self.agenda, &mut self.unstarted, &view, event, task);
         let records = kept.records.as_mut_slice();
         record_halt(records, task);
-        follow_halt(&mut kept.tables, records, journal, event, task);
+        follow_halt(&mut kept.tables, records, task);
     }
 
     // Halts the task of that number (9.10), where it is to be halted.

@@ -34,7 +34,7 @@ impl Index {
         keeping::put_start_keys(&mut self.agenda, journal, event);
         let records = kept.records.as_mut_slice();
         record_start(records, by, journal.len() + 1, tasks);
-        follow_start(&mut kept.tables, records, journal, event, by, tasks);
+        follow_start(&mut kept.tables, records, by, tasks);
     }
 
     // Starts the activation of tasks.
@@ -75,7 +75,7 @@ impl Index {
         after_elaboration(&mut self.agenda, &mut self.unstarted, &view, event, by, ok);
         let records = kept.records.as_mut_slice();
         record_elaboration(records, by, ok);
-        follow_elaboration(&mut kept.tables, records, journal, event, by, ok);
+        follow_elaboration(&mut kept.tables, records, by);
     }
 
     // Ends a task's own activation, by an exception where `ok` is false.
@@ -115,7 +115,7 @@ impl Index {
         self.unstarted.advance(&view);
         let records = kept.records.as_mut_slice();
         record_release(records, task, activation_outcome(ok));
-        follow_release(&mut kept.tables, records, journal, event, start, task);
+        follow_release(&mut kept.tables, records, task);
     }
 
     // Ends the activation that started at a position (9.3), where all its tasks are done.

@@ -15,7 +15,7 @@ use ada_admission::delays::{refusal_of_delay, refusal_of_tick};
 use ada_agenda::keeping::put_delay_keys;
 use ada_events::{Event, Journal, Outcome, Refusal, TaskNo, due_after};
 use ada_records::records::{holder_at, record_hold, record_release};
-use ada_records::suspension::{follow_hold, follow_release, follow_tick};
+use ada_records::suspension::{follow_hold, follow_release};
 use ada_steps::make_room;
 use ada_triggers::moments::after_tick;
 use ada_triggers::next_after_tick;
@@ -33,7 +33,7 @@ impl Index {
         self.next_due = self.next_due.with(Some(due));
         let records = kept.records.as_mut_slice();
         record_hold(records, by, journal.len() + 1, false);
-        follow_hold(&mut kept.tables, records, journal, event, by);
+        follow_hold(&mut kept.tables, records, by);
     }
 
     // Delays a task by a duration.
@@ -72,7 +72,7 @@ impl Index {
         let kept = &mut self.kept;
         let records = kept.records.as_mut_slice();
         record_release(records, task, Outcome::Awake);
-        follow_release(&mut kept.tables, records, journal, event, pause, task);
+        follow_release(&mut kept.tables, records, task);
     }
 
     // Ends the delay at a position (9.6), where its moment has come.
@@ -101,7 +101,6 @@ impl Index {
         let view = kept.view(journal);
         after_tick(&mut self.agenda, self.next_due, &view, event, now);
         self.next_due = next_after_tick(self.next_due, &view, event, now);
-        follow_tick(&mut kept.tables, &kept.records, journal, event, now);
         kept.moment = now;
     }
 

@@ -55,7 +55,7 @@ impl Index {
         let tasks = usize::from(self.kept.tables.tasks());
         self.kept.records.reserve(1)?;
         self.kept.made.reserve(1)?;
-        follow_creation(&mut self.kept.tables, journal, event, master, families)?;
+        follow_creation(&mut self.kept.tables, master, families)?;
         record_creation(&mut self.kept.records);
         self.kept.made.push_reserved(journal.len() + 1);
         put_creation_keys(&mut self.agenda, journal, event, tasks);
@@ -104,7 +104,7 @@ impl Index {
         ensures { IsIndexOf self.new (event.now ∷ journal.now.events) }
     {
         let kept = &mut self.kept;
-        follow_opening(&mut kept.tables, &kept.records, journal, event, by, under);
+        follow_opening(&mut kept.tables, by, journal.len() + 1);
     }
 
     // Opens a block.
@@ -146,7 +146,7 @@ impl Index {
         );
         let records = kept.records.as_mut_slice();
         record_hold(records, by, journal.len() + 1, false);
-        follow_hold(&mut kept.tables, records, journal, event, by);
+        follow_hold(&mut kept.tables, records, by);
     }
 
     // Closes a task's innermost block.
@@ -180,7 +180,7 @@ impl Index {
         let kept = &mut self.kept;
         let records = kept.records.as_mut_slice();
         record_release(records, task, Outcome::BlockLeft);
-        follow_leaving(&mut kept.tables, records, journal, event, close, task);
+        follow_leaving(&mut kept.tables, records, task);
     }
 
     // Lets the block be left that is closed at a position (9.4), where all its dependents are terminated.
@@ -210,7 +210,7 @@ impl Index {
         after_completion(&mut self.agenda, &mut self.unstarted, &view, event, by);
         let records = kept.records.as_mut_slice();
         record_completion(records, by);
-        follow_completion(&mut kept.tables, records, journal, event, by);
+        follow_completion(&mut kept.tables, records, by);
     }
 
     // Completes a task.
@@ -286,14 +286,7 @@ impl Index {
         after_quit(&mut self.agenda, &mut self.unstarted, &view, event, master);
         let records = kept.records.as_mut_slice();
         record_quit(records, dependents.as_slice());
-        follow_quitting(
-            &mut kept.tables,
-            records,
-            journal,
-            event,
-            master,
-            dependents.as_slice(),
-        );
+        follow_quitting(&mut kept.tables, records, dependents.as_slice());
     }
 
     // Lets all terminate together that depend on the body of the task of that number (9.4), where they are to.

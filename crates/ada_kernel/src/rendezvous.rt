@@ -22,7 +22,7 @@ use ada_events::{
 };
 use ada_records::records::{holder_at, record_end, record_hold, record_meeting, record_release};
 use ada_records::rendezvous::{
-    follow_call, follow_cancellation, follow_end, follow_failure, follow_meeting,
+    callee_at, follow_call, follow_cancellation, follow_end, follow_failure, follow_meeting,
 };
 use ada_records::suspension::follow_hold;
 use ada_rows::Row;
@@ -53,8 +53,9 @@ impl Index {
         calls::after_call(&mut self.agenda, &view, event, callee);
         self.next_due = self.next_due.with(due);
         let records = kept.records.as_mut_slice();
-        record_hold(records, by, journal.len() + 1, false);
-        follow_call(&mut kept.tables, records, journal, event, by, callee, entry);
+        let at = journal.len() + 1;
+        record_hold(records, by, at, false);
+        follow_call(&mut kept.tables, records, by, callee, entry, at);
     }
 
     // Answers a call (9.5).
@@ -106,7 +107,7 @@ impl Index {
         calls::after_accept(&mut self.agenda, &view, event, by, pick, entry);
         let records = kept.records.as_mut_slice();
         record_hold(records, by, journal.len() + 1, false);
-        follow_hold(&mut kept.tables, records, journal, event, by);
+        follow_hold(&mut kept.tables, records, by);
     }
 
     // Answers an accept statement (9.5): a wait with one open choice and nothing else.
@@ -158,7 +159,7 @@ impl Index {
         calls::after_end(&mut self.agenda, &view, event, by, call, raised);
         let records = kept.records.as_mut_slice();
         record_end(records, by, caller, raised);
-        follow_end(&mut kept.tables, records, journal, event, by, caller, call);
+        follow_end(&mut kept.tables, records, by, caller, call);
     }
 
     // Answers the end of an accept statement (9.5), by an exception where `raised` is true (11.5).
@@ -200,16 +201,7 @@ impl Index {
         let kept = &mut self.kept;
         let records = kept.records.as_mut_slice();
         record_meeting(records, caller, acceptor, call, choice);
-        follow_meeting(
-            &mut kept.tables,
-            records,
-            journal,
-            event,
-            call,
-            wait,
-            caller,
-            acceptor,
-        );
+        follow_meeting(&mut kept.tables, records, call, caller, acceptor);
     }
 
     // Lets the wait at a position take a call (9.5, 9.7.1), where there is one.
@@ -242,7 +234,8 @@ impl Index {
         calls::after_failure(&mut self.agenda, &view, event, call);
         let records = kept.records.as_mut_slice();
         record_release(records, caller, Outcome::TaskingError);
-        follow_failure(&mut kept.tables, records, journal, event, call, caller);
+        let callee = callee_at(journal, call);
+        follow_failure(&mut kept.tables, records, callee, caller, call);
     }
 
     // Lets the call at a position fail (9.5, 9.10), where it is to fail.
@@ -274,7 +267,7 @@ impl Index {
         calls::after_cancellation(&mut self.agenda, &view, event, call);
         let records = kept.records.as_mut_slice();
         record_release(records, caller, Outcome::Cancelled);
-        follow_cancellation(&mut kept.tables, records, journal, event, call, caller);
+        follow_cancellation(&mut kept.tables, records, caller);
     }
 
     // Cancels the call at a position (9.7.2, 9.7.3), where it is to be cancelled.

@@ -51,7 +51,7 @@ impl Index {
         self.next_due = self.next_due.with(tail_due(tail));
         let records = kept.records.as_mut_slice();
         record_hold(records, by, journal.len() + 1, may_terminate(tail));
-        follow_hold(&mut kept.tables, records, journal, event, by);
+        follow_hold(&mut kept.tables, records, by);
     }
 
     // Begins a selective wait.
@@ -102,7 +102,7 @@ impl Index {
         let kept = &mut self.kept;
         let records = kept.records.as_mut_slice();
         record_release(records, task, took(way));
-        follow_release(&mut kept.tables, records, journal, event, wait, task);
+        follow_release(&mut kept.tables, records, task);
     }
 
     // Lets the wait at a position end without a call (9.7.1), where there is a way.

@@ -30,7 +30,7 @@ use Rattle.ada_events.specs.Refusals.{breaks_constraint, is_rendezvous_for, nest
 use Rattle.ada_events.specs.Refusals.{is_still_nested, aborts_main, first_cause, causes, refusal}
 use Rattle.ada_events.specs.Limits.{moves_back, is_too_late, makes_too_many_tasks, slot_count, makes_too_many_slots, is_too_deep, is_full}
 
-abbrev main : TaskNo
+abbrev pub main : TaskNo
 main = record { 0 = 0 }
 
 abbrev pub three_entries : Family

@@ -48,7 +48,6 @@ pub mod NestTurns
 pub mod Renested
 pub mod SlotsApart
 pub mod QueueTurns
-pub mod Room
 pub mod RendezvousTurns
 pub mod EndingTurns
 pub mod MasterTurns
@@ -56,4 +55,9 @@ pub mod SuspensionTurns
 pub mod Requeued
 pub mod Followed
 pub mod Made
-pub mod Phased
+pub mod Applied
+pub mod Known
+pub mod Renesting
+pub mod Requeuing
+pub mod Listed
+pub mod Allowed

@@ -51,8 +51,8 @@ use Rattle.ada_records.proofs.Unnesting.{nest_released}
 use Rattle.ada_tables.specs.Dependents.{has_block, count_below}
 use Rattle.ada_tables.specs.Standing.{live_count}
 use Rattle.ada_records.specs.Noting.{passing_in}
-use Rattle.ada_records.specs.internal.Renesting.{IsIdleIn, ChangesNests}
-use Rattle.ada_records.specs.declared.nests.NestChange.TheVariants.{Nothing, Enters, LeavesBlock, EndsRendezvous}
+use Rattle.ada_records.proofs.Renesting.{IsIdleIn, ChangesNests}
+use Rattle.ada_records.proofs.Renesting.NestChange.{Nothing, Enters, LeavesBlock, EndsRendezvous}
 use Rattle.ada_records.proofs.Cuts.{all_apart, cuts_keep_the_rest}
 use Rattle.ada_records.proofs.Entries.{call_names_entry, declarer_exists}
 use Rattle.ada_records.proofs.NestedBlocks.{innermost_last}

@@ -34,8 +34,8 @@ use Rattle.ada_records.proofs.Saying.{held_apart}
 use Rattle.ada_records.proofs.TaskEnds.{completion_exists}
 use Rattle.ada_tables.specs.Standing.{caller_of}
 use Rattle.ada_records.specs.Noting.{passing_in}
-use Rattle.ada_records.specs.internal.Requeuing.{without_caller, ComesLast, ChangesQueues}
-use Rattle.ada_records.specs.declared.queues.QueueChange.TheVariants.{Nothing, Joins, Leaves}
+use Rattle.ada_records.proofs.Requeuing.{without_caller, ComesLast, ChangesQueues}
+use Rattle.ada_records.proofs.Requeuing.QueueChange.{Nothing, Joins, Leaves}
 use Rattle.ada_records.proofs.Empty.{is_some}
 use Rattle.ada_records.proofs.Entries.{new_number, declarer_exists}
 use Rattle.ada_records.proofs.OnePhaseKinds.{completes_only, completed_queue, filter_absent, not_in_queue}

@@ -17,7 +17,8 @@ use Rattle.ada_tables.specs.Standing.{phase_of}
 use Rattle.ada_tables.specs.Tables.{TableState}
 use Rattle.ada_records.specs.Facing.{HoldFacts}
 use Rattle.ada_records.proofs.KeptPhases.{others_keep_phases}
-use Rattle.ada_records.proofs.Refreshing.{AreNamed, all_done, ended_phase}
+use Rattle.ada_records.specs.internal.Phasing.{AreNamed}
+use Rattle.ada_records.proofs.Refreshing.{all_done, ended_phase}
 
 pub quit_makes_none : (event : Event) (m : Master) → event ≡ Quit m → creation_in event ≡ None
 unfolding creation_in

@@ -20,7 +20,7 @@ use Rattle.ada_tables.specs.Dependents.{Facts, nobody, task_at, is_terminated as
 use Rattle.ada_tables.specs.Tables.{TableState}
 use Rattle.ada_tables.specs.Standing.{phase_of, facts_in}
 use Rattle.ada_records.specs.Facing.{HoldFacts}
-use Rattle.ada_records.specs.internal.Phasing.{TouchesOnly, facts_between, AreBetween, AreRenested, refreshed}
+use Rattle.ada_records.specs.internal.Phasing.{TouchesOnly, facts_between, AreBetween, AreNamed, AreRenested, refreshed}
 use Rattle.ada_records.specs.RecordedPhases.{phase_by}
 use Rattle.ada_records.proofs.Agreeing.{ends_phase}
 use Rattle.ada_records.proofs.Following.{same_facts}
@@ -105,6 +105,13 @@ refreshed_kept task kept old = by_end (ends (task_at old.tasks task).phase)
     by_end true = refl
     by_end false = refl
 
+pub refreshed_many : (task : ℕ) (kept : Record) (old : TableState) → length (refreshed task kept old).tasks ≡ length old.tasks
+refreshed_many task kept old = by_end (ends (task_at old.tasks task).phase)
+  where
+    by_end : (b : Bool) → length (cond b old (record old { tasks = with_phase task (phase_by kept) old.tasks })).tasks ≡ length old.tasks
+    by_end true = refl
+    by_end false = length-set old.tasks task (record (task_at old.tasks task) { phase = phase_by kept })
+
 -- who counts as done is a matter of the tasks that exist
 pub between_same : (event : Event) (before : List Event) (done other : ℕ → Bool) (tasks : List Facts)
     → ((task : ℕ) → task < task_count before → done task ≡ other task) → AreBetween event before done tasks → AreBetween event before other tasks
@@ -124,7 +131,7 @@ all_done event before done tasks makes same between = record {
       between.facts task known ∙ done_anyway event before task (done task) (same task known) ∙ same_facts event before task makes;
 }
 
-kept_more : (task : ℕ) (kept : Record) (first old new : TableState) → old ≡ record first {
+pub kept_more : (task : ℕ) (kept : Record) (first old new : TableState) → old ≡ record first {
   tasks =
       old.tasks;
 } → new ≡ refreshed task kept old → new ≡ record first { tasks = new.tasks }
@@ -149,11 +156,6 @@ pub right_behind : (event : Event) (before : List Event) (records : List Record)
 right_behind event before records task makes stand known =
     let within : task < length records = omega (arith, known, stand.many, task_count-same event before makes) in
     (within, stand.each task within)
-
--- of the tasks of a list, the first so many are done
-abbrev pub AreNamed : Event → List Event → List TaskNo → TableState → TableState → ℕ → Type 0
-AreNamed event before tasks first now many =
-    AreBetween event before (λ t. lists_task t (take many tasks)) now.tasks × (now ≡ record first { tasks = now.tasks })
 
 pub eqb_swap : (a b : ℕ) → eqb a b ≡ eqb b a
 eqb_swap a b =

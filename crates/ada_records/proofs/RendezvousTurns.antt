@@ -1,5 +1,5 @@
 -- What the events of a rendezvous change in queues and nests, and whose phase.
-use Rattle.std.proofs.Common.{◌≡◌, ℕ, ◌<◌, ◌-◌, Bool, false, not, Option, Some, None, List, ◌∷◌, length, refl, sym, ap, ◌∙◌, subst, inl, inr}
+use Rattle.std.proofs.Common.{◌≡◌, ℕ, ◌-◌, Bool, false, not, Option, Some, None, List, ◌∷◌, length, refl, sym, ap, ◌∙◌, subst, inl, inr}
 use Rattle.std.specs.Option.{option_map_or}
 use Rattle.std.specs.List.{Contains}
 use Rattle.std.proofs.lemmas.Bool.{true≢false}
@@ -21,23 +21,21 @@ use Rattle.ada_laws.specs.Suspension.{IsSuspendedAt}
 use Rattle.ada_laws.proofs.Accepting.{is_accepted}
 use Rattle.ada_laws.proofs.Rows.{IsRow, forced-row}
 use Rattle.ada_laws.proofs.Rows.IsRow.{fails}
-use Rattle.ada_tables.specs.Tables.{TableState}
-use Rattle.ada_records.specs.declared.nests.NestChange.TheVariants.{Nothing as SameNests, Enters, EndsRendezvous}
-use Rattle.ada_records.specs.declared.queues.QueueChange.TheVariants.{Joins, Leaves}
-use Rattle.ada_records.specs.Noting.{MakesCall, EndsCall}
-use Rattle.ada_records.specs.internal.Known.{AreKnown}
+use Rattle.ada_records.proofs.Renesting.NestChange.{Nothing as SameNests, Enters, EndsRendezvous}
+use Rattle.ada_records.proofs.Requeuing.QueueChange.{Joins, Leaves}
+use Rattle.ada_records.specs.Noting.{MakesCall}
+use Rattle.ada_records.specs.internal.Ending.{EndsCall}
+use Rattle.ada_records.proofs.Known.{AreKnown}
 use Rattle.ada_records.proofs.NestTurns.{nests_kept, nests_cancelled, nests_of_end, nests_met, accepted_by_callee}
 use Rattle.ada_records.proofs.QueueTurns.{queues_called, queues_ended, queues_met}
-use Rattle.ada_records.proofs.Room.{needs_no_room}
 use Rattle.ada_records.proofs.TouchedTasks.{held_touches, released_touches}
 
 -- a call of an entry comes last there, and holds its task up
-pub call_known : (event : Event) (before : List Event) (tables : TableState) (by callee : TaskNo) (entry : Entry) → MakesCall event by callee entry
-    → 0 < tables.spare → IsLawful (event ∷ before) → AreKnown event before tables (Joins by callee entry) SameNests (Some by)
+pub call_known : (event : Event) (before : List Event) (by callee : TaskNo) (entry : Entry) → MakesCall event by callee entry
+    → IsLawful (event ∷ before) → AreKnown event before (Joins by callee entry) SameNests (Some by)
 unfolding creation_in opening_in call_in meeting_in released_in held_in started_in
-call_known event before tables by callee entry calls room lawful = record {
+call_known event before by callee entry calls lawful = record {
   makes = ap creation_in calls.is;
-  room = λ some. room;
   queues = queues_called event before _ by callee entry (ap call_in calls.is) refl refl refl lawful;
   nests = nests_kept event _ before calls.is refl refl refl lawful;
   touches = held_touches event _ before by calls.is refl refl lawful;
@@ -88,37 +86,34 @@ ender_is_callee event before by p raised lawful is c calls =
     accepted_by_callee before by.0 p c lawful.0 calls (ended_within event before by p raised lawful is)
 
 -- the end of a rendezvous takes it out of the nest of the task that ends it, and lets its caller go on
-pub end_known : (event : Event) (before : List Event) (tables : TableState) (by caller : TaskNo) (call : ℕ) → EndsCall event by call
-    → IsSuspendedAt before caller.0 call → IsLawful (event ∷ before) → AreKnown event before tables (Leaves caller) (EndsRendezvous by call) (Some caller)
+pub end_known : (event : Event) (before : List Event) (by caller : TaskNo) (call : ℕ) → EndsCall event by call
+    → IsSuspendedAt before caller.0 call → IsLawful (event ∷ before) → AreKnown event before (Leaves caller) (EndsRendezvous by call) (Some caller)
 unfolding creation_in call_in meeting_in released_in
-end_known event before tables by caller call ends held lawful = record {
+end_known event before by caller call ends held lawful = record {
   makes = ap creation_in ends.is;
-  room = needs_no_room event _ tables ends.is refl;
   queues = queues_ended event _ before caller call ends.is refl refl refl held lawful;
   nests = nests_of_end event before by by call ends.raised ends.is (ender_is_callee event before by call ends.raised lawful ends.is) lawful;
   touches = released_touches event _ before caller call ends.is refl lawful held;
 }
 
 -- the beginning of a rendezvous takes its call out of the queue, puts it into the nest of the acceptor, and lets that go on
-pub meeting_known : (event : Event) (before : List Event) (tables : TableState) (call wait : ℕ) (caller acceptor : TaskNo) → event ≡ kind.Met call wait
+pub meeting_known : (event : Event) (before : List Event) (call wait : ℕ) (caller acceptor : TaskNo) → event ≡ kind.Met call wait
     → IsSuspendedAt before caller.0 call → IsSuspendedAt before acceptor.0 wait → IsLawful (event ∷ before)
-    → AreKnown event before tables (Leaves caller) (Enters acceptor (Rendezvous call)) (Some acceptor)
+    → AreKnown event before (Leaves caller) (Enters acceptor (Rendezvous call)) (Some acceptor)
 unfolding creation_in call_in released_in
-meeting_known event before tables call wait caller acceptor is calls waits lawful = record {
+meeting_known event before call wait caller acceptor is calls waits lawful = record {
   makes = ap creation_in is;
-  room = needs_no_room event _ tables is refl;
   queues = queues_met event before caller call wait is calls lawful;
   nests = nests_met event before acceptor call wait is waits lawful;
   touches = released_touches event _ before acceptor wait is refl lawful waits;
 }
 
 -- the cancellation of a call takes it out of its queue, and lets its caller go on
-pub cancellation_known : (event : Event) (before : List Event) (tables : TableState) (call : ℕ) (caller : TaskNo) → event ≡ kind.Cancelled call
-    → IsSuspendedAt before caller.0 call → IsLawful (event ∷ before) → AreKnown event before tables (Leaves caller) SameNests (Some caller)
+pub cancellation_known : (event : Event) (before : List Event) (call : ℕ) (caller : TaskNo) → event ≡ kind.Cancelled call
+    → IsSuspendedAt before caller.0 call → IsLawful (event ∷ before) → AreKnown event before (Leaves caller) SameNests (Some caller)
 unfolding creation_in call_in meeting_in released_in
-cancellation_known event before tables call caller is held lawful = record {
+cancellation_known event before call caller is held lawful = record {
   makes = ap creation_in is;
-  room = needs_no_room event _ tables is refl;
   queues = queues_ended event _ before caller call is refl refl refl held lawful;
   nests = nests_cancelled event before call is lawful;
   touches = released_touches event _ before caller call is refl lawful held;

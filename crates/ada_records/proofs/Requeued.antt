@@ -26,7 +26,7 @@ use Rattle.ada_tables.specs.Tables.{TableState, slot_at, HasEntry}
 use Rattle.ada_tables.specs.Standing.{caller_of, AreQueued}
 use Rattle.ada_tables.proofs.Linking.{any_place}
 use Rattle.ada_records.specs.Facing.{HoldFacts, HoldQueues}
-use Rattle.ada_records.specs.internal.Requeuing.{without_caller, ComesLast, LeavesQueue}
+use Rattle.ada_records.proofs.Requeuing.{without_caller, ComesLast, LeavesQueue}
 use Rattle.ada_records.proofs.OnePhase.{caller_later}
 use Rattle.ada_records.proofs.QueueTurns.{queued_by}
 use Rattle.ada_records.proofs.Refreshing.{eqb_swap}

@@ -7,14 +7,12 @@ use Rattle.ada_events.specs.declared.names.TaskNo.{TaskNo}
 use Rattle.ada_events.specs.Lawful.{IsLawful}
 use Rattle.ada_events.specs.Says.{creation_in, opening_in, call_in, meeting_in, released_in, completed_in, held_in, started_in, left_in, gone_in, quit_in}
 use Rattle.ada_laws.specs.Suspension.{IsSuspendedAt}
-use Rattle.ada_tables.specs.Tables.{TableState}
-use Rattle.ada_records.specs.declared.nests.NestChange.TheVariants.{Nothing as SameNests}
-use Rattle.ada_records.specs.declared.queues.QueueChange.TheVariants.{Nothing as SameQueues}
+use Rattle.ada_records.proofs.Renesting.NestChange.{Nothing as SameNests}
+use Rattle.ada_records.proofs.Requeuing.QueueChange.{Nothing as SameQueues}
 use Rattle.ada_records.specs.Noting.{IsMereHold, passing_in}
-use Rattle.ada_records.specs.internal.Known.{AreKnown}
+use Rattle.ada_records.proofs.Known.{AreKnown}
 use Rattle.ada_records.proofs.NestTurns.{nests_kept, nests_passed}
 use Rattle.ada_records.proofs.QueueTurns.{queues_kept, queues_passed}
-use Rattle.ada_records.proofs.Room.{needs_no_room}
 use Rattle.ada_records.proofs.TouchedTasks.{held_touches, released_touches, nobody_touched}
 use Rattle.ada_records.proofs.Holding.{hold_only}
 
@@ -24,13 +22,12 @@ unfolding held_in opening_in
 hold_opens_none (kind.Opened by under) task holds = absurd (none-some task holds)
 hold_opens_none _ task holds = refl
 
-pub hold_known : (event : Event) (before : List Event) (tables : TableState) (by : TaskNo) → IsMereHold event by.0 → IsLawful (event ∷ before)
-    → AreKnown event before tables SameQueues SameNests (Some by)
-hold_known event before tables by holds lawful =
+pub hold_known : (event : Event) (before : List Event) (by : TaskNo) → IsMereHold event by.0 → IsLawful (event ∷ before)
+    → AreKnown event before SameQueues SameNests (Some by)
+hold_known event before by holds lawful =
     let only = hold_only event by.0 holds.plain.holds in
     record {
       makes = only.quiet.makes;
-      room = needs_no_room event event tables refl holds.calls;
       queues = queues_kept event event before refl holds.calls only.releases only.meets only.quiet.completes lawful;
       nests = nests_kept event event before refl (hold_opens_none event by.0 holds.plain.holds) only.meets only.releases lawful;
       touches = held_touches event event before by refl holds.plain.holds holds.plain.starts lawful;
@@ -51,25 +48,23 @@ passes (kind.Woken pause) position is = record { makes = refl; calls = refl; mee
 passes (kind.Activated start ok) position is = record { makes = refl; calls = refl; meets = refl; leaves = refl; releases = is }
 passes _ position is = absurd (none-some position is)
 
-pub release_known : (event : Event) (before : List Event) (tables : TableState) (position : ℕ) (task : TaskNo) → passing_in event ≡ Some position
-    → IsSuspendedAt before task.0 position → IsLawful (event ∷ before) → AreKnown event before tables SameQueues SameNests (Some task)
-release_known event before tables position task is held lawful =
+pub release_known : (event : Event) (before : List Event) (position : ℕ) (task : TaskNo) → passing_in event ≡ Some position
+    → IsSuspendedAt before task.0 position → IsLawful (event ∷ before) → AreKnown event before SameQueues SameNests (Some task)
+release_known event before position task is held lawful =
     let says = passes event position is in
     record {
       makes = says.makes;
-      room = needs_no_room event event tables refl says.calls;
       queues = queues_passed event event before position refl is says.releases says.meets says.calls lawful;
       nests = nests_passed event event before position refl is says.releases says.leaves says.meets lawful;
       touches = released_touches event event before task position refl says.releases lawful held;
     }
 
 -- a tick changes nothing
-pub tick_known : (event : Event) (before : List Event) (tables : TableState) (now : ℤ) → event ≡ kind.Ticked now → IsLawful (event ∷ before)
-    → AreKnown event before tables SameQueues SameNests None
+pub tick_known : (event : Event) (before : List Event) (now : ℤ) → event ≡ kind.Ticked now → IsLawful (event ∷ before)
+    → AreKnown event before SameQueues SameNests None
 unfolding creation_in opening_in call_in meeting_in released_in completed_in held_in started_in gone_in quit_in
-tick_known event before tables now is lawful = record {
+tick_known event before now is lawful = record {
   makes = ap creation_in is;
-  room = needs_no_room event _ tables is refl;
   queues = queues_kept event _ before is refl refl refl refl lawful;
   nests = nests_kept event _ before is refl refl refl lawful;
   touches = nobody_touched event _ before is refl refl refl refl refl refl lawful;

@@ -10,3 +10,4 @@ pub mod RecordedPhases
 pub mod Following
 pub mod Noting
 pub mod Noted
+pub mod Followed

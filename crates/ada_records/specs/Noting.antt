@@ -1,7 +1,7 @@
 -- What has to be known where an event is noted in tables.
-use Rattle.std.specs.Prelude.{◌≡◌, ℕ, ℤ, Bool, Option, Some, None, List, ◌∷◌, length}
+use Rattle.std.specs.Prelude.{◌≡◌, ℕ, ℤ, Option, Some, None, List, length}
 use Rattle.ada_events.specs.declared.event.Event.{Event}
-use Rattle.ada_events.specs.declared.event.Event.TheVariants.{Created, Called, Ended, Passed, Woken, Activated}
+use Rattle.ada_events.specs.declared.event.Event.TheVariants.{Created, Called, Passed, Woken, Activated}
 use Rattle.ada_events.specs.declared.names.Entry.{Entry}
 use Rattle.ada_events.specs.declared.names.Family.{Family}
 use Rattle.ada_events.specs.declared.names.Master.{Master}
@@ -9,10 +9,7 @@ use Rattle.ada_events.specs.declared.names.Patience.{Patience}
 use Rattle.ada_events.specs.declared.names.TaskNo.{TaskNo}
 use Rattle.ada_events.specs.Limits.{slot_count}
 use Rattle.ada_events.specs.Says.{call_in}
-use Rattle.ada_events.specs.Lawful.{IsLawful}
-use Rattle.ada_records.specs.declared.record.Record.{Record}
-use Rattle.ada_records.specs.Records.{AreRecords, IsPlainHold}
-use Rattle.ada_tables.specs.Standing.{StandFor}
+use Rattle.ada_records.specs.Records.{IsPlainHold}
 use Rattle.ada_tables.specs.Tables.{TableState}
 
 -- there is a queue for each entry
@@ -42,14 +39,3 @@ passing_in (Passed wait way) = Some wait
 passing_in (Woken pause) = Some pause
 passing_in (Activated start ok) = Some start
 passing_in _ = None
-
--- by the event a task ends the rendezvous with the call at a position (9.5)
-pub record EndsCall (event : Event) (by : TaskNo) (call : ℕ) : Type 0 where
-  pub raised : Bool
-  pub is : event ≡ Ended by call raised
-
--- tables have followed the event, whatever was before it, where the records are right after it
-abbrev pub HaveFollowed : Event → List Record → TableState → TableState → Type 0
-HaveFollowed event records old new =
-    (before : List Event) → IsLawful (event ∷ before) → AreRecords records (event ∷ before) → StandFor old before → HaveAllQueues old before
-    → StandFor new (event ∷ before) × HaveAllQueues new (event ∷ before)

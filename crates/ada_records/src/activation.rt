@@ -1,60 +1,33 @@
 //! Tables that follow the start of an activation, and the end of a task's own (9.3).
-ghost use Rattle.std.specs.Prelude.{◌≡◌, ◌∷◌};
-ghost use Rattle.ada_events.specs.Lawful.{IsLawful};
+ghost use Rattle.std.specs.Prelude.{◌<◌, Bool, length};
 ghost use Rattle.ada_events.specs.declared.event.Event.TheVariants.{Started as StartedEvent, Elaborated as ElaboratedEvent};
-ghost use Rattle.ada_tables.specs.Standing.{StandFor};
-ghost use Rattle.ada_records.specs.Records.{AreRecords};
-ghost use Rattle.ada_records.specs.Noting.{HaveAllQueues};
+ghost use Rattle.ada_records.specs.Followed.{AreTabled, HaveFollowed};
+ghost use Rattle.ada_records.specs.Noted.{HaveRecords};
 
 use crate::Record;
-use crate::changes::follow_changes;
-use crate::nests::{NestChange, change_nests};
-use crate::phasing::refresh_started;
-use crate::queues::{QueueChange, change_queues};
-use ada_events::{Event, Journal, TaskNo};
+use crate::phasing::{refresh, refresh_listed};
+use ada_events::TaskNo;
 use ada_tables::Tables;
 
 /// Lets tables follow the start of an activation, which changes the phases of the tasks that it names and of the one
 /// that waits for them (9.3).
-pub fn follow_start(
-    tables: &mut Tables,
-    records: &[Record],
-    journal: &Journal,
-    event: &Event,
-    by: TaskNo,
-    tasks: &[TaskNo],
-)
-    requires lawful { IsLawful (event.now ∷ journal.now.events) }
-    requires starts { event.now ≡ StartedEvent by tasks.now }
-    requires stand { StandFor tables.old journal.now.events }
-    requires slots { HaveAllQueues tables.old journal.now.events }
-    requires records { AreRecords records.now (event.now ∷ journal.now.events) }
-    ensures stand { StandFor tables.new (event.now ∷ journal.now.events) }
-    ensures slots { HaveAllQueues tables.new (event.now ∷ journal.now.events) }
+pub fn follow_start(tables: &mut Tables, records: &[Record], by: TaskNo, tasks: &[TaskNo])
+    requires by { by.0 < length tables.old.tasks }
+    requires recorded { by.0 < length records.now }
+    requires tabled { AreTabled tasks.now tables.old }
+    requires tasks { HaveRecords tasks.now records.now }
+    ensures { HaveFollowed (StartedEvent by tasks.now) records.now tables.old tables.new }
 {
-    change_queues(tables, journal, event, QueueChange::Nothing);
-    change_nests(tables, journal, event, NestChange::Nothing);
-    refresh_started(tables, records, journal, event, by, tasks);
+    refresh_listed(tables, records, tasks);
+    refresh(tables, by, &records[by.0 as usize]);
 }
 
-/// Lets tables follow the end of a task's own activation, by which it completes where `ok` is false (9.3).
-pub fn follow_elaboration(
-    tables: &mut Tables,
-    records: &[Record],
-    journal: &Journal,
-    event: &Event,
-    by: TaskNo,
-    _ok: bool,
-)
-    requires lawful { IsLawful (event.now ∷ journal.now.events) }
-    requires comes_up { event.now ≡ ElaboratedEvent by _ok }
-    requires stand { StandFor tables.old journal.now.events }
-    requires slots { HaveAllQueues tables.old journal.now.events }
-    requires records { AreRecords records.now (event.now ∷ journal.now.events) }
-    ensures stand { StandFor tables.new (event.now ∷ journal.now.events) }
-    ensures slots { HaveAllQueues tables.new (event.now ∷ journal.now.events) }
+/// Lets tables follow the end of a task's own activation, by which it completes if it failed (9.3).
+pub fn follow_elaboration(tables: &mut Tables, records: &[Record], task: TaskNo)
+    requires tabled { task.0 < length tables.old.tasks }
+    requires recorded { task.0 < length records.now }
+    ensures { (ok : Bool) →
+        HaveFollowed (ElaboratedEvent task ok) records.now tables.old tables.new }
 {
-    let queues = QueueChange::Nothing;
-    let nests = NestChange::Nothing;
-    follow_changes(tables, records, journal, event, queues, nests, Some(by));
+    refresh(tables, task, &records[task.0 as usize]);
 }

@@ -5,10 +5,8 @@
 
 pub mod aborts;
 pub mod activation;
-mod changes;
 pub mod laws;
 pub mod masters;
-mod nests;
 mod phases;
 mod phasing;
 mod queues;

@@ -1,38 +1,32 @@
 //! Tables that follow the making of a task, blocks that are opened and left, and tasks that complete and terminate
 //! (9.1, 9.4).
-ghost use Rattle.std.specs.Prelude.{◌≡◌, ◌∷◌, OnOk, OnErr, IfErr, ◌<◌, length};
-ghost use Rattle.ada_events.specs.Lawful.{IsLawful};
-ghost use Rattle.ada_events.specs.Masters.{depends_on};
-ghost use Rattle.ada_events.specs.declared.event.Event.TheVariants.{Opened as OpenedEvent, Left as LeftEvent, Completed as CompletedEvent};
-ghost use Rattle.ada_events.specs.declared.event.Event.TheVariants.{Gone as GoneEvent, Quit as QuitEvent};
-ghost use Rattle.ada_laws.specs.Suspension.{IsSuspendedAt};
-ghost use Rattle.ada_tables.specs.Standing.{StandFor};
-ghost use Rattle.ada_records.specs.Records.{AreRecords, ListsLive};
-ghost use Rattle.ada_records.specs.Noting.{HaveFollowed, HaveAllQueues, MakesTask};
+ghost use Rattle.std.specs.Prelude.{◌≡◌, ◌+◌, ◌<◌, ◌≤◌, length, OnOk, OnErr, IfErr};
+ghost use Rattle.std.specs.Option.{ForSome};
+ghost use Rattle.ada_events.specs.Entries.{entries_in};
+ghost use Rattle.ada_events.specs.Nests.{innermost};
+ghost use Rattle.ada_events.specs.declared.event.Event.TheVariants.{Completed as CompletedEvent, Gone as GoneEvent};
+ghost use Rattle.ada_events.specs.declared.limits.TheConstants.{MOST_MEMBERS, MOST_SLOTS, MOST_TASKS};
+ghost use Rattle.ada_events.specs.declared.names.Member.TheVariants.{Block};
+ghost use Rattle.ada_tables.specs.Dependents.{task_at, IsFresh, IsIdle, IsOpen};
+ghost use Rattle.ada_records.specs.Followed.{AreTabled, HaveFollowed, HaveFollowedCreation, HaveFollowedLeaving};
+ghost use Rattle.ada_records.specs.Followed.{HaveFollowedOpening, HaveFollowedQuit};
+ghost use Rattle.ada_records.specs.Noted.{HaveRecords};
 
 use crate::Record;
-use crate::changes::follow_changes;
-use crate::nests::{NestChange, change_nests};
-use crate::phasing::{refresh, refresh_dependents};
-use crate::queues::{QueueChange, change_queues};
-use ada_events::{Event, Families, Journal, Master, Member, Refusal, TaskNo};
+use crate::phasing::{refresh, refresh_listed};
+use ada_events::{Families, Master, Member, Refusal, TaskNo};
 use ada_tables::Tables;
 
-/// Lets tables that stand for a journal follow an event that makes a task (9.1). Fails with `OutOfMemory` alone, and
-/// then changes nothing.
+/// Lets tables follow an event that makes a task (9.1). Fails with `OutOfMemory` alone, and then changes nothing.
 pub fn follow_creation(
     tables: &mut Tables,
-    _journal: &Journal,
-    _event: &Event,
     master: Master,
     families: &Families,
 ) -> Result<(), Refusal>
-    requires lawful { IsLawful (_event.now ∷ _journal.now.events) }
-    requires makes { MakesTask _event.now master families.now }
-    requires stand { StandFor tables.old _journal.now.events }
-    requires slots { HaveAllQueues tables.old _journal.now.events }
-    ensures stand { OnOk result (StandFor tables.new (_event.now ∷ _journal.now.events)) }
-    ensures slots { OnOk result (HaveAllQueues tables.new (_event.now ∷ _journal.now.events)) }
+    requires few { length tables.old.tasks < MOST_TASKS }
+    requires slots { length tables.old.queues + entries_in families.now ≤ MOST_SLOTS }
+    requires master { IsOpen tables.old.tasks master }
+    ensures ok { OnOk result (HaveFollowedCreation master families.now tables.old tables.new) }
     ensures err { IfErr result (λ cause. cause ≡ Refusal.OutOfMemory) }
     ensures unchanged { OnErr result (tables.new ≡ tables.old) }
 {
@@ -40,70 +34,36 @@ pub fn follow_creation(
     Ok(())
 }
 
-/// Lets tables follow the opening of a block, which its task comes into (9.4).
-pub fn follow_opening(
-    tables: &mut Tables,
-    records: &[Record],
-    journal: &Journal,
-    event: &Event,
-    by: TaskNo,
-    _under: Master,
-)
-    requires lawful { IsLawful (event.now ∷ journal.now.events) }
-    requires opens { event.now ≡ OpenedEvent by _under }
-    requires stand { StandFor tables.old journal.now.events }
-    requires slots { HaveAllQueues tables.old journal.now.events }
-    requires records { AreRecords records.now (event.now ∷ journal.now.events) }
-    ensures stand { StandFor tables.new (event.now ∷ journal.now.events) }
-    ensures slots { HaveAllQueues tables.new (event.now ∷ journal.now.events) }
+/// Lets tables follow the opening of a block at a position, which its task comes into (9.4).
+pub fn follow_opening(tables: &mut Tables, by: TaskNo, block: u32)
+    requires tabled { by.0 < length tables.old.tasks }
+    requires shallow { length (task_at tables.old.tasks by.0).nest < MOST_MEMBERS }
+    requires new { IsFresh (Block block) tables.old.tasks }
+    ensures { HaveFollowedOpening by block tables.old tables.new }
 {
-    let queues = QueueChange::Nothing;
-    let enters = NestChange::Enters(by, Member::Block(journal.len() + 1));
-    follow_changes(tables, records, journal, event, queues, enters, None);
+    tables.push_nest(by, Member::Block(block));
 }
 
-/// Lets tables follow the leaving of the block that is closed at a position, by the task that is suspended there (9.4).
-pub fn follow_leaving(
-    tables: &mut Tables,
-    records: &[Record],
-    journal: &Journal,
-    event: &Event,
-    _close: u32,
-    task: TaskNo,
-)
-    requires lawful { IsLawful (event.now ∷ journal.now.events) }
-    requires leaves { event.now ≡ LeftEvent _close }
-    requires held { IsSuspendedAt journal.now.events task.0 _close }
-    requires stand { StandFor tables.old journal.now.events }
-    requires slots { HaveAllQueues tables.old journal.now.events }
-    requires records { AreRecords records.now (event.now ∷ journal.now.events) }
-    ensures stand { StandFor tables.new (event.now ∷ journal.now.events) }
-    ensures slots { HaveAllQueues tables.new (event.now ∷ journal.now.events) }
+/// Lets tables follow the leaving of the block whose close holds a task up, which goes on (9.4).
+pub fn follow_leaving(tables: &mut Tables, records: &[Record], holder: TaskNo)
+    requires tabled { holder.0 < length tables.old.tasks }
+    requires recorded { holder.0 < length records.now }
+    requires inside { 0 < length (task_at tables.old.tasks holder.0).nest }
+    requires idle { ForSome (innermost (task_at tables.old.tasks holder.0).nest)
+        (IsIdle tables.old.tasks) }
+    ensures { HaveFollowedLeaving holder.0 records.now tables.old tables.new }
 {
-    let queues = QueueChange::Nothing;
-    let leaves = NestChange::LeavesBlock(task);
-    follow_changes(tables, records, journal, event, queues, leaves, Some(task));
+    tables.pop_nest(holder);
+    refresh(tables, holder, &records[holder.0 as usize]);
 }
 
 /// Lets tables follow the completion of a task, which changes its phase and no more (9.4).
-pub fn follow_completion(
-    tables: &mut Tables,
-    records: &[Record],
-    journal: &Journal,
-    event: &Event,
-    by: TaskNo,
-)
-    requires lawful { IsLawful (event.now ∷ journal.now.events) }
-    requires completes { event.now ≡ CompletedEvent by }
-    requires stand { StandFor tables.old journal.now.events }
-    requires slots { HaveAllQueues tables.old journal.now.events }
-    requires records { AreRecords records.now (event.now ∷ journal.now.events) }
-    ensures stand { StandFor tables.new (event.now ∷ journal.now.events) }
-    ensures slots { HaveAllQueues tables.new (event.now ∷ journal.now.events) }
+pub fn follow_completion(tables: &mut Tables, records: &[Record], by: TaskNo)
+    requires tabled { by.0 < length tables.old.tasks }
+    requires recorded { by.0 < length records.now }
+    ensures { HaveFollowed (CompletedEvent by) records.now tables.old tables.new }
 {
-    let queues = QueueChange::Nothing;
-    let nests = NestChange::Nothing;
-    follow_changes(tables, records, journal, event, queues, nests, Some(by));
+    refresh(tables, by, &records[by.0 as usize]);
 }
 
 /// Lets tables follow the termination of a task by itself, which changes its phase and no more (9.4).
@@ -117,25 +77,10 @@ pub fn follow_termination(tables: &mut Tables, records: &[Record], task: TaskNo)
 
 /// Lets tables follow the termination of all that depend on a master, of whom the list has those that aren't terminated
 /// (9.4).
-pub fn follow_quitting(
-    tables: &mut Tables,
-    records: &[Record],
-    journal: &Journal,
-    event: &Event,
-    master: Master,
-    dependents: &[TaskNo],
-)
-    requires lawful { IsLawful (event.now ∷ journal.now.events) }
-    requires quits { event.now ≡ QuitEvent master }
-    requires depend { ListsLive journal.now.events dependents.now (λ u.
-        depends_on journal.now.events u master) }
-    requires stand { StandFor tables.old journal.now.events }
-    requires slots { HaveAllQueues tables.old journal.now.events }
-    requires records { AreRecords records.now (event.now ∷ journal.now.events) }
-    ensures stand { StandFor tables.new (event.now ∷ journal.now.events) }
-    ensures slots { HaveAllQueues tables.new (event.now ∷ journal.now.events) }
+pub fn follow_quitting(tables: &mut Tables, records: &[Record], dependents: &[TaskNo])
+    requires tabled { AreTabled dependents.now tables.old }
+    requires recorded { HaveRecords dependents.now records.now }
+    ensures { HaveFollowedQuit dependents.now records.now tables.old tables.new }
 {
-    change_queues(tables, journal, event, QueueChange::Nothing);
-    change_nests(tables, journal, event, NestChange::Nothing);
-    refresh_dependents(tables, records, journal, event, master, dependents);
+    refresh_listed(tables, records, dependents);
 }

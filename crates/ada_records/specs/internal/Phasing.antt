@@ -1,14 +1,17 @@
 -- What an event changes in the phases of tasks, and tables on the way from a journal to one with that event.
-use Rattle.std.specs.Prelude.{◌≡◌, ℕ, ◌<◌, Bool, false, if◌then◌else◌, Option, Some, None, List, ◌∷◌, length}
+use Rattle.std.specs.Prelude.{◌≡◌, ℕ, ◌<◌, Bool, false, if◌then◌else◌, Option, Some, None, List, ◌∷◌, length, take}
 use Rattle.ada_events.specs.declared.event.Event.{Event}
 use Rattle.ada_events.specs.declared.names.TaskNo.{TaskNo}
 use Rattle.ada_events.specs.Tasks.{task_count}
 use Rattle.ada_events.specs.Nests.{nest}
+use Rattle.ada_events.specs.Phases.{lists_task}
+use Rattle.ada_events.specs.Says.{creation_in}
 use Rattle.ada_tables.specs.Standing.{phase_of, facts_in}
 use Rattle.ada_tables.specs.Dependents.{Facts, task_at, is_terminated, with_phase}
 use Rattle.ada_tables.specs.Tables.{TableState}
 use Rattle.ada_records.specs.declared.record.Record.{Record}
 use Rattle.ada_records.specs.RecordedPhases.{phase_by}
+use Rattle.ada_records.specs.Records.{AreRecords}
 
 -- an event changes no phase, or one existing task's at most
 abbrev pub TouchesOnly : Event → List Event → Option TaskNo → Type 0
@@ -41,3 +44,14 @@ refreshed task kept tables =
     if is_terminated (task_at tables.tasks task).phase
     then tables
     else record tables { tasks = with_phase task (phase_by kept) tables.tasks }
+
+-- of the tasks of a list, the first so many are done
+abbrev pub AreNamed : Event → List Event → List TaskNo → TableState → TableState → ℕ → Type 0
+AreNamed event before tasks first now many =
+    AreBetween event before (λ t. lists_task t (take many tasks)) now.tasks × (now ≡ record first { tasks = now.tasks })
+
+-- so they are by any event that makes no task and after which the records are right
+pub record AreRefreshed (records : List Record) (tasks : List TaskNo) (first now : TableState) (many : ℕ) : Type 0 where
+  pub same : length now.tasks ≡ length first.tasks
+  pub named : (event : Event) (before : List Event) → creation_in event ≡ None → AreRecords records (event ∷ before)
+      → AreRenested event before first.tasks → AreNamed event before tasks first now many

@@ -1,6 +1,9 @@
+use Rattle.std.proofs.Common.{refl}
+use Rattle.ada_records.proofs.Applied.{known_followed}
 use Rattle.ada_records.proofs.EndingTurns.{halt_known}
 use Rattle.ada_records.proofs.aborts.follow_halt.Goals as goal
 
-pub follow_changes-requires-clause-known : goal.follow_changes-requires-clause-known
-follow_changes-requires-clause-known c =
-    halt_known c.args.event.now c.args.journal.now.events c.args.tables.now c.args.task c.requires.halts c.requires.lawful
+pub returns : goal.returns
+returns c = λ before lawful.
+    known_followed _ _ c.args.records.now _ _ _ _ _ _ _ (halt_known _ before c.args.task refl lawful)
+    c.leave_queue.ensures.queues refl c.requires.recorded c.refresh.ensures lawful

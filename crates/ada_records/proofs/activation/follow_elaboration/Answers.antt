@@ -1,6 +1,9 @@
+use Rattle.std.proofs.Common.{refl}
+use Rattle.ada_records.proofs.Applied.{known_followed}
 use Rattle.ada_records.proofs.EndingTurns.{elaboration_known}
 use Rattle.ada_records.proofs.activation.follow_elaboration.Goals as goal
 
-pub follow_changes-requires-clause-known : goal.follow_changes-requires-clause-known
-follow_changes-requires-clause-known c =
-    elaboration_known c.args.event.now c.args.journal.now.events c.args.tables.now c.args.by c.args._ok c.requires.comes_up c.requires.lawful
+pub returns : goal.returns
+returns c = λ ok before lawful.
+    known_followed _ _ c.args.records.now _ _ _ _ _ _ _ (elaboration_known _ before c.args.task ok refl lawful)
+    refl refl c.requires.recorded c.refresh.ensures lawful

@@ -1,6 +1,9 @@
+use Rattle.std.proofs.Common.{refl}
+use Rattle.ada_records.proofs.Applied.{known_followed}
 use Rattle.ada_records.proofs.EndingTurns.{completion_known}
 use Rattle.ada_records.proofs.masters.follow_completion.Goals as goal
 
-pub follow_changes-requires-clause-known : goal.follow_changes-requires-clause-known
-follow_changes-requires-clause-known c =
-    completion_known c.args.event.now c.args.journal.now.events c.args.tables.now c.args.by c.requires.completes c.requires.lawful
+pub returns : goal.returns
+returns c = λ before lawful.
+    known_followed _ _ c.args.records.now _ _ _ _ _ _ _ (completion_known _ before c.args.by refl lawful)
+    refl refl c.requires.recorded c.refresh.ensures lawful

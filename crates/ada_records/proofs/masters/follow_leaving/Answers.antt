@@ -1,6 +1,9 @@
+use Rattle.std.proofs.Common.{refl}
+use Rattle.ada_records.proofs.Applied.{known_followed}
 use Rattle.ada_records.proofs.MasterTurns.{leaving_known}
 use Rattle.ada_records.proofs.masters.follow_leaving.Goals as goal
 
-pub follow_changes-requires-clause-known : goal.follow_changes-requires-clause-known
-follow_changes-requires-clause-known c =
-    leaving_known c.args.event.now c.args.journal.now.events c.args.tables.now c.args._close c.args.task c.requires.leaves c.requires.held c.requires.lawful
+pub returns : goal.returns
+returns c = λ before close held lawful.
+    known_followed _ _ c.args.records.now _ _ _ _ _ _ _ (leaving_known _ before close c.args.holder refl held lawful)
+    refl c.pop_nest.ensures c.requires.recorded c.refresh.ensures lawful

@@ -1,7 +1,9 @@
+use Rattle.std.proofs.Common.{refl}
+use Rattle.ada_records.proofs.Applied.{known_followed, joined}
 use Rattle.ada_records.proofs.RendezvousTurns.{call_known}
 use Rattle.ada_records.proofs.rendezvous.follow_call.Goals as goal
 
-pub follow_changes-requires-clause-known : goal.follow_changes-requires-clause-known
-follow_changes-requires-clause-known c =
-    call_known c.args.event.now c.args.journal.now.events c.args.tables.now c.args.by c.args.callee c.args.entry c.requires.calls c.requires.room
-    c.requires.lawful
+pub returns : goal.returns
+returns c = λ event before calls at lawful.
+    known_followed _ _ c.args.records.now _ _ _ _ _ _ _ (call_known event before c.args.by c.args.callee c.args.entry calls lawful)
+    (joined c.args.tables.now _ before _ _ _ _ at c.enqueue_reserved.ensures) refl c.requires.recorded c.refresh.ensures lawful

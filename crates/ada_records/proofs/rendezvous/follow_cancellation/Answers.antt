@@ -1,7 +1,9 @@
+use Rattle.std.proofs.Common.{refl}
+use Rattle.ada_records.proofs.Applied.{known_followed}
 use Rattle.ada_records.proofs.RendezvousTurns.{cancellation_known}
 use Rattle.ada_records.proofs.rendezvous.follow_cancellation.Goals as goal
 
-pub follow_changes-requires-clause-known : goal.follow_changes-requires-clause-known
-follow_changes-requires-clause-known c =
-    cancellation_known c.args.event.now c.args.journal.now.events c.args.tables.now c.args._call c.args.caller c.requires.cancels c.requires.caller
-    c.requires.lawful
+pub returns : goal.returns
+returns c = λ before call held lawful.
+    known_followed _ _ c.args.records.now _ _ _ _ _ _ _ (cancellation_known _ before call c.args.task refl held lawful)
+    c.leave_queue.ensures.queues refl c.requires.recorded c.refresh.ensures lawful

@@ -1,7 +1,10 @@
+use Rattle.std.proofs.Common.{refl}
+use Rattle.ada_records.proofs.Applied.{known_followed}
 use Rattle.ada_records.proofs.RendezvousTurns.{end_known}
 use Rattle.ada_records.proofs.rendezvous.follow_end.Goals as goal
 
-pub follow_changes-requires-clause-known : goal.follow_changes-requires-clause-known
-follow_changes-requires-clause-known c =
-    end_known c.args.event.now c.args.journal.now.events c.args.tables.now c.args.by c.args.caller c.args.call c.requires.ends c.requires.caller
-    c.requires.lawful
+pub returns : goal.returns
+returns c = λ before raised held lawful.
+    known_followed _ _ c.args.records.now _ _ _ _ _ _ _
+    (end_known _ before c.args.by c.args.caller c.args.call (record { raised = raised; is = refl }) held lawful)
+    c.leave_queue.ensures.queues c.cut_nest.ensures c.requires.recorded c.refresh.ensures lawful

@@ -1,7 +1,9 @@
+use Rattle.std.proofs.Common.{refl}
+use Rattle.ada_records.proofs.Applied.{known_followed}
 use Rattle.ada_records.proofs.EndingTurns.{failure_known}
 use Rattle.ada_records.proofs.rendezvous.follow_failure.Goals as goal
 
-pub follow_changes-requires-clause-known : goal.follow_changes-requires-clause-known
-follow_changes-requires-clause-known c =
-    failure_known c.args.event.now c.args.journal.now.events c.args.tables.now c.args.call c.args.caller c.callee_at.result c.requires.fails
-    c.requires.caller c.callee_at.ensures c.requires.lawful
+pub returns : goal.returns
+returns c = λ before held called lawful.
+    known_followed _ _ c.args.records.now _ _ _ _ _ _ _ (failure_known _ before c.args.call c.args.caller c.args.callee refl held called lawful)
+    c.leave_queue.ensures.queues c.cut_nest.ensures c.requires.recorded c.refresh.ensures lawful

@@ -1,7 +1,9 @@
+use Rattle.std.proofs.Common.{refl}
+use Rattle.ada_records.proofs.Applied.{known_followed}
 use Rattle.ada_records.proofs.RendezvousTurns.{meeting_known}
 use Rattle.ada_records.proofs.rendezvous.follow_meeting.Goals as goal
 
-pub follow_changes-requires-clause-known : goal.follow_changes-requires-clause-known
-follow_changes-requires-clause-known c =
-    meeting_known c.args.event.now c.args.journal.now.events c.args.tables.now c.args.call c.args._wait c.args.caller c.args.acceptor c.requires.meets
-    c.requires.caller c.requires.acceptor c.requires.lawful
+pub returns : goal.returns
+returns c = λ before wait calls waits lawful.
+    known_followed _ _ c.args.records.now _ _ _ _ _ _ _ (meeting_known _ before c.args.call wait c.args.served c.args.acceptor refl calls waits lawful)
+    c.leave_queue.ensures.queues c.push_nest.ensures c.requires.recorded c.refresh.ensures lawful

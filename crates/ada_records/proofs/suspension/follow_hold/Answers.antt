@@ -1,6 +1,9 @@
+use Rattle.std.proofs.Common.{refl}
+use Rattle.ada_records.proofs.Applied.{known_followed}
 use Rattle.ada_records.proofs.SuspensionTurns.{hold_known}
 use Rattle.ada_records.proofs.suspension.follow_hold.Goals as goal
 
-pub follow_changes-requires-clause-known : goal.follow_changes-requires-clause-known
-follow_changes-requires-clause-known c =
-    hold_known c.args.event.now c.args.journal.now.events c.args.tables.now c.args.by c.requires.holds c.requires.lawful
+pub returns : goal.returns
+returns c = λ event before holds lawful.
+    known_followed _ _ c.args.records.now _ _ _ _ _ _ _ (hold_known event before c.args.by holds lawful)
+    refl refl c.requires.recorded c.refresh.ensures lawful

@@ -1,6 +1,9 @@
+use Rattle.std.proofs.Common.{refl}
+use Rattle.ada_records.proofs.Applied.{known_followed}
 use Rattle.ada_records.proofs.SuspensionTurns.{release_known}
 use Rattle.ada_records.proofs.suspension.follow_release.Goals as goal
 
-pub follow_changes-requires-clause-known : goal.follow_changes-requires-clause-known
-follow_changes-requires-clause-known c =
-    release_known c.args.event.now c.args.journal.now.events c.args.tables.now c.args._position c.args.task c.requires.frees c.requires.held c.requires.lawful
+pub returns : goal.returns
+returns c = λ event before position frees held lawful.
+    known_followed _ _ c.args.records.now _ _ _ _ _ _ _ (release_known event before position c.args.task frees held lawful)
+    refl refl c.requires.recorded c.refresh.ensures lawful

@@ -2,22 +2,21 @@ use Rattle.std.proofs.Common.{arith, ◌∷◌, refl, sym, ap, ◌∙◌, subst,
 use Rattle.ada_events.specs.Says.{creation_in, moment_in, call_in, held_in, started_in, wait_in}
 use Rattle.ada_events.specs.Waits.{earlier}
 use Rattle.ada_laws.proofs.LimitLaws.{events_are_few}
+use Rattle.ada_records.proofs.Allowed.{joins_queue}
 use Rattle.ada_triggers.specs.Bounds.{IsDueBound}
 use Rattle.ada_triggers.proofs.Bounds.{bound_noted}
 use Rattle.ada_agenda.specs.Keeping.{IsAgendaOf}
 use Rattle.ada_agenda.specs.Kinds.{due_in}
 use Rattle.ada_kernel.proofs.Quiet.{quiet_as, noted}
-use Rattle.ada_kernel.proofs.Recorded.{holder_recorded, noted_hold}
-use Rattle.ada_records.specs.Records.{AreRecords}
+use Rattle.ada_kernel.proofs.Recorded.{holder_recorded, noted_hold, holder_tabled}
 use Rattle.ada_kernel.proofs.index.Index.note_call.Goals as goal
-use Rattle.ada_kernel.proofs.index.Index.note_call.Goals.{After-record_hold}
 
 pub after_call-requires-clause-calls : goal.after_call-requires-clause-calls
 unfolding call_in
 after_call-requires-clause-calls c = record { call = _; says = ap call_in c.requires.calls; of = refl }
 
-pub overflow_add-len : goal.overflow_add-len
-overflow_add-len c = record { fits = omega (arith, c.len.ensures, events_are_few c.args.journal.now.events c.requires.lawful.0) }
+pub overflow_add-at : goal.overflow_add-at
+overflow_add-at c = record { fits = omega (arith, c.len-at.ensures, events_are_few c.args.journal.now.events c.requires.lawful.0) }
 
 pub record_hold-requires : goal.record_hold-requires
 unfolding held_in
@@ -25,24 +24,46 @@ record_hold-requires c =
     holder_recorded c.args.event.now _ c.args.journal.now.events _ _ c.args.by.0 c.requires.calls refl c.as_mut_slice-records.ensures.value
     c.requires.stands.kept.recorded c.requires.lawful
 
-recorded : (c : After-record_hold) → AreRecords c.record_hold.new.records (c.args.event.now ∷ c.args.journal.now.events)
-unfolding held_in started_in wait_in
-recorded c =
-    noted_hold c.args.event.now _ c.args.journal.now.events _ _ _ c.args.by.0 _ _ c.record_hold.ensures c.requires.calls refl refl refl
-    (ap (λ n. n + 1) c.len.ensures) c.as_mut_slice-records.ensures.value c.requires.lawful c.requires.stands.kept.recorded
+pub follow_call-requires-clause-tabled : goal.follow_call-requires-clause-tabled
+unfolding held_in
+follow_call-requires-clause-tabled c =
+    holder_tabled c.args.event.now _ c.args.journal.now.events _ c.args.by.0 c.requires.calls refl c.requires.stands.kept.tabled c.requires.lawful
 
-pub follow_call-requires-clause-records : goal.follow_call-requires-clause-records
-follow_call-requires-clause-records c = recorded ((goal.at.follow_call-requires-clause-records c).After-record_hold)
+pub follow_call-requires-clause-recorded : goal.follow_call-requires-clause-recorded
+unfolding held_in
+follow_call-requires-clause-recorded c =
+    omega (
+      arith,
+      holder_recorded c.args.event.now _ c.args.journal.now.events _ _ c.args.by.0 c.requires.calls refl c.as_mut_slice-records.ensures.value
+          c.requires.stands.kept.recorded c.requires.lawful,
+      c.record_hold.auto.records,
+    )
+
+pub follow_call-requires-clause-entry : goal.follow_call-requires-clause-entry
+follow_call-requires-clause-entry c =
+    (joins_queue _ c.args.journal.now.events c.requires.stands.kept.tabled c.args.event.now c.args.by c.args.callee c.args.entry
+    (record { patience = c.args._patience; due = _; is = c.requires.calls }) c.requires.lawful c.requires.stands.slots).0
+
+pub follow_call-requires-clause-idle : goal.follow_call-requires-clause-idle
+follow_call-requires-clause-idle c =
+    (joins_queue _ c.args.journal.now.events c.requires.stands.kept.tabled c.args.event.now c.args.by c.args.callee c.args.entry
+    (record { patience = c.args._patience; due = _; is = c.requires.calls }) c.requires.lawful c.requires.stands.slots).1
 
 pub returns : goal.returns
-unfolding creation_in moment_in
+unfolding creation_in moment_in held_in started_in wait_in
 returns c =
     let event = c.args.event.now in
     let before = c.args.journal.now.events in
+    let now = noted_hold event _ before _ _ _ c.args.by.0 _ _ c.record_hold.ensures c.requires.calls refl refl refl
+    (ap (λ n. n + 1) c.len-at.ensures) c.as_mut_slice-records.ensures.value c.requires.lawful c.requires.stands.kept.recorded in
+    let follows = c.follow_call.ensures event before (record { patience = c.args._patience; due = _; is = c.requires.calls })
+    (ap (λ n. n + 1) (sym c.len-at.ensures))
+    c.requires.lawful now
+    c.requires.stands.kept.tabled c.requires.stands.slots in
     noted c.args.self.now event before c.record_hold.new.records c.follow_call.new.tables c.after_call.new.agenda _ c.requires.stands c.requires.lawful
     (quiet_as event _ c.requires.calls refl refl)
     (omega (arith, c.record_hold.auto.records, c.as_mut_slice-records.ensures.len))
-    (recorded ((goal.at.returns c).After-record_hold)) c.follow_call.ensures.stand c.follow_call.ensures.slots
+    now follows.0 follows.1
     (subst (λ journal. IsAgendaOf c.after_call.new.agenda (event ∷ journal)) c.view-view.ensures c.after_call.ensures)
     (subst (IsDueBound (event ∷ before))
     (ap (earlier c.args.self.now.next_due) (ap due_in c.requires.calls) ∙ sym c.with-self.ensures)

@@ -5,7 +5,7 @@ use Rattle.ada_triggers.specs.Bounds.{IsStartBound}
 use Rattle.ada_kernel.proofs.Quiet.{quiet_as, not_due_as, noted_from}
 use Rattle.ada_triggers.proofs.Bounds.{bound_kept}
 use Rattle.ada_records.proofs.TaskEnds.{completion_exists}
-use Rattle.ada_kernel.proofs.Recorded.{recorded_task, noted_as}
+use Rattle.ada_kernel.proofs.Recorded.{recorded_task, tabled_task, noted_as, followed_as}
 use Rattle.ada_kernel.proofs.index.Index.note_completion.Goals as goal
 
 pub record_completion-requires : goal.record_completion-requires
@@ -13,18 +13,34 @@ record_completion-requires c =
     recorded_task _ _ c.args.journal.now.events c.args.by.0 c.as_mut_slice-records.ensures.value c.requires.stands.kept.recorded
     (completion_exists c.args.event.now c.args.journal.now.events c.args.by c.requires.lawful (inl c.requires.completes))
 
+pub follow_completion-requires-clause-tabled : goal.follow_completion-requires-clause-tabled
+follow_completion-requires-clause-tabled c =
+    tabled_task _ c.args.journal.now.events c.args.by.0 c.requires.stands.kept.tabled
+    (completion_exists c.args.event.now c.args.journal.now.events c.args.by c.requires.lawful (inl c.requires.completes))
+
+pub follow_completion-requires-clause-recorded : goal.follow_completion-requires-clause-recorded
+follow_completion-requires-clause-recorded c =
+    omega (
+      arith,
+      recorded_task _ _ c.args.journal.now.events c.args.by.0 c.as_mut_slice-records.ensures.value c.requires.stands.kept.recorded
+          (completion_exists c.args.event.now c.args.journal.now.events c.args.by c.requires.lawful (inl c.requires.completes)),
+      c.record_completion.auto.records,
+    )
+
 pub returns : goal.returns
 unfolding creation_in moment_in
 returns c =
     let event = c.args.event.now in
     let before = c.args.journal.now.events in
+    let now = noted_as event _ before _ _ _ (c.record_completion.ensures before) c.requires.completes
+    c.as_mut_slice-records.ensures.value c.requires.lawful c.requires.stands.kept.recorded in
+    let follows = followed_as event _ before _ _ _ (c.follow_completion.ensures before) c.requires.completes c.requires.lawful now c.requires.stands.kept.tabled
+    c.requires.stands.slots in
     noted_from c.args.self.now event before c.record_completion.new.records c.follow_completion.new.tables c.after_completion.new.agenda
     c.args.self.now.next_due
     c.after_completion.new.first c.requires.stands c.requires.lawful (quiet_as event _ c.requires.completes refl refl)
     (omega (arith, c.record_completion.auto.records, c.as_mut_slice-records.ensures.len))
-    (noted_as event _ before _ _ _ (c.record_completion.ensures before) c.requires.completes
-    c.as_mut_slice-records.ensures.value c.requires.lawful c.requires.stands.kept.recorded)
-    c.follow_completion.ensures.stand c.follow_completion.ensures.slots
+    now follows.0 follows.1
     (subst (λ journal. IsAgendaOf c.after_completion.new.agenda (event ∷ journal)) c.view-view.ensures c.after_completion.ensures.stands)
     (bound_kept event before c.args.self.now.next_due c.requires.lawful c.requires.stands.due (not_due_as event _ c.requires.completes refl))
     (subst (λ journal. IsStartBound journal c.after_completion.new.first) c.view-view.ensures c.after_completion.ensures.bound)

@@ -5,10 +5,8 @@ use Rattle.ada_records.proofs.Noting.{release_holds}
 use Rattle.ada_agenda.specs.Keeping.{IsAgendaOf}
 use Rattle.ada_kernel.proofs.Quiet.{quiet_as, not_due_as, noted}
 use Rattle.ada_records.proofs.Existing.{ender_exists}
-use Rattle.ada_kernel.proofs.Recorded.{suspended_recorded, recorded_task, noted_as}
-use Rattle.ada_records.specs.Records.{AreRecords}
+use Rattle.ada_kernel.proofs.Recorded.{suspended_recorded, recorded_task, noted_as, suspended_tabled, tabled_task, followed_as}
 use Rattle.ada_kernel.proofs.index.Index.note_end.Goals as goal
-use Rattle.ada_kernel.proofs.index.Index.note_end.Goals.{After-record_end}
 
 pub holder_at-caller-requires : goal.holder_at-caller-requires
 unfolding released_in
@@ -25,24 +23,39 @@ record_end-requires-clause-caller c =
     c.requires.stands.kept.recorded
     c.requires.lawful.0 c.holder_at-caller.ensures
 
-recorded : (c : After-record_end) → AreRecords c.record_end.new.records (c.args.event.now ∷ c.args.journal.now.events)
-recorded c =
-    noted_as c.args.event.now _ c.args.journal.now.events _ _ _ (c.record_end.ensures c.args.journal.now.events c.args.call c.holder_at-caller.ensures)
-    c.requires.ends
-    c.as_mut_slice-records.ensures.value c.requires.lawful c.requires.stands.kept.recorded
+pub follow_end-requires-clause-by : goal.follow_end-requires-clause-by
+follow_end-requires-clause-by c =
+    tabled_task _ c.args.journal.now.events c.args.by.0 c.requires.stands.kept.tabled
+    (ender_exists c.args.event.now c.args.journal.now.events c.args.by c.args.call c.args.raised c.requires.lawful.1 c.requires.ends)
 
-pub follow_end-requires-clause-records : goal.follow_end-requires-clause-records
-follow_end-requires-clause-records c = recorded ((goal.at.follow_end-requires-clause-records c).After-record_end)
+pub follow_end-requires-clause-caller : goal.follow_end-requires-clause-caller
+follow_end-requires-clause-caller c =
+    suspended_tabled _ c.args.journal.now.events c.holder_at-caller.result.0 c.args.call c.requires.stands.kept.tabled c.requires.lawful.0
+    c.holder_at-caller.ensures
+
+pub follow_end-requires-clause-recorded : goal.follow_end-requires-clause-recorded
+follow_end-requires-clause-recorded c =
+    omega (
+      arith,
+      suspended_recorded _ _ c.args.journal.now.events c.holder_at-caller.result.0 c.args.call c.as_mut_slice-records.ensures.value
+          c.requires.stands.kept.recorded c.requires.lawful.0 c.holder_at-caller.ensures,
+      c.record_end.auto.records,
+    )
 
 pub returns : goal.returns
 unfolding creation_in moment_in
 returns c =
     let event = c.args.event.now in
     let before = c.args.journal.now.events in
+    let now = noted_as event _ before _ _ _ (c.record_end.ensures before c.args.call c.holder_at-caller.ensures)
+    c.requires.ends
+    c.as_mut_slice-records.ensures.value c.requires.lawful c.requires.stands.kept.recorded in
+    let follows = followed_as event _ before _ _ _ (c.follow_end.ensures before c.args.raised c.holder_at-caller.ensures) c.requires.ends c.requires.lawful now
+    c.requires.stands.kept.tabled c.requires.stands.slots in
     noted c.args.self.now event before c.record_end.new.records c.follow_end.new.tables c.after_end.new.agenda c.args.self.now.next_due
     c.requires.stands c.requires.lawful (quiet_as event _ c.requires.ends refl refl)
     (omega (arith, c.record_end.auto.records, c.as_mut_slice-records.ensures.len))
-    (recorded ((goal.at.returns c).After-record_end)) c.follow_end.ensures.stand c.follow_end.ensures.slots
+    now follows.0 follows.1
     (subst (λ journal. IsAgendaOf c.after_end.new.agenda (event ∷ journal)) c.view-view.ensures c.after_end.ensures)
     (bound_kept event before c.args.self.now.next_due c.requires.lawful c.requires.stands.due
     (not_due_as event _ c.requires.ends refl))

@@ -4,7 +4,7 @@ use Rattle.ada_triggers.proofs.Bounds.{bound_kept}
 use Rattle.ada_agenda.specs.Keeping.{IsAgendaOf}
 use Rattle.ada_kernel.proofs.Quiet.{quiet_as, not_due_as, noted}
 use Rattle.ada_records.proofs.TaskEnds.{goer_exists}
-use Rattle.ada_kernel.proofs.Recorded.{recorded_task, noted_as, followed_as}
+use Rattle.ada_kernel.proofs.Recorded.{recorded_task, tabled_task, noted_as, followed_as}
 use Rattle.ada_kernel.proofs.index.Index.note_termination.Goals as goal
 
 pub record_termination-requires : goal.record_termination-requires
@@ -14,11 +14,8 @@ record_termination-requires c =
 
 pub follow_termination-requires-clause-tabled : goal.follow_termination-requires-clause-tabled
 follow_termination-requires-clause-tabled c =
-    omega (
-      arith,
-      goer_exists c.args.event.now c.args.journal.now.events c.args.task c.requires.lawful c.requires.goes,
-      c.requires.stands.kept.tabled.many,
-    )
+    tabled_task _ c.args.journal.now.events c.args.task.0 c.requires.stands.kept.tabled
+    (goer_exists c.args.event.now c.args.journal.now.events c.args.task c.requires.lawful c.requires.goes)
 
 pub follow_termination-requires-clause-recorded : goal.follow_termination-requires-clause-recorded
 follow_termination-requires-clause-recorded c =

@@ -5,20 +5,10 @@ use Rattle.ada_events.specs.Waits.{earlier}
 use Rattle.ada_triggers.specs.Bounds.{IsDueBound}
 use Rattle.ada_triggers.proofs.Bounds.{bound_noted}
 use Rattle.ada_agenda.specs.Kinds.{due_in}
-use Rattle.ada_records.proofs.EventKinds.{holds_of}
 use Rattle.ada_laws.proofs.LimitLaws.{events_are_few}
 use Rattle.ada_kernel.proofs.Quiet.{quiet_as, noted}
-use Rattle.ada_kernel.proofs.Recorded.{holder_recorded, noted_hold}
-use Rattle.ada_records.specs.Records.{AreRecords}
+use Rattle.ada_kernel.proofs.Recorded.{holder_recorded, holder_tabled, noted_hold, followed_hold}
 use Rattle.ada_kernel.proofs.index.Index.note_wait.Goals as goal
-use Rattle.ada_kernel.proofs.index.Index.note_wait.Goals.{After-record_hold}
-
-pub follow_hold-requires-clause-holds : goal.follow_hold-requires-clause-holds
-unfolding held_in started_in call_in
-follow_hold-requires-clause-holds c = record {
-  plain = holds_of c.args.event.now _ c.args.by.0 c.requires.waits refl refl;
-  calls = ap call_in c.requires.waits;
-}
 
 pub overflow_add-len : goal.overflow_add-len
 overflow_add-len c = record { fits = omega (arith, c.len.ensures, events_are_few c.args.journal.now.events c.requires.lawful.0) }
@@ -29,24 +19,34 @@ record_hold-requires c =
     holder_recorded c.args.event.now _ c.args.journal.now.events _ _ c.args.by.0 c.requires.waits refl c.as_mut_slice-records.ensures.value
     c.requires.stands.kept.recorded c.requires.lawful
 
-recorded : (c : After-record_hold) → AreRecords c.record_hold.new.records (c.args.event.now ∷ c.args.journal.now.events)
-unfolding held_in started_in wait_in
-recorded c =
-    noted_hold c.args.event.now _ c.args.journal.now.events _ _ _ c.args.by.0 _ _ c.record_hold.ensures c.requires.waits refl refl (sym c.may_terminate.ensures)
-    (ap (λ n. n + 1) c.len.ensures) c.as_mut_slice-records.ensures.value c.requires.lawful c.requires.stands.kept.recorded
+pub follow_hold-requires-clause-tabled : goal.follow_hold-requires-clause-tabled
+unfolding held_in
+follow_hold-requires-clause-tabled c =
+    holder_tabled c.args.event.now _ c.args.journal.now.events _ c.args.by.0 c.requires.waits refl c.requires.stands.kept.tabled c.requires.lawful
 
-pub follow_hold-requires-clause-records : goal.follow_hold-requires-clause-records
-follow_hold-requires-clause-records c = recorded ((goal.at.follow_hold-requires-clause-records c).After-record_hold)
+pub follow_hold-requires-clause-recorded : goal.follow_hold-requires-clause-recorded
+unfolding held_in
+follow_hold-requires-clause-recorded c =
+    omega (
+      arith,
+      holder_recorded c.args.event.now _ c.args.journal.now.events _ _ c.args.by.0 c.requires.waits refl c.as_mut_slice-records.ensures.value
+          c.requires.stands.kept.recorded c.requires.lawful,
+      c.record_hold.auto.records,
+    )
 
 pub returns : goal.returns
-unfolding creation_in moment_in
+unfolding creation_in moment_in held_in started_in call_in wait_in
 returns c =
     let event = c.args.event.now in
     let before = c.args.journal.now.events in
+    let now = noted_hold event _ before _ _ _ c.args.by.0 _ _ c.record_hold.ensures c.requires.waits refl refl (sym c.may_terminate.ensures)
+    (ap (λ n. n + 1) c.len.ensures) c.as_mut_slice-records.ensures.value c.requires.lawful c.requires.stands.kept.recorded in
+    let follows = followed_hold event _ before _ _ _ c.args.by.0 c.follow_hold.ensures c.requires.waits refl refl refl c.requires.lawful now
+    c.requires.stands.kept.tabled c.requires.stands.slots in
     noted c.args.self.now event before c.record_hold.new.records c.follow_hold.new.tables c.after_wait.new.agenda _
     c.requires.stands c.requires.lawful (quiet_as event _ c.requires.waits refl refl)
     (omega (arith, c.record_hold.auto.records, c.as_mut_slice-records.ensures.len))
-    (recorded ((goal.at.returns c).After-record_hold)) c.follow_hold.ensures.stand c.follow_hold.ensures.slots
+    now follows.0 follows.1
     (subst (λ journal. IsAgendaOf c.after_wait.new.agenda (event ∷ journal)) c.view-view.ensures c.after_wait.ensures)
     (subst (IsDueBound (event ∷ before))
     (ap (earlier c.args.self.now.next_due) (ap due_in c.requires.waits ∙ sym c.tail_due.ensures) ∙ sym c.with-self.ensures)

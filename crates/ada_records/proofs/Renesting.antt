@@ -1,17 +1,26 @@
 -- What an event changes in what tasks are within: in one task's nest at most.
-use Rattle.std.specs.Prelude.{◌≡◌, ℕ, ◌<◌, ◌-◌, false, List, [], ◌∷◌, ◌++◌, length, take}
+use Rattle.std.proofs.Common.{◌≡◌, ℕ, ◌<◌, ◌-◌, false, List, [], ◌∷◌, ◌++◌, length, take}
 use Rattle.std.specs.Option.{ForSome}
 use Rattle.ada_events.specs.declared.event.Event.{Event}
 use Rattle.ada_events.specs.declared.limits.TheConstants.{MOST_MEMBERS}
 use Rattle.ada_events.specs.declared.names.Master.TheVariants.{Block as BlockMaster}
 use Rattle.ada_events.specs.declared.names.Member.{Member}
 use Rattle.ada_events.specs.declared.names.Member.TheVariants.{Block, Rendezvous}
+use Rattle.ada_events.specs.declared.names.TaskNo.{TaskNo}
 use Rattle.ada_events.specs.Tasks.{task_count}
 use Rattle.ada_events.specs.Nests.{nest, innermost}
 use Rattle.ada_tables.specs.Dependents.{has_block, cut}
 use Rattle.ada_tables.specs.Standing.{live_count}
-use Rattle.ada_records.specs.declared.nests.NestChange.{NestChange}
-use Rattle.ada_records.specs.declared.nests.NestChange.TheVariants.{Nothing, Enters, LeavesBlock, EndsRendezvous}
+
+-- what an event changes in what tasks are within
+pub data NestChange : Type 0 where
+  Nothing : NestChange
+  -- a task comes into a block that it opened (9.4), or into a rendezvous (9.5)
+  Enters : TaskNo → Member → NestChange
+  -- a task leaves the innermost block that it is in (9.4)
+  LeavesBlock : TaskNo → NestChange
+  -- the rendezvous with the call at a position ends for the task called (9.5)
+  EndsRendezvous : TaskNo → ℕ → NestChange
 
 -- one existing task's nest becomes these members, and all others stay
 pub record NestBecomes (event : Event) (before : List Event) (task : ℕ) (members : List Member) : Type 0 where

@@ -1,9 +1,10 @@
 -- What an event changes in queues: a call comes last at its entry, or a task's call leaves.
-use Rattle.std.specs.Prelude.{◌≡◌, ℕ, suc, ◌<◌, not, ◌==◌, ◌&&◌, false, Some, IsSome, List, ◌∷◌, ◌++◌, length, filter}
+use Rattle.std.proofs.Common.{◌≡◌, ℕ, suc, ◌<◌, not, ◌==◌, ◌&&◌, false, Some, IsSome, List, ◌∷◌, ◌++◌, length, filter}
 use Rattle.std.specs.Option.{option_to_list}
 use Rattle.std.specs.Bool.{then_some}
 use Rattle.ada_events.specs.declared.event.Event.{Event}
 use Rattle.ada_events.specs.declared.names.Entry.{Entry}
+use Rattle.ada_events.specs.declared.names.TaskNo.{TaskNo}
 use Rattle.ada_events.specs.Entries.{same_entry}
 use Rattle.ada_events.specs.Search.{is_number}
 use Rattle.ada_events.specs.Says.{call_in}
@@ -12,8 +13,14 @@ use Rattle.ada_events.specs.Tasks.{task_count, families_of}
 use Rattle.ada_events.specs.Phases.{is_suspended}
 use Rattle.ada_events.specs.Calls.{queue}
 use Rattle.ada_tables.specs.Standing.{caller_of}
-use Rattle.ada_records.specs.declared.queues.QueueChange.{QueueChange}
-use Rattle.ada_records.specs.declared.queues.QueueChange.TheVariants.{Nothing, Joins, Leaves}
+
+-- what an event changes in queues
+pub data QueueChange : Type 0 where
+  Nothing : QueueChange
+  -- a task's call of another comes last at an entry (9.5)
+  Joins : TaskNo → TaskNo → Entry → QueueChange
+  -- a task's call leaves the queue in which it waits, if it waits
+  Leaves : TaskNo → QueueChange
 
 -- a new call at an entry of a task, where that is the one that it calls
 abbrev pub newest_at : ℕ → Entry → ℕ → Entry → ℕ → List ℕ
