@@ -21,11 +21,11 @@ mod filling;
 #[cfg(test)]
 mod journals;
 #[cfg(test)]
+mod kernel_memory;
+#[cfg(test)]
 mod kinds;
 #[cfg(test)]
 mod limits;
-#[cfg(test)]
-mod memory;
 #[cfg(test)]
 mod names;
 #[cfg(test)]

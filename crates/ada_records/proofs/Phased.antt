@@ -4,7 +4,7 @@ use Rattle.ada_events.specs.declared.event.Event.{Event}
 use Rattle.ada_events.specs.declared.names.TaskNo.{TaskNo}
 use Rattle.ada_events.specs.Lawful.{IsLawful}
 use Rattle.ada_tables.specs.Dependents.{Facts, task_at, is_terminated}
-use Rattle.ada_tables.specs.internal.Dependents.{with_phase}
+use Rattle.ada_tables.specs.Dependents.{with_phase}
 use Rattle.ada_records.specs.RecordedPhases.{phase_by}
 use Rattle.ada_events.specs.declared.names.Member.{Member}
 use Rattle.ada_tables.specs.Tables.{TableState}

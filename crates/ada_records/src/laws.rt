@@ -74,9 +74,8 @@ pub fn what_is_released_held()
     ensures { WhatIsReleasedHeld }
 {}
 
-/// What became of a task's latest suspension: who is held up is held, until the event that releases it says what
-/// became of
-/// it; who ends a rendezvous by an exception has it raised (11.5). Nothing new becomes of other tasks.
+/// What became of a task's latest suspension: who is held up is held, until the event that releases it says what became
+/// of it; who ends a rendezvous by an exception has it raised (11.5). Nothing new becomes of other tasks.
 pub fn outcomes_are_the_latest()
     ensures held { HoldsAreHeld }
     ensures released { ReleasesDecide }

@@ -1,7 +1,6 @@
 //! What one more event changes: in the record that the kernel keeps of each task, and in its tables, whose queues,
-//! nests
-//! and phases follow the journal. What the tables hold of dependents follows by laws, each the contract of a function
-//! that does nothing.
+//! nests and phases follow the journal. What the tables hold of dependents follows by laws, each the contract of a
+//! function that does nothing.
 #![tactic(auto)]
 
 pub mod aborts;

@@ -25,7 +25,7 @@ follow_termination-requires-clause-recorded c =
     omega (
       arith,
       recorded_task _ _ c.args.journal.now.events c.args.task.0 c.as_mut_slice-records.ensures.value c.requires.stands.kept.recorded
-      (goer_exists c.args.event.now c.args.journal.now.events c.args.task c.requires.lawful c.requires.goes),
+          (goer_exists c.args.event.now c.args.journal.now.events c.args.task c.requires.lawful c.requires.goes),
       c.record_termination.auto.records,
     )
 
