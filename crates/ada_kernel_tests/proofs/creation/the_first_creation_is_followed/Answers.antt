@@ -12,15 +12,15 @@ no_slots queues empty = ap (λ (queues : List (List QueuedCall)). length queues)
 
 pub follow_creation-followed-requires-clause-few : goal.follow_creation-followed-requires-clause-few
 follow_creation-followed-requires-clause-few g c =
-    made_tasks (first_event _) [] _ _ (Body main) _ (first_lawful [] _ refl c.from_slice-families.ensures)
+    made_tasks (first_event _) [] _ c.in_ok-tables.tables (Body main) _ (first_lawful [] _ refl c.from_slice-families.ensures)
     (record { by = main; under = Body main; is = refl }) c.in_ok-tables.ensures.stands (no_slots _ c.in_ok-tables.ensures.queues)
 
 pub follow_creation-followed-requires-clause-slots : goal.follow_creation-followed-requires-clause-slots
 follow_creation-followed-requires-clause-slots g c =
-    made_entries (first_event _) [] _ _ (Body main) _ (first_lawful [] _ refl c.from_slice-families.ensures)
+    made_entries (first_event _) [] _ c.in_ok-tables.tables (Body main) _ (first_lawful [] _ refl c.from_slice-families.ensures)
     (record { by = main; under = Body main; is = refl }) c.in_ok-tables.ensures.stands (no_slots _ c.in_ok-tables.ensures.queues)
 
 pub follow_creation-followed-requires-clause-master : goal.follow_creation-followed-requires-clause-master
 follow_creation-followed-requires-clause-master g c =
-    made_open (first_event _) [] _ _ (Body main) _ (first_lawful [] _ refl c.from_slice-families.ensures)
+    made_open (first_event _) [] _ c.in_ok-tables.tables (Body main) _ (first_lawful [] _ refl c.from_slice-families.ensures)
     (record { by = main; under = Body main; is = refl }) c.in_ok-tables.ensures.stands (no_slots _ c.in_ok-tables.ensures.queues)
