@@ -2,20 +2,12 @@
 
 ghost use Rattle.std.specs.Prelude.{◌≡◌};
 ghost use Rattle.ada_events.specs.declared.request.Request.TheVariants as asked;
-ghost use Rattle.ada_events.specs.Phases as phases;
 ghost use Rattle.ada_events.specs.Refusals as refusals;
 
 use crate::limits::is_full;
 use crate::names::{is_running, names_unknown};
 use ada_events::{Refusal, TaskNo};
 use ada_view::View;
-
-// Whether a list names the main program.
-fn lists_main(tasks: &[TaskNo]) -> bool
-    ensures { result ≡ phases.lists_task 0 tasks.now }
-{
-    tasks.iter().any(|task| task.0 == 0)
-}
 
 /// The cause for which an abort is refused, if there is one (9.10).
 #[tactic(auto, unfolding(ada_events::specs::Refusals::first_cause), using(crate::proofs::Causes::abort_causes))]
@@ -31,7 +23,7 @@ pub fn refusal_of_abort(view: &View, by: TaskNo, tasks: &[TaskNo]) -> Option<Ref
     if tasks.is_empty() {
         return Some(Refusal::EmptyList);
     }
-    if lists_main(tasks) {
+    if TaskNo(0).is_listed(tasks) {
         return Some(Refusal::MainTask);
     }
     if is_full(view) {

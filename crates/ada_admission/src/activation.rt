@@ -121,7 +121,7 @@ pub fn refusal_of_activate(view: &View, by: TaskNo, tasks: &[TaskNo]) -> Option<
 pub fn refusal_of_elaborated(view: &View, by: TaskNo) -> Option<Refusal>
     ensures { (ok : Bool) → result ≡ refusals.refusal view.now (asked.Elaborated by ok) }
 {
-    if !is_known(view.tables().tasks(), by) {
+    if !is_known(view, by) {
         return Some(Refusal::UnknownTask);
     }
     if !is_running(view, by) {

@@ -24,7 +24,7 @@ fn is_late_delay(view: &View, duration: i64) -> bool
 pub fn refusal_of_delay(view: &View, by: TaskNo, duration: i64) -> Option<Refusal>
     ensures { result ≡ refusals.refusal view.now (asked.Delay by duration) }
 {
-    if !is_known(view.tables().tasks(), by) {
+    if !is_known(view, by) {
         return Some(Refusal::UnknownTask);
     }
     if !is_running(view, by) {

@@ -1,6 +1,6 @@
 //! The causes for which the requests of masters are refused: blocks, creations and completion (9.1, 9.4).
 
-ghost use Rattle.std.specs.Prelude.{◌≡◌, ◌<◌, ◌==◌, false, nat_lt, not};
+ghost use Rattle.std.specs.Prelude.{◌≡◌, ◌<◌, ◌==◌, false, not};
 ghost use Rattle.std.specs.List.{list_any};
 ghost use Rattle.ada_events.specs.declared.names.TaskNo.{TaskNo as Task};
 ghost use Rattle.ada_events.specs.declared.request.Request.TheVariants as asked;
@@ -9,13 +9,13 @@ ghost use Rattle.ada_events.specs.Masters as masters;
 ghost use Rattle.ada_events.specs.Nests.{nest, frame};
 ghost use Rattle.ada_events.specs.Phases as phases;
 ghost use Rattle.ada_events.specs.Refusals as refusals;
-ghost use Rattle.ada_events.specs.Tasks.{task_count};
+ghost use Rattle.ada_events.specs.Tasks.{has_task, task_count};
 ghost use Rattle.ada_tables.specs.Dependents.{holds};
 
 use crate::limits::{has_most_tasks, is_full, passes_most_slots};
 use crate::names::{is_elaborated, is_known, is_running};
-use crate::nests::{has_most_members, is_innermost_rendezvous, is_within};
-use ada_events::{Family, Master, Refusal, TaskNo};
+use crate::nests::{has_most_members, is_within};
+use ada_events::{Family, Master, Member, Refusal, TaskNo};
 use ada_view::View;
 
 /// The cause for which the opening of a block is refused, if there is one (9.4).
@@ -23,7 +23,7 @@ use ada_view::View;
 pub fn refusal_of_open(view: &View, by: TaskNo) -> Option<Refusal>
     ensures { result ≡ refusals.refusal view.now (asked.Open by) }
 {
-    if !is_known(view.tables().tasks(), by) {
+    if !is_known(view, by) {
         return Some(Refusal::UnknownTask);
     }
     if !is_running(view, by) {
@@ -39,13 +39,10 @@ pub fn refusal_of_open(view: &View, by: TaskNo) -> Option<Refusal>
 }
 
 // Whether a master is the body of a task that doesn't exist.
-fn is_unknown_body(count: u16, master: Master) -> bool
-    ensures { result ≡ list_any (λ (t : Task). not (nat_lt t.0 count)) (asks.body_task master) }
+fn is_unknown_body(view: &View, master: Master) -> bool
+    ensures { result ≡ list_any (λ (t : Task). not (has_task view.now t.0)) (asks.body_task master) }
 {
-    match master {
-        Master::Body(task) => !is_known(count, task),
-        Master::Block(_) => false,
-    }
+    master.is_unknown_body(u64::from(view.tables().tasks()))
 }
 
 // Whether a task holds a master: its body, or a block that it is within.
@@ -79,8 +76,7 @@ pub fn refusal_of_create(
 ) -> Option<Refusal>
     ensures { result ≡ refusals.refusal view.now (asked.Create by master families.now) }
 {
-    let count = view.tables().tasks();
-    if !is_known(count, by) || is_unknown_body(count, master) {
+    if !is_known(view, by) || is_unknown_body(view, master) {
         return Some(Refusal::UnknownTask);
     }
     if !is_running(view, by) {
@@ -106,13 +102,13 @@ pub fn refusal_of_create(
 pub fn refusal_of_close(view: &View, by: TaskNo) -> Option<Refusal>
     ensures { result ≡ refusals.refusal view.now (asked.Close by) }
 {
-    if !is_known(view.tables().tasks(), by) {
+    if !is_known(view, by) {
         return Some(Refusal::UnknownTask);
     }
     if !is_running(view, by) {
         return Some(Refusal::NotRunning);
     }
-    if is_innermost_rendezvous(view.innermost(by), true) {
+    if Member::has_no_block(view.innermost(by)) {
         return Some(Refusal::NoBlock);
     }
     if is_full(view) {
@@ -126,7 +122,7 @@ pub fn refusal_of_close(view: &View, by: TaskNo) -> Option<Refusal>
 pub fn refusal_of_complete(view: &View, by: TaskNo) -> Option<Refusal>
     ensures { result ≡ refusals.refusal view.now (asked.Complete by) }
 {
-    if !is_known(view.tables().tasks(), by) {
+    if !is_known(view, by) {
         return Some(Refusal::UnknownTask);
     }
     if !is_running(view, by) {

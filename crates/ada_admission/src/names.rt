@@ -1,6 +1,6 @@
 //! Tests of the tasks that a request names: that they exist, that one runs, that one is elaborated.
 
-ghost use Rattle.std.specs.Prelude.{◌≡◌, ◌||◌, nat_lt, not};
+ghost use Rattle.std.specs.Prelude.{◌≡◌, ◌||◌, not};
 ghost use Rattle.std.specs.List.{list_any};
 ghost use Rattle.ada_events.specs.declared.names.TaskNo.{TaskNo as Task};
 ghost use Rattle.ada_events.specs.Lawful.{IsLawful};
@@ -10,16 +10,12 @@ ghost use Rattle.ada_events.specs.Tasks.{has_task};
 use ada_events::TaskNo;
 use ada_view::View;
 
-pub(crate) fn is_known(count: u16, task: TaskNo) -> bool
-    ensures { result ≡ nat_lt task.0 count }
+/// Whether a task exists.
+pub(crate) fn is_known(view: &View, task: TaskNo) -> bool
+    ensures known { result ≡ has_task view.now task.0 }
+    ensures lawful { IsLawful view.now }
 {
-    task.0 < count
-}
-
-fn lists_unknown(count: u16, tasks: &[TaskNo]) -> bool
-    ensures { result ≡ list_any (λ (t : Task). not (nat_lt t.0 count)) tasks.now }
-{
-    tasks.iter().any(|task| !is_known(count, *task))
+    task.is_known(u64::from(view.tables().tasks()))
 }
 
 /// Whether a task that asks, or one of a list, doesn't exist.
@@ -28,8 +24,8 @@ pub(crate) fn names_unknown(view: &View, by: TaskNo, tasks: &[TaskNo]) -> bool
         || list_any (λ (t : Task). not (has_task view.now t.0)) tasks.now) }
     ensures lawful { IsLawful view.now }
 {
-    let count = view.tables().tasks();
-    !is_known(count, by) || lists_unknown(count, tasks)
+    let count = u64::from(view.tables().tasks());
+    !by.is_known(count) || TaskNo::lists_unknown(tasks, count)
 }
 
 pub(crate) fn is_running(view: &View, task: TaskNo) -> bool

@@ -2,7 +2,6 @@
 
 ghost use Rattle.std.specs.Prelude.{◌≡◌, ◌<◌, ◌==◌, length, nat_le, not};
 ghost use Rattle.std.specs.List.{list_any};
-ghost use Rattle.std.specs.Option.{option_map_or};
 ghost use Rattle.ada_events.specs.declared.limits.TheConstants.{MOST_MEMBERS};
 ghost use Rattle.ada_events.specs.declared.names.Choice.{Choice as ChoiceValue};
 ghost use Rattle.ada_events.specs.Search.{is_some_and};
@@ -33,25 +32,10 @@ pub(crate) fn is_within(view: &View, task: TaskNo) -> bool
     view.nest(task).len() != 0
 }
 
-fn is_rendezvous(member: Member) -> bool
-    ensures { result ≡ refusals.is_rendezvous member }
-{
-    matches!(member, Member::Rendezvous(_))
-}
-
-pub(crate) fn is_innermost_rendezvous(member: Option<Member>, otherwise: bool) -> bool
-    ensures { result ≡ option_map_or refusals.is_rendezvous member otherwise }
-{
-    match member {
-        Some(member) => is_rendezvous(member),
-        None => otherwise,
-    }
-}
-
 fn is_rendezvous_layer(layer: Layer) -> bool
     ensures { result ≡ refusals.is_rendezvous (member_of layer) }
 {
-    is_rendezvous(layer.member())
+    layer.member().is_rendezvous()
 }
 
 fn any_is_rendezvous(layers: &[Layer]) -> bool

@@ -12,8 +12,8 @@ ghost use Rattle.ada_events.specs.Refusals as refusals;
 use crate::entries::{is_outside, lacks_family};
 use crate::limits::{ends_too_late, is_full};
 use crate::names::{is_elaborated, is_known, is_running};
-use crate::nests::{has_most_members, has_rendezvous_for, is_innermost_rendezvous};
-use ada_events::{Entry, Patience, Refusal, TaskNo};
+use crate::nests::{has_most_members, has_rendezvous_for};
+use ada_events::{Entry, Member, Patience, Refusal, TaskNo};
 use ada_view::View;
 
 // Whether a call, of whichever entry, would be due behind the last moment (9.7.3).
@@ -40,8 +40,7 @@ pub fn refusal_of_call(
 ) -> Option<Refusal>
     ensures { result ≡ refusals.refusal view.now (asked.Call by callee entry patience) }
 {
-    let count = view.tables().tasks();
-    if !is_known(count, by) || !is_known(count, callee) {
+    if !is_known(view, by) || !is_known(view, callee) {
         return Some(Refusal::UnknownTask);
     }
     if !is_running(view, by) {
@@ -70,7 +69,7 @@ pub fn refusal_of_accept(view: &View, by: TaskNo, entry: Entry) -> Option<Refusa
     ensures { (pick : ℕ) → result ≡ refusals.refusal view.now
         (asked.Wait by (record { guard = true; entry = entry } ∷ []) Nothing pick) }
 {
-    if !is_known(view.tables().tasks(), by) {
+    if !is_known(view, by) {
         return Some(Refusal::UnknownTask);
     }
     if !is_running(view, by) {
@@ -104,7 +103,7 @@ pub fn refusal_of_accept(view: &View, by: TaskNo, entry: Entry) -> Option<Refusa
 pub fn refusal_of_end(view: &View, by: TaskNo) -> Option<Refusal>
     ensures { (raised : Bool) → result ≡ refusals.refusal view.now (asked.End by raised) }
 {
-    if !is_known(view.tables().tasks(), by) {
+    if !is_known(view, by) {
         return Some(Refusal::UnknownTask);
     }
     if !is_running(view, by) {
@@ -113,7 +112,7 @@ pub fn refusal_of_end(view: &View, by: TaskNo) -> Option<Refusal>
     if !is_elaborated(view, by) {
         return Some(Refusal::DuringActivation);
     }
-    if !is_innermost_rendezvous(view.innermost(by), false) {
+    if !Member::is_in_accept(view.innermost(by)) {
         return Some(Refusal::NotInAccept);
     }
     if is_full(view) {

@@ -103,7 +103,7 @@ pub fn refusal_of_wait(view: &View, by: TaskNo, choices: &[Choice], tail: &Tail)
     ensures { (pick : ℕ)
         → result ≡ refusals.refusal view.now (asked.Wait by choices.now tail.now pick) }
 {
-    if !is_known(view.tables().tasks(), by) {
+    if !is_known(view, by) {
         return Some(Refusal::UnknownTask);
     }
     if !is_running(view, by) {

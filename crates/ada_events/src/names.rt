@@ -1,8 +1,15 @@
 //! What requests and events name: tasks, masters, entries, and the parts of a selective wait.
 
-ghost use Rattle.std.specs.Prelude.{◌≡◌, ◌^◌, ◌-◌, ◌-ℤ◌, min, unsigned_abs};
+ghost use Rattle.std.specs.Prelude.{◌≡◌, ◌^◌, ◌-◌, ◌-ℤ◌, min, nat_lt, not, true, unsigned_abs};
+ghost use Rattle.std.specs.List.{list_any};
+ghost use Rattle.std.specs.Option.{option_map_or};
+ghost use Rattle.ada_events.specs.Asks.{body_task};
 ghost use Rattle.ada_events.specs.declared.names.Member.TheVariants.{Block};
+ghost use Rattle.ada_events.specs.declared.names.TaskNo.{TaskNo as Task};
 ghost use Rattle.ada_events.specs.Entries as entries;
+ghost use Rattle.ada_events.specs.Phases.{lists_task};
+ghost use Rattle.ada_events.specs.Refusals.{is_rendezvous};
+ghost use Rattle.ada_events.specs.Search.{is_some_and};
 
 use crate::limits::{MOST_CHOICES, MOST_DELAYS, MOST_FAMILIES, MOST_MEMBERS, MOST_TASKS};
 use crate::{Bounded, SmallList, Stored};
@@ -12,11 +19,46 @@ use crate::{Bounded, SmallList, Stored};
 #[derive(Clone, Copy, Debug, Default, PartialEq, Eq)]
 pub struct TaskNo(pub u16);
 
+impl TaskNo {
+    /// Whether the number is that of one of `count` tasks.
+    pub fn is_known(self, count: u64) -> bool
+        ensures { result ≡ nat_lt self.0 count }
+    {
+        u64::from(self.0) < count
+    }
+
+    /// Whether a list names the task.
+    pub fn is_listed(self, tasks: &[TaskNo]) -> bool
+        ensures { result ≡ lists_task self.0 tasks.now }
+    {
+        tasks.iter().any(|task| task.0 == self.0)
+    }
+
+    /// Whether a list names a task that isn't one of `count` tasks.
+    pub fn lists_unknown(tasks: &[TaskNo], count: u64) -> bool
+        ensures { result ≡ list_any (λ (t : Task). not (nat_lt t.0 count)) tasks.now }
+    {
+        tasks.iter().any(|task| !task.is_known(count))
+    }
+}
+
 /// What a task may depend on (9.4): the body of a task, or a block by the position of its opening.
 #[derive(Clone, Copy, Debug, PartialEq, Eq)]
 pub enum Master {
     Body(TaskNo),
     Block(u32),
+}
+
+impl Master {
+    /// Whether it is the body of a task that isn't one of `count` tasks.
+    pub fn is_unknown_body(self, count: u64) -> bool
+        ensures { result ≡ list_any (λ (t : Task). not (nat_lt t.0 count)) (body_task self) }
+    {
+        match self {
+            Master::Body(task) => !task.is_known(count),
+            Master::Block(_) => false,
+        }
+    }
 }
 
 /// What a task is within: a block by the position of its opening, or a rendezvous by the position of
@@ -25,6 +67,35 @@ pub enum Master {
 pub enum Member {
     Block(u32),
     Rendezvous(u32),
+}
+
+impl Member {
+    /// Whether it is a rendezvous.
+    pub fn is_rendezvous(self) -> bool
+        ensures { result ≡ is_rendezvous self }
+    {
+        matches!(self, Member::Rendezvous(_))
+    }
+
+    /// Whether the innermost member of a nest is a rendezvous, so that its accept statement may end (9.5).
+    pub fn is_in_accept(innermost: Option<Member>) -> bool
+        ensures { result ≡ is_some_and innermost is_rendezvous }
+    {
+        match innermost {
+            Some(member) => member.is_rendezvous(),
+            None => false,
+        }
+    }
+
+    /// Whether the innermost member of a nest isn't a block that may be closed: it is a rendezvous, or there is none.
+    pub fn has_no_block(innermost: Option<Member>) -> bool
+        ensures { result ≡ option_map_or is_rendezvous innermost true }
+    {
+        match innermost {
+            Some(member) => member.is_rendezvous(),
+            None => true,
+        }
+    }
 }
 
 impl Default for Member {

@@ -18,13 +18,6 @@ use crate::says::{is_position, is_task};
 use crate::tasks::task_count;
 use ada_events::{Event, Master, TaskNo};
 
-/// Whether a list names a task.
-pub fn lists_task(tasks: &[TaskNo], task: TaskNo) -> bool
-    ensures { result ≡ phases.lists_task task.0 tasks.now }
-{
-    tasks.iter().any(|other| other.0 == task.0)
-}
-
 /// A start names the task (9.3).
 #[tactic(auto, unfolding(ada_events::specs::Phases::has_start))]
 pub fn has_start(events: &[Event], task: TaskNo) -> bool
@@ -33,7 +26,7 @@ pub fn has_start(events: &[Event], task: TaskNo) -> bool
     events
         .iter()
         .rev()
-        .any(|event| lists_task(says::started_in(event), task))
+        .any(|event| task.is_listed(says::started_in(event)))
 }
 
 /// The task has ended its activation, or is the main program (9.3).
@@ -211,7 +204,7 @@ fn starts(before: &[Event], event: &Event, task: TaskNo) -> bool
     ensures { result ≡ (phases.lists_task task.0 (said.started_in event.now)
         && not (phases.has_ended (reverse before.now) task.0)) }
 {
-    lists_task(says::started_in(event), task) && !has_ended(before, task)
+    task.is_listed(says::started_in(event)) && !has_ended(before, task)
 }
 
 /// The task's activation was started when it hadn't ended, or it is the main program (9.3).

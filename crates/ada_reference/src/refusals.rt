@@ -18,9 +18,9 @@ use crate::limits::{
 };
 use crate::masters::reaches;
 use crate::nests::{depth, frame, innermost, is_in_rendezvous, is_in_rendezvous_for};
-use crate::phases::{has_start, is_elaborated, is_running, lists_task};
+use crate::phases::{has_start, is_elaborated, is_running};
 use crate::tasks::{families, making_of, task_count};
-use ada_events::{Choice, Entry, Event, Family, Master, Member, Refusal, Request, Tail, TaskNo};
+use ada_events::{Choice, Entry, Event, Family, Member, Refusal, Request, Tail, TaskNo};
 
 /// The task that asks; a tick has none.
 #[tactic(auto, unfolding(ada_events::specs::Asks::asker))]
@@ -43,39 +43,18 @@ pub fn asker(request: &Request) -> Option<TaskNo>
     }
 }
 
-fn is_known(count: u64, task: TaskNo) -> bool
-    ensures { result ≡ nat_lt task.0 count }
-{
-    u64::from(task.0) < count
-}
-
-fn lists_unknown(count: u64, tasks: &[TaskNo]) -> bool
-    ensures { result ≡ list_any (λ (t : Task). not (nat_lt t.0 count)) tasks.now }
-{
-    tasks.iter().any(|task| !is_known(count, *task))
-}
-
-fn is_unknown_body(count: u64, master: Master) -> bool
-    ensures { result ≡ list_any (λ (t : Task). not (nat_lt t.0 count)) (asks.body_task master) }
-{
-    match master {
-        Master::Body(task) => !is_known(count, task),
-        Master::Block(_) => false,
-    }
-}
-
 #[tactic(auto, unfolding(ada_events::specs::Asks::named_tasks))]
 fn names_unknown(count: u64, request: &Request) -> bool
     ensures { result ≡ list_any (λ (t : Task).
         not (nat_lt t.0 count)) (asks.named_tasks request.now) }
 {
     match request {
-        Request::Create { master, .. } => is_unknown_body(count, *master),
-        Request::Activate { tasks, .. } | Request::Abort { tasks, .. } => lists_unknown(
-            count,
+        Request::Create { master, .. } => master.is_unknown_body(count),
+        Request::Activate { tasks, .. } | Request::Abort { tasks, .. } => TaskNo::lists_unknown(
             tasks.as_slice(),
+            count,
         ),
-        Request::Call { callee, .. } => !is_known(count, *callee),
+        Request::Call { callee, .. } => !callee.is_known(count),
         _ => false,
     }
 }
@@ -85,7 +64,7 @@ fn is_unknown_asker(count: u64, asker: Option<TaskNo>) -> bool
         not (nat_lt t count)) }
 {
     match asker {
-        Some(task) => !is_known(count, task),
+        Some(task) => !task.is_known(count),
         None => false,
     }
 }
@@ -200,7 +179,7 @@ pub fn has_double_task(tasks: &[TaskNo]) -> bool
     let mut double = false;
     while left > 0 {
         left -= 1;
-        double = lists_task(&tasks[left + 1..], tasks[left]) || double;
+        double = tasks[left].is_listed(&tasks[left + 1..]) || double;
     }
     double
 }
@@ -343,23 +322,13 @@ fn terminates_in_accept(events: &[Event], request: &Request) -> bool
     }
 }
 
-fn is_rendezvous(member: Option<Member>, otherwise: bool) -> bool
-    ensures { result ≡ option_map_or refusals.is_rendezvous member otherwise }
-{
-    match member {
-        Some(Member::Rendezvous(_)) => true,
-        Some(Member::Block(_)) => false,
-        None => otherwise,
-    }
-}
-
 #[tactic(auto, unfolding(ada_events::specs::Refusals::is_not_in_accept))]
 fn is_not_in_accept(events: &[Event], request: &Request) -> bool
     requires { length events.now < 2 ^ 32 }
     ensures { result ≡ refusals.is_not_in_accept (reverse events.now) request.now }
 {
     match request {
-        Request::End { by, .. } => !is_rendezvous(innermost(events, *by), false),
+        Request::End { by, .. } => !Member::is_in_accept(innermost(events, *by)),
         _ => false,
     }
 }
@@ -370,7 +339,7 @@ fn has_no_block(events: &[Event], request: &Request) -> bool
     ensures { result ≡ refusals.has_no_block (reverse events.now) request.now }
 {
     match request {
-        Request::Close { by } => is_rendezvous(innermost(events, *by), true),
+        Request::Close { by } => Member::has_no_block(innermost(events, *by)),
         _ => false,
     }
 }
@@ -391,7 +360,7 @@ fn aborts_main(request: &Request) -> bool
     ensures { result ≡ refusals.aborts_main request.now }
 {
     match request {
-        Request::Abort { tasks, .. } => lists_task(tasks.as_slice(), TaskNo(0)),
+        Request::Abort { tasks, .. } => TaskNo(0).is_listed(tasks.as_slice()),
         _ => false,
     }
 }
