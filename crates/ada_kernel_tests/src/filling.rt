@@ -44,6 +44,22 @@ fn as_many_ticks_as_there_may_be(rt: HostRuntime) -> Result<(), Fail> {
     Ok(())
 }
 
+// A tick may leave the moment where it is.
+fn all_idle_ticks_fit<R: Abort>(rt: &R, kernel: &mut Kernel) {
+    for tick in 1..=LAST_ACCEPTED {
+        assert_accepted(rt, kernel, Request::Tick { now: 0 }, tick);
+    }
+    assert_refused(rt, kernel, Request::Tick { now: 0 }, Refusal::JournalFull);
+    assert_events(rt, kernel, LAST_ACCEPTED);
+}
+
+#[test]
+fn as_many_ticks_to_moment_0(rt: HostRuntime) -> Result<(), Fail> {
+    let mut kernel = Kernel::new(rt.alloc())?;
+    all_idle_ticks_fit(&rt, &mut kernel);
+    Ok(())
+}
+
 /// The events before the first rendezvous: two tasks made, their activation begun, ended by each, and
 /// ended.
 const BEFORE: u32 = 6;

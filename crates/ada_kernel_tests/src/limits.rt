@@ -144,6 +144,16 @@ fn a_family_that_is_not_declared(rt: HostRuntime) -> Result<(), Fail> {
     Ok(())
 }
 
+// After the abort each of the 63 tasks is halted, in their order, then main's call fails, and then each is gone.
+fn assert_all_end<R: Abort>(rt: &R, kernel: &Kernel) {
+    for number in 1..=63u16 {
+        let task = TaskNo(number);
+        let after = u32::from(number);
+        assert_event(rt, kernel, 192 + after, Some(&Event::Halted { task }));
+        assert_event(rt, kernel, 256 + after, Some(&Event::Gone { task }));
+    }
+}
+
 // Of 63 tasks all others and main call the first, which aborts them all.
 fn one_aborts_all<R: Abort>(rt: &R, kernel: &mut Kernel) {
     assert!(rt; make_tasks(kernel, 63));
@@ -153,6 +163,7 @@ fn one_aborts_all<R: Abort>(rt: &R, kernel: &mut Kernel) {
     }
     assert_accepted(rt, kernel, call(0, 1, 0), 191);
     assert_accepted(rt, kernel, abort(1, 1, 63), 192);
+    assert_all_end(rt, kernel);
     assert_event(rt, kernel, 256, Some(&Event::Failed { call: 191 }));
     assert_events(rt, kernel, 319);
 }

@@ -1,7 +1,7 @@
 //! The output of long plays, which is written in pieces.
 
 use crate::streams::Writes;
-use ada_replay::{replay, status_of};
+use ada_replay::{RunFault, replay, status_of};
 use std::alloc::{AllocError, Global};
 use std::process::Abort;
 use std::test::Fail;
@@ -67,6 +67,7 @@ fn writes<R: Abort + AllocGlobal>(
     };
     let outcome = replay(rt.alloc(), &mut input, &mut writer);
     assert_eq!(rt; status_of(&outcome), status);
+    assert_eq!(rt; matches!(outcome, Err(RunFault::Write)), status == 4);
     took(rt, &writer, taken, left)
 }
 

@@ -2,7 +2,7 @@
 
 use crate::rendezvous::{PRINTED, SCRIPT};
 use crate::streams::{Bytes, End, Pieces};
-use ada_replay::{replay, status_of};
+use ada_replay::{RunFault, replay, status_of};
 use std::process::Abort;
 use std::test::Fail;
 
@@ -39,7 +39,7 @@ fn reads_that_fail(rt: HostRuntime) -> Result<(), Fail> {
         };
         let mut output = Vec::new(rt.alloc());
         let outcome = replay(rt.alloc(), &mut reader, &mut output);
-        assert_eq!(rt; status_of(&outcome), 4);
+        assert!(rt; matches!(outcome, Err(RunFault::Read)) && status_of(&outcome) == 4);
         assert!(rt; output.is_empty());
     }
     Ok(())
@@ -62,6 +62,7 @@ fn reads_a_long_input<R: Abort + AllocGlobal>(
     let mut output = Vec::new(rt.alloc());
     let outcome = replay(rt.alloc(), &mut reader, &mut output);
     assert_eq!(rt; status_of(&outcome), status);
+    assert_eq!(rt; matches!(outcome, Err(RunFault::Read)), status == 4);
     assert_eq!(rt; reader.text.len(), left);
     assert!(rt; output.is_empty());
     Ok(())
@@ -84,7 +85,7 @@ fn writes_until<R: Abort + AllocGlobal>(rt: &R, room: usize, end: End) -> Result
     };
     let mut input = SCRIPT;
     let outcome = replay(rt.alloc(), &mut input, &mut writer);
-    assert_eq!(rt; status_of(&outcome), 4);
+    assert!(rt; matches!(outcome, Err(RunFault::Write)) && status_of(&outcome) == 4);
     assert_eq!(rt; Some(writer.taken.as_slice()), PRINTED.get(..room));
     Ok(())
 }
