@@ -40,7 +40,8 @@ pub fn refusal_of_open(view: &View, by: TaskNo) -> Option<Refusal>
 
 // Whether a master is the body of a task that doesn't exist.
 fn is_unknown_body(view: &View, master: Master) -> bool
-    ensures { result ≡ list_any (λ (t : Task). not (has_task view.now t.0)) (asks.body_task master) }
+    ensures { result ≡ list_any (λ (t : Task). not (has_task view.now t.0))
+        (asks.body_task master) }
 {
     master.is_unknown_body(u64::from(view.tables().tasks()))
 }
