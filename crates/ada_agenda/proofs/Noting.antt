@@ -5,13 +5,13 @@ use Rattle.std.proofs.lemmas.Bool.{cases_eq, cases_lt, true≢false, false≢tru
 use Rattle.std.proofs.lemmas.Option.{none-some, same_Some}
 use Rattle.ada_events.specs.declared.event.Event.{Event}
 use Rattle.ada_events.specs.declared.event.Event.TheVariants.{Opened, Created, Started, Called, Paused}
-use Rattle.ada_events.specs.declared.limits.TheConstants.{MOST_EVENTS, MOST_TASKS}
+use Rattle.ada_events.specs.declared.limits.TheConstants.{MOST_EVENTS}
 use Rattle.ada_events.specs.Says.{Call, call_in, start_in, delay_in, creation_in}
 use Rattle.ada_events.specs.Tasks.{task_count}
 use Rattle.ada_events.specs.Phases.{is_suspended}
 use Rattle.ada_events.specs.Lawful.{IsLawful}
 use Rattle.ada_laws.specs.Suspension.{IsSuspendedAt}
-use Rattle.ada_laws.proofs.LimitLaws.{events_are_few, tasks_are_few}
+use Rattle.ada_laws.proofs.LimitLaws.{events_are_few}
 use Rattle.ada_laws.proofs.Searching.{event_at-within}
 use Rattle.ada_laws.proofs.Suspending.{is_suspended-from, suspended_once}
 use Rattle.ada_rows.specs.declared.row.Row.{Row}
@@ -22,6 +22,7 @@ use Rattle.ada_agenda.specs.declared.numbers.TheConstants.{MOST_KEYS}
 use Rattle.ada_agenda.specs.Rows.{keeps}
 use Rattle.ada_records.specs.Records.{IsHeldAt}
 use Rattle.ada_agenda.specs.Keeping.{has_key, IsAgendaOf, Grows, Puts, AsKey, When}
+use Rattle.ada_agenda.specs.Keeping.{KeepsUpWithStart, KeepsUpWithDelay, KeepsUpWithCreation, KeepsUpWithCall}
 use Rattle.ada_agenda.specs.internal.Keeping.{Both}
 use Rattle.ada_agenda.specs.Keeping.AsKey.{itself as that_key}
 use Rattle.ada_agenda.specs.Keeping.When.{holds_so}
@@ -33,11 +34,9 @@ use Rattle.ada_agenda.specs.Kinds.OfCall.{fails, is_cancelled, is_taken}
 use Rattle.ada_agenda.specs.Kinds.OfDelay.{wakes}
 use Rattle.ada_agenda.proofs.Adding.{agendas_grow}
 
--- the position of the newest event, and each older one, finds room in a row
-pub own_fits : (event : Event) (before : List Event) → IsLawful (event ∷ before) → length before + 1 < MOST_KEYS
-own_fits event before lawful =
-    let few : length (event ∷ before) ≤ MOST_EVENTS = events_are_few (event ∷ before) lawful in
-    omega arith
+-- the position of the next event finds room in a row
+pub next_fits : (before : List Event) → IsLawful before → length before + 1 < MOST_KEYS
+next_fits before lawful = omega (arith, events_are_few before lawful)
 
 -- and so does where a task is suspended, or 0 where it isn't
 pub held_fits : (before : List Event) (task at : ℕ) → IsLawful before → IsHeldAt before task at → at < MOST_KEYS
@@ -49,11 +48,6 @@ held_fits before task at lawful held = elim (cases_lt 0 at) [
       omega arith
   | inr none ↦ omega arith
 ]
-
-pub task_fits : (before : List Event) → IsLawful before → task_count before < MOST_KEYS
-task_fits before lawful =
-    let few : task_count before ≤ MOST_TASKS = tasks_are_few before lawful in
-    omega arith
 
 -- what is put in is there, and all that was
 has_this : (new : List (List ℕ)) (at : Row) (k : ℕ) (row : Row) (key : ℕ) → has_key new at k ≡ true → AsKey at k row key → has_key new row key ≡ true
@@ -139,9 +133,8 @@ of_start _ before row key starts added = absurd (false≢true starts)
 start_key : (before : List Event) (own : ℕ) (row : Row) (key : ℕ) → own ≡ itself before → OfStart before row key → AsKey Activating own row key
 start_key before own row key same is_over = rw same that_key
 
-pub start_noted : (event : Event) (before : List Event) (old new : List (List ℕ)) (own : ℕ) → IsLawful (event ∷ before) → IsAgendaOf old before
-    → is_some (start_in event) ≡ true → own ≡ length before + 1 → Puts old new (AsKey Activating own) → IsAgendaOf new (event ∷ before)
-start_noted event before old new own lawful agenda starts same puts =
+pub start_noted : (old new : List (List ℕ)) (own : ℕ) → Puts old new (AsKey Activating own) → KeepsUpWithStart own old new
+start_noted old new own puts event before starts same lawful agenda =
     noted event before old new (AsKey Activating own) lawful agenda puts
     (λ row key added. start_key before own row key (own_is before own same) (of_start event before row key starts added))
 
@@ -154,9 +147,8 @@ of_delay _ before row key delays added = absurd (false≢true delays)
 delay_key : (before : List Event) (own : ℕ) (row : Row) (key : ℕ) → own ≡ itself before → OfDelay before row key → AsKey Waking own row key
 delay_key before own row key same wakes = rw same that_key
 
-pub delay_noted : (event : Event) (before : List Event) (old new : List (List ℕ)) (own : ℕ) → IsLawful (event ∷ before) → IsAgendaOf old before
-    → is_some (delay_in event) ≡ true → own ≡ length before + 1 → Puts old new (AsKey Waking own) → IsAgendaOf new (event ∷ before)
-delay_noted event before old new own lawful agenda delays same puts =
+pub delay_noted : (old new : List (List ℕ)) (own : ℕ) → Puts old new (AsKey Waking own) → KeepsUpWithDelay own old new
+delay_noted old new own puts event before delays same lawful agenda =
     noted event before old new (AsKey Waking own) lawful agenda puts
     (λ row key added. delay_key before own row key (own_is before own same) (of_delay event before row key delays added))
 
@@ -171,9 +163,8 @@ creation_key : (before : List Event) (task : ℕ) (row : Row) (key : ℕ) → ta
     → AsKey Terminating task row key
 creation_key before task row key same goes = rw same that_key
 
-pub creation_noted : (event : Event) (before : List Event) (old new : List (List ℕ)) (task : ℕ) → IsLawful (event ∷ before) → IsAgendaOf old before
-    → is_some (creation_in event) ≡ true → task ≡ task_count before → Puts old new (AsKey Terminating task) → IsAgendaOf new (event ∷ before)
-creation_noted event before old new task lawful agenda creates same puts =
+pub creation_noted : (old new : List (List ℕ)) (task : ℕ) → Puts old new (AsKey Terminating task) → KeepsUpWithCreation task old new
+creation_noted old new task puts event before creates same lawful agenda =
     noted event before old new (AsKey Terminating task) lawful agenda puts
     (λ row key added. creation_key before task row key same (of_creation event before row key creates added))
 
@@ -203,18 +194,17 @@ abbrev pub CallKeys : ℕ → ℕ → Bool → Bool → Row → ℕ → Type 0
 CallKeys own at lost immediate =
     Both (Both (When lost (AsKey Failing own)) (When immediate (AsKey Cancelling own))) (When (not (at == 0)) (AsKey Meeting at))
 
-call_key : (before : List Event) (callee at own : ℕ) (immediate : Bool) (row : Row) (key : ℕ) → IsLawful before → IsHeldAt before callee at
-    → own ≡ itself before → OfCall before callee immediate row key → CallKeys own at (is_uncallable before callee) immediate row key
-call_key before callee at own immediate row key lawful held same (fails lost) = inl (inl (holds_so lost (rw same that_key)))
-call_key before callee at own immediate row key lawful held same (is_cancelled gives) = inl (inr (holds_so gives (rw same that_key)))
-call_key before callee at own immediate row key lawful held same (is_taken p suspended) =
+call_key : (before : List Event) (callee at own : ℕ) (lost immediate : Bool) (row : Row) (key : ℕ) → IsLawful before → IsHeldAt before callee at
+    → own ≡ itself before → lost ≡ is_uncallable before callee → OfCall before callee immediate row key → CallKeys own at lost immediate row key
+call_key before callee at own lost immediate row key lawful held same is (fails so) = inl (inl (holds_so (is ∙ so) (rw same that_key)))
+call_key before callee at own lost immediate row key lawful held same is (is_cancelled gives) = inl (inr (holds_so gives (rw same that_key)))
+call_key before callee at own lost immediate row key lawful held same is (is_taken p suspended) =
     let there = held_there before callee at p lawful held suspended in
     inr (holds_so (not_none at there.0) (rw there.1 that_key))
 
-pub call_noted : (event : Event) (before : List Event) (old new : List (List ℕ)) (callee at own : ℕ) → IsLawful (event ∷ before) → IsAgendaOf old before
-    → IsCallOf event callee → IsHeldAt before callee at → own ≡ length before + 1
-    → Puts old new (CallKeys own at (is_uncallable before callee) (is_immediate_call before event)) → IsAgendaOf new (event ∷ before)
-call_noted event before old new callee at own lawful agenda calls held same puts =
-    noted event before old new (CallKeys own at (is_uncallable before callee) (is_immediate_call before event)) lawful agenda puts (λ row key added.
-    call_key before callee at own (is_immediate_call before event) row key lawful.0 held (own_is before own same)
-    (of_call event before callee row key calls added))
+pub call_noted : (old new : List (List ℕ)) (own at : ℕ) (lost immediate : Bool) → Puts old new (CallKeys own at lost immediate)
+    → KeepsUpWithCall own at lost immediate old new
+call_noted old new own at lost immediate puts event before callee calls same held is_lost gives lawful agenda =
+    noted event before old new (CallKeys own at lost immediate) lawful agenda puts (λ row key added.
+    call_key before callee at own lost immediate row key lawful.0 held (own_is before own same) is_lost
+    (subst (λ so. OfCall before callee so row key) (sym gives) (of_call event before callee row key calls added)))

@@ -14,8 +14,7 @@ use Rattle.ada_records.specs.declared.record.Record.{Record}
 use Rattle.ada_records.specs.Records.{AreRecords}
 use Rattle.ada_tables.specs.Tables.{TableState}
 use Rattle.ada_tables.specs.Standing.{StandFor}
-use Rattle.ada_agenda.specs.Keeping.{IsAgendaOf}
-use Rattle.ada_agenda.specs.Kinds.{due_in}
+use Rattle.ada_agenda.specs.Keeping.{IsAgendaOf, KeepsUp}
 use Rattle.ada_kernel.specs.declared.index.Index.{Index}
 use Rattle.ada_kernel.specs.declared.index.Kept.{Kept}
 use Rattle.ada_kernel.specs.internal.Indexes.{IsIndexOf}
@@ -26,13 +25,10 @@ pub record IsQuiet (event : Event) : Type 0 where
   pub makes : creation_in event ≡ None
   pub ticks : moment_in event ≡ None
 
--- an event is quiet that is one of a known kind: the last two premises are refl there
-pub quiet_as : (event f : Event) → event ≡ f → creation_in f ≡ None → moment_in f ≡ None → IsQuiet event
-quiet_as event f is makes ticks = record { makes = ap creation_in is ∙ makes; ticks = ap moment_in is ∙ ticks }
-
--- likewise nobody is suspended for a moment by it
-pub not_due_as : (event f : Event) → event ≡ f → due_in f ≡ None → due_in event ≡ None
-not_due_as event f is due = ap due_in is ∙ due
+-- an agenda that was kept up with an event, by a view of the journal
+pub kept_up : (view before : List Event) (event : Event) (old new : List (List ℕ)) → view ≡ before → KeepsUp view event old new
+    → IsLawful (event ∷ before) → IsAgendaOf old before → IsAgendaOf new (event ∷ before)
+kept_up view before event old new same keeps = subst (λ (journal : List Event). KeepsUp journal event old new) same keeps
 
 -- what is kept with other records and tables
 abbrev pub with_kept : Kept → List Record → TableState → Kept

@@ -10,6 +10,9 @@ use Rattle.ada_events.specs.Tasks.{task_count}
 use Rattle.ada_laws.proofs.Accepting.{asker_exists}
 use Rattle.ada_laws.proofs.LimitLaws.{asked_lawful}
 use Rattle.ada_steps.specs.Beginning.{HasBegun}
+use Rattle.ada_kernel.specs.declared.index.Index.{Index}
+use Rattle.ada_kernel.specs.internal.Indexes.{IsIndexOf}
+use Rattle.ada_kernel.specs.internal.Stepping.{MayBegin, MayNote}
 
 module _ (old room : List Event) (request : Request) (event : Event) (unrefused : refusal old request ≡ None) (same : room ≡ old)
     (is : event ≡ asked_event old request) where
@@ -18,6 +21,10 @@ module _ (old room : List Event) (request : Request) (event : Event) (unrefused 
   may_follow lawful settled =
       subst (λ j. IsLawful (event ∷ j)) (sym same)
       (subst (λ (e : Event). IsLawful (e ∷ old)) (sym is) (asked_lawful old request lawful settled unrefused))
+
+  -- the index that stands for the journal may note it
+  pub may_note : (index : Index) → MayBegin index old → MayNote index room event
+  may_note index may = record { stands = subst (IsIndexOf index) (sym same) may.stands; lawful = may_follow may.stands.kept.lawful may.settled }
 
 -- with it the answer has begun
 pub has_begun : (before room after : Kept) (request : Request) (event : Event) → refusal before.events request ≡ None → room.events ≡ before.events

@@ -1,13 +1,13 @@
 //! Aborts, and the halts that they force (9.10).
 
 ghost use Rattle.std.specs.Prelude.{◌≡◌, ◌∷◌, IfErr, OnOk};
-ghost use Rattle.ada_events.specs.Lawful.{IsLawful};
 ghost use Rattle.ada_events.specs.Steps.{IsRefused};
 ghost use Rattle.ada_events.specs.declared.event.Event.TheVariants.{Aborted as AbortedEvent, Halted as HaltedEvent};
+ghost use Rattle.ada_events.specs.declared.names.TaskNo.{TaskNo as Number};
 ghost use Rattle.ada_events.specs.declared.request.Request.TheVariants as asked;
 ghost use Rattle.ada_rows.specs.declared.row.Row.TheVariants as row;
 ghost use Rattle.ada_kernel.specs.internal.Indexes.{IsIndexOf};
-ghost use Rattle.ada_kernel.specs.internal.Stepping.{MayBegin, MayTake, Takes};
+ghost use Rattle.ada_kernel.specs.internal.Stepping.{MayBegin, MayNote, HasNoted, MayTake, Takes};
 ghost use Rattle.ada_steps.specs.Beginning.{HasBegun};
 
 use crate::index::Index;
@@ -23,16 +23,14 @@ use ada_view::hit;
 
 impl Index {
     // Notes that tasks are aborted, with all that depend on them.
-    fn note_abort(&mut self, journal: &Journal, event: &Event, by: TaskNo, tasks: &[TaskNo])
-        requires lawful { IsLawful (event.now ∷ journal.now.events) }
-        requires stands { IsIndexOf self.old journal.now.events }
-        requires aborts { event.now ≡ AbortedEvent by tasks.now }
-        ensures { IsIndexOf self.new (event.now ∷ journal.now.events) }
+    fn note_abort(&mut self, journal: &Journal, tasks: &[TaskNo])
+        requires { IsIndexOf self.old journal.now.events }
+        ensures { (by : Number) → HasNoted journal.now.events (AbortedEvent by tasks.now) self.new }
     {
         let kept = &mut self.kept;
         let view = kept.view(journal);
         let hit = hit(&view, tasks);
-        after_abort(&mut self.agenda, &view, event, by, tasks);
+        after_abort(&mut self.agenda, &view);
         let records = kept.records.as_mut_slice();
         record_abort(records, hit.as_slice());
     }
@@ -57,23 +55,20 @@ impl Index {
         }
         make_room(journal)?;
         let tasks = TaskList::from_slice(journal.allocator(), named)?;
-        let event = Event::Aborted { by, tasks };
-        self.note_abort(journal, &event, by, named);
-        journal.push_reserved(event);
+        self.note_abort(journal, named);
+        journal.push_reserved(Event::Aborted { by, tasks });
         Ok(())
     }
 
     // Notes that a task is halted.
     #[inline(always)]
-    fn note_halt(&mut self, journal: &Journal, event: &Event, task: TaskNo)
-        requires lawful { IsLawful (event.now ∷ journal.now.events) }
-        requires stands { IsIndexOf self.old journal.now.events }
-        requires halts { event.now ≡ HaltedEvent task }
-        ensures { IsIndexOf self.new (event.now ∷ journal.now.events) }
+    fn note_halt(&mut self, journal: &Journal, task: TaskNo)
+        requires { MayNote self.old journal.now.events (HaltedEvent task) }
+        ensures { IsIndexOf self.new (HaltedEvent task ∷ journal.now.events) }
     {
         let kept = &mut self.kept;
         let view = kept.view(journal);
-        after_halt(&mut self.agenda, &mut self.unstarted, &view, event, task);
+        after_halt(&mut self.agenda, &mut self.unstarted, &view, task);
         let records = kept.records.as_mut_slice();
         record_halt(records, task);
         follow_halt(&mut kept.tables, records, task);
@@ -92,10 +87,9 @@ impl Index {
         if !self.view(journal).halts(task) {
             return false;
         }
-        let step = Event::Halted { task };
-        self.note_halt(journal, &step, task);
-        journal.push_reserved(step);
-        self.drop_key(journal, Row::Halting, key);
+        self.note_halt(journal, task);
+        journal.push_reserved(Event::Halted { task });
+        self.drop_key(Row::Halting, key);
         true
     }
 }

@@ -1,18 +1,17 @@
 //! Activation (9.3): its start, the end of a task's own, and the end of the whole.
 
 ghost use Rattle.std.specs.Prelude.{◌≡◌, ◌∷◌, IfErr, OnOk};
-ghost use Rattle.ada_events.specs.Lawful.{IsLawful};
 ghost use Rattle.ada_events.specs.Steps.{IsRefused};
 ghost use Rattle.ada_events.specs.declared.event.Event.TheVariants.{Started as StartedEvent, Elaborated as ElaboratedEvent, Activated as ActivatedEvent};
 ghost use Rattle.ada_events.specs.declared.request.Request.TheVariants as asked;
 ghost use Rattle.ada_rows.specs.declared.row.Row.TheVariants as row;
 ghost use Rattle.ada_kernel.specs.internal.Indexes.{IsIndexOf};
-ghost use Rattle.ada_kernel.specs.internal.Stepping.{MayBegin, MayTake, Takes};
+ghost use Rattle.ada_kernel.specs.internal.Stepping.{MayBegin, MayNote, MayTake, Takes};
 ghost use Rattle.ada_steps.specs.Beginning.{HasBegun};
 
 use crate::index::Index;
 use ada_admission::activation::{refusal_of_activate, refusal_of_elaborated};
-use ada_agenda::keeping;
+use ada_agenda::keeping::put_start_keys;
 use ada_events::{Event, Journal, Refusal, TaskList, TaskNo, Tasks};
 use ada_records::activation::{follow_elaboration, follow_start};
 use ada_records::records::{
@@ -24,16 +23,15 @@ use ada_triggers::endings::after_elaboration;
 
 impl Index {
     // Notes that a task starts the activation of tasks, and waits for its end.
-    fn note_start(&mut self, journal: &Journal, event: &Event, by: TaskNo, tasks: &[TaskNo])
-        requires lawful { IsLawful (event.now ∷ journal.now.events) }
-        requires stands { IsIndexOf self.old journal.now.events }
-        requires starts { event.now ≡ StartedEvent by tasks.now }
-        ensures { IsIndexOf self.new (event.now ∷ journal.now.events) }
+    fn note_start(&mut self, journal: &Journal, by: TaskNo, tasks: &[TaskNo])
+        requires { MayNote self.old journal.now.events (StartedEvent by tasks.now) }
+        ensures { IsIndexOf self.new (StartedEvent by tasks.now ∷ journal.now.events) }
     {
         let kept = &mut self.kept;
-        keeping::put_start_keys(&mut self.agenda, journal, event);
+        let at = journal.len() + 1;
+        put_start_keys(&mut self.agenda, at);
         let records = kept.records.as_mut_slice();
-        record_start(records, by, journal.len() + 1, tasks);
+        record_start(records, by, at, tasks);
         follow_start(&mut kept.tables, records, by, tasks);
     }
 
@@ -57,22 +55,19 @@ impl Index {
         }
         make_room(journal)?;
         let tasks = TaskList::from_slice(journal.allocator(), named)?;
-        let event = Event::Started { by, tasks };
-        self.note_start(journal, &event, by, named);
-        journal.push_reserved(event);
+        self.note_start(journal, by, named);
+        journal.push_reserved(Event::Started { by, tasks });
         Ok(())
     }
 
     // Notes that a task ends its own activation, by an exception where `ok` is false.
-    fn note_elaboration(&mut self, journal: &Journal, event: &Event, by: TaskNo, ok: bool)
-        requires lawful { IsLawful (event.now ∷ journal.now.events) }
-        requires stands { IsIndexOf self.old journal.now.events }
-        requires comes_up { event.now ≡ ElaboratedEvent by ok }
-        ensures { IsIndexOf self.new (event.now ∷ journal.now.events) }
+    fn note_elaboration(&mut self, journal: &Journal, by: TaskNo, ok: bool)
+        requires { MayNote self.old journal.now.events (ElaboratedEvent by ok) }
+        ensures { IsIndexOf self.new (ElaboratedEvent by ok ∷ journal.now.events) }
     {
         let kept = &mut self.kept;
         let view = kept.view(journal);
-        after_elaboration(&mut self.agenda, &mut self.unstarted, &view, event, by, ok);
+        after_elaboration(&mut self.agenda, &mut self.unstarted, &view, by, ok);
         let records = kept.records.as_mut_slice();
         record_elaboration(records, by, ok);
         follow_elaboration(&mut kept.tables, records, by);
@@ -96,18 +91,15 @@ impl Index {
             return Err(cause);
         }
         make_room(journal)?;
-        let event = Event::Elaborated { by, ok };
-        self.note_elaboration(journal, &event, by, ok);
-        journal.push_reserved(event);
+        self.note_elaboration(journal, by, ok);
+        journal.push_reserved(Event::Elaborated { by, ok });
         Ok(())
     }
 
     // Notes that an activation ends, and goes past the tasks that were started, so that nothing later has to.
-    fn note_activation(&mut self, journal: &Journal, event: &Event, start: u32, ok: bool)
-        requires lawful { IsLawful (event.now ∷ journal.now.events) }
-        requires stands { IsIndexOf self.old journal.now.events }
-        requires activates { event.now ≡ ActivatedEvent start ok }
-        ensures { IsIndexOf self.new (event.now ∷ journal.now.events) }
+    fn note_activation(&mut self, journal: &Journal, start: u32, ok: bool)
+        requires { MayNote self.old journal.now.events (ActivatedEvent start ok) }
+        ensures { IsIndexOf self.new (ActivatedEvent start ok ∷ journal.now.events) }
     {
         let task = holder_at(journal, start);
         let kept = &mut self.kept;
@@ -127,9 +119,8 @@ impl Index {
         let Some(ok) = self.view(journal).activates(start) else {
             return false;
         };
-        let step = Event::Activated { start, ok };
-        self.note_activation(journal, &step, start, ok);
-        journal.push_reserved(step);
+        self.note_activation(journal, start, ok);
+        journal.push_reserved(Event::Activated { start, ok });
         true
     }
 }

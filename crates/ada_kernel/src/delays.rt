@@ -1,13 +1,12 @@
 //! Delay statements, and the moment (9.6), in milliseconds.
 
 ghost use Rattle.std.specs.Prelude.{◌≡◌, ◌∷◌, IfErr, OnOk};
-ghost use Rattle.ada_events.specs.Lawful.{IsLawful};
 ghost use Rattle.ada_events.specs.Steps.{IsRefused};
 ghost use Rattle.ada_events.specs.declared.event.Event.TheVariants.{Paused as PausedEvent, Ticked as TickedEvent, Woken as WokenEvent};
 ghost use Rattle.ada_events.specs.declared.request.Request.TheVariants as asked;
 ghost use Rattle.ada_rows.specs.declared.row.Row.TheVariants as row;
 ghost use Rattle.ada_kernel.specs.internal.Indexes.{IsIndexOf};
-ghost use Rattle.ada_kernel.specs.internal.Stepping.{MayBegin, MayTake, Takes};
+ghost use Rattle.ada_kernel.specs.internal.Stepping.{MayBegin, MayNote, MayTake, Takes};
 ghost use Rattle.ada_steps.specs.Beginning.{HasBegun};
 
 use crate::index::Index;
@@ -22,17 +21,16 @@ use ada_triggers::next_after_tick;
 
 impl Index {
     // Notes that a task is delayed until a moment.
-    fn note_delay(&mut self, journal: &Journal, event: &Event, by: TaskNo, due: i64)
-        requires lawful { IsLawful (event.now ∷ journal.now.events) }
-        requires stands { IsIndexOf self.old journal.now.events }
-        requires delays { event.now ≡ PausedEvent by due }
-        ensures { IsIndexOf self.new (event.now ∷ journal.now.events) }
+    fn note_delay(&mut self, journal: &Journal, by: TaskNo, due: i64)
+        requires { MayNote self.old journal.now.events (PausedEvent by due) }
+        ensures { IsIndexOf self.new (PausedEvent by due ∷ journal.now.events) }
     {
         let kept = &mut self.kept;
-        put_delay_keys(&mut self.agenda, journal, event);
+        let at = journal.len() + 1;
+        put_delay_keys(&mut self.agenda, at);
         self.next_due = self.next_due.with(Some(due));
         let records = kept.records.as_mut_slice();
-        record_hold(records, by, journal.len() + 1, false);
+        record_hold(records, by, at, false);
         follow_hold(&mut kept.tables, records, by);
     }
 
@@ -55,18 +53,15 @@ impl Index {
         }
         make_room(journal)?;
         let due = due_after(self.view(journal).moment(), duration);
-        let event = Event::Paused { by, due };
-        self.note_delay(journal, &event, by, due);
-        journal.push_reserved(event);
+        self.note_delay(journal, by, due);
+        journal.push_reserved(Event::Paused { by, due });
         Ok(())
     }
 
     // Notes that a delay is over.
-    fn note_waking(&mut self, journal: &Journal, event: &Event, pause: u32)
-        requires lawful { IsLawful (event.now ∷ journal.now.events) }
-        requires stands { IsIndexOf self.old journal.now.events }
-        requires wakes { event.now ≡ WokenEvent pause }
-        ensures { IsIndexOf self.new (event.now ∷ journal.now.events) }
+    fn note_waking(&mut self, journal: &Journal, pause: u32)
+        requires { MayNote self.old journal.now.events (WokenEvent pause) }
+        ensures { IsIndexOf self.new (WokenEvent pause ∷ journal.now.events) }
     {
         let task = holder_at(journal, pause);
         let kept = &mut self.kept;
@@ -84,23 +79,21 @@ impl Index {
         if !self.view(journal).wakes(pause) {
             return false;
         }
-        let step = Event::Woken { pause };
-        self.note_waking(journal, &step, pause);
-        journal.push_reserved(step);
+        self.note_waking(journal, pause);
+        journal.push_reserved(Event::Woken { pause });
         true
     }
 
     // Notes that the moment moves.
     fn note_tick(&mut self, journal: &Journal, event: &Event, now: i64)
-        requires lawful { IsLawful (event.now ∷ journal.now.events) }
-        requires stands { IsIndexOf self.old journal.now.events }
+        requires may { MayNote self.old journal.now.events event.now }
         requires ticks { event.now ≡ TickedEvent now }
         ensures { IsIndexOf self.new (event.now ∷ journal.now.events) }
     {
         let kept = &mut self.kept;
         let view = kept.view(journal);
         after_tick(&mut self.agenda, self.next_due, &view, event, now);
-        self.next_due = next_after_tick(self.next_due, &view, event, now);
+        self.next_due = next_after_tick(self.next_due, &view, now);
         kept.moment = now;
     }
 

@@ -1,14 +1,14 @@
 //! Tasks and the masters that they depend on (9.1, 9.4): creations, blocks, completion and termination.
 
 ghost use Rattle.std.specs.Prelude.{◌≡◌, ◌∷◌, IfErr, OnOk, OnErr};
-ghost use Rattle.ada_events.specs.Lawful.{IsLawful};
 ghost use Rattle.ada_events.specs.Steps.{IsRefused};
 ghost use Rattle.ada_events.specs.declared.event.Event.TheVariants.{Opened as OpenedEvent, Closed as ClosedEvent, Left as LeftEvent};
 ghost use Rattle.ada_events.specs.declared.event.Event.TheVariants.{Completed as CompletedEvent, Gone as GoneEvent, Quit as QuitEvent};
+ghost use Rattle.ada_events.specs.declared.names.Master.{Master as Owner};
 ghost use Rattle.ada_events.specs.declared.request.Request.TheVariants as asked;
 ghost use Rattle.ada_rows.specs.declared.row.Row.TheVariants as row;
 ghost use Rattle.ada_kernel.specs.internal.Indexes.{IsIndexOf};
-ghost use Rattle.ada_kernel.specs.internal.Stepping.{MayBegin, MayTake, Takes};
+ghost use Rattle.ada_kernel.specs.internal.Stepping.{MayBegin, MayNote, HasNoted, MayTake, Takes};
 ghost use Rattle.ada_steps.specs.Beginning.{HasBegun};
 ghost use Rattle.ada_records.specs.Noting.{MakesTask};
 ghost use Rattle.ada_events.specs.Forced.{is_to_quit};
@@ -45,8 +45,7 @@ impl Index {
         master: Master,
         families: &Families,
     ) -> Result<(), Refusal>
-        requires lawful { IsLawful (event.now ∷ journal.now.events) }
-        requires stands { IsIndexOf self.old journal.now.events }
+        requires may { MayNote self.old journal.now.events event.now }
         requires makes { MakesTask event.now master families.now }
         ensures ok { OnOk result (IsIndexOf self.new (event.now ∷ journal.now.events)) }
         ensures err { IfErr result (λ cause. cause ≡ Refusal.OutOfMemory) }
@@ -58,7 +57,7 @@ impl Index {
         follow_creation(&mut self.kept.tables, master, families)?;
         record_creation(&mut self.kept.records);
         self.kept.made.push_reserved(journal.len() + 1);
-        put_creation_keys(&mut self.agenda, journal, event, tasks);
+        put_creation_keys(&mut self.agenda, tasks);
         Ok(())
     }
 
@@ -97,11 +96,9 @@ impl Index {
     }
 
     // Notes that a task opens a block.
-    fn note_opening(&mut self, journal: &Journal, event: &Event, by: TaskNo, under: Master)
-        requires lawful { IsLawful (event.now ∷ journal.now.events) }
-        requires stands { IsIndexOf self.old journal.now.events }
-        requires opens { event.now ≡ OpenedEvent by under }
-        ensures { IsIndexOf self.new (event.now ∷ journal.now.events) }
+    fn note_opening(&mut self, journal: &Journal, by: TaskNo)
+        requires { (under : Owner) × MayNote self.old journal.now.events (OpenedEvent by under) }
+        ensures { (under : Owner) → HasNoted journal.now.events (OpenedEvent by under) self.new }
     {
         let kept = &mut self.kept;
         follow_opening(&mut kept.tables, by, journal.len() + 1);
@@ -121,29 +118,19 @@ impl Index {
         }
         make_room(journal)?;
         let under = self.view(journal).frame(by);
-        let event = Event::Opened { by, under };
-        self.note_opening(journal, &event, by, under);
-        journal.push_reserved(event);
+        self.note_opening(journal, by);
+        journal.push_reserved(Event::Opened { by, under });
         Ok(())
     }
 
     // Notes that a task closes a block.
-    fn note_close(&mut self, journal: &Journal, event: &Event, by: TaskNo, block: u32)
-        requires lawful { IsLawful (event.now ∷ journal.now.events) }
-        requires stands { IsIndexOf self.old journal.now.events }
-        requires closes { event.now ≡ ClosedEvent by block }
-        ensures { IsIndexOf self.new (event.now ∷ journal.now.events) }
+    fn note_close(&mut self, journal: &Journal, by: TaskNo, block: u32)
+        requires { MayNote self.old journal.now.events (ClosedEvent by block) }
+        ensures { IsIndexOf self.new (ClosedEvent by block ∷ journal.now.events) }
     {
         let kept = &mut self.kept;
         let view = kept.view(journal);
-        after_close(
-            &mut self.agenda,
-            &mut self.unstarted,
-            &view,
-            event,
-            by,
-            block,
-        );
+        after_close(&mut self.agenda, &mut self.unstarted, &view, block);
         let records = kept.records.as_mut_slice();
         record_hold(records, by, journal.len() + 1, false);
         follow_hold(&mut kept.tables, records, by);
@@ -163,18 +150,15 @@ impl Index {
         }
         make_room(journal)?;
         let block = member_position(self.view(journal).innermost(by));
-        let event = Event::Closed { by, block };
-        self.note_close(journal, &event, by, block);
-        journal.push_reserved(event);
+        self.note_close(journal, by, block);
+        journal.push_reserved(Event::Closed { by, block });
         Ok(())
     }
 
     // Notes that a block is left.
-    fn note_leaving(&mut self, journal: &Journal, event: &Event, close: u32)
-        requires lawful { IsLawful (event.now ∷ journal.now.events) }
-        requires stands { IsIndexOf self.old journal.now.events }
-        requires leaves { event.now ≡ LeftEvent close }
-        ensures { IsIndexOf self.new (event.now ∷ journal.now.events) }
+    fn note_leaving(&mut self, journal: &Journal, close: u32)
+        requires { MayNote self.old journal.now.events (LeftEvent close) }
+        ensures { IsIndexOf self.new (LeftEvent close ∷ journal.now.events) }
     {
         let task = holder_at(journal, close);
         let kept = &mut self.kept;
@@ -192,22 +176,19 @@ impl Index {
         if !self.view(journal).leaves(close) {
             return false;
         }
-        let step = Event::Left { close };
-        self.note_leaving(journal, &step, close);
-        journal.push_reserved(step);
+        self.note_leaving(journal, close);
+        journal.push_reserved(Event::Left { close });
         true
     }
 
     // Notes that a task completes.
-    fn note_completion(&mut self, journal: &Journal, event: &Event, by: TaskNo)
-        requires lawful { IsLawful (event.now ∷ journal.now.events) }
-        requires stands { IsIndexOf self.old journal.now.events }
-        requires completes { event.now ≡ CompletedEvent by }
-        ensures { IsIndexOf self.new (event.now ∷ journal.now.events) }
+    fn note_completion(&mut self, journal: &Journal, by: TaskNo)
+        requires { MayNote self.old journal.now.events (CompletedEvent by) }
+        ensures { IsIndexOf self.new (CompletedEvent by ∷ journal.now.events) }
     {
         let kept = &mut self.kept;
         let view = kept.view(journal);
-        after_completion(&mut self.agenda, &mut self.unstarted, &view, event, by);
+        after_completion(&mut self.agenda, &mut self.unstarted, &view, by);
         let records = kept.records.as_mut_slice();
         record_completion(records, by);
         follow_completion(&mut kept.tables, records, by);
@@ -230,23 +211,20 @@ impl Index {
             return Err(cause);
         }
         make_room(journal)?;
-        let event = Event::Completed { by };
-        self.note_completion(journal, &event, by);
-        journal.push_reserved(event);
+        self.note_completion(journal, by);
+        journal.push_reserved(Event::Completed { by });
         Ok(())
     }
 
     // Notes that a task terminates by itself.
     #[inline(always)]
-    fn note_termination(&mut self, journal: &Journal, event: &Event, task: TaskNo)
-        requires lawful { IsLawful (event.now ∷ journal.now.events) }
-        requires stands { IsIndexOf self.old journal.now.events }
-        requires goes { event.now ≡ GoneEvent task }
-        ensures { IsIndexOf self.new (event.now ∷ journal.now.events) }
+    fn note_termination(&mut self, journal: &Journal, task: TaskNo)
+        requires { MayNote self.old journal.now.events (GoneEvent task) }
+        ensures { IsIndexOf self.new (GoneEvent task ∷ journal.now.events) }
     {
         let kept = &mut self.kept;
         let view = kept.view(journal);
-        after_termination(&mut self.agenda, &view, event, task);
+        after_termination(&mut self.agenda, &view, task);
         let records = kept.records.as_mut_slice();
         record_termination(records, task);
         follow_termination(&mut kept.tables, records, task);
@@ -265,25 +243,22 @@ impl Index {
         if !self.view(journal).terminates(task) {
             return false;
         }
-        let step = Event::Gone { task };
-        self.note_termination(journal, &step, task);
-        journal.push_reserved(step);
-        self.drop_key(journal, Row::Terminating, key);
+        self.note_termination(journal, task);
+        journal.push_reserved(Event::Gone { task });
+        self.drop_key(Row::Terminating, key);
         true
     }
 
     // Notes that all that depend on a master terminate together.
     #[inline(never)]
-    fn note_quit(&mut self, journal: &Journal, event: &Event, master: Master)
-        requires lawful { IsLawful (event.now ∷ journal.now.events) }
-        requires stands { IsIndexOf self.old journal.now.events }
-        requires quits { event.now ≡ QuitEvent master }
-        ensures { IsIndexOf self.new (event.now ∷ journal.now.events) }
+    fn note_quit(&mut self, journal: &Journal, master: Master)
+        requires { MayNote self.old journal.now.events (QuitEvent master) }
+        ensures { IsIndexOf self.new (QuitEvent master ∷ journal.now.events) }
     {
         let kept = &mut self.kept;
         let view = kept.view(journal);
         let dependents = dependents(&view, master);
-        after_quit(&mut self.agenda, &mut self.unstarted, &view, event, master);
+        after_quit(&mut self.agenda, &mut self.unstarted, &view, master);
         let records = kept.records.as_mut_slice();
         record_quit(records, dependents.as_slice());
         follow_quitting(&mut kept.tables, records, dependents.as_slice());
@@ -303,9 +278,8 @@ impl Index {
             return false;
         }
         let master = Master::Body(task);
-        let step = Event::Quit { master };
-        self.note_quit(journal, &step, master);
-        journal.push_reserved(step);
+        self.note_quit(journal, master);
+        journal.push_reserved(Event::Quit { master });
         true
     }
 
@@ -319,9 +293,8 @@ impl Index {
             return false;
         }
         let master = Master::Block(block);
-        let step = Event::Quit { master };
-        self.note_quit(journal, &step, master);
-        journal.push_reserved(step);
+        self.note_quit(journal, master);
+        journal.push_reserved(Event::Quit { master });
         true
     }
 }

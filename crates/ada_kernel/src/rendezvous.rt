@@ -1,16 +1,19 @@
 //! The rendezvous (9.5, 9.7.2, 9.7.3): calls, accept statements and their ends, and what becomes of a call. Most events
 //! are of these kinds, and what they change is handed in, so that nothing is asked of the event again.
 
-ghost use Rattle.std.specs.Prelude.{◌≡◌, ◌<◌, [], ◌∷◌, true, IfErr, OnOk};
-ghost use Rattle.ada_events.specs.Lawful.{IsLawful};
+ghost use Rattle.std.specs.Prelude.{◌≡◌, ◌<◌, ℕ, [], ◌∷◌, true, IfErr, OnOk};
 ghost use Rattle.ada_events.specs.Steps.{IsRefused};
-ghost use Rattle.ada_events.specs.declared.event.Event.TheVariants.{Called as CalledEvent, Ended as EndedEvent, Failed as FailedEvent};
+ghost use Rattle.ada_events.specs.Tasks.{task_count};
+ghost use Rattle.ada_events.specs.declared.event.Event.TheVariants.{Ended as EndedEvent, Failed as FailedEvent};
 ghost use Rattle.ada_events.specs.declared.event.Event.TheVariants.{Met as MetEvent, Waiting as WaitingEvent, Cancelled as CancelledEvent};
+ghost use Rattle.ada_events.specs.declared.names.Entry.{Entry as EntryName};
 ghost use Rattle.ada_events.specs.declared.request.Request.TheVariants as asked;
 ghost use Rattle.ada_rows.specs.declared.row.Row.TheVariants as row;
 ghost use Rattle.ada_kernel.specs.internal.Indexes.{IsIndexOf};
-ghost use Rattle.ada_kernel.specs.internal.Stepping.{MayBegin, MayTake, Takes};
+ghost use Rattle.ada_kernel.specs.internal.Stepping.{MayBegin, MayNote, HasNoted, MayTake, Takes};
 ghost use Rattle.ada_steps.specs.Beginning.{HasBegun};
+ghost use Rattle.ada_agenda.specs.Kinds.{due_in};
+ghost use Rattle.ada_records.specs.Noting.{MakesCall};
 ghost use Rattle.ada_events.specs.declared.event.EventTail.TheVariants.{Nothing as NoTail};
 ghost use Rattle.ada_events.specs.declared.request.Tail.TheVariants.{Nothing};
 
@@ -39,12 +42,11 @@ impl Index {
         by: TaskNo,
         callee: TaskNo,
         entry: Entry,
-        _patience: Patience,
         due: Option<i64>,
     )
-        requires lawful { IsLawful (event.now ∷ journal.now.events) }
-        requires stands { IsIndexOf self.old journal.now.events }
-        requires calls { event.now ≡ CalledEvent by callee entry _patience due }
+        requires may { MayNote self.old journal.now.events event.now }
+        requires calls { MakesCall event.now by callee entry }
+        requires due { due ≡ due_in event.now }
         requires room { 0 < self.old.kept.tables.spare }
         ensures { IsIndexOf self.new (event.now ∷ journal.now.events) }
     {
@@ -88,23 +90,22 @@ impl Index {
             patience,
             due,
         };
-        self.note_call(journal, &event, by, callee, entry, patience, due);
+        self.note_call(journal, &event, by, callee, entry, due);
         journal.push_reserved(event);
         Ok(())
     }
 
     // Notes an accept statement: a wait with one open choice and nothing else.
     #[inline(always)]
-    fn note_accept(&mut self, journal: &Journal, event: &Event, by: TaskNo, pick: u32, entry: Entry)
-        requires lawful { IsLawful (event.now ∷ journal.now.events) }
+    fn note_accept(&mut self, journal: &Journal, by: TaskNo)
         requires stands { IsIndexOf self.old journal.now.events }
-        requires accepts { event.now ≡ WaitingEvent by pick
-            (record { guard = true; entry = entry } ∷ []) NoTail }
-        ensures { IsIndexOf self.new (event.now ∷ journal.now.events) }
+        requires known { by.0 < task_count journal.now.events }
+        ensures { (pick : ℕ) (entry : EntryName) → HasNoted journal.now.events
+            (WaitingEvent by pick (record { guard = true; entry = entry } ∷ []) NoTail) self.new }
     {
         let kept = &mut self.kept;
         let view = kept.view(journal);
-        calls::after_accept(&mut self.agenda, &view, event, by, pick, entry);
+        calls::after_accept(&mut self.agenda, &view);
         let records = kept.records.as_mut_slice();
         record_hold(records, by, journal.len() + 1, false);
         follow_hold(&mut kept.tables, records, by);
@@ -134,29 +135,26 @@ impl Index {
         make_room(journal)?;
         let choice = Choice { guard: true, entry };
         let choices = ChoiceList::from_slice(journal.allocator(), &[choice])?;
-        let event = Event::Waiting {
+        self.note_accept(journal, by);
+        journal.push_reserved(Event::Waiting {
             by,
             pick,
             choices,
             tail: EventTail::Nothing,
-        };
-        self.note_accept(journal, &event, by, pick, entry);
-        journal.push_reserved(event);
+        });
         Ok(())
     }
 
     // Notes the end of a rendezvous, by an exception where `raised` is true (11.5).
     #[inline(always)]
-    fn note_end(&mut self, journal: &Journal, event: &Event, by: TaskNo, call: u32, raised: bool)
-        requires lawful { IsLawful (event.now ∷ journal.now.events) }
-        requires stands { IsIndexOf self.old journal.now.events }
-        requires ends { event.now ≡ EndedEvent by call raised }
-        ensures { IsIndexOf self.new (event.now ∷ journal.now.events) }
+    fn note_end(&mut self, journal: &Journal, by: TaskNo, call: u32, raised: bool)
+        requires { MayNote self.old journal.now.events (EndedEvent by call raised) }
+        ensures { IsIndexOf self.new (EndedEvent by call raised ∷ journal.now.events) }
     {
         let caller = holder_at(journal, call);
         let kept = &mut self.kept;
         let view = kept.view(journal);
-        calls::after_end(&mut self.agenda, &view, event, by, call, raised);
+        calls::after_end(&mut self.agenda, &view, call);
         let records = kept.records.as_mut_slice();
         record_end(records, by, caller, raised);
         follow_end(&mut kept.tables, records, by, caller, call);
@@ -181,19 +179,16 @@ impl Index {
         }
         make_room(journal)?;
         let call = member_position(self.view(journal).innermost(by));
-        let event = Event::Ended { by, call, raised };
-        self.note_end(journal, &event, by, call, raised);
-        journal.push_reserved(event);
+        self.note_end(journal, by, call, raised);
+        journal.push_reserved(Event::Ended { by, call, raised });
         Ok(())
     }
 
     // Notes that a wait takes a call.
     #[inline(always)]
-    fn note_meeting(&mut self, journal: &Journal, event: &Event, call: u32, wait: u32)
-        requires lawful { IsLawful (event.now ∷ journal.now.events) }
-        requires stands { IsIndexOf self.old journal.now.events }
-        requires meets { event.now ≡ MetEvent call wait }
-        ensures { IsIndexOf self.new (event.now ∷ journal.now.events) }
+    fn note_meeting(&mut self, journal: &Journal, call: u32, wait: u32)
+        requires { MayNote self.old journal.now.events (MetEvent call wait) }
+        ensures { IsIndexOf self.new (MetEvent call wait ∷ journal.now.events) }
     {
         let caller = holder_at(journal, call);
         let acceptor = holder_at(journal, wait);
@@ -213,25 +208,22 @@ impl Index {
         let Some(call) = self.view(journal).meets(wait) else {
             return false;
         };
-        let step = Event::Met { call, wait };
-        self.note_meeting(journal, &step, call, wait);
-        journal.push_reserved(step);
-        self.drop_key(journal, Row::Meeting, wait);
+        self.note_meeting(journal, call, wait);
+        journal.push_reserved(Event::Met { call, wait });
+        self.drop_key(Row::Meeting, wait);
         true
     }
 
     // Notes that a call fails.
     #[inline(always)]
-    fn note_failure(&mut self, journal: &Journal, event: &Event, call: u32)
-        requires lawful { IsLawful (event.now ∷ journal.now.events) }
-        requires stands { IsIndexOf self.old journal.now.events }
-        requires fails { event.now ≡ FailedEvent call }
-        ensures { IsIndexOf self.new (event.now ∷ journal.now.events) }
+    fn note_failure(&mut self, journal: &Journal, call: u32)
+        requires { MayNote self.old journal.now.events (FailedEvent call) }
+        ensures { IsIndexOf self.new (FailedEvent call ∷ journal.now.events) }
     {
         let caller = holder_at(journal, call);
         let kept = &mut self.kept;
         let view = kept.view(journal);
-        calls::after_failure(&mut self.agenda, &view, event, call);
+        calls::after_failure(&mut self.agenda, &view, call);
         let records = kept.records.as_mut_slice();
         record_release(records, caller, Outcome::TaskingError);
         let callee = callee_at(journal, call);
@@ -247,24 +239,21 @@ impl Index {
         if !self.view(journal).fails(call) {
             return false;
         }
-        let step = Event::Failed { call };
-        self.note_failure(journal, &step, call);
-        journal.push_reserved(step);
-        self.drop_key(journal, Row::Failing, call);
+        self.note_failure(journal, call);
+        journal.push_reserved(Event::Failed { call });
+        self.drop_key(Row::Failing, call);
         true
     }
 
     // Notes that a call is cancelled.
-    fn note_cancellation(&mut self, journal: &Journal, event: &Event, call: u32)
-        requires lawful { IsLawful (event.now ∷ journal.now.events) }
-        requires stands { IsIndexOf self.old journal.now.events }
-        requires cancels { event.now ≡ CancelledEvent call }
-        ensures { IsIndexOf self.new (event.now ∷ journal.now.events) }
+    fn note_cancellation(&mut self, journal: &Journal, call: u32)
+        requires { MayNote self.old journal.now.events (CancelledEvent call) }
+        ensures { IsIndexOf self.new (CancelledEvent call ∷ journal.now.events) }
     {
         let caller = holder_at(journal, call);
         let kept = &mut self.kept;
         let view = kept.view(journal);
-        calls::after_cancellation(&mut self.agenda, &view, event, call);
+        calls::after_cancellation(&mut self.agenda, &view, call);
         let records = kept.records.as_mut_slice();
         record_release(records, caller, Outcome::Cancelled);
         follow_cancellation(&mut kept.tables, records, caller);
@@ -279,9 +268,8 @@ impl Index {
         if !self.view(journal).cancels(call) {
             return false;
         }
-        let step = Event::Cancelled { call };
-        self.note_cancellation(journal, &step, call);
-        journal.push_reserved(step);
+        self.note_cancellation(journal, call);
+        journal.push_reserved(Event::Cancelled { call });
         true
     }
 }

@@ -1,9 +1,7 @@
 //! The step that a row of the forced steps gives at a key, and the key that gives none any more.
 
-ghost use Rattle.std.specs.Prelude.{◌≡◌, ◌<◌, None};
-ghost use Rattle.ada_rows.specs.Rows.{step_at};
-ghost use Rattle.ada_kernel.specs.internal.Indexes.{IsIndexOf};
-ghost use Rattle.ada_kernel.specs.internal.Stepping.{MayTake, Takes};
+ghost use Rattle.std.specs.Prelude.{◌<◌};
+ghost use Rattle.ada_kernel.specs.internal.Stepping.{HasDropped, MayTake, Takes};
 ghost use Rattle.ada_agenda.specs.declared.numbers.TheConstants.{MOST_KEYS};
 
 use crate::index::Index;
@@ -13,11 +11,9 @@ use ada_rows::Row;
 impl Index {
     // Drops a key at which its row gives nothing any more.
     #[inline(always)]
-    pub(crate) fn drop_key(&mut self, _journal: &Journal, row: Row, key: u32)
-        requires stands { IsIndexOf self.old _journal.now.events }
-        requires fits { key < MOST_KEYS }
-        requires spent { step_at _journal.now.events row key ≡ None }
-        ensures { IsIndexOf self.new _journal.now.events }
+    pub(crate) fn drop_key(&mut self, row: Row, key: u32)
+        requires { key < MOST_KEYS }
+        ensures { HasDropped row key self.old self.new }
     {
         self.agenda.remove(row, key as usize);
     }

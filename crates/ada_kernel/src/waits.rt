@@ -1,13 +1,12 @@
 //! Selective waits (9.7.1), and how they end without a call.
 
 ghost use Rattle.std.specs.Prelude.{◌≡◌, ◌∷◌, IfErr, OnOk};
-ghost use Rattle.ada_events.specs.Lawful.{IsLawful};
 ghost use Rattle.ada_events.specs.Steps.{IsRefused};
 ghost use Rattle.ada_events.specs.declared.event.Event.TheVariants.{Waiting as WaitingEvent, Passed as PassedEvent};
 ghost use Rattle.ada_events.specs.declared.request.Request.TheVariants as asked;
 ghost use Rattle.ada_rows.specs.declared.row.Row.TheVariants as row;
 ghost use Rattle.ada_kernel.specs.internal.Indexes.{IsIndexOf};
-ghost use Rattle.ada_kernel.specs.internal.Stepping.{MayBegin, MayTake, Takes};
+ghost use Rattle.ada_kernel.specs.internal.Stepping.{MayBegin, MayNote, MayTake, Takes};
 ghost use Rattle.ada_steps.specs.Beginning.{HasBegun};
 
 use crate::index::Index;
@@ -26,23 +25,19 @@ impl Index {
     fn note_wait(
         &mut self,
         journal: &Journal,
-        event: &Event,
         by: TaskNo,
         pick: u32,
         choices: &ChoiceList,
         tail: &EventTail,
     )
-        requires lawful { IsLawful (event.now ∷ journal.now.events) }
-        requires stands { IsIndexOf self.old journal.now.events }
-        requires waits { event.now ≡ WaitingEvent by pick choices.now tail.now }
-        ensures { IsIndexOf self.new (event.now ∷ journal.now.events) }
+        requires { MayNote self.old journal.now.events (WaitingEvent by pick choices.now tail.now) }
+        ensures { IsIndexOf self.new (WaitingEvent by pick choices.now tail.now ∷ journal.now.events) }
     {
         let kept = &mut self.kept;
         let view = kept.view(journal);
         after_wait(
             &mut self.agenda,
             &view,
-            event,
             by,
             pick,
             choices.as_slice(),
@@ -78,25 +73,20 @@ impl Index {
         make_room(journal)?;
         let choices = ChoiceList::from_slice(journal.allocator(), listed)?;
         let tail = asked_tail(journal.allocator(), self.view(journal).moment(), tail)?;
-        let event = Event::Waiting {
+        self.note_wait(journal, by, pick, &choices, &tail);
+        journal.push_reserved(Event::Waiting {
             by,
             pick,
             choices,
             tail,
-        };
-        if let Event::Waiting { choices, tail, .. } = &event {
-            self.note_wait(journal, &event, by, pick, choices, tail);
-        }
-        journal.push_reserved(event);
+        });
         Ok(())
     }
 
     // Notes that a wait ends without a call.
-    fn note_passing(&mut self, journal: &Journal, event: &Event, wait: u32, way: Way)
-        requires lawful { IsLawful (event.now ∷ journal.now.events) }
-        requires stands { IsIndexOf self.old journal.now.events }
-        requires passes { event.now ≡ PassedEvent wait way }
-        ensures { IsIndexOf self.new (event.now ∷ journal.now.events) }
+    fn note_passing(&mut self, journal: &Journal, wait: u32, way: Way)
+        requires { MayNote self.old journal.now.events (PassedEvent wait way) }
+        ensures { IsIndexOf self.new (PassedEvent wait way ∷ journal.now.events) }
     {
         let task = holder_at(journal, wait);
         let kept = &mut self.kept;
@@ -114,9 +104,8 @@ impl Index {
         let Some(way) = self.view(journal).passes(wait) else {
             return false;
         };
-        let step = Event::Passed { wait, way };
-        self.note_passing(journal, &step, wait, way);
-        journal.push_reserved(step);
+        self.note_passing(journal, wait, way);
+        journal.push_reserved(Event::Passed { wait, way });
         true
     }
 }

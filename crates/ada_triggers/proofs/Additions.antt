@@ -4,7 +4,7 @@ use Rattle.std.proofs.lemmas.Bool.{true≢false, or_cases, and_parts, ltb-true}
 use Rattle.ada_events.specs.declared.event.Event.{Event}
 use Rattle.ada_events.specs.declared.event.Event.TheVariants.{Closed, Aborted}
 use Rattle.ada_events.specs.declared.names.TaskNo.{TaskNo}
-use Rattle.ada_events.specs.Says.{closing_in}
+use Rattle.ada_events.specs.Says.{Closing, closing_in}
 use Rattle.ada_events.specs.Tasks.{task_count}
 use Rattle.ada_events.specs.Tasks.{has_task}
 use Rattle.ada_events.specs.Phases.{is_abnormal, is_terminated}
@@ -16,9 +16,9 @@ use Rattle.ada_rows.specs.declared.row.Row.{Row}
 use Rattle.ada_rows.specs.declared.row.Row.TheVariants.{Failing, QuittingBlock, Leaving}
 use Rattle.ada_agenda.specs.declared.numbers.TheConstants.{MOST_KEYS}
 use Rattle.ada_agenda.specs.Additions.{adds_nothing}
-use Rattle.ada_agenda.specs.Keeping.{has_key, IsAgendaOf, Puts, AsKey}
+use Rattle.ada_agenda.specs.Keeping.{has_key, IsAgendaOf, Puts, AsKey, KeepsUp}
 use Rattle.ada_agenda.specs.internal.Keeping.{Both}
-use Rattle.ada_agenda.specs.Kinds.{itself as own, IsOpenCallTo, IsHit, OfClose, OfAbort, Adds}
+use Rattle.ada_agenda.specs.Kinds.{itself as own, IsOpenCallTo, IsHit, OfClose, OfAbort}
 use Rattle.ada_agenda.specs.Kinds.OfClose.{leaves as close_leaves, quits as close_quits, abandons as close_abandons}
 use Rattle.ada_agenda.specs.Kinds.OfAbort.{halts as abort_halts, fails as abort_fails}
 use Rattle.ada_agenda.proofs.Acting.{created_exists}
@@ -39,13 +39,14 @@ nothing_noted event before old lawful agenda nothing =
     record { covers = agendas_stay event before (has_key old) lawful agenda.covers nothing }
 
 -- a close
-closing_here : (event : Event) (by : TaskNo) (block : ℕ) → event ≡ Closed by block → closing_in event ≡ Some (record { by = by.0; block = block })
+closing_here : (by : TaskNo) (block : ℕ) → closing_in (Closed by block) ≡ Some (record { by = by.0; block = block })
 unfolding closing_in
-closing_here event by block is = rw is refl
+closing_here by block = refl
 
-pub closed_fits : (event : Event) (before : List Event) (by : TaskNo) (block : ℕ) → IsLawful (event ∷ before) → event ≡ Closed by block → block < MOST_KEYS
-closed_fits event before by block lawful is =
-    block_fits before by.0 block lawful.0 (closing_open event before (record { by = by.0; block = block }) lawful.1 (closing_here event by block is)).block
+pub closed_fits : (before : List Event) (by : TaskNo) (block : ℕ) → IsLawful (Closed by block ∷ before) → block < MOST_KEYS
+closed_fits before by block lawful =
+    let closing : Closing = record { by = by.0; block = block } in
+    block_fits before by.0 block lawful.0 (closing_open (Closed by block) before closing lawful.1 (closing_here by block)).block
 
 -- all that was put for a close
 abbrev pub CloseKeys : List Event → ℕ → ℕ → Row → ℕ → Type 0
@@ -57,11 +58,11 @@ close_key before at block row key same close_quits = inl (inr itself)
 close_key before at block row key same (close_abandons u of) =
     inr (record { task = u; among = created_exists before u of.creation of.made; of = goes of.creation of.made of.never })
 
-pub close_noted : (event : Event) (before : List Event) (old new : List (List ℕ)) (by : TaskNo) (block at : ℕ) → IsLawful (event ∷ before)
-    → IsAgendaOf old before → event ≡ Closed by block → at ≡ length before + 1 → Puts old new (CloseKeys before at block) → IsAgendaOf new (event ∷ before)
-close_noted event before old new by block at lawful agenda is same puts =
-    noted event before old new (CloseKeys before at block) lawful agenda puts (λ row key added.
-    close_key before at block row key (own_is before at same) (subst (λ (e : Event). Adds before e row key) is added))
+pub close_noted : (before : List Event) (old new : List (List ℕ)) (by : TaskNo) (block at : ℕ) → at ≡ length before + 1
+    → Puts old new (CloseKeys before at block) → KeepsUp before (Closed by block) old new
+close_noted before old new by block at same puts lawful agenda =
+    noted (Closed by block) before old new (CloseKeys before at block) lawful agenda puts (λ row key added.
+    close_key before at block row key (own_is before at same) added)
 
 -- an abort
 hit_known : (event : Event) (before : List Event) (u : ℕ) → IsHit event before u → u < task_count before
@@ -94,9 +95,8 @@ abort_key by tasks step before row key lawful gives (abort_halts u hit) =
     inl (record { task = u; among = hit_known (Aborted by tasks) before u hit; of = holds_so (haltable before by tasks u step gives) itself })
 abort_key by tasks step before row key lawful gives (abort_fails u p hit of) = inr (fails_held before u p lawful of)
 
-pub abort_noted : (event : Event) (before : List Event) (old new : List (List ℕ)) (by : TaskNo) (tasks : List TaskNo) → IsLawful (event ∷ before)
-    → IsAgendaOf old before → event ≡ Aborted by tasks → Puts old new (AbortKeys before) → IsAgendaOf new (event ∷ before)
-abort_noted event before old new by tasks lawful agenda is puts =
-    noted_giving event before old new (AbortKeys before) lawful agenda puts (λ row key step added gives.
-    abort_key by tasks step before row key lawful.0 (subst (λ (e : Event). step_at (e ∷ before) row key ≡ Some step) is gives)
-    (subst (λ (e : Event). Adds before e row key) is added))
+pub abort_noted : (before : List Event) (old new : List (List ℕ)) (by : TaskNo) (tasks : List TaskNo) → Puts old new (AbortKeys before)
+    → KeepsUp before (Aborted by tasks) old new
+abort_noted before old new by tasks puts lawful agenda =
+    noted_giving (Aborted by tasks) before old new (AbortKeys before) lawful agenda puts (λ row key step added gives.
+    abort_key by tasks step before row key lawful.0 gives added)

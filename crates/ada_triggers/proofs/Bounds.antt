@@ -16,7 +16,7 @@ use Rattle.ada_laws.proofs.Searching.{event_at-newest, event_at-older}
 use Rattle.ada_laws.proofs.Suspending.{suspended_cases, suspended_exists}
 use Rattle.ada_rows.specs.declared.row.Row.{Row}
 use Rattle.ada_records.specs.Records.{IsHeldAt}
-use Rattle.ada_agenda.specs.Keeping.{IsAgendaOf}
+use Rattle.ada_agenda.specs.Keeping.{KeepsUp}
 use Rattle.ada_agenda.specs.Kinds.{due_in, OfTick, Adds}
 use Rattle.ada_agenda.specs.Kinds.OfTick.{comes_due}
 use Rattle.ada_agenda.proofs.Noting.{noted, grows_same, held_there}
@@ -119,9 +119,9 @@ nothing_due before now bound row key is early (comes_due r p due) =
     record { position = p; suspended = due.suspended; waits = ap due_in same ∙ due.waits } in
     true≢false (sym (comes_later bound due.due now (is.reaches due.task due.due until due.was) due.comes) ∙ early)
 
-pub early_tick_noted : (event : Event) (before : List Event) (old : List (List ℕ)) (now : ℤ) (bound : Option ℤ) → IsLawful (event ∷ before)
-    → IsAgendaOf old before → IsDueBound before bound → event ≡ Ticked now → is_due now bound ≡ false → IsAgendaOf old (event ∷ before)
-early_tick_noted event before old now bound lawful agenda is ticks early =
+pub early_tick_noted : (event : Event) (before : List Event) (old : List (List ℕ)) (now : ℤ) (bound : Option ℤ) → IsDueBound before bound
+    → event ≡ Ticked now → is_due now bound ≡ false → KeepsUp before event old old
+early_tick_noted event before old now bound is ticks early lawful agenda =
     noted event before old old (Adds before event) lawful agenda
     (record {
       grows = grows_same old;

@@ -19,9 +19,9 @@ use Rattle.ada_laws.proofs.Growing.{is_terminated-more, has_ended-terminated}
 use Rattle.ada_rows.specs.Rows.{step_at}
 use Rattle.ada_rows.specs.declared.row.Row.{Row}
 use Rattle.ada_records.specs.Records.{IsHeldAt}
-use Rattle.ada_agenda.specs.Keeping.{has_key, IsAgendaOf, Puts}
+use Rattle.ada_agenda.specs.Keeping.{has_key, Puts, KeepsUp}
 use Rattle.ada_agenda.specs.internal.Keeping.{Both}
-use Rattle.ada_agenda.specs.Kinds.{quitting_row, quitting_key, OfCompletion, OfHalt, OfCancellation, Adds}
+use Rattle.ada_agenda.specs.Kinds.{quitting_row, quitting_key, OfCompletion, OfHalt, OfCancellation}
 use Rattle.ada_agenda.specs.Kinds.OfCompletion.{quits as task_quits}
 use Rattle.ada_agenda.specs.Kinds.OfHalt.{completes, quits_block, empties}
 use Rattle.ada_agenda.specs.Kinds.OfCancellation.{quits as quits_with}
@@ -89,12 +89,11 @@ cancels_nobody : (call : ℕ) → completed_in (Cancelled call) ≡ None
 unfolding completed_in
 cancels_nobody call = refl
 
-pub cancellation_noted : (event : Event) (before : List Event) (old new : List (List ℕ)) (call : ℕ) → IsLawful (event ∷ before) → IsAgendaOf old before
-    → event ≡ Cancelled call → Puts old new (AsCalleeAt before call) → IsAgendaOf new (event ∷ before)
-cancellation_noted event before old new call lawful agenda is puts =
-    noted_giving event before old new (AsCalleeAt before call) lawful agenda puts (λ row key step added gives.
-    cancel_key (Cancelled call) step before call row key lawful.0 (cancels_nobody call)
-    (subst (λ (e : Event). step_at (e ∷ before) row key ≡ Some step) is gives) (subst (λ (e : Event). Adds before e row key) is added))
+pub cancellation_noted : (before : List Event) (old new : List (List ℕ)) (call : ℕ) → Puts old new (AsCalleeAt before call)
+    → KeepsUp before (Cancelled call) old new
+cancellation_noted before old new call puts lawful agenda =
+    noted_giving (Cancelled call) before old new (AsCalleeAt before call) lawful agenda puts (λ row key step added gives.
+    cancel_key (Cancelled call) step before call row key lawful.0 (cancels_nobody call) gives added)
 
 -- all that was put for a halt
 abbrev pub HaltKeys : List Event → TaskNo → ℕ → Row → ℕ → Type 0
@@ -124,9 +123,8 @@ halts_alone : (task : TaskNo) → creation_in (Halted task) ≡ None
 unfolding creation_in
 halts_alone task = refl
 
-pub halt_noted : (event : Event) (before : List Event) (old new : List (List ℕ)) (task : TaskNo) (at : ℕ) → IsLawful (event ∷ before) → IsAgendaOf old before
-    → event ≡ Halted task → IsHeldAt before task.0 at → Puts old new (HaltKeys before task at) → IsAgendaOf new (event ∷ before)
-halt_noted event before old new task at lawful agenda is held puts =
-    noted_giving event before old new (HaltKeys before task at) lawful agenda puts (λ row key step added gives.
-    halt_key (Halted task) step before task at row key lawful.0 (halt_completes task) (halts_alone task) held
-    (subst (λ (e : Event). step_at (e ∷ before) row key ≡ Some step) is gives) (subst (λ (e : Event). Adds before e row key) is added))
+pub halt_noted : (before : List Event) (old new : List (List ℕ)) (task : TaskNo) (at : ℕ) → IsHeldAt before task.0 at
+    → Puts old new (HaltKeys before task at) → KeepsUp before (Halted task) old new
+halt_noted before old new task at held puts lawful agenda =
+    noted_giving (Halted task) before old new (HaltKeys before task at) lawful agenda puts (λ row key step added gives.
+    halt_key (Halted task) step before task at row key lawful.0 (halt_completes task) (halts_alone task) held gives added)

@@ -7,11 +7,10 @@ use Rattle.ada_events.specs.declared.event.Event.TheVariants.{Ended, Failed}
 use Rattle.ada_events.specs.declared.names.TaskNo.{TaskNo}
 use Rattle.ada_events.specs.Says.{Call, call_in, call_at}
 use Rattle.ada_events.specs.Phases.{is_abnormal}
-use Rattle.ada_events.specs.Lawful.{IsLawful}
 use Rattle.ada_laws.specs.Calls.{IsCallAt}
 use Rattle.ada_rows.specs.declared.row.Row.{Row}
 use Rattle.ada_rows.specs.declared.row.Row.TheVariants.{Halting}
-use Rattle.ada_agenda.specs.Keeping.{has_key, IsAgendaOf, Puts, When, AsKey}
+use Rattle.ada_agenda.specs.Keeping.{has_key, Puts, When, AsKey, KeepsUp}
 use Rattle.ada_agenda.specs.Kinds.{OfEnd, Adds}
 use Rattle.ada_agenda.specs.Kinds.OfEnd.{halts}
 use Rattle.ada_agenda.proofs.Noting.{grows_same, noted}
@@ -50,14 +49,12 @@ no_caller before old at none = record { grows = grows_same old; here = λ row ke
 end_key : (before : List Event) (call : ℕ) (row : Row) (key : ℕ) → OfEnd before call row key → AsCallerAt before call row key
 end_key before call row key (halts c stands abnormal) = made c stands abnormal
 
-pub end_noted : (event : Event) (before : List Event) (old new : List (List ℕ)) (by : TaskNo) (call : ℕ) (raised : Bool) → IsLawful (event ∷ before)
-    → IsAgendaOf old before → event ≡ Ended by call raised → Puts old new (AsCallerAt before call) → IsAgendaOf new (event ∷ before)
-end_noted event before old new by call raised lawful agenda is puts =
-    noted event before old new (AsCallerAt before call) lawful agenda puts
-    (λ row key added. end_key before call row key (subst (λ (e : Event). Adds before e row key) is added))
+pub end_noted : (before : List Event) (old new : List (List ℕ)) (by : TaskNo) (call : ℕ) (raised : Bool) → Puts old new (AsCallerAt before call)
+    → KeepsUp before (Ended by call raised) old new
+end_noted before old new by call raised puts lawful agenda =
+    noted (Ended by call raised) before old new (AsCallerAt before call) lawful agenda puts (end_key before call)
 
-pub failure_noted : (event : Event) (before : List Event) (old new : List (List ℕ)) (call : ℕ) → IsLawful (event ∷ before) → IsAgendaOf old before
-    → event ≡ Failed call → Puts old new (AsCallerAt before call) → IsAgendaOf new (event ∷ before)
-failure_noted event before old new call lawful agenda is puts =
-    noted event before old new (AsCallerAt before call) lawful agenda puts
-    (λ row key added. end_key before call row key (subst (λ (e : Event). Adds before e row key) is added))
+pub failure_noted : (before : List Event) (old new : List (List ℕ)) (call : ℕ) → Puts old new (AsCallerAt before call)
+    → KeepsUp before (Failed call) old new
+failure_noted before old new call puts lawful agenda =
+    noted (Failed call) before old new (AsCallerAt before call) lawful agenda puts (end_key before call)

@@ -16,7 +16,7 @@ use Rattle.ada_laws.proofs.Suspending.{suspended_exists}
 use Rattle.ada_rows.specs.declared.row.Row.{Row}
 use Rattle.ada_records.specs.Records.{IsHeldAt}
 use Rattle.ada_agenda.specs.declared.numbers.TheConstants.{MOST_KEYS}
-use Rattle.ada_agenda.specs.Keeping.{has_key, IsAgendaOf, Puts, AsKey, When}
+use Rattle.ada_agenda.specs.Keeping.{has_key, Puts, AsKey, When, KeepsUp}
 use Rattle.ada_agenda.specs.Keeping.AsKey.{itself}
 use Rattle.ada_agenda.specs.Keeping.When.{holds_so}
 use Rattle.ada_agenda.specs.Kinds.{due_in, due_row, OfTick, Adds}
@@ -81,9 +81,9 @@ tick_key before now row key lawful (comes_due r p due) = record {
       (comes due.event p due.stands due.suspended (due_by now due.event due.due due.waits due.comes));
 }
 
-pub tick_noted : (event : Event) (before : List Event) (old new : List (List ℕ)) (now : ℤ) → IsLawful (event ∷ before) → IsAgendaOf old before
-    → event ≡ Ticked now → Puts old new (OfFirst (AsDue before event) (task_count before)) → IsAgendaOf new (event ∷ before)
-tick_noted event before old new now lawful agenda is puts =
+pub tick_noted : (event : Event) (before : List Event) (old new : List (List ℕ)) (now : ℤ) → event ≡ Ticked now
+    → Puts old new (OfFirst (AsDue before event) (task_count before)) → KeepsUp before event old new
+tick_noted event before old new now is puts lawful agenda =
     noted event before old new (OfFirst (AsDue before event) (task_count before)) lawful agenda puts (λ row key added.
     subst (λ (e : Event). OfFirst (AsDue before e) (task_count before) row key) (sym is)
     (tick_key before now row key lawful.0 (subst (λ (e : Event). Adds before e row key) is added)))

@@ -28,9 +28,9 @@ use Rattle.ada_rows.specs.Touching.{is_uncallable}
 use Rattle.ada_rows.specs.Rows.{step_at}
 use Rattle.ada_rows.specs.declared.row.Row.{Row}
 use Rattle.ada_rows.specs.declared.row.Row.TheVariants.{Failing, Activating, Terminating, QuittingBody, Leaving}
-use Rattle.ada_agenda.specs.Keeping.{has_key, IsAgendaOf, Puts}
+use Rattle.ada_agenda.specs.Keeping.{has_key, Puts, KeepsUp}
 use Rattle.ada_agenda.specs.internal.Keeping.{Both}
-use Rattle.ada_agenda.specs.Kinds.{quitting_row, quitting_key, IsOpenCallTo, OfElaboration, OfCompletion, OfTermination, Adds}
+use Rattle.ada_agenda.specs.Kinds.{quitting_row, quitting_key, IsOpenCallTo, OfElaboration, OfCompletion, OfTermination}
 use Rattle.ada_agenda.specs.Kinds.OfElaboration.{activates as task_up}
 use Rattle.ada_agenda.specs.Kinds.OfCompletion.{goes as task_goes, quits as body_quits, fails as call_fails, activates as start_ends}
 use Rattle.ada_agenda.specs.Kinds.OfCompletion.{abandons as task_abandons}
@@ -144,37 +144,35 @@ completes_alone : (task : TaskNo) → creation_in (Completed task) ≡ None
 unfolding creation_in
 completes_alone task = refl
 
-pub completion_noted : (event : Event) (before : List Event) (old new : List (List ℕ)) (task : TaskNo) → IsLawful (event ∷ before) → IsAgendaOf old before
-    → event ≡ Completed task → Puts old new (AsCompletion before task) → IsAgendaOf new (event ∷ before)
-completion_noted event before old new task lawful agenda is puts =
-    noted_giving event before old new (AsCompletion before task) lawful agenda puts (λ row key step added gives.
-    completion_key (Completed task) step before task row key lawful.0 (completes_alone task)
-    (subst (λ (e : Event). step_at (e ∷ before) row key ≡ Some step) is gives) (subst (λ (e : Event). Adds before e row key) is added))
+pub completion_noted : (before : List Event) (old new : List (List ℕ)) (task : TaskNo) → Puts old new (AsCompletion before task)
+    → KeepsUp before (Completed task) old new
+completion_noted before old new task puts lawful agenda =
+    noted_giving (Completed task) before old new (AsCompletion before task) lawful agenda puts (λ row key step added gives.
+    completion_key (Completed task) step before task row key lawful.0 (completes_alone task) gives added)
 
 fails_alone : (task : TaskNo) → creation_in (Elaborated task false) ≡ None
 unfolding creation_in
 fails_alone task = refl
 
-pub failure_noted : (event : Event) (before : List Event) (old new : List (List ℕ)) (task : TaskNo) → IsLawful (event ∷ before) → IsAgendaOf old before
-    → event ≡ Elaborated task false → Puts old new (AsCompletion before task) → IsAgendaOf new (event ∷ before)
-failure_noted event before old new task lawful agenda is puts =
-    noted_giving event before old new (AsCompletion before task) lawful agenda puts (λ row key step added gives.
-    completion_key (Elaborated task false) step before task row key lawful.0 (fails_alone task)
-    (subst (λ (e : Event). step_at (e ∷ before) row key ≡ Some step) is gives) (subst (λ (e : Event). Adds before e row key) is added))
+pub failure_noted : (before : List Event) (old new : List (List ℕ)) (task : TaskNo) → Puts old new (AsCompletion before task)
+    → KeepsUp before (Elaborated task false) old new
+failure_noted before old new task puts lawful agenda =
+    noted_giving (Elaborated task false) before old new (AsCompletion before task) lawful agenda puts (λ row key step added gives.
+    completion_key (Elaborated task false) step before task row key lawful.0 (fails_alone task) gives added)
 
-gone_completes : (event : Event) (task : TaskNo) → event ≡ Gone task → completed_in event ≡ None
+gone_completes : (task : TaskNo) → completed_in (Gone task) ≡ None
 unfolding completed_in
-gone_completes event task is = rw is refl
+gone_completes task = refl
 
 -- who goes isn't terminated yet
-gone_here : (event : Event) (task : TaskNo) → event ≡ Gone task → gone_in event ≡ Some task.0
+gone_here : (task : TaskNo) → gone_in (Gone task) ≡ Some task.0
 unfolding gone_in
-gone_here event task is = rw is refl
+gone_here task = refl
 
-goer_live : (event : Event) (before : List Event) (task : TaskNo) → IsLawful (event ∷ before) → event ≡ Gone task → is_terminated before task.0 ≡ false
-goer_live event before task lawful is =
+goer_live : (before : List Event) (task : TaskNo) → IsLawful (Gone task ∷ before) → is_terminated before task.0 ≡ false
+goer_live before task lawful =
     false_from_ne_true (is_terminated before task.0) (λ ended.
-    true≢false (sym (going event before task.0 lawful.1 (gone_here event task is)) ∙ sym (gone_stays before task.0 ended)))
+    true≢false (sym (going (Gone task) before task.0 lawful.1 (gone_here task)) ∙ sym (gone_stays before task.0 ended)))
 
 -- all that was put for a termination
 abbrev pub TerminationKeys : List Event → TaskNo → Row → ℕ → Type 0
@@ -196,19 +194,17 @@ termination_key event step before task row key lawful none live gives (end_leave
     inr (through leaving.closing.by (Block block) Leaving p live depends (has_contained (nest before leaving.closing.by) block k below is)
     (leaves leaving.stands.event p leaving.stands.stands (rw leaving.stands.says refl) leaving.suspended))
 
-pub termination_noted : (event : Event) (before : List Event) (old new : List (List ℕ)) (task : TaskNo) → IsLawful (event ∷ before) → IsAgendaOf old before
-    → event ≡ Gone task → Puts old new (TerminationKeys before task) → IsAgendaOf new (event ∷ before)
-termination_noted event before old new task lawful agenda is puts =
-    noted_giving event before old new (TerminationKeys before task) lawful agenda puts (λ row key step added gives.
-    termination_key event step before task row key lawful.0 (gone_completes event task is) (goer_live event before task lawful is) gives
-    (subst (λ (e : Event). Adds before e row key) is added))
+pub termination_noted : (before : List Event) (old new : List (List ℕ)) (task : TaskNo) → Puts old new (TerminationKeys before task)
+    → KeepsUp before (Gone task) old new
+termination_noted before old new task puts lawful agenda =
+    noted_giving (Gone task) before old new (TerminationKeys before task) lawful agenda puts (λ row key step added gives.
+    termination_key (Gone task) step before task row key lawful.0 (gone_completes task) (goer_live before task lawful) gives added)
 
 -- the end of an activation without an exception
 up_key : (before : List Event) (task : TaskNo) (row : Row) (key : ℕ) → OfElaboration before task row key → AsActivation before task row key
 up_key before task row key (task_up p active) = activates p active
 
-pub up_noted : (event : Event) (before : List Event) (old new : List (List ℕ)) (task : TaskNo) → IsLawful (event ∷ before) → IsAgendaOf old before
-    → event ≡ Elaborated task true → Puts old new (AsActivation before task) → IsAgendaOf new (event ∷ before)
-up_noted event before old new task lawful agenda is puts =
-    noted event before old new (AsActivation before task) lawful agenda puts (λ row key added.
-    up_key before task row key (subst (λ (e : Event). Adds before e row key) is added))
+pub up_noted : (before : List Event) (old new : List (List ℕ)) (task : TaskNo) → Puts old new (AsActivation before task)
+    → KeepsUp before (Elaborated task true) old new
+up_noted before old new task puts lawful agenda =
+    noted (Elaborated task true) before old new (AsActivation before task) lawful agenda puts (up_key before task)

@@ -27,9 +27,9 @@ use Rattle.ada_rows.specs.Rows.{step_at}
 use Rattle.ada_rows.specs.declared.row.Row.{Row}
 use Rattle.ada_rows.specs.declared.row.Row.TheVariants.{Terminating, QuittingBody, QuittingBlock, Leaving}
 use Rattle.ada_tables.specs.Dependents.{holds, encloses}
-use Rattle.ada_agenda.specs.Keeping.{has_key, IsAgendaOf, Puts}
+use Rattle.ada_agenda.specs.Keeping.{has_key, IsAgendaOf, Puts, KeepsUp}
 use Rattle.ada_agenda.specs.internal.Keeping.{Both}
-use Rattle.ada_agenda.specs.Kinds.{quitting_row, quitting_key, IsLeaving, OfTermination, OfQuit, Adds}
+use Rattle.ada_agenda.specs.Kinds.{quitting_row, quitting_key, IsLeaving, OfTermination, OfQuit}
 use Rattle.ada_agenda.specs.Kinds.OfTermination.{fails as end_fails, activates as end_activates, goes as end_goes, quits as end_quits, leaves as end_leaves}
 use Rattle.ada_agenda.specs.Kinds.OfQuit.{ends, abandons}
 use Rattle.ada_agenda.proofs.Acting.{created_exists}
@@ -229,7 +229,7 @@ leaves_key m before t block p lawful from depends leaving =
 
 -- all that is put where many terminate together
 abbrev pub QuitKeys : List Event → Master → Row → ℕ → Type 0
-QuitKeys before m = Both (AsMaster before m) (OfFirst (AsUnstarted before) (task_count before))
+QuitKeys before m = Both (OfFirst (AsUnstarted before) (task_count before)) (AsMaster before m)
 
 ended_key : (m : Master) (step : Event) (before : List Event) (t : TaskNo) (row : Row) (key : ℕ) → IsLawful (Quit m ∷ before) → IsQuitter before m t.0
     → step_at (Quit m ∷ before) row key ≡ Some step → OfTermination before t row key → AsMaster before m row key ⊎ IsGiven before row key
@@ -244,9 +244,9 @@ ended_key m step before t row key lawful from gives (end_leaves block p depends 
 quit_key : (m : Master) (step : Event) (before : List Event) (row : Row) (key : ℕ) → IsLawful (Quit m ∷ before)
     → step_at (Quit m ∷ before) row key ≡ Some step → OfQuit before m row key → QuitKeys before m row key ⊎ IsGiven before row key
 quit_key m step before row key lawful gives (ends t r k depends live of) =
-    elim (ended_key m step before t r k lawful (record { depends = depends; live = live }) gives of) [ inl put ↦ inl (inl put) | inr given ↦ inr given ]
+    elim (ended_key m step before t r k lawful (record { depends = depends; live = live }) gives of) [ inl put ↦ inl (inr put) | inr given ↦ inr given ]
 quit_key m step before row key lawful gives (abandons t u depends live of) =
-    inl (inr (record { task = u; among = created_exists before u of.creation of.made; of = goes of.creation of.made of.never }))
+    inl (inl (record { task = u; among = created_exists before u of.creation of.made; of = goes of.creation of.made of.never }))
 
 -- what gave a step before was in the agenda
 has_quit_key : (m : Master) (step : Event) (before : List Event) (old new : List (List ℕ)) (row : Row) (key : ℕ) → IsLawful (Quit m ∷ before)
@@ -258,20 +258,18 @@ has_quit_key m step before old new row key lawful agenda puts gives added =
       | inr given ↦ puts.grows.kept row key (agenda.covers.kept row key given.0 given.1)
     ]
 
-pub quit_noted : (event : Event) (before : List Event) (old new : List (List ℕ)) (m : Master) → IsLawful (event ∷ before) → IsAgendaOf old before
-    → event ≡ Quit m → Puts old new (QuitKeys before m) → IsAgendaOf new (event ∷ before)
-quit_noted event before old new m lawful agenda is puts =
-    noted_giving event before old new (λ row key. has_key new row key ≡ true) lawful agenda
-    (record { grows = puts.grows; here = λ row key has. has }) (λ row key step added gives.
-    has_quit_key m step before old new row key (subst (λ (e : Event). IsLawful (e ∷ before)) is lawful) agenda puts
-    (subst (λ (e : Event). step_at (e ∷ before) row key ≡ Some step) is gives) (subst (λ (e : Event). Adds before e row key) is added))
+pub quit_noted : (before : List Event) (old new : List (List ℕ)) (m : Master) → Puts old new (QuitKeys before m) → KeepsUp before (Quit m) old new
+quit_noted before old new m puts lawful agenda =
+    noted_giving (Quit m) before old new (λ row key. has_key new row key ≡ true) lawful agenda
+    (record { grows = puts.grows; here = λ row key has. has })
+    (λ row key step added gives. has_quit_key m step before old new row key lawful agenda puts gives added)
 
 -- who holds a master that is left by all its dependents is a task that there is
-pub master_held : (event : Event) (before : List Event) (m : Master) (holder : ℕ) → IsLawful (event ∷ before) → event ≡ Quit m
-    → holder_of before m ≡ Some holder → holder < task_count before
-master_held event before m holder lawful is of =
-    let live = quits_live before m (quit_forced m before (subst (λ (e : Event). IsLawful (e ∷ before)) is lawful)) in
-    let by = dependent_held before live.task m lawful.0 live.live live.depends in
+pub master_held : (before : List Event) (m : Master) (holder : ℕ) → IsLawful before → is_to_quit before m ≡ true → holder_of before m ≡ Some holder
+    → holder < task_count before
+master_held before m holder lawful quits_all of =
+    let live = quits_live before m quits_all in
+    let by = dependent_held before live.task m lawful live.live live.depends in
     let same : by.holder ≡ holder = same_Some by.holder holder (sym (holder_found before by.holder m by.held) ∙ of) in
     let below : by.holder < live.task = by.before in
     let known : live.task < task_count before = depends_exists before live.task m live.depends in

@@ -21,9 +21,9 @@ use Rattle.ada_rows.specs.Rows.{step_at}
 use Rattle.ada_rows.specs.declared.row.Row.{Row}
 use Rattle.ada_rows.specs.declared.row.Row.TheVariants.{Meeting, Passing}
 use Rattle.ada_records.proofs.Holding.{holder_ran}
-use Rattle.ada_agenda.specs.Keeping.{IsAgendaOf, Puts, When, AsKey}
+use Rattle.ada_agenda.specs.Keeping.{Puts, When, AsKey, KeepsUp}
 use Rattle.ada_agenda.specs.internal.Keeping.{Both}
-use Rattle.ada_agenda.specs.Kinds.{itself as own, quitting_row, quitting_key, OfWait, Adds}
+use Rattle.ada_agenda.specs.Kinds.{itself as own, quitting_row, quitting_key, OfWait}
 use Rattle.ada_agenda.specs.Kinds.OfWait.{takes, passes, quits as wait_quits}
 use Rattle.ada_agenda.proofs.Noting.{own_is, noted_giving, both_put, not_put}
 use Rattle.ada_triggers.specs.internal.Keys.{AsDependent}
@@ -35,15 +35,13 @@ use Rattle.ada_triggers.proofs.Giving.{quitter}
 use Rattle.ada_triggers.proofs.Ends.{dependent_held}
 
 -- who waits isn't terminated
-waiter_held : (event : Event) (by : TaskNo) (pick : ℕ) (choices : List Choice) (tail : EventTail) → event ≡ Waiting by pick choices tail
-    → held_in event ≡ Some by.0
+waiter_held : (by : TaskNo) (pick : ℕ) (choices : List Choice) (tail : EventTail) → held_in (Waiting by pick choices tail) ≡ Some by.0
 unfolding held_in
-waiter_held event by pick choices tail is = rw is refl
+waiter_held by pick choices tail = refl
 
-waiter_completes : (event : Event) (by : TaskNo) (pick : ℕ) (choices : List Choice) (tail : EventTail) → event ≡ Waiting by pick choices tail
-    → completed_in event ≡ None
+waiter_completes : (by : TaskNo) (pick : ℕ) (choices : List Choice) (tail : EventTail) → completed_in (Waiting by pick choices tail) ≡ None
 unfolding completed_in
-waiter_completes event by pick choices tail is = rw is refl
+waiter_completes by pick choices tail = refl
 
 waiter_live : (event : Event) (before : List Event) (task : ℕ) → IsLawful (event ∷ before) → held_in event ≡ Some task → is_terminated before task ≡ false
 waiter_live event before task lawful holds =
@@ -66,26 +64,23 @@ wait_key event step before by at way ends tail so row key lawful none live same 
     inr (holds_so (is ∙ opened) (through up.holder m (quitting_row m) (quitting_key m) live depends up.held (quits m up.held
     (quitter event step before m none gives))))
 
-pub wait_noted : (event : Event) (before : List Event) (old new : List (List ℕ)) (by : TaskNo) (pick : ℕ) (choices : List Choice) (tail : EventTail)
-    (at : ℕ) (ends so : Bool) → IsLawful (event ∷ before) → IsAgendaOf old before → event ≡ Waiting by pick choices tail → at ≡ length before + 1
-    → ends ≡ is_some (way_of (moment before) choices pick tail) → so ≡ is_open_terminate tail → Puts old new (WaitKeys before by.0 at ends so)
-    → IsAgendaOf new (event ∷ before)
-wait_noted event before old new by pick choices tail at ends so lawful agenda is same told opened puts =
+pub wait_noted : (before : List Event) (old new : List (List ℕ)) (by : TaskNo) (pick : ℕ) (choices : List Choice) (tail : EventTail) (at : ℕ)
+    (ends so : Bool) → at ≡ length before + 1 → ends ≡ is_some (way_of (moment before) choices pick tail) → so ≡ is_open_terminate tail
+    → Puts old new (WaitKeys before by.0 at ends so) → KeepsUp before (Waiting by pick choices tail) old new
+wait_noted before old new by pick choices tail at ends so same told opened puts lawful agenda =
+    let event = Waiting by pick choices tail in
     noted_giving event before old new (WaitKeys before by.0 at ends so) lawful agenda puts (λ row key step added gives.
-    wait_key event step before by.0 at (way_of (moment before) choices pick tail) ends tail so row key lawful.0
-    (waiter_completes event by pick choices tail is)
-    (waiter_live event before by.0 lawful (waiter_held event by pick choices tail is)) (own_is before at same) told opened
-    gives (subst (λ (e : Event). Adds before e row key) is added))
+    wait_key event step before by.0 at (way_of (moment before) choices pick tail) ends tail so row key lawful.0 (waiter_completes by pick choices tail)
+    (waiter_live event before by.0 lawful (waiter_held by pick choices tail)) (own_is before at same) told opened gives added)
 
 -- who waits at an open accept statement alone doesn't pass
 open_waits : (now : ℤ) (pick : ℕ) (entry : Entry) → is_some (way_of now (record { guard = true; entry = entry } ∷ []) pick Nothing) ≡ false
 unfolding way_of
 open_waits now pick entry = refl
 
-pub accept_noted : (event : Event) (before : List Event) (old new : List (List ℕ)) (by : TaskNo) (pick : ℕ) (entry : Entry) (at : ℕ)
-    → IsLawful (event ∷ before) → IsAgendaOf old before → event ≡ Waiting by pick (record { guard = true; entry = entry } ∷ []) Nothing
-    → at ≡ length before + 1 → Puts old new (AsKey Meeting at) → IsAgendaOf new (event ∷ before)
-accept_noted event before old new by pick entry at lawful agenda is same puts =
-    wait_noted event before old new by pick (record { guard = true; entry = entry } ∷ []) Nothing at false false lawful agenda is same
+pub accept_noted : (before : List Event) (old new : List (List ℕ)) (by : TaskNo) (pick : ℕ) (entry : Entry) (at : ℕ) → at ≡ length before + 1
+    → Puts old new (AsKey Meeting at) → KeepsUp before (Waiting by pick (record { guard = true; entry = entry } ∷ []) Nothing) old new
+accept_noted before old new by pick entry at same puts =
+    wait_noted before old new by pick (record { guard = true; entry = entry } ∷ []) Nothing at false false same
     (sym (open_waits (moment before) pick entry)) refl
     (both_put old new new _ _ (both_put old new new _ _ puts (not_put new false (AsKey Passing at) refl)) (not_put new false (AsDependent before by.0) refl))

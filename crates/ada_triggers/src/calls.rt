@@ -1,14 +1,14 @@
 //! What calls and waits add to an agenda.
 
-ghost use Rattle.std.specs.Prelude.{◌≡◌, true, false, [], ◌∷◌};
+ghost use Rattle.std.specs.Prelude.{◌≡◌, ℕ, Bool, true, false, [], ◌∷◌};
 ghost use Rattle.std.specs.Option.{is_some, option_map};
-ghost use Rattle.ada_events.specs.Lawful.{IsLawful};
 ghost use Rattle.ada_events.specs.Says.{Call, call_at};
 ghost use Rattle.ada_events.specs.declared.event.Event.TheVariants.{Cancelled as CancelledEvent, Ended as EndedEvent, Failed as FailedEvent};
 ghost use Rattle.ada_events.specs.declared.event.Event.TheVariants.{Waiting as WaitingEvent};
 ghost use Rattle.ada_events.specs.declared.event.EventTail.TheVariants.{Nothing};
+ghost use Rattle.ada_events.specs.declared.names.Entry.{Entry as EntryName};
 ghost use Rattle.ada_events.specs.declared.names.TaskNo.{TaskNo as Number};
-ghost use Rattle.ada_agenda.specs.Keeping.{IsAgendaOf, Puts, When};
+ghost use Rattle.ada_agenda.specs.Keeping.{KeepsUp, Puts, When};
 ghost use Rattle.ada_events.specs.Tasks.{moment};
 ghost use Rattle.ada_events.specs.Termination as ending;
 ghost use Rattle.ada_events.specs.Waits as waits;
@@ -17,8 +17,8 @@ ghost use Rattle.ada_triggers.specs.internal.Keys.{AsDependent, AsCalleeAt, AsCa
 
 use crate::masters::put_dependent;
 use ada_agenda::Agenda;
-use ada_agenda::keeping::{self, own_key, put, put_if};
-use ada_events::{Choice, Entry, Event, EventTail, TaskNo, way_of};
+use ada_agenda::keeping::{self, put, put_if};
+use ada_events::{Choice, Event, EventTail, TaskNo, way_of};
 use ada_rows::Row;
 use ada_view::View;
 
@@ -36,7 +36,6 @@ fn callee_at(view: &View, at: u32) -> Option<TaskNo>
 
 /// Puts what the masters may force on which the callee of the call at a position depends.
 pub(crate) fn put_callee(agenda: &mut Agenda, view: &View, at: u32)
-    requires { IsLawful view.now }
     ensures { Puts agenda.old agenda.new (AsCalleeAt view.now at) }
 {
     match callee_at(view, at) {
@@ -46,11 +45,9 @@ pub(crate) fn put_callee(agenda: &mut Agenda, view: &View, at: u32)
 }
 
 /// Notes that a call is cancelled (9.7.2, 9.7.3): what the masters may force on which its callee depends may be forced.
-pub fn after_cancellation(agenda: &mut Agenda, view: &View, _event: &Event, call: u32)
-    requires lawful { IsLawful (_event.now ∷ view.now) }
-    requires stands { IsAgendaOf agenda.old view.now }
-    requires cancels { _event.now ≡ CancelledEvent call }
-    ensures { IsAgendaOf agenda.new (_event.now ∷ view.now) }
+#[tactic(auto, using(crate::proofs::Callees::cancellation_noted))]
+pub fn after_cancellation(agenda: &mut Agenda, view: &View, call: u32)
+    ensures { KeepsUp view.now (CancelledEvent call) agenda.old agenda.new }
 {
     put_callee(agenda, view, call);
 }
@@ -78,28 +75,18 @@ fn put_caller(agenda: &mut Agenda, view: &View, at: u32)
 }
 
 /// Notes that a rendezvous ends (9.5): that its caller is halted may be forced (9.10).
-pub fn after_end(
-    agenda: &mut Agenda,
-    view: &View,
-    _event: &Event,
-    _by: TaskNo,
-    call: u32,
-    _raised: bool,
-)
-    requires lawful { IsLawful (_event.now ∷ view.now) }
-    requires stands { IsAgendaOf agenda.old view.now }
-    requires ends { _event.now ≡ EndedEvent _by call _raised }
-    ensures { IsAgendaOf agenda.new (_event.now ∷ view.now) }
+#[tactic(auto, using(crate::proofs::Callers::end_noted))]
+pub fn after_end(agenda: &mut Agenda, view: &View, call: u32)
+    ensures { (by : Number) (raised : Bool)
+        → KeepsUp view.now (EndedEvent by call raised) agenda.old agenda.new }
 {
     put_caller(agenda, view, call);
 }
 
 /// Notes that a call fails (9.5): that its caller is halted may be forced (9.10).
-pub fn after_failure(agenda: &mut Agenda, view: &View, _event: &Event, failed: u32)
-    requires lawful { IsLawful (_event.now ∷ view.now) }
-    requires stands { IsAgendaOf agenda.old view.now }
-    requires fails { _event.now ≡ FailedEvent failed }
-    ensures { IsAgendaOf agenda.new (_event.now ∷ view.now) }
+#[tactic(auto, using(crate::proofs::Callers::failure_noted))]
+pub fn after_failure(agenda: &mut Agenda, view: &View, failed: u32)
+    ensures { KeepsUp view.now (FailedEvent failed) agenda.old agenda.new }
 {
     put_caller(agenda, view, failed);
 }
@@ -117,7 +104,6 @@ fn is_open_terminate(tail: &EventTail) -> bool
 // Puts what the masters may force on which a task depends, where that is so.
 #[tactic(auto, using(ada_agenda::proofs::Noting::so_put, ada_agenda::proofs::Noting::not_put))]
 fn put_dependent_if(agenda: &mut Agenda, view: &View, task: TaskNo, so: bool)
-    requires { IsLawful view.now }
     ensures { Puts agenda.old agenda.new (When so (AsDependent view.now task.0)) }
 {
     if so {
@@ -137,18 +123,15 @@ fn is_to_pass(view: &View, pick: u32, choices: &[Choice], tail: &EventTail) -> b
 pub fn after_wait(
     agenda: &mut Agenda,
     view: &View,
-    event: &Event,
     by: TaskNo,
     pick: u32,
     choices: &[Choice],
     tail: &EventTail,
 )
-    requires lawful { IsLawful (event.now ∷ view.now) }
-    requires stands { IsAgendaOf agenda.old view.now }
-    requires waits { event.now ≡ WaitingEvent by pick choices.now tail.now }
-    ensures { IsAgendaOf agenda.new (event.now ∷ view.now) }
+    ensures { KeepsUp view.now (WaitingEvent by pick choices.now tail.now)
+        agenda.old agenda.new }
 {
-    let own = own_key(view.journal(), event);
+    let own = view.next_position() as usize;
     put(agenda, Row::Meeting, own);
     let passes = is_to_pass(view, pick, choices, tail);
     put_if(agenda, Row::Passing, own, passes);
@@ -156,34 +139,23 @@ pub fn after_wait(
 }
 
 /// Notes that a task waits at an accept statement alone (9.5): that it takes a call may be forced.
-pub fn after_accept(
-    agenda: &mut Agenda,
-    view: &View,
-    event: &Event,
-    _by: TaskNo,
-    _pick: u32,
-    _entry: Entry,
-)
-    requires lawful { IsLawful (event.now ∷ view.now) }
-    requires stands { IsAgendaOf agenda.old view.now }
-    requires accepts { event.now ≡ WaitingEvent _by _pick
-        (record { guard = true; entry = _entry } ∷ []) Nothing }
-    ensures { IsAgendaOf agenda.new (event.now ∷ view.now) }
+pub fn after_accept(agenda: &mut Agenda, view: &View)
+    ensures { (by : Number) (pick : ℕ) (entry : EntryName)
+        → KeepsUp view.now (WaitingEvent by pick (record { guard = true; entry = entry } ∷ []) Nothing)
+        agenda.old agenda.new }
 {
-    put(agenda, Row::Meeting, own_key(view.journal(), event));
+    put(agenda, Row::Meeting, view.next_position() as usize);
 }
 
 /// Notes that an entry of a task is called (9.5): that the call fails, where the task has ended or is abnormal, that it
 /// is cancelled, where it is given up, and that the wait takes it at which the task is suspended, may be forced.
 #[inline(always)]
 pub fn after_call(agenda: &mut Agenda, view: &View, event: &Event, callee: TaskNo)
-    requires lawful { IsLawful (event.now ∷ view.now) }
-    requires stands { IsAgendaOf agenda.old view.now }
-    requires calls { IsCallOf event.now callee.0 }
-    ensures { IsAgendaOf agenda.new (event.now ∷ view.now) }
+    requires { IsCallOf event.now callee.0 }
+    ensures { KeepsUp view.now event.now agenda.old agenda.new }
 {
-    let at = view.record(callee).suspension.at;
+    let wait = view.record(callee).suspension.at;
     let lost = view.is_uncallable(callee);
     let immediate = view.is_immediate_call(event);
-    keeping::put_call_keys(agenda, view.journal(), event, callee, at, lost, immediate);
+    keeping::put_call_keys(agenda, view.next_position(), wait, lost, immediate);
 }

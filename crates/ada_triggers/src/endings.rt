@@ -1,14 +1,14 @@
 //! What the end of a task adds to an agenda: a completion, a halt, a termination.
 
-ghost use Rattle.std.specs.Prelude.{◌≡◌, ◌<◌, true, false, ◌∷◌};
+ghost use Rattle.std.specs.Prelude.{◌≡◌, ◌<◌, true, false};
 ghost use Rattle.std.specs.Option.{option_map};
-ghost use Rattle.ada_events.specs.Lawful.{IsLawful};
+ghost use Rattle.ada_events.specs.Forced.{is_to_quit};
 ghost use Rattle.ada_events.specs.Says.{Creation, creation_in};
 ghost use Rattle.ada_events.specs.Tasks.{creation_of, task_count};
 ghost use Rattle.ada_events.specs.declared.names.TaskNo.{TaskNo as Number};
 ghost use Rattle.ada_events.specs.declared.event.Event.TheVariants.{Completed as CompletedEvent, Elaborated as ElaboratedEvent, Halted as HaltedEvent};
 ghost use Rattle.ada_events.specs.declared.event.Event.TheVariants.{Gone as GoneEvent, Quit as QuitEvent};
-ghost use Rattle.ada_agenda.specs.Keeping.{IsAgendaOf, Puts};
+ghost use Rattle.ada_agenda.specs.Keeping.{KeepsUp, Puts};
 ghost use Rattle.ada_triggers.specs.Bounds.{IsStartBound};
 ghost use Rattle.ada_triggers.specs.internal.Keys.{AsActivation, AsCompletion};
 
@@ -48,7 +48,6 @@ fn maker(view: &View, task: TaskNo) -> Option<TaskNo>
 // Puts the start that names a task, at which its maker is suspended, into the row of activations that end.
 #[inline(never)]
 fn put_start(agenda: &mut Agenda, view: &View, task: TaskNo)
-    requires { IsLawful view.now }
     ensures { Puts agenda.old agenda.new (AsActivation view.now task) }
 {
     match maker(view, task) {
@@ -60,7 +59,6 @@ fn put_start(agenda: &mut Agenda, view: &View, task: TaskNo)
 // The same, unless the start no longer waits for the task.
 #[inline(always)]
 fn put_activation(agenda: &mut Agenda, view: &View, task: TaskNo)
-    requires { IsLawful view.now }
     ensures { Puts agenda.old agenda.new (AsActivation view.now task) }
 {
     if !view.is_done_activating(task) {
@@ -71,7 +69,6 @@ fn put_activation(agenda: &mut Agenda, view: &View, task: TaskNo)
 // Puts all that the completion of a task may force. That dependents of its body quit may be only where some of them
 // live.
 fn put_completion(agenda: &mut Agenda, first: &mut FirstUnstarted, view: &View, task: TaskNo)
-    requires lawful { IsLawful view.now }
     requires known { task.0 < task_count view.now }
     requires bound { IsStartBound view.now first.old }
     ensures put { Puts agenda.old agenda.new (AsCompletion view.now task) }
@@ -87,18 +84,16 @@ fn put_completion(agenda: &mut Agenda, first: &mut FirstUnstarted, view: &View, 
 
 /// Notes that a task completes (9.4): that it goes, that dependents of its body quit, that calls to it fail, that the
 /// activation ends that names it, and that tasks go that were never started, may be forced.
+#[tactic(auto, using(crate::proofs::Ends::completion_noted))]
 pub fn after_completion(
     agenda: &mut Agenda,
     first: &mut FirstUnstarted,
     view: &View,
-    _event: &Event,
     task: TaskNo,
 )
-    requires lawful { IsLawful (_event.now ∷ view.now) }
-    requires stands { IsAgendaOf agenda.old view.now }
+    requires known { task.0 < task_count view.now }
     requires bound { IsStartBound view.now first.old }
-    requires completes { _event.now ≡ CompletedEvent task }
-    ensures stands { IsAgendaOf agenda.new (_event.now ∷ view.now) }
+    ensures keeps_up { KeepsUp view.now (CompletedEvent task) agenda.old agenda.new }
     ensures bound { IsStartBound view.now first.new }
 {
     put_completion(agenda, first, view, task);
@@ -106,18 +101,16 @@ pub fn after_completion(
 
 // Notes that a task's activation ends by an exception (9.3), which completes it: what a completion may force may be
 // forced.
+#[tactic(auto, using(crate::proofs::Ends::failure_noted))]
 fn after_failed_activation(
     agenda: &mut Agenda,
     first: &mut FirstUnstarted,
     view: &View,
-    _event: &Event,
     task: TaskNo,
 )
-    requires lawful { IsLawful (_event.now ∷ view.now) }
-    requires stands { IsAgendaOf agenda.old view.now }
+    requires known { task.0 < task_count view.now }
     requires bound { IsStartBound view.now first.old }
-    requires raises { _event.now ≡ ElaboratedEvent task false }
-    ensures stands { IsAgendaOf agenda.new (_event.now ∷ view.now) }
+    ensures keeps_up { KeepsUp view.now (ElaboratedEvent task false) agenda.old agenda.new }
     ensures bound { IsStartBound view.now first.new }
 {
     put_completion(agenda, first, view, task);
@@ -129,14 +122,11 @@ pub fn after_halt(
     agenda: &mut Agenda,
     first: &mut FirstUnstarted,
     view: &View,
-    _event: &Event,
     task: TaskNo,
 )
-    requires lawful { IsLawful (_event.now ∷ view.now) }
-    requires stands { IsAgendaOf agenda.old view.now }
+    requires known { task.0 < task_count view.now }
     requires bound { IsStartBound view.now first.old }
-    requires halts { _event.now ≡ HaltedEvent task }
-    ensures stands { IsAgendaOf agenda.new (_event.now ∷ view.now) }
+    ensures keeps_up { KeepsUp view.now (HaltedEvent task) agenda.old agenda.new }
     ensures bound { IsStartBound view.now first.new }
 {
     put_completion(agenda, first, view, task);
@@ -146,11 +136,8 @@ pub fn after_halt(
 
 /// Notes that a task terminates by itself (9.4): that calls to it fail, that the activation ends that names it, and
 /// what the masters may force on which it depends, may be forced.
-pub fn after_termination(agenda: &mut Agenda, view: &View, _event: &Event, task: TaskNo)
-    requires lawful { IsLawful (_event.now ∷ view.now) }
-    requires stands { IsAgendaOf agenda.old view.now }
-    requires goes { _event.now ≡ GoneEvent task }
-    ensures { IsAgendaOf agenda.new (_event.now ∷ view.now) }
+pub fn after_termination(agenda: &mut Agenda, view: &View, task: TaskNo)
+    ensures { KeepsUp view.now (GoneEvent task) agenda.old agenda.new }
 {
     put_uncallable_calls(agenda, view, task);
     put_activation(agenda, view, task);
@@ -163,27 +150,22 @@ pub fn after_quit(
     agenda: &mut Agenda,
     first: &mut FirstUnstarted,
     view: &View,
-    _event: &Event,
     master: Master,
 )
-    requires lawful { IsLawful (_event.now ∷ view.now) }
-    requires stands { IsAgendaOf agenda.old view.now }
+    requires quits { is_to_quit view.now master ≡ true }
     requires bound { IsStartBound view.now first.old }
-    requires quits { _event.now ≡ QuitEvent master }
-    ensures stands { IsAgendaOf agenda.new (_event.now ∷ view.now) }
+    ensures keeps_up { KeepsUp view.now (QuitEvent master) agenda.old agenda.new }
     ensures bound { IsStartBound view.now first.new }
 {
-    put_master(agenda, view, master);
     put_all_unstarted(agenda, first, view);
+    put_master(agenda, view, master);
 }
 
 // Notes that a task ends its activation without an exception (9.3): that the activation ends that names it may be
 // forced.
-fn after_elaborated(agenda: &mut Agenda, view: &View, _event: &Event, task: TaskNo)
-    requires lawful { IsLawful (_event.now ∷ view.now) }
-    requires stands { IsAgendaOf agenda.old view.now }
-    requires comes_up { _event.now ≡ ElaboratedEvent task true }
-    ensures { IsAgendaOf agenda.new (_event.now ∷ view.now) }
+#[tactic(auto, using(crate::proofs::Ends::up_noted))]
+fn after_elaborated(agenda: &mut Agenda, view: &View, task: TaskNo)
+    ensures { KeepsUp view.now (ElaboratedEvent task true) agenda.old agenda.new }
 {
     put_activation(agenda, view, task);
 }
@@ -193,20 +175,17 @@ pub fn after_elaboration(
     agenda: &mut Agenda,
     first: &mut FirstUnstarted,
     view: &View,
-    event: &Event,
     task: TaskNo,
     ok: bool,
 )
-    requires lawful { IsLawful (event.now ∷ view.now) }
-    requires stands { IsAgendaOf agenda.old view.now }
+    requires known { task.0 < task_count view.now }
     requires bound { IsStartBound view.now first.old }
-    requires comes_up { event.now ≡ ElaboratedEvent task ok }
-    ensures stands { IsAgendaOf agenda.new (event.now ∷ view.now) }
+    ensures keeps_up { KeepsUp view.now (ElaboratedEvent task ok) agenda.old agenda.new }
     ensures bound { IsStartBound view.now first.new }
 {
     if ok {
-        after_elaborated(agenda, view, event, task);
+        after_elaborated(agenda, view, task);
     } else {
-        after_failed_activation(agenda, first, view, event, task);
+        after_failed_activation(agenda, first, view, task);
     }
 }

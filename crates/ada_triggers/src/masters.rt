@@ -33,7 +33,8 @@ fn holder_of(view: &View, master: Master) -> Option<TaskNo>
 // The task that holds what a task was made under; none for the main program.
 fn holder_above(view: &View, task: TaskNo) -> Option<TaskNo>
     requires { task.0 < task_count view.now }
-    ensures { option_map (λ (t : Number). t.0) result ≡ keys.holder_above view.now task.0 }
+    ensures above { option_map (λ (t : Number). t.0) result ≡ keys.holder_above view.now task.0 }
+    ensures lawful { IsLawful view.now }
 {
     match view.tables().master(task) {
         Some(master) => holder_of(view, master),
@@ -66,8 +67,7 @@ fn put_layer(agenda: &mut Agenda, member: Option<Member>)
 
 // Puts the blocks that a task is within into the row in which blocks quit.
 fn put_blocks(agenda: &mut Agenda, view: &View, task: TaskNo)
-    requires lawful { IsLawful view.now }
-    requires known { task.0 < task_count view.now }
+    requires { task.0 < task_count view.now }
     ensures { Puts agenda.old agenda.new
         (OfFirst (AsBlock (nest view.now task.0)) (length (nest view.now task.0))) }
 {
@@ -95,8 +95,7 @@ fn may_go(view: &View, task: TaskNo) -> bool
 /// Puts what the masters that a task holds may force: that the dependents of each quit, that the task goes, and that it
 /// leaves the block at whose close it is suspended.
 pub(crate) fn put_holder(agenda: &mut Agenda, view: &View, task: TaskNo)
-    requires lawful { IsLawful view.now }
-    requires known { task.0 < task_count view.now }
+    requires { task.0 < task_count view.now }
     ensures { Puts agenda.old agenda.new (AsHolder view.now task.0) }
 {
     let key = task.0 as usize;
@@ -108,7 +107,6 @@ pub(crate) fn put_holder(agenda: &mut Agenda, view: &View, task: TaskNo)
 
 // Puts what the masters may force on which a task depends that isn't terminated.
 fn put_outward(agenda: &mut Agenda, view: &View, task: TaskNo)
-    requires lawful { IsLawful view.now }
     requires known { task.0 < task_count view.now }
     requires live { is_terminated view.now task.0 ≡ false }
     ensures { Puts agenda.old agenda.new (AsDependent view.now task.0) }
@@ -122,7 +120,6 @@ fn put_outward(agenda: &mut Agenda, view: &View, task: TaskNo)
 
 /// Puts what the masters may force on which a task depends, unless it is terminated.
 pub(crate) fn put_dependent(agenda: &mut Agenda, view: &View, task: TaskNo)
-    requires { IsLawful view.now }
     ensures { Puts agenda.old agenda.new (AsDependent view.now task.0) }
 {
     if task.0 >= view.tables().tasks() {
@@ -135,8 +132,7 @@ pub(crate) fn put_dependent(agenda: &mut Agenda, view: &View, task: TaskNo)
 
 /// Puts what a master may force, and what those may on which the task depends that holds it.
 pub(crate) fn put_master(agenda: &mut Agenda, view: &View, master: Master)
-    requires lawful { IsLawful view.now }
-    requires known { (task : ℕ) → keys.holder_of view.now master ≡ Some task
+    requires { (task : ℕ) → keys.holder_of view.now master ≡ Some task
         → task < task_count view.now }
     ensures { Puts agenda.old agenda.new (AsMaster view.now master) }
 {

@@ -1,11 +1,9 @@
 //! What a tick adds to an agenda: what is due by it, where it reaches the next due moment.
 
-ghost use Rattle.std.specs.Prelude.{◌≡◌, ◌∷◌, Some};
-ghost use Rattle.ada_events.specs.Lawful.{IsLawful};
-ghost use Rattle.ada_events.specs.Search.{event_at};
+ghost use Rattle.std.specs.Prelude.{◌≡◌};
 ghost use Rattle.ada_events.specs.Tasks.{task_count};
 ghost use Rattle.ada_events.specs.declared.event.Event.TheVariants.{Ticked as TickedEvent};
-ghost use Rattle.ada_agenda.specs.Keeping.{IsAgendaOf, Puts};
+ghost use Rattle.ada_agenda.specs.Keeping.{KeepsUp, Puts};
 ghost use Rattle.ada_agenda.specs.Kinds as kinds;
 ghost use Rattle.ada_triggers.specs.Bounds.{IsDueBound};
 ghost use Rattle.ada_triggers.specs.internal.Keys as keys;
@@ -63,29 +61,18 @@ fn is_due_by(tick: &Event, event: &Event) -> bool
     }
 }
 
-// Puts the position of an event into the row of what happens where its moment comes.
-fn put_due_event(agenda: &mut Agenda, _state: &View, tick: &Event, at: u32, event: &Event)
-    requires lawful { IsLawful _state.now }
-    requires stands { event_at _state.now at ≡ Some event.now }
-    ensures { Puts agenda.old agenda.new (AsDueAt _state.now tick.now at) }
-{
-    put_if(agenda, due_row(event), at as usize, is_due_by(tick, event));
-}
-
 // Puts a position into the row of what happens there where its moment comes.
 fn put_due_at(agenda: &mut Agenda, view: &View, tick: &Event, at: u32)
-    requires { IsLawful view.now }
     ensures { Puts agenda.old agenda.new (AsDueAt view.now tick.now at) }
 {
     match view.event(at) {
-        Some(event) => put_due_event(agenda, view, tick, at, event),
+        Some(event) => put_if(agenda, due_row(event), at as usize, is_due_by(tick, event)),
         None => (),
     }
 }
 
 // Puts the position at which a task is suspended, if it is, into the row of what happens there where its moment comes.
 fn put_due(agenda: &mut Agenda, view: &View, tick: &Event, task: TaskNo)
-    requires { IsLawful view.now }
     ensures { Puts agenda.old agenda.new (AsDue view.now tick.now task.0) }
 {
     put_due_at(agenda, view, tick, view.record(task).suspension.at);
@@ -93,7 +80,6 @@ fn put_due(agenda: &mut Agenda, view: &View, tick: &Event, task: TaskNo)
 
 // Puts all that is due.
 fn put_all_due(agenda: &mut Agenda, view: &View, tick: &Event)
-    requires { IsLawful view.now }
     ensures { Puts agenda.old agenda.new
         (OfFirst (AsDue view.now tick.now) (task_count view.now)) }
 {
@@ -105,11 +91,9 @@ fn put_all_due(agenda: &mut Agenda, view: &View, tick: &Event)
 /// Notes that the moment moves, in milliseconds (9.6): that timed calls are cancelled, that waits pass and that delays
 /// end may be forced. A tick that doesn't reach the next due moment adds nothing.
 pub fn after_tick(agenda: &mut Agenda, next: NextDue, view: &View, event: &Event, now: i64)
-    requires lawful { IsLawful (event.now ∷ view.now) }
-    requires stands { IsAgendaOf agenda.old view.now }
     requires bound { IsDueBound view.now next }
     requires ticks { event.now ≡ TickedEvent now }
-    ensures { IsAgendaOf agenda.new (event.now ∷ view.now) }
+    ensures { KeepsUp view.now event.now agenda.old agenda.new }
 {
     if next.is_reached_by(now) {
         put_all_due(agenda, view, event);

@@ -1,6 +1,6 @@
 //! The next moment for which a task is suspended. A tick that doesn't reach it makes nothing due.
 
-ghost use Rattle.std.specs.Prelude.{◌≡◌, None, [], ◌∷◌, Some};
+ghost use Rattle.std.specs.Prelude.{◌≡◌, None, [], ◌∷◌};
 ghost use Rattle.ada_events.specs.Lawful.{IsLawful};
 ghost use Rattle.ada_events.specs.Tasks.{task_count};
 ghost use Rattle.ada_events.specs.Waits as waits;
@@ -10,7 +10,7 @@ ghost use Rattle.ada_triggers.specs.internal.Bounds.{IsBoundOfFirst, IsDueAfter}
 
 use crate::moments::due_in;
 use ada_events::waits::{earlier, is_due};
-use ada_events::{Event, TaskNo};
+use ada_events::TaskNo;
 use ada_view::View;
 use std::marker::Model;
 
@@ -56,7 +56,6 @@ impl NextDue {
 
 // The moment for which a task is suspended, where it comes after `now`.
 fn due_after(view: &View, now: i64, task: TaskNo) -> Option<i64>
-    requires lawful { IsLawful view.now }
     ensures { IsDueAfter view.now now task.0 result }
 {
     match view.event(view.record(task).suspension.at) {
@@ -67,7 +66,6 @@ fn due_after(view: &View, now: i64, task: TaskNo) -> Option<i64>
 
 // The least moment after `now` for which a task is suspended.
 fn least_after(view: &View, now: i64) -> NextDue
-    requires lawful { IsLawful view.now }
     ensures { IsBoundOfFirst view.now now (task_count view.now) result }
 {
     let mut next = NextDue::new();
@@ -78,11 +76,9 @@ fn least_after(view: &View, now: i64) -> NextDue
 }
 
 /// Keeps the bound up with a tick (9.6). Only a tick that reaches it looks at the tasks.
-pub fn next_after_tick(next: NextDue, view: &View, _event: &Event, now: i64) -> NextDue
-    requires lawful { IsLawful (_event.now ∷ view.now) }
-    requires bound { IsDueBound view.now next }
-    requires ticks { _event.now ≡ TickedEvent now }
-    ensures { IsDueBound (_event.now ∷ view.now) result }
+pub fn next_after_tick(next: NextDue, view: &View, now: i64) -> NextDue
+    requires { IsDueBound view.now next }
+    ensures { IsLawful (TickedEvent now ∷ view.now) → IsDueBound (TickedEvent now ∷ view.now) result }
 {
     if next.is_reached_by(now) {
         least_after(view, now)

@@ -1,7 +1,6 @@
 //! Passes over all tasks that put keys into an agenda.
 
 ghost use Rattle.std.specs.Prelude.{◌≡◌, ◌&&◌, true};
-ghost use Rattle.ada_events.specs.Lawful.{IsLawful};
 ghost use Rattle.ada_events.specs.Search.{is_some_and, event_at};
 ghost use Rattle.ada_events.specs.Tasks.{task_count};
 ghost use Rattle.ada_agenda.specs.Keeping.{Puts};
@@ -34,7 +33,6 @@ fn put_haltable(agenda: &mut Agenda, view: &View, task: TaskNo)
 
 /// Puts the tasks that may be halted into the row of those that are halted.
 pub(crate) fn put_all_haltable(agenda: &mut Agenda, view: &View)
-    requires { IsLawful view.now }
     ensures { Puts agenda.old agenda.new (OfFirst (AsHaltable view.now) (task_count view.now)) }
 {
     for number in 0..view.tables().tasks() {
@@ -67,7 +65,6 @@ fn is_of_row_at(view: &View, row: Row, at: u32) -> bool
 
 // Puts the position at which a task is suspended, if it is, into a row, where the event there is of its kind.
 pub(crate) fn put_held(agenda: &mut Agenda, view: &View, row: Row, task: TaskNo)
-    requires { IsLawful view.now }
     ensures { Puts agenda.old agenda.new (AsHeld view.now row task.0) }
 {
     let at = view.record(task).suspension.at;
@@ -77,7 +74,6 @@ pub(crate) fn put_held(agenda: &mut Agenda, view: &View, row: Row, task: TaskNo)
 
 /// Puts the positions at which tasks are suspended at events of its kind into a row.
 pub(crate) fn put_all_held(agenda: &mut Agenda, view: &View, row: Row)
-    requires { IsLawful view.now }
     ensures { Puts agenda.old agenda.new (OfFirst (AsHeld view.now row) (task_count view.now)) }
 {
     for number in 0..view.tables().tasks() {
@@ -108,7 +104,6 @@ fn calls_at(view: &View, at: u32, callee: TaskNo) -> bool
 
 // Puts the call to the callee at which a task is suspended, if it is, into the row of those that fail.
 fn put_caller(agenda: &mut Agenda, view: &View, callee: TaskNo, task: TaskNo)
-    requires { IsLawful view.now }
     ensures { Puts agenda.old agenda.new (AsCaller view.now callee.0 task.0) }
 {
     let at = view.record(task).suspension.at;
@@ -119,7 +114,6 @@ fn put_caller(agenda: &mut Agenda, view: &View, callee: TaskNo, task: TaskNo)
 // Puts the calls to a task at which tasks are suspended into the row of those that fail.
 #[inline(never)]
 fn put_all_callers(agenda: &mut Agenda, view: &View, callee: TaskNo)
-    requires { IsLawful view.now }
     ensures { Puts agenda.old agenda.new
         (OfFirst (AsCaller view.now callee.0) (task_count view.now)) }
 {
@@ -133,7 +127,6 @@ fn put_all_callers(agenda: &mut Agenda, view: &View, callee: TaskNo)
 #[inline(always)]
 #[tactic(auto, using(ada_agenda::proofs::Noting::so_put, ada_agenda::proofs::Noting::not_put))]
 pub(crate) fn put_uncallable_calls(agenda: &mut Agenda, view: &View, callee: TaskNo)
-    requires { IsLawful view.now }
     ensures { Puts agenda.old agenda.new (AsUncallable view.now callee.0) }
 {
     if !view.is_uncallable(callee) {

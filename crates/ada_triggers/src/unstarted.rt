@@ -48,8 +48,7 @@ impl FirstUnstarted {
 
     /// Goes past the tasks that were started since.
     pub fn advance(&mut self, view: &View)
-        requires lawful { IsLawful view.now }
-        requires bound { IsStartBound view.now self.old }
+        requires { IsStartBound view.now self.old }
         ensures { IsStartBound view.now self.new }
     {
         *self = FirstUnstarted(first_unstarted(view, self.number()));
@@ -58,8 +57,7 @@ impl FirstUnstarted {
 
 // The first task from a number on that no start names.
 fn first_unstarted(view: &View, from: u16) -> u16
-    requires lawful { IsLawful view.now }
-    requires bound { IsStartBound view.now from }
+    requires { IsStartBound view.now from }
     ensures { IsStartBound view.now result }
 {
     let tasks = view.tables().tasks();
@@ -72,7 +70,6 @@ fn first_unstarted(view: &View, from: u16) -> u16
 
 // Puts a task that was made and never started into the row of those that go.
 fn put_unstarted(agenda: &mut Agenda, view: &View, task: TaskNo)
-    requires { IsLawful view.now }
     ensures { Puts agenda.old agenda.new (AsUnstarted view.now task.0) }
 {
     let waits = !view.record(task).stage.named;
@@ -81,9 +78,10 @@ fn put_unstarted(agenda: &mut Agenda, view: &View, task: TaskNo)
 
 // Puts those that were never started, of the tasks from a number on, into the row of those that go.
 fn put_unstarted_from(agenda: &mut Agenda, view: &View, from: u16)
-    requires lawful { IsLawful view.now }
-    requires bound { IsStartBound view.now from }
-    ensures { Puts agenda.old agenda.new (OfFirst (AsUnstarted view.now) (task_count view.now)) }
+    requires { IsStartBound view.now from }
+    ensures put { Puts agenda.old agenda.new
+        (OfFirst (AsUnstarted view.now) (task_count view.now)) }
+    ensures lawful { IsLawful view.now }
 {
     for number in from..view.tables().tasks() {
         put_unstarted(agenda, view, TaskNo(number));
@@ -92,11 +90,11 @@ fn put_unstarted_from(agenda: &mut Agenda, view: &View, from: u16)
 
 /// Puts the tasks that were made and never started into the row of those that go.
 pub(crate) fn put_all_unstarted(agenda: &mut Agenda, first: &mut FirstUnstarted, view: &View)
-    requires lawful { IsLawful view.now }
-    requires bound { IsStartBound view.now first.old }
+    requires { IsStartBound view.now first.old }
     ensures put { Puts agenda.old agenda.new
         (OfFirst (AsUnstarted view.now) (task_count view.now)) }
     ensures bound { IsStartBound view.now first.new }
+    ensures lawful { IsLawful view.now }
 {
     first.advance(view);
     put_unstarted_from(agenda, view, first.number());

@@ -1,6 +1,6 @@
 //! A journal, and what is kept of it.
 
-ghost use Rattle.std.specs.Prelude.{◌≡◌, Some, length};
+ghost use Rattle.std.specs.Prelude.{◌≡◌, ◌+◌, ◌<◌, Some, length};
 ghost use Rattle.std.specs.Option.{option_and_then, option_copied};
 ghost use Rattle.ada_events.specs.Calls.{is_pending};
 ghost use Rattle.ada_events.specs.Lawful.{IsLawful};
@@ -10,6 +10,7 @@ ghost use Rattle.ada_events.specs.Tasks.{creation_of, moment};
 ghost use Rattle.ada_records.specs.Records.{IsRecordOf};
 ghost use Rattle.ada_view.specs.Views.{IsKept};
 ghost use Rattle.ada_tables.specs.Standing.{StandFor};
+ghost use Rattle.ada_agenda.specs.declared.numbers.TheConstants.{MOST_KEYS};
 
 use ada_events::{Event, Journal, TaskNo};
 use ada_records::Record;
@@ -70,11 +71,12 @@ impl<'a> View<'a> {
         self.journal.len()
     }
 
-    /// The journal.
-    pub fn journal(&self) -> &Journal
-        ensures { result.now.events ≡ self.now }
+    /// The position of the event that comes next, which is a key of an agenda.
+    pub fn next_position(&self) -> u32
+        ensures next { result ≡ length self.now + 1 }
+        ensures fits { result < MOST_KEYS }
     {
-        self.journal
+        self.journal.len() + 1
     }
 
     /// The event at a position, from 1; none at 0 and past the end.

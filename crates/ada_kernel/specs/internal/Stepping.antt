@@ -3,7 +3,7 @@ use Rattle.std.specs.Prelude.{◌≡◌, ℕ, ◌<◌, ◌≤◌, ◌+◌, Bool,
 use Rattle.ada_events.specs.declared.event.Event.{Event}
 use Rattle.ada_events.specs.Forced.{forced}
 use Rattle.ada_events.specs.Journals.{Kept}
-use Rattle.ada_events.specs.Lawful.{IsSettled}
+use Rattle.ada_events.specs.Lawful.{IsLawful, IsSettled}
 use Rattle.ada_rows.specs.declared.row.Row.{Row}
 use Rattle.ada_rows.specs.Rows.{step_at}
 use Rattle.ada_kernel.specs.declared.index.Index.{Index}
@@ -13,6 +13,19 @@ use Rattle.ada_kernel.specs.internal.Indexes.{IsIndexOf}
 pub record MayBegin (index : Index) (journal : List Event) : Type 0 where
   pub stands : IsIndexOf index journal
   pub settled : IsSettled journal
+
+-- the index stands for the journal, in which the event may come next
+pub record MayNote (index : Index) (journal : List Event) (event : Event) : Type 0 where
+  pub stands : IsIndexOf index journal
+  pub lawful : IsLawful (event ∷ journal)
+
+-- the index stands for the journal with the event, if that may come next in it
+abbrev pub HasNoted : List Event → Event → Index → Type 0
+HasNoted before event index = IsLawful (event ∷ before) → IsIndexOf index (event ∷ before)
+
+-- the index stands, without a key, for each journal for which it stood, and of which the row gives nothing there
+abbrev pub HasDropped : Row → ℕ → Index → Index → Type 0
+HasDropped row key old new = (journal : List Event) → IsIndexOf old journal → step_at journal row key ≡ None → IsIndexOf new journal
 
 -- the index stands for the journal; what the row gives at the key is forced, and there is room for it
 pub record MayTake (index : Index) (journal : Kept) (row : Row) (key : ℕ) : Type 0 where

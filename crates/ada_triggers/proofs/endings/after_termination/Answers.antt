@@ -5,7 +5,7 @@ use Rattle.ada_triggers.proofs.endings.after_termination.Goals as goal
 pub returns : goal.returns
 returns c =
     let old = c.args.agenda.now in
-    termination_noted c.args._event.now c.args.view.now old c.put_dependent.new.agenda c.args.task c.requires.lawful c.requires.stands c.requires.goes
+    termination_noted c.args.view.now old c.put_dependent.new.agenda c.args.task
     (both_put old c.put_activation.new.agenda c.put_dependent.new.agenda _ _
     (both_put old c.put_uncallable_calls.new.agenda c.put_activation.new.agenda _ _ c.put_uncallable_calls.ensures c.put_activation.ensures)
     c.put_dependent.ensures)

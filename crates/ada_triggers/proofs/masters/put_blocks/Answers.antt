@@ -8,8 +8,8 @@ use Rattle.ada_triggers.proofs.masters.put_blocks.Goals as goal
 
 pub put_layer-requires : goal.put_layer-requires
 put_layer-requires c p is =
-    got_fits c.args.view.now c.args.task.0 c.loop-place.place p _ c.get.result c.requires.lawful
-    (c.nest-layers.ensures ∙ ap (λ (f : Facts). f.nest) (c.tables.ensures.stand.tasks c.args.task.0 c.requires.known)) c.get.ensures is
+    got_fits c.args.view.now c.args.task.0 c.loop-place.place p _ c.get.result c.tables.ensures.lawful
+    (c.nest-layers.ensures ∙ ap (λ (f : Facts). f.nest) (c.tables.ensures.stand.tasks c.args.task.0 c.requires)) c.get.ensures is
 
 pub loop-place-init : goal.loop-place-init
 loop-place-init c = puts_none c.args.agenda.now (AsBlock (nest c.args.view.now c.args.task.0))
@@ -18,11 +18,11 @@ pub loop-place-preserved : goal.loop-place-preserved
 loop-place-preserved c =
     blocks_put c.args.agenda.now c.loop-place.agenda c.put_layer.new.agenda _ (nest c.args.view.now c.args.task.0) c.loop-place.place c.get.result
     c.loop-place.invariant
-    (c.nest-layers.ensures ∙ ap (λ (f : Facts). f.nest) (c.tables.ensures.stand.tasks c.args.task.0 c.requires.known)) c.get.ensures c.put_layer.ensures
+    (c.nest-layers.ensures ∙ ap (λ (f : Facts). f.nest) (c.tables.ensures.stand.tasks c.args.task.0 c.requires)) c.get.ensures c.put_layer.ensures
 
 pub returns : goal.returns
 returns c =
     all_blocks_put c.args.agenda.now c.loop-place.agenda (nest c.args.view.now c.args.task.0) c.nest-layers.result.now c.loop-place.place
     c.loop-place.invariant
-    (c.nest-layers.ensures ∙ ap (λ (f : Facts). f.nest) (c.tables.ensures.stand.tasks c.args.task.0 c.requires.known))
+    (c.nest-layers.ensures ∙ ap (λ (f : Facts). f.nest) (c.tables.ensures.stand.tasks c.args.task.0 c.requires))
     (subst (λ n. n ≤ c.loop-place.place) c.len-place-end.ensures.value c.loop-place-test.false)

@@ -5,9 +5,9 @@ use Rattle.ada_agenda.proofs.Noting.{both_put}
 use Rattle.ada_triggers.proofs.Quitting.{master_put, unheld_put}
 use Rattle.ada_triggers.proofs.masters.put_master.Goals as goal
 
-pub put_holder-requires-clause-known : goal.put_holder-requires-clause-known
-put_holder-requires-clause-known c =
-    c.requires.known _ (sym c.holder_of.ensures ∙ ap (option_map (λ (t : TaskNo). t.0)) c.in-Some.is)
+pub put_holder-requires : goal.put_holder-requires
+put_holder-requires c =
+    c.requires _ (sym c.holder_of.ensures ∙ ap (option_map (λ (t : TaskNo). t.0)) c.in-Some.is)
 
 pub returns-in-Some : goal.returns-in-Some
 returns-in-Some c =

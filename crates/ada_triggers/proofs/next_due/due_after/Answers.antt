@@ -9,13 +9,13 @@ use Rattle.ada_triggers.proofs.next_due.due_after.Goals as goal
 pub returns-in-Some : goal.returns-in-Some
 returns-in-Some c due until over =
     c.due_in-in-Some.ensures
-    ∙ due_there c.args.view.now c.args.now c.args.task.0 c.record.result.suspension.at c.in-Some.event.now c.requires.lawful
+    ∙ due_there c.args.view.now c.args.now c.args.task.0 c.record.result.suspension.at c.in-Some.event.now c.record.ensures.lawful
     c.record.ensures.right.suspension.at
     (sym c.in-Some.ensures.event) due until over
 
 pub returns-in_default : goal.returns-in_default
 returns-in_default c =
-    came_there c.args.view.now c.args.now c.args.task.0 c.record.result.suspension.at c.in-Some.event.now _ c.requires.lawful
+    came_there c.args.view.now c.args.now c.args.task.0 c.record.result.suspension.at c.in-Some.event.now _ c.record.ensures.lawful
     c.record.ensures.right.suspension.at
     (sym c.in-Some.ensures.event)
     (ap (λ now. is_due now (due_in c.in-Some.event.now)) (sym (to_z-of_z w64 c.args.now c.ranges.now))
@@ -23,5 +23,5 @@ returns-in_default c =
 
 pub returns-in_default-2 : goal.returns-in_default-2
 returns-in_default-2 c =
-    nothing_there c.args.view.now c.args.now c.args.task.0 c.record.result.suspension.at _ c.requires.lawful c.record.ensures.right.suspension.at
+    nothing_there c.args.view.now c.args.now c.args.task.0 c.record.result.suspension.at _ c.record.ensures.lawful c.record.ensures.right.suspension.at
     (sym c.event.ensures.event ∙ ap option_copied c.in_default.is)

@@ -4,7 +4,7 @@ use Rattle.ada_events.specs.declared.request.Request.TheVariants.{Close}
 use Rattle.ada_events.specs.Asks.{asked_event, asker, member_position}
 use Rattle.ada_events.specs.Nests.{nest, innermost}
 use Rattle.ada_events.specs.Refusals.{refusal}
-use Rattle.ada_kernel.proofs.Requests.{may_follow, has_begun, asker_there}
+use Rattle.ada_kernel.proofs.Requests.{may_note, has_begun, asker_there}
 use Rattle.ada_kernel.proofs.index.Index.begin_close.Goals as goal
 
 pub innermost-requires : goal.innermost-requires
@@ -15,16 +15,16 @@ innermost-requires c =
     let unrefused : refusal old request ≡ None = ap (λ j. refusal j request) (sym c.view.ensures) ∙ sym c.in_default.ensures in
     asker_there old _ request c.args.by.0 unrefused (c.view-2.ensures ∙ c.in_ok-make_room.ensures.events) refl
 
-pub note_close-requires-clause-lawful : goal.note_close-requires-clause-lawful
+pub note_close-requires : goal.note_close-requires
 unfolding asked_event
-note_close-requires-clause-lawful c =
+note_close-requires c =
     let old = c.args.journal.now.events in
     let request = Close c.args.by in
     let unrefused : refusal old request ≡ None = ap (λ j. refusal j request) (sym c.view.ensures) ∙ sym c.in_default.ensures in
-    may_follow old _ request _ unrefused c.in_ok-make_room.ensures.events
+    may_note old _ request _ unrefused c.in_ok-make_room.ensures.events
     (ap (Closed c.args.by) (c.member_position-block.ensures ∙ ap member_position (c.innermost.ensures
     ∙ ap (λ j. innermost (nest j c.args.by.0)) (c.view-2.ensures ∙ c.in_ok-make_room.ensures.events))))
-    c.requires.stands.kept.lawful c.requires.settled
+    _ c.requires
 
 pub returns-clause-ok : goal.returns-clause-ok
 unfolding asked_event

@@ -6,7 +6,7 @@ use Rattle.ada_events.specs.Nests.{nest, innermost}
 use Rattle.ada_events.specs.Refusals.{refusal}
 use Rattle.ada_events.specs.Tasks.{task_count}
 use Rattle.ada_laws.proofs.Accepting.{asker_exists}
-use Rattle.ada_kernel.proofs.Requests.{may_follow, has_begun}
+use Rattle.ada_kernel.proofs.Requests.{may_note, has_begun}
 use Rattle.ada_kernel.proofs.index.Index.begin_end.Goals as goal
 
 pub innermost-requires : goal.innermost-requires
@@ -18,16 +18,16 @@ innermost-requires c =
     subst (λ j. c.args.by.0 < task_count j) (sym (c.view-2.ensures ∙ c.in_ok-make_room.ensures.events))
     (asker_exists old request c.args.by.0 unrefused refl)
 
-pub note_end-requires-clause-lawful : goal.note_end-requires-clause-lawful
+pub note_end-requires : goal.note_end-requires
 unfolding asked_event
-note_end-requires-clause-lawful c =
+note_end-requires c =
     let old = c.args.journal.now.events in
     let request = End c.args.by c.args.raised in
     let unrefused : refusal old request ≡ None = ap (λ j. refusal j request) (sym c.view.ensures) ∙ sym (c.in_default.ensures c.args.raised) in
-    may_follow old _ request _ unrefused c.in_ok-make_room.ensures.events
+    may_note old _ request _ unrefused c.in_ok-make_room.ensures.events
     (ap (λ call. Ended c.args.by call c.args.raised) (c.member_position-call.ensures ∙ ap member_position (c.innermost.ensures
     ∙ ap (λ j. innermost (nest j c.args.by.0)) (c.view-2.ensures ∙ c.in_ok-make_room.ensures.events))))
-    c.requires.stands.kept.lawful c.requires.settled
+    _ c.requires
 
 pub returns-clause-ok : goal.returns-clause-ok
 unfolding asked_event

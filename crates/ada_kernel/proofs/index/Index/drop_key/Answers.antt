@@ -2,6 +2,5 @@ use Rattle.ada_kernel.proofs.Spent.{stands_without_key}
 use Rattle.ada_kernel.proofs.index.Index.drop_key.Goals as goal
 
 pub returns : goal.returns
-returns c =
-    stands_without_key c.args.self.now c.remove.new.self c.args._journal.now.events c.args.row c.args.key c.requires.stands c.requires.spent
-    c.remove.ensures.others
+returns c journal stands spent =
+    stands_without_key c.args.self.now c.remove.new.self journal c.args.row c.args.key stands spent c.remove.ensures.others

@@ -1,14 +1,17 @@
-use Rattle.std.proofs.Common.{◌≡◌, ℕ, None, List, ◌∷◌, sym, subst}
-use Rattle.ada_events.specs.declared.event.Event.{Event}
+use Rattle.std.proofs.Common.{◌≡◌, ℕ, None, ◌∷◌, sym, subst, rules}
 use Rattle.ada_events.specs.declared.event.Event.TheVariants.{Halted}
 use Rattle.ada_rows.specs.declared.row.Row.TheVariants.{Halting}
 use Rattle.ada_rows.specs.Rows.{step_at}
+use Rattle.ada_kernel.specs.internal.Indexes.{IsIndexOf}
 use Rattle.ada_kernel.proofs.Spent.{halted_no_more}
 use Rattle.ada_kernel.proofs.index.Index.halt.Goals as goal
 
-pub drop_key-requires-clause-spent : goal.drop_key-requires-clause-spent
-drop_key-requires-clause-spent c =
+pub returns : goal.returns
+returns c =
     let before = c.args.journal.now.events in
-    let task = c.in-Some.task in
-    subst (λ (j : List Event). step_at j Halting c.args.key ≡ None) (sym c.push_reserved.ensures.events)
-    (subst (λ (key : ℕ). step_at (Halted task ∷ before) Halting key ≡ None) c.in-Some.ensures.some (halted_no_more before task))
+    let task = c.in-Some.task in (
+      search rules,
+      subst (IsIndexOf c.drop_key.new.self) (sym c.push_reserved.ensures.events)
+          (c.drop_key.ensures _ c.note_halt.ensures
+          (subst (λ (key : ℕ). step_at (Halted task ∷ before) Halting key ≡ None) c.in-Some.ensures.some (halted_no_more before task))),
+    )

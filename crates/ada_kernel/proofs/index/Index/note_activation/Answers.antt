@@ -1,18 +1,19 @@
 use Rattle.std.proofs.Common.{arith, refl, sym, ap, subst}
+use Rattle.ada_events.specs.declared.event.Event.TheVariants.{Activated}
 use Rattle.ada_events.specs.Says.{creation_in, moment_in, released_in, meeting_in}
 use Rattle.ada_triggers.specs.Bounds.{IsStartBound}
 use Rattle.ada_triggers.proofs.Additions.{nothing_noted}
 use Rattle.ada_agenda.specs.Additions.{adds_nothing}
 use Rattle.ada_records.proofs.Noting.{release_holds}
 use Rattle.ada_events.specs.Outcomes.{raised_in, released_to}
-use Rattle.ada_kernel.proofs.Quiet.{quiet_as, not_due_as, noted_from}
+use Rattle.ada_kernel.proofs.Quiet.{noted_from}
 use Rattle.ada_triggers.proofs.Bounds.{bound_kept}
-use Rattle.ada_kernel.proofs.Recorded.{suspended_recorded, suspended_tabled, noted_release, followed_release}
+use Rattle.ada_kernel.proofs.Recorded.{suspended_recorded, suspended_tabled, noted_release}
 use Rattle.ada_kernel.proofs.index.Index.note_activation.Goals as goal
 
 pub holder_at-task-requires : goal.holder_at-task-requires
 unfolding released_in
-holder_at-task-requires c = release_holds c.args.event.now c.args.journal.now.events _ c.requires.lawful (ap released_in c.requires.activates)
+holder_at-task-requires c = release_holds (Activated c.args.start c.args.ok) c.args.journal.now.events _ c.requires.lawful refl
 
 pub record_release-requires : goal.record_release-requires
 record_release-requires c =
@@ -36,18 +37,17 @@ follow_release-requires-clause-recorded c =
 pub returns : goal.returns
 unfolding creation_in moment_in released_in meeting_in raised_in released_to
 returns c =
-    let event = c.args.event.now in
+    let event = Activated c.args.start c.args.ok in
     let before = c.args.journal.now.events in
-    let now = noted_release event _ before _ _ _ _ c.args.start _ c.record_release.ensures c.requires.activates refl refl refl
+    let now = noted_release event before _ _ _ _ c.args.start _ c.record_release.ensures refl refl refl
     (sym c.activation_outcome.ensures)
     c.holder_at-task.ensures c.as_mut_slice-records.ensures.value c.requires.lawful c.requires.stands.kept.recorded in
-    let follows = followed_release event _ before _ _ _ _ c.args.start c.follow_release.ensures
-    c.requires.activates refl c.holder_at-task.ensures c.requires.lawful now
+    let follows = c.follow_release.ensures event before c.args.start refl c.holder_at-task.ensures c.requires.lawful now
     c.requires.stands.kept.tabled c.requires.stands.slots in
     noted_from c.args.self.now event before c.record_release.new.records c.follow_release.new.tables c.args.self.now.agenda c.args.self.now.next_due
-    c.advance.new.self c.requires.stands c.requires.lawful (quiet_as event _ c.requires.activates refl refl)
+    c.advance.new.self c.requires.stands c.requires.lawful (record { makes = refl; ticks = refl })
     (omega (arith, c.record_release.auto.records, c.as_mut_slice-records.ensures.len))
     now follows.0 follows.1
-    (nothing_noted event before c.args.self.now.agenda c.requires.lawful c.requires.stands.agenda (ap adds_nothing c.requires.activates))
-    (bound_kept event before c.args.self.now.next_due c.requires.lawful c.requires.stands.due (not_due_as event _ c.requires.activates refl))
+    (nothing_noted event before c.args.self.now.agenda c.requires.lawful c.requires.stands.agenda refl)
+    (bound_kept event before c.args.self.now.next_due c.requires.lawful c.requires.stands.due refl)
     (subst (λ journal. IsStartBound journal c.advance.new.self) c.view-view.ensures c.advance.ensures)

@@ -9,47 +9,46 @@ use Rattle.ada_kernel.proofs.Creations.{made_more, creation_made, moment_kept}
 use Rattle.ada_kernel.proofs.index.Index.note_creation.Goals as goal
 
 pub overflow_add-len : goal.overflow_add-len
-overflow_add-len c = record { fits = omega (arith, c.len.ensures, events_are_few c.args.journal.now.events c.requires.lawful.0) }
-
-pub put_creation_keys-requires-clause-creates : goal.put_creation_keys-requires-clause-creates
-put_creation_keys-requires-clause-creates c = makes_some c.args.event.now _ _ _ _ c.requires.makes.is
+overflow_add-len c = record { fits = omega (arith, c.len.ensures, events_are_few c.args.journal.now.events c.requires.may.lawful.0) }
 
 pub follow_creation-requires-clause-few : goal.follow_creation-requires-clause-few
 follow_creation-requires-clause-few c =
     made_tasks c.args.event.now c.args.journal.now.events c.args.self.now.kept.tables c.args.self.now.kept.tables c.args.master c.args.families.now
-    c.requires.lawful c.requires.makes c.requires.stands.kept.tabled c.requires.stands.slots
+    c.requires.may.lawful c.requires.makes c.requires.may.stands.kept.tabled c.requires.may.stands.slots
 
 pub follow_creation-requires-clause-slots : goal.follow_creation-requires-clause-slots
 follow_creation-requires-clause-slots c =
     made_entries c.args.event.now c.args.journal.now.events c.args.self.now.kept.tables c.args.self.now.kept.tables c.args.master c.args.families.now
-    c.requires.lawful c.requires.makes c.requires.stands.kept.tabled c.requires.stands.slots
+    c.requires.may.lawful c.requires.makes c.requires.may.stands.kept.tabled c.requires.may.stands.slots
 
 pub follow_creation-requires-clause-master : goal.follow_creation-requires-clause-master
 follow_creation-requires-clause-master c =
     made_open c.args.event.now c.args.journal.now.events c.args.self.now.kept.tables c.args.self.now.kept.tables c.args.master c.args.families.now
-    c.requires.lawful c.requires.makes c.requires.stands.kept.tabled c.requires.stands.slots
+    c.requires.may.lawful c.requires.makes c.requires.may.stands.kept.tabled c.requires.may.stands.slots
 
 pub returns-clause-ok : goal.returns-clause-ok
 returns-clause-ok c =
     let (creation, makes) = creation_made c.args.event.now c.args.master c.args.families.now c.requires.makes in
-    let follows = c.in_ok-follow_creation.ensures.ok c.args.event.now c.args.journal.now.events c.requires.makes c.requires.lawful c.requires.stands.kept.tabled
-    c.requires.stands.slots in
+    let follows = c.in_ok-follow_creation.ensures.ok c.args.event.now c.args.journal.now.events c.requires.makes c.requires.may.lawful c.requires.may.stands.kept.tabled
+    c.requires.may.stands.slots in
     record {
       kept = record {
-        lawful = c.requires.lawful;
+        lawful = c.requires.may.lawful;
         recorded =
-            c.record_creation.ensures c.args.event.now (makes_some c.args.event.now _ _ _ _ c.requires.makes.is) c.args.journal.now.events c.requires.lawful
+            c.record_creation.ensures c.args.event.now (makes_some c.args.event.now _ _ _ _ c.requires.makes.is) c.args.journal.now.events c.requires.may.lawful
             (search rules);
         tabled = follows.0;
         created =
             subst (λ made. AreMade made (c.args.event.now ∷ c.args.journal.now.events))
             (sym (c.push_reserved.ensures.items ∙ ap (λ made. made ++ (c.len.result + 1) ∷ []) c.in_ok-reserve-2.ensures.items))
-            (made_more c.args.self.now.kept.made.items c.args.event.now c.args.journal.now.events creation (c.len.result + 1) c.requires.stands.kept.created
+            (made_more c.args.self.now.kept.made.items c.args.event.now c.args.journal.now.events creation (c.len.result + 1) c.requires.may.stands.kept.created
             makes (ap (λ n. n + 1) c.len.ensures));
-        timed = c.requires.stands.kept.timed ∙ sym (moment_kept c.args.event.now c.args.journal.now.events c.args.master c.args.families.now c.requires.makes);
+        timed = c.requires.may.stands.kept.timed ∙ sym (moment_kept c.args.event.now c.args.journal.now.events c.args.master c.args.families.now c.requires.makes);
       };
       slots = follows.1;
-      agenda = c.put_creation_keys.ensures;
-      unstarted = bound_stays c.args.event.now c.args.journal.now.events c.args.self.now.unstarted c.requires.stands.unstarted;
-      due = creation_keeps_bound c.args.event.now c.args.journal.now.events c.args.self.now.next_due creation c.requires.lawful c.requires.stands.due makes;
+      agenda =
+          c.put_creation_keys.ensures c.args.event.now c.args.journal.now.events (makes_some c.args.event.now _ _ _ _ c.requires.makes.is) (search rules)
+          c.requires.may.lawful c.requires.may.stands.agenda;
+      unstarted = bound_stays c.args.event.now c.args.journal.now.events c.args.self.now.unstarted c.requires.may.stands.unstarted;
+      due = creation_keeps_bound c.args.event.now c.args.journal.now.events c.args.self.now.next_due creation c.requires.may.lawful c.requires.may.stands.due makes;
     }

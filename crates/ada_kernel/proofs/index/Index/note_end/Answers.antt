@@ -1,21 +1,21 @@
 use Rattle.std.proofs.Common.{arith, ◌∷◌, ap, refl, subst}
+use Rattle.ada_events.specs.declared.event.Event.TheVariants.{Ended}
 use Rattle.ada_events.specs.Says.{creation_in, moment_in, released_in}
 use Rattle.ada_triggers.proofs.Bounds.{bound_kept}
 use Rattle.ada_records.proofs.Noting.{release_holds}
-use Rattle.ada_agenda.specs.Keeping.{IsAgendaOf}
-use Rattle.ada_kernel.proofs.Quiet.{quiet_as, not_due_as, noted}
+use Rattle.ada_kernel.proofs.Quiet.{kept_up, noted}
 use Rattle.ada_records.proofs.Existing.{ender_exists}
-use Rattle.ada_kernel.proofs.Recorded.{suspended_recorded, recorded_task, noted_as, suspended_tabled, tabled_task, followed_as}
+use Rattle.ada_kernel.proofs.Recorded.{suspended_recorded, recorded_task, noted_as, suspended_tabled, tabled_task}
 use Rattle.ada_kernel.proofs.index.Index.note_end.Goals as goal
 
 pub holder_at-caller-requires : goal.holder_at-caller-requires
 unfolding released_in
-holder_at-caller-requires c = release_holds c.args.event.now c.args.journal.now.events _ c.requires.lawful (ap released_in c.requires.ends)
+holder_at-caller-requires c = release_holds (Ended c.args.by c.args.call c.args.raised) c.args.journal.now.events _ c.requires.lawful refl
 
 pub record_end-requires-clause-by : goal.record_end-requires-clause-by
 record_end-requires-clause-by c =
     recorded_task _ _ c.args.journal.now.events c.args.by.0 c.as_mut_slice-records.ensures.value c.requires.stands.kept.recorded
-    (ender_exists c.args.event.now c.args.journal.now.events c.args.by c.args.call c.args.raised c.requires.lawful.1 c.requires.ends)
+    (ender_exists (Ended c.args.by c.args.call c.args.raised) c.args.journal.now.events c.args.by c.args.call c.args.raised c.requires.lawful.1 refl)
 
 pub record_end-requires-clause-caller : goal.record_end-requires-clause-caller
 record_end-requires-clause-caller c =
@@ -26,7 +26,7 @@ record_end-requires-clause-caller c =
 pub follow_end-requires-clause-by : goal.follow_end-requires-clause-by
 follow_end-requires-clause-by c =
     tabled_task _ c.args.journal.now.events c.args.by.0 c.requires.stands.kept.tabled
-    (ender_exists c.args.event.now c.args.journal.now.events c.args.by c.args.call c.args.raised c.requires.lawful.1 c.requires.ends)
+    (ender_exists (Ended c.args.by c.args.call c.args.raised) c.args.journal.now.events c.args.by c.args.call c.args.raised c.requires.lawful.1 refl)
 
 pub follow_end-requires-clause-caller : goal.follow_end-requires-clause-caller
 follow_end-requires-clause-caller c =
@@ -45,17 +45,16 @@ follow_end-requires-clause-recorded c =
 pub returns : goal.returns
 unfolding creation_in moment_in
 returns c =
-    let event = c.args.event.now in
+    let event = Ended c.args.by c.args.call c.args.raised in
     let before = c.args.journal.now.events in
-    let now = noted_as event _ before _ _ _ (c.record_end.ensures before c.args.call c.holder_at-caller.ensures)
-    c.requires.ends
+    let now = noted_as event before _ _ _ (c.record_end.ensures before c.args.call c.holder_at-caller.ensures)
     c.as_mut_slice-records.ensures.value c.requires.lawful c.requires.stands.kept.recorded in
-    let follows = followed_as event _ before _ _ _ (c.follow_end.ensures before c.args.raised c.holder_at-caller.ensures) c.requires.ends c.requires.lawful now
+    let follows = (c.follow_end.ensures before c.args.raised c.holder_at-caller.ensures) c.requires.lawful now
     c.requires.stands.kept.tabled c.requires.stands.slots in
     noted c.args.self.now event before c.record_end.new.records c.follow_end.new.tables c.after_end.new.agenda c.args.self.now.next_due
-    c.requires.stands c.requires.lawful (quiet_as event _ c.requires.ends refl refl)
+    c.requires.stands c.requires.lawful (record { makes = refl; ticks = refl })
     (omega (arith, c.record_end.auto.records, c.as_mut_slice-records.ensures.len))
     now follows.0 follows.1
-    (subst (λ journal. IsAgendaOf c.after_end.new.agenda (event ∷ journal)) c.view-view.ensures c.after_end.ensures)
+    (kept_up _ before event _ _ c.view-view.ensures (c.after_end.ensures c.args.by c.args.raised) c.requires.lawful c.requires.stands.agenda)
     (bound_kept event before c.args.self.now.next_due c.requires.lawful c.requires.stands.due
-    (not_due_as event _ c.requires.ends refl))
+    refl)

@@ -1,7 +1,10 @@
-use Rattle.std.proofs.Common.{◌∷◌, ◌∙◌, sym, ap, subst, w64}
+use Rattle.std.proofs.Common.{◌≡◌, ℤ, List, Option, ◌∷◌, ◌∙◌, sym, ap, subst, w64}
 use Rattle.std.proofs.lemmas.Int.{to_z-of_z}
+use Rattle.ada_events.specs.declared.event.Event.{Event}
+use Rattle.ada_events.specs.declared.event.Event.TheVariants.{Ticked}
+use Rattle.ada_events.specs.Lawful.{IsLawful}
 use Rattle.ada_events.specs.Says.{creation_in}
-use Rattle.ada_agenda.specs.Keeping.{IsAgendaOf}
+use Rattle.ada_kernel.proofs.Quiet.{kept_up}
 use Rattle.ada_triggers.specs.Bounds.{IsDueBound}
 use Rattle.ada_triggers.proofs.Bounds.{ticked_to}
 use Rattle.ada_triggers.proofs.Starts.{bound_stays}
@@ -10,24 +13,33 @@ use Rattle.ada_records.proofs.EventKinds.{records_ticked}
 use Rattle.ada_kernel.proofs.Creations.{made_same}
 use Rattle.ada_kernel.proofs.index.Index.note_tick.Goals as goal
 
+-- the bound after a tick, by a view of the journal
+renewed : (view before : List Event) (event : Event) (same now : ℤ) (bound : Option ℤ) → view ≡ before → same ≡ now → event ≡ Ticked now
+    → (IsLawful (Ticked same ∷ view) → IsDueBound (Ticked same ∷ view) bound) → IsLawful (event ∷ before) → IsDueBound (event ∷ before) bound
+renewed view before event same now bound viewed is ticks =
+    let P : Event → List Event → Type 0 = λ e j. IsLawful (e ∷ j) → IsDueBound (e ∷ j) bound in
+    λ kept. subst (λ (e : Event). P e before) (ap Ticked is ∙ sym ticks) (subst (P (Ticked same)) viewed kept)
+
 pub returns : goal.returns
 unfolding creation_in
 returns c =
     let event = c.args.event.now in
     let before = c.args.journal.now.events in
-    let now = records_ticked event before _ c.args.self.now.kept.records.items c.requires.ticks c.requires.lawful c.requires.stands.kept.recorded in
-    let follows = tick_stand event before c.args.self.now.kept.tables _ c.requires.ticks c.requires.lawful
-    c.requires.stands.kept.tabled c.requires.stands.slots in
+    let now = records_ticked event before _ c.args.self.now.kept.records.items c.requires.ticks c.requires.may.lawful c.requires.may.stands.kept.recorded in
+    let follows = tick_stand event before c.args.self.now.kept.tables _ c.requires.ticks c.requires.may.lawful
+    c.requires.may.stands.kept.tabled c.requires.may.stands.slots in
     record {
       kept = record {
-        lawful = c.requires.lawful;
+        lawful = c.requires.may.lawful;
         recorded = now;
         tabled = follows.0;
-        created = made_same c.args.self.now.kept.made.items event before c.requires.stands.kept.created (ap creation_in c.requires.ticks);
+        created = made_same c.args.self.now.kept.made.items event before c.requires.may.stands.kept.created (ap creation_in c.requires.ticks);
         timed = to_z-of_z w64 c.args.now c.ranges.now ∙ sym (ticked_to event before _ c.requires.ticks);
       };
       slots = follows.1;
-      agenda = subst (λ journal. IsAgendaOf c.after_tick.new.agenda (event ∷ journal)) c.view-view.ensures c.after_tick.ensures;
-      due = subst (λ journal. IsDueBound (event ∷ journal) c.next_after_tick-self.result) c.view-view.ensures c.next_after_tick-self.ensures;
-      unstarted = bound_stays event before c.args.self.now.unstarted c.requires.stands.unstarted;
+      agenda = kept_up _ before event _ _ c.view-view.ensures c.after_tick.ensures c.requires.may.lawful c.requires.may.stands.agenda;
+      due =
+          renewed _ before event _ c.args.now c.next_after_tick-self.result c.view-view.ensures (to_z-of_z w64 c.args.now c.ranges.now) c.requires.ticks
+          c.next_after_tick-self.ensures c.requires.may.lawful;
+      unstarted = bound_stays event before c.args.self.now.unstarted c.requires.may.stands.unstarted;
     }

@@ -1,17 +1,18 @@
 use Rattle.std.proofs.Common.{arith, refl, ap}
+use Rattle.ada_events.specs.declared.event.Event.TheVariants.{Woken}
 use Rattle.ada_events.specs.Says.{creation_in, moment_in, released_in, meeting_in}
 use Rattle.ada_triggers.proofs.Additions.{nothing_noted}
 use Rattle.ada_agenda.specs.Additions.{adds_nothing}
 use Rattle.ada_records.proofs.Noting.{release_holds}
 use Rattle.ada_events.specs.Outcomes.{raised_in, released_to}
-use Rattle.ada_kernel.proofs.Quiet.{quiet_as, not_due_as, noted}
+use Rattle.ada_kernel.proofs.Quiet.{noted}
 use Rattle.ada_triggers.proofs.Bounds.{bound_kept}
-use Rattle.ada_kernel.proofs.Recorded.{suspended_recorded, suspended_tabled, noted_release, followed_release}
+use Rattle.ada_kernel.proofs.Recorded.{suspended_recorded, suspended_tabled, noted_release}
 use Rattle.ada_kernel.proofs.index.Index.note_waking.Goals as goal
 
 pub holder_at-task-requires : goal.holder_at-task-requires
 unfolding released_in
-holder_at-task-requires c = release_holds c.args.event.now c.args.journal.now.events _ c.requires.lawful (ap released_in c.requires.wakes)
+holder_at-task-requires c = release_holds (Woken c.args.pause) c.args.journal.now.events _ c.requires.lawful refl
 
 pub record_release-requires : goal.record_release-requires
 record_release-requires c =
@@ -35,16 +36,15 @@ follow_release-requires-clause-recorded c =
 pub returns : goal.returns
 unfolding creation_in moment_in released_in meeting_in raised_in released_to
 returns c =
-    let event = c.args.event.now in
+    let event = Woken c.args.pause in
     let before = c.args.journal.now.events in
-    let now = noted_release event _ before _ _ _ _ c.args.pause _ c.record_release.ensures c.requires.wakes refl refl refl refl
+    let now = noted_release event before _ _ _ _ c.args.pause _ c.record_release.ensures refl refl refl refl
     c.holder_at-task.ensures c.as_mut_slice-records.ensures.value c.requires.lawful c.requires.stands.kept.recorded in
-    let follows = followed_release event _ before _ _ _ _ c.args.pause c.follow_release.ensures
-    c.requires.wakes refl c.holder_at-task.ensures c.requires.lawful now
+    let follows = c.follow_release.ensures event before c.args.pause refl c.holder_at-task.ensures c.requires.lawful now
     c.requires.stands.kept.tabled c.requires.stands.slots in
     noted c.args.self.now event before c.record_release.new.records c.follow_release.new.tables c.args.self.now.agenda c.args.self.now.next_due
-    c.requires.stands c.requires.lawful (quiet_as event _ c.requires.wakes refl refl)
+    c.requires.stands c.requires.lawful (record { makes = refl; ticks = refl })
     (omega (arith, c.record_release.auto.records, c.as_mut_slice-records.ensures.len))
     now follows.0 follows.1
-    (nothing_noted event before c.args.self.now.agenda c.requires.lawful c.requires.stands.agenda (ap adds_nothing c.requires.wakes))
-    (bound_kept event before c.args.self.now.next_due c.requires.lawful c.requires.stands.due (not_due_as event _ c.requires.wakes refl))
+    (nothing_noted event before c.args.self.now.agenda c.requires.lawful c.requires.stands.agenda refl)
+    (bound_kept event before c.args.self.now.next_due c.requires.lawful c.requires.stands.due refl)
