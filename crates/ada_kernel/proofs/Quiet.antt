@@ -19,7 +19,6 @@ use Rattle.ada_agenda.specs.Kinds.{due_in}
 use Rattle.ada_kernel.specs.declared.index.Index.{Index}
 use Rattle.ada_kernel.specs.declared.index.Kept.{Kept}
 use Rattle.ada_kernel.specs.internal.Indexes.{IsIndexOf}
-use Rattle.ada_kernel.proofs.Creations.{made_same}
 
 -- the event makes no task and moves no moment
 pub record IsQuiet (event : Event) : Type 0 where
@@ -53,7 +52,6 @@ noted_from index event before records tables rows next first stands lawful quiet
     lawful = lawful;
     recorded = subst (λ (rs : List Record). AreRecords rs (event ∷ before)) (sym (with_items_is index.kept.records records long)) recorded;
     tabled = tabled;
-    created = made_same index.kept.made.items event before stands.kept.created quiet.makes;
     timed = stands.kept.timed ∙ sym (same_moment event before quiet);
   };
   slots = slots;
@@ -80,7 +78,6 @@ noted_tables index event before tables stands lawful quiet recorded tabled slots
     lawful = lawful;
     recorded = recorded;
     tabled = tabled;
-    created = made_same index.kept.made.items event before stands.kept.created quiet.makes;
     timed = stands.kept.timed ∙ sym (same_moment event before quiet);
   };
   slots = slots;

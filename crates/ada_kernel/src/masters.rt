@@ -54,10 +54,8 @@ impl Index {
     {
         let tasks = usize::from(self.kept.tables.tasks());
         self.kept.records.reserve(1)?;
-        self.kept.made.reserve(1)?;
         follow_creation(&mut self.kept.tables, master, families)?;
-        record_creation(&mut self.kept.records);
-        self.kept.made.push_reserved(journal.len() + 1);
+        record_creation(&mut self.kept.records, journal.len() + 1);
         put_creation_keys(&mut self.agenda, journal, event, tasks);
         Ok(())
     }

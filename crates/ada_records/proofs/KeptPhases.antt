@@ -51,6 +51,7 @@ live_phase event before task lawful holds listed apart lives =
     let now : Record = record {
       suspension = record r.suspension { joined = is_met (event ∷ before) r.suspension.at; outcome = latest_outcome (event ∷ before) task };
       stage = stage_after event before task r.stage;
+      created = (record_exists (event ∷ before) task).0.created;
     } in
     let right : IsRecordOf (event ∷ before) task now = record {
       suspension = doing_later event before task r.suspension (is_met (event ∷ before) r.suspension.at) (latest_outcome
@@ -59,6 +60,7 @@ live_phase event before task lawful holds listed apart lives =
           (unreleased_at event before task r.suspension.at apart is.suspension.at.held (releases_some event before lawful))
           lives (λ some. refl) refl;
       stage = stage_more event before task r.stage is.stage;
+      created = (record_exists (event ∷ before) task).1.created;
     } in
     let same : phase_by now ≡ phase_by r = rw (listed, parts.0, parts.1) refl in
     sym (records_tell_phases (event ∷ before) task now right) ∙ same ∙ records_tell_phases before task r is

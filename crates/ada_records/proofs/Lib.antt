@@ -26,6 +26,7 @@ pub mod Queries
 pub mod KeptQueues
 pub mod Agreeing
 pub mod Entries
+pub mod Creations
 pub mod Empty
 pub mod NestedBlocks
 pub mod Standing

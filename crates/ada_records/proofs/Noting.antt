@@ -11,6 +11,7 @@ use Rattle.ada_events.specs.declared.outcome.Outcome.{Outcome}
 use Rattle.ada_events.specs.declared.outcome.Outcome.TheVariants.{Held, Raised, Served, Accepted}
 use Rattle.ada_events.specs.Search.{is_number, is_some_and, event_at}
 use Rattle.ada_events.specs.Says.{Meeting, held_in, released_in, meeting_in, creation_in}
+use Rattle.ada_events.specs.Tasks.{creation_of}
 use Rattle.ada_events.specs.Outcomes.{raised_in, released_to, choice_met}
 use Rattle.ada_events.specs.Lawful.{IsLawful}
 use Rattle.ada_laws.specs.Suspension.{IsSuspendedAt}
@@ -25,6 +26,7 @@ use Rattle.ada_records.specs.declared.record.Record.{Record}
 use Rattle.ada_records.specs.declared.record.Stage.{Stage}
 use Rattle.ada_records.specs.Records.{no_record, record_at, IsDoingOf, IsStageOf, IsRecordOf, AreRecords, HoldsSomebody, IsPlainHold, IsPlainRelease, freed}
 use Rattle.ada_records.specs.Noted.{may_terminate}
+use Rattle.ada_records.proofs.Creations.{same_creation, created_still, created_kept}
 use Rattle.ada_records.proofs.Holding.{hold_only, quiet_ends, holder_ran}
 use Rattle.ada_records.proofs.QueueChanges.{ends}
 use Rattle.ada_records.proofs.Saying.{IsPlain, number_none, number_other, no_meeting, other_call, release_only, held_apart, met_frees, call_not_wait}
@@ -43,10 +45,12 @@ pub record IsUntouched (event : Event) (before : List Event) (task at : ℕ) : T
   pub ends : ends event before task ≡ false
 
 pub untouched : (event : Event) (before : List Event) (task : ℕ) (kept : Record) → IsLawful (event ∷ before) → IsRecordOf before task kept
-    → IsUntouched event before task kept.suspension.at → stage_after event before task kept.stage ≡ kept.stage → IsRecordOf (event ∷ before) task kept
-untouched event before task kept lawful old apart same = record {
+    → IsUntouched event before task kept.suspension.at → stage_after event before task kept.stage ≡ kept.stage
+    → creation_of (event ∷ before) task ≡ creation_of before task → IsRecordOf (event ∷ before) task kept
+untouched event before task kept lawful old apart same creation = record {
   suspension = doing_same event before task kept.suspension lawful old.suspension apart.holds apart.raises apart.frees apart.meets apart.ends;
   stage = subst (IsStageOf (event ∷ before) task) same (stage_more event before task kept.stage old.stage);
+  created = created_still event before task kept.created creation old.created;
 }
 
 -- a record with another latest suspension, where the event changes nothing else
@@ -56,6 +60,7 @@ doing_only event before task was now suspension plain old right is =
     subst (IsRecordOf (event ∷ before) task) (sym is) (record {
       suspension = right;
       stage = subst (IsStageOf (event ∷ before) task) (stage_plain event before task was.stage plain) (stage_more event before task was.stage old.stage);
+      created = created_kept event before task was.created plain.quiet.makes old.created;
     })
 
 -- the records with one changed
@@ -131,7 +136,7 @@ records_hold event before records task now lawful old hold is =
       meets = no_meeting event (doing_at records other) only.meets;
       ends = quiet_ends event before other only.quiet;
     })
-    (stage_plain event before other (record_at records other).stage plain))
+    (stage_plain event before other (record_at records other).stage plain) (same_creation event before other only.quiet.makes))
 
 -- who is suspended elsewhere is kept so
 pub elsewhere : (journal : List Event) (records : List Record) (u v p : ℕ) → AreRecords records journal → u < length records → u ≢ v → 0 < p
@@ -154,7 +159,7 @@ unreleased event before records task other p lawful old known differs some held 
       meets = meets;
       ends = quiet_ends event before other only.plain.quiet;
     })
-    (stage_plain event before other (record_at records other).stage only.plain)
+    (stage_plain event before other (record_at records other).stage only.plain) (same_creation event before other only.plain.quiet.makes)
 
 -- what a position holds up, by the records
 pub record IsKeptAt (journal : List Event) (records : List Record) (task position : ℕ) : Type 0 where
@@ -336,16 +341,20 @@ records_one event before records task now lawful old only within right =
       meets = no_meeting event (doing_at records other) only.meets;
       ends = only.ends other differs;
     })
-    (only.stage other (record_at records other).stage differs))
+    (only.stage other (record_at records other).stage differs) (same_creation event before other only.makes))
 
 -- the records after an event that ends one task
 pub records_end : (event : Event) (before : List Event) (records : List Record) (task : ℕ) (now : Record) → IsLawful (event ∷ before)
     → AreRecords records before → TouchesOne event before task → task < length records → ends event before task ≡ true
-    → now ≡ record { suspension = freed (record_at records task).suspension.outcome; stage = stage_after event before task (record_at records task).stage }
+    → now ≡ record (record_at records task) {
+      suspension = freed (record_at records task).suspension.outcome;
+      stage = stage_after event before task (record_at records task).stage;
+    }
     → AreRecords (set records task now) (event ∷ before)
 records_end event before records task now lawful old only within ended is =
     records_one event before records task now lawful old only within
     (subst (IsRecordOf (event ∷ before) task) (sym is) (record {
       suspension = doing_ended event before task (record_at records task).suspension lawful (old.each task within).suspension ended;
       stage = stage_more event before task (record_at records task).stage (old.each task within).stage;
+      created = created_kept event before task (record_at records task).created only.makes (old.each task within).created;
     }))

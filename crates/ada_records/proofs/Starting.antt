@@ -18,6 +18,7 @@ use Rattle.ada_records.specs.declared.record.Suspension.{Suspension}
 use Rattle.ada_records.specs.declared.record.Record.{Record}
 use Rattle.ada_records.specs.Records.{no_record, record_at, IsDoingOf, IsStageOf, IsRecordOf, AreRecords}
 use Rattle.ada_records.specs.internal.Records.{start_record, HaveChanged}
+use Rattle.ada_records.proofs.Creations.{created_kept}
 use Rattle.ada_records.proofs.Doings.{doing_held, doing_same}
 use Rattle.ada_records.proofs.Existing.{started_at_exists}
 use Rattle.ada_records.proofs.Holding.{holder_ran}
@@ -76,6 +77,7 @@ starter_exists event before by tasks lawful is = (holder_ran event before by.0 l
 started_record : (before : List Event) (records : List Record) (by : TaskNo) (tasks : List TaskNo) (task : ℕ) → IsLawful (Started by tasks ∷ before)
     → AreRecords records before → by.0 < length records → task < length records
     → IsRecordOf (Started by tasks ∷ before) task (start_record (lists_task task tasks) (record_at (with_starter before records by.0) task))
+unfolding creation_in
 started_record before records by tasks task lawful old has_by known =
     elim (cases_eq task by.0) [
       | inl same ↦
@@ -86,6 +88,7 @@ started_record before records by tasks task lawful old has_by known =
             suspension = starter_doing before by tasks lawful;
             stage = start_stage before by tasks by.0 (record_at records by.0)
                 (old.each by.0 has_by).stage;
+            created = created_kept (Started by tasks) before by.0 (record_at records by.0).created refl (old.each by.0 has_by).created;
           }))
       | inr differs ↦
           rw (get_or-set_other records by.0 task (record (record_at records by.0) { suspension = starting before }) no_record differs)
@@ -93,6 +96,7 @@ started_record before records by tasks task lawful old has_by known =
             suspension = other_doing before by tasks task (record_at records task).suspension lawful (old.each task known).suspension differs;
             stage = start_stage
                 before by tasks task (record_at records task) (old.each task known).stage;
+            created = created_kept (Started by tasks) before task (record_at records task).created refl (old.each task known).created;
           })
     ]
 

@@ -65,9 +65,10 @@ HaveNotedAbort hit old new =
     (before : List Event) (by : TaskNo) (tasks : List TaskNo) → ListsLive before hit (is_hit before tasks)
     → HaveNotedAfter before (Aborted by tasks) old new
 
--- the making of a task was noted (9.1)
-abbrev pub HaveNotedCreation : List Record → List Record → Type 0
-HaveNotedCreation old new = (event : Event) → IsSome (creation_in event) → HaveNoted event old new
+-- the making of a task was noted, by the event at a position (9.1)
+abbrev pub HaveNotedCreation : ℕ → List Record → List Record → Type 0
+HaveNotedCreation at old new =
+    (event : Event) (before : List Event) → IsSome (creation_in event) → length before + 1 ≡ at → HaveNotedAfter before event old new
 
 -- there is a record of each listed task
 abbrev pub HaveRecords : List TaskNo → List Record → Type 0

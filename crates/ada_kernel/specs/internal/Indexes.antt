@@ -7,11 +7,11 @@ use Rattle.ada_view.specs.Views.{IsKept}
 use Rattle.ada_agenda.specs.Keeping.{IsAgendaOf}
 use Rattle.ada_kernel.specs.declared.index.Index.{Index}
 
--- the journal is lawful, and all that is kept of it is right: records, tables with a queue for each entry, positions of
--- creations, moment, an agenda that misses no step, a bound of the moments for which tasks are suspended, and one of
+-- the journal is lawful, and all that is kept of it is right: records, tables with a queue for each entry,
+-- moment, an agenda that misses no step, a bound of the moments for which tasks are suspended, and one of
 -- the tasks that were started
 pub record IsIndexOf (index : Index) (journal : List Event) : Type 0 where
-  pub kept : IsKept journal index.kept.records.items index.kept.tables index.kept.made.items index.kept.moment
+  pub kept : IsKept journal index.kept.records.items index.kept.tables index.kept.moment
   pub slots : HaveAllQueues index.kept.tables journal
   pub agenda : IsAgendaOf index.agenda journal
   pub due : IsDueBound journal index.next_due
