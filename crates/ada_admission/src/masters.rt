@@ -14,7 +14,7 @@ ghost use Rattle.ada_tables.specs.Dependents.{holds};
 
 use crate::limits::{has_most_tasks, is_full, passes_most_slots};
 use crate::names::{is_elaborated, is_known, is_running};
-use crate::nests::{has_most_members, is_innermost_rendezvous, is_within};
+use crate::nests::{has_most_members, is_block_innermost, is_within};
 use ada_events::{Family, Master, Refusal, TaskNo};
 use ada_view::View;
 
@@ -112,7 +112,7 @@ pub fn refusal_of_close(view: &View, by: TaskNo) -> Option<Refusal>
     if !is_running(view, by) {
         return Some(Refusal::NotRunning);
     }
-    if is_innermost_rendezvous(view.innermost(by), true) {
+    if !is_block_innermost(view.innermost(by)) {
         return Some(Refusal::NoBlock);
     }
     if is_full(view) {

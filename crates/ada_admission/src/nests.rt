@@ -1,6 +1,6 @@
 //! Tests of the asking task's nest.
 
-ghost use Rattle.std.specs.Prelude.{◌≡◌, ◌<◌, ◌==◌, length, nat_le, not};
+ghost use Rattle.std.specs.Prelude.{◌≡◌, ◌<◌, ◌==◌, true, length, nat_le, not};
 ghost use Rattle.std.specs.List.{list_any};
 ghost use Rattle.std.specs.Option.{option_map_or};
 ghost use Rattle.ada_events.specs.declared.limits.TheConstants.{MOST_MEMBERS};
@@ -39,13 +39,18 @@ fn is_rendezvous(member: Member) -> bool
     matches!(member, Member::Rendezvous(_))
 }
 
-pub(crate) fn is_innermost_rendezvous(member: Option<Member>, otherwise: bool) -> bool
-    ensures { result ≡ option_map_or refusals.is_rendezvous member otherwise }
+/// Whether the innermost member of a nest, if there is one, is a rendezvous.
+pub(crate) fn is_rendezvous_innermost(innermost: Option<Member>) -> bool
+    ensures { result ≡ is_some_and innermost refusals.is_rendezvous }
 {
-    match member {
-        Some(member) => is_rendezvous(member),
-        None => otherwise,
-    }
+    matches!(innermost, Some(Member::Rendezvous(_)))
+}
+
+/// Whether the innermost member of a nest, if there is one, is a block.
+pub(crate) fn is_block_innermost(innermost: Option<Member>) -> bool
+    ensures { result ≡ not (option_map_or refusals.is_rendezvous innermost true) }
+{
+    matches!(innermost, Some(Member::Block(_)))
 }
 
 fn is_rendezvous_layer(layer: Layer) -> bool

@@ -12,7 +12,7 @@ ghost use Rattle.ada_events.specs.Refusals as refusals;
 use crate::entries::{is_outside, lacks_family};
 use crate::limits::{ends_too_late, is_full};
 use crate::names::{is_elaborated, is_known, is_running};
-use crate::nests::{has_most_members, has_rendezvous_for, is_innermost_rendezvous};
+use crate::nests::{has_most_members, has_rendezvous_for, is_rendezvous_innermost};
 use ada_events::{Entry, Patience, Refusal, TaskNo};
 use ada_view::View;
 
@@ -113,7 +113,7 @@ pub fn refusal_of_end(view: &View, by: TaskNo) -> Option<Refusal>
     if !is_elaborated(view, by) {
         return Some(Refusal::DuringActivation);
     }
-    if !is_innermost_rendezvous(view.innermost(by), false) {
+    if !is_rendezvous_innermost(view.innermost(by)) {
         return Some(Refusal::NotInAccept);
     }
     if is_full(view) {
