@@ -9,7 +9,7 @@ use Rattle.ada_events.specs.Tasks.{task_count}
 use Rattle.ada_laws.specs.Suspension.{IsSuspendedAt}
 use Rattle.ada_laws.proofs.Suspending.{suspended_exists}
 use Rattle.ada_records.specs.declared.record.Record.{Record}
-use Rattle.ada_records.specs.Noted.{HaveNotedAfter, HaveNotedHold, HaveNotedRelease, may_terminate}
+use Rattle.ada_records.specs.Noted.{HaveNotedAfter, HaveNotedHold, HaveNotedRelease, waits_at_open_terminate}
 use Rattle.ada_records.specs.Followed.{StandAfter, HaveFollowedAfter, HaveFollowedHold, HaveFollowedRelease}
 use Rattle.ada_records.specs.Noting.{passing_in}
 use Rattle.ada_records.specs.Records.{AreRecords}
@@ -43,10 +43,10 @@ noted_as event x before records lent new noted is same lawful stand =
 
 -- likewise a hold: the premises on what it says are refl there
 pub noted_hold : (event x : Event) (before : List Event) (records lent new : List Record) (task at : ℕ) (quittable : Bool)
-    → HaveNotedHold task at quittable lent new → event ≡ x → held_in x ≡ Some task → started_in x ≡ [] → may_terminate x ≡ quittable
+    → HaveNotedHold task at quittable lent new → event ≡ x → held_in x ≡ Some task → started_in x ≡ [] → waits_at_open_terminate x ≡ quittable
     → at ≡ length before + 1 → lent ≡ records → IsLawful (event ∷ before) → AreRecords records before → AreRecords new (event ∷ before)
 noted_hold event x before records lent new task at quittable noted is holds starts opens position same lawful stand =
-    noted event before (holds_of event x task is holds starts) (sym position) (ap may_terminate is ∙ opens) lawful (rw same stand)
+    noted event before (holds_of event x task is holds starts) (sym position) (ap waits_at_open_terminate is ∙ opens) lawful (rw same stand)
 
 -- and a release
 pub noted_release : (event x : Event) (before : List Event) (records lent new : List Record) (task position : ℕ) (outcome : Outcome)

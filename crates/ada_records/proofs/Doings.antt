@@ -7,7 +7,6 @@ use Rattle.std.proofs.lemmas.Option.{none-some, same_Some}
 use Rattle.ada_events.specs.declared.event.Event.{Event}
 use Rattle.ada_events.specs.declared.event.Event.TheVariants.{Completed, Elaborated, Halted, Gone, Quit}
 use Rattle.ada_events.specs.declared.outcome.Outcome.{Outcome}
-use Rattle.ada_events.specs.declared.outcome.Outcome.TheVariants.{Held}
 use Rattle.ada_events.specs.declared.names.Master.{Master}
 use Rattle.ada_events.specs.Search.{is_number, is_some_and, event_at}
 use Rattle.ada_events.specs.Says.{Wait, Meeting, wait_in, held_in, released_in, meeting_in, completed_in, gone_in, quit_in}
@@ -24,7 +23,8 @@ use Rattle.ada_laws.proofs.Suspending.{is_suspended-from, suspended_cases, suspe
 use Rattle.ada_records.specs.declared.record.Suspension.{Suspension}
 use Rattle.ada_records.specs.Latest.{latest_outcome}
 use Rattle.ada_records.specs.Records.{IsHeldAt, IsDoingOf}
-use Rattle.ada_records.specs.Noted.{may_terminate}
+use Rattle.ada_records.specs.Noted.{waits_at_open_terminate}
+use Rattle.ada_records.specs.internal.Records.{held}
 use Rattle.ada_records.proofs.Callers.{IsAtTerminate, at_terminate}
 use Rattle.ada_records.proofs.Holding.{hold_only, held_newest, held_same, held_released, held_ended, suspended_later}
 use Rattle.ada_records.proofs.LatestOutcomes.{holds_are_held, releases_decide, others_keep_outcomes}
@@ -131,9 +131,9 @@ doing_same event before task kept lawful old other unraised stays unmet lives =
     (old.outcome ∙ same_outcome event before task kept.at lawful old.at other unraised stays)
 
 newest_quits : (event : Event) (before : List Event) (task : ℕ) → IsLawful (event ∷ before) → held_in event ≡ Some task
-    → may_terminate event ≡ quits (event ∷ before) task
+    → waits_at_open_terminate event ≡ quits (event ∷ before) task
 newest_quits event before task lawful holds =
-    elim (cases_Bool (may_terminate event)) [
+    elim (cases_Bool (waits_at_open_terminate event)) [
       | inl here ↦
           let (w, says, terminates) = option_map_or-true (λ (w : Wait). is_open_terminate w.tail) (wait_in event) here in
           here
@@ -157,7 +157,7 @@ newest_quits event before task lawful holds =
 
 -- who is held up by the newest event is suspended at it
 pub doing_held : (event : Event) (before : List Event) (task : ℕ) → IsLawful (event ∷ before) → held_in event ≡ Some task
-    → IsDoingOf (event ∷ before) task (record { at = suc (length before); joined = false; quittable = may_terminate event; outcome = Held })
+    → IsDoingOf (event ∷ before) task (held (suc (length before)) (waits_at_open_terminate event))
 doing_held event before task lawful holds = record {
   at = held_newest event before task lawful holds;
   joined = λ some. sym (next_unmet event before (suc (length before)) (hold_only event task holds).meets refl lawful);

@@ -8,7 +8,7 @@ use Rattle.ada_events.specs.declared.event.Event.{Event}
 use Rattle.ada_events.specs.declared.event.Event.TheVariants.{Ended, Met}
 use Rattle.ada_events.specs.declared.names.TaskNo.{TaskNo}
 use Rattle.ada_events.specs.declared.outcome.Outcome.{Outcome}
-use Rattle.ada_events.specs.declared.outcome.Outcome.TheVariants.{Held, Raised, Served, Accepted}
+use Rattle.ada_events.specs.declared.outcome.Outcome.TheVariants.{Raised, Served, Accepted}
 use Rattle.ada_events.specs.Search.{is_number, is_some_and, event_at}
 use Rattle.ada_events.specs.Says.{Meeting, held_in, released_in, meeting_in, creation_in}
 use Rattle.ada_events.specs.Tasks.{creation_of}
@@ -25,7 +25,8 @@ use Rattle.ada_records.specs.declared.record.Suspension.{Suspension}
 use Rattle.ada_records.specs.declared.record.Record.{Record}
 use Rattle.ada_records.specs.declared.record.Stage.{Stage}
 use Rattle.ada_records.specs.Records.{no_record, record_at, IsDoingOf, IsStageOf, IsRecordOf, AreRecords, HoldsSomebody, IsPlainHold, IsPlainRelease, freed}
-use Rattle.ada_records.specs.Noted.{may_terminate}
+use Rattle.ada_records.specs.Noted.{waits_at_open_terminate}
+use Rattle.ada_records.specs.internal.Records.{held}
 use Rattle.ada_records.proofs.Creations.{same_creation, created_still, created_kept}
 use Rattle.ada_records.proofs.Holding.{hold_only, quiet_ends, holder_ran}
 use Rattle.ada_records.proofs.QueueChanges.{ends}
@@ -114,7 +115,7 @@ doing_at records task = (record_at records task).suspension.at
 -- the records after an event that holds a task up
 pub records_hold : (event : Event) (before : List Event) (records : List Record) (task : ℕ) (now : Record) → IsLawful (event ∷ before)
     → AreRecords records before → IsPlainHold event task
-    → now ≡ record (record_at records task) { suspension = record { at = length before + 1; joined = false; quittable = may_terminate event; outcome = Held } }
+    → now ≡ record (record_at records task) { suspension = held (length before + 1) (waits_at_open_terminate event) }
     → AreRecords (set records task now) (event ∷ before)
 records_hold event before records task now lawful old hold is =
     let only = hold_only event task hold.holds in
@@ -124,8 +125,8 @@ records_hold event before records task now lawful old hold is =
     let next : length before + 1 ≡ suc (length before) = omega arith in
     one_changed event before records task now only.quiet.makes old within
     (doing_only event before task (record_at records task) now
-    (record { at = length before + 1; joined = false; quittable = may_terminate event; outcome = Held }) plain (old.each task within)
-    (subst (λ (n : ℕ). IsDoingOf (event ∷ before) task (record { at = n; joined = false; quittable = may_terminate event; outcome = Held })) (sym next)
+    (held (length before + 1) (waits_at_open_terminate event)) plain (old.each task within)
+    (subst (λ (n : ℕ). IsDoingOf (event ∷ before) task (held n (waits_at_open_terminate event))) (sym next)
     (doing_held event before task lawful hold.holds)) is)
     (λ other known differs.
     untouched event before other (record_at records other) lawful (old.each other known)

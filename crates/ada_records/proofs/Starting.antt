@@ -6,7 +6,6 @@ use Rattle.std.proofs.lemmas.List.{length-set, get_or-set_same, get_or-set_other
 use Rattle.ada_events.specs.declared.event.Event.{Event}
 use Rattle.ada_events.specs.declared.event.Event.TheVariants.{Started}
 use Rattle.ada_events.specs.declared.names.TaskNo.{TaskNo}
-use Rattle.ada_events.specs.declared.outcome.Outcome.TheVariants.{Held}
 use Rattle.ada_events.specs.Says.{wait_in, held_in, released_in, completed_in, gone_in, quit_in, started_in, aborted_in, elaborated_in, failed_in, meeting_in}
 use Rattle.ada_events.specs.Says.{creation_in}
 use Rattle.ada_events.specs.Tasks.{task_count}
@@ -17,7 +16,7 @@ use Rattle.ada_laws.proofs.Growing.{task_count-same}
 use Rattle.ada_records.specs.declared.record.Suspension.{Suspension}
 use Rattle.ada_records.specs.declared.record.Record.{Record}
 use Rattle.ada_records.specs.Records.{no_record, record_at, IsDoingOf, IsStageOf, IsRecordOf, AreRecords}
-use Rattle.ada_records.specs.internal.Records.{start_record, HaveChanged}
+use Rattle.ada_records.specs.internal.Records.{held, start_record, HaveChanged}
 use Rattle.ada_records.proofs.Creations.{created_kept}
 use Rattle.ada_records.proofs.Doings.{doing_held, doing_same}
 use Rattle.ada_records.proofs.Existing.{started_at_exists}
@@ -26,14 +25,14 @@ use Rattle.ada_records.proofs.Stages.{stage_more}
 
 -- who starts an activation waits for its end
 abbrev pub starting : List Event → Suspension
-starting before = record { at = length before + 1; joined = false; quittable = false; outcome = Held }
+starting before = held (length before + 1) false
 
 starter_doing : (before : List Event) (by : TaskNo) (tasks : List TaskNo) → IsLawful (Started by tasks ∷ before)
     → IsDoingOf (Started by tasks ∷ before) by.0 (starting before)
 unfolding held_in wait_in
 starter_doing before by tasks lawful =
     let next : suc (length before) ≡ length before + 1 = omega arith in
-    subst (λ (n : ℕ). IsDoingOf (Started by tasks ∷ before) by.0 (record { at = n; joined = false; quittable = false; outcome = Held })) next
+    subst (λ (n : ℕ). IsDoingOf (Started by tasks ∷ before) by.0 (held n false)) next
     (doing_held (Started by tasks) before by.0 lawful refl)
 
 other_doing : (before : List Event) (by : TaskNo) (tasks : List TaskNo) (task : ℕ) (kept : Suspension) → IsLawful (Started by tasks ∷ before)

@@ -10,7 +10,6 @@ ghost use Rattle.ada_events.specs.declared.event.EventTail.TheVariants.{Nothing}
 ghost use Rattle.ada_events.specs.declared.names.TaskNo.{TaskNo as Number};
 ghost use Rattle.ada_agenda.specs.Keeping.{IsAgendaOf, Puts, When};
 ghost use Rattle.ada_events.specs.Tasks.{moment};
-ghost use Rattle.ada_events.specs.Termination as ending;
 ghost use Rattle.ada_events.specs.Waits as waits;
 ghost use Rattle.ada_rows.specs.Newly.{IsCallOf};
 ghost use Rattle.ada_triggers.specs.internal.Keys.{AsDependent, AsCalleeAt, AsCallerAt};
@@ -19,6 +18,7 @@ use crate::masters::put_dependent;
 use ada_agenda::Agenda;
 use ada_agenda::keeping::{self, own_key, put, put_if};
 use ada_events::{Choice, Entry, Event, EventTail, TaskNo, way_of};
+use ada_records::records::is_open_terminate;
 use ada_rows::Row;
 use ada_view::View;
 
@@ -102,16 +102,6 @@ pub fn after_failure(agenda: &mut Agenda, view: &View, _event: &Event, failed: u
     ensures { IsAgendaOf agenda.new (_event.now ∷ view.now) }
 {
     put_caller(agenda, view, failed);
-}
-
-// Whether a wait has an open terminate alternative (9.7.1).
-fn is_open_terminate(tail: &EventTail) -> bool
-    ensures { result ≡ ending.is_open_terminate tail.now }
-{
-    match tail {
-        EventTail::Terminate(guard) => *guard,
-        _ => false,
-    }
 }
 
 // Puts what the masters may force on which a task depends, where that is so.
