@@ -1,5 +1,5 @@
 -- What the events of a rendezvous change in queues and nests, and whose phase.
-use Rattle.std.proofs.Common.{◌≡◌, ℕ, ◌-◌, Bool, false, not, Option, Some, None, List, ◌∷◌, length, refl, sym, ap, ◌∙◌, subst, inl, inr}
+use Rattle.std.proofs.Common.{◌≡◌, ℕ, ◌-◌, Bool, true, false, not, Option, Some, None, List, ◌∷◌, length, refl, sym, ap, ◌∙◌, subst, inl, inr}
 use Rattle.std.specs.Option.{option_map_or}
 use Rattle.std.specs.List.{Contains}
 use Rattle.std.proofs.lemmas.Bool.{true≢false}
@@ -13,6 +13,7 @@ use Rattle.ada_events.specs.declared.names.TaskNo.{TaskNo}
 use Rattle.ada_events.specs.declared.request.Request.{Request}
 use Rattle.ada_events.specs.declared.request.Request.TheVariants as request
 use Rattle.ada_events.specs.Asks.{asked_event, member_position}
+use Rattle.ada_events.specs.Calls.{is_met}
 use Rattle.ada_events.specs.Lawful.{IsLawful, MayFollow}
 use Rattle.ada_events.specs.Nests.{nest, innermost}
 use Rattle.ada_events.specs.Refusals.{refusal, is_not_in_accept, is_rendezvous}
@@ -22,12 +23,14 @@ use Rattle.ada_laws.proofs.Accepting.{is_accepted}
 use Rattle.ada_laws.proofs.Rows.{IsRow, forced-row}
 use Rattle.ada_laws.proofs.Rows.IsRow.{fails}
 use Rattle.ada_records.proofs.Renesting.NestChange.{Nothing as SameNests, Enters, EndsRendezvous}
-use Rattle.ada_records.proofs.Requeuing.QueueChange.{Joins, Leaves}
+use Rattle.ada_records.proofs.Requeuing.QueueChange.{Nothing as SameQueues, Joins, Leaves}
 use Rattle.ada_records.specs.Noting.{MakesCall}
 use Rattle.ada_records.specs.internal.Ending.{EndsCall}
 use Rattle.ada_records.proofs.Known.{AreKnown}
 use Rattle.ada_records.proofs.NestTurns.{nests_kept, nests_cancelled, nests_of_end, nests_met, accepted_by_callee}
-use Rattle.ada_records.proofs.QueueTurns.{queues_called, queues_ended, queues_met}
+use Rattle.ada_records.proofs.NestKinds.{IsMember, nest_member}
+use Rattle.ada_records.proofs.NestKinds.IsMember.{of_rendezvous}
+use Rattle.ada_records.proofs.QueueTurns.{queues_called, queues_ended, queues_served, queues_met}
 use Rattle.ada_records.proofs.TouchedTasks.{held_touches, released_touches}
 
 -- a call of an entry comes last there, and holds its task up
@@ -85,13 +88,21 @@ ender_is_callee : (event : Event) (before : List Event) (by : TaskNo) (p : ℕ) 
 ender_is_callee event before by p raised lawful is c calls =
     accepted_by_callee before by.0 p c lawful.0 calls (ended_within event before by p raised lawful is)
 
+-- and the rendezvous began
+ended_met : (event : Event) (before : List Event) (by : TaskNo) (p : ℕ) (raised : Bool) → IsLawful (event ∷ before) → event ≡ kind.Ended by p raised
+    → is_met before p ≡ true
+ended_met event before by p raised lawful is = of_member (nest_member before by.0 (Rendezvous p) lawful.0 (ended_within event before by p raised lawful is))
+  where
+    of_member : IsMember before by.0 (Rendezvous p) → is_met before p ≡ true
+    of_member (of_rendezvous call c opened met) = met
+
 -- the end of a rendezvous takes it out of the nest of the task that ends it, and lets its caller go on
 pub end_known : (event : Event) (before : List Event) (by caller : TaskNo) (call : ℕ) → EndsCall event by call
-    → IsSuspendedAt before caller.0 call → IsLawful (event ∷ before) → AreKnown event before (Leaves caller) (EndsRendezvous by call) (Some caller)
+    → IsSuspendedAt before caller.0 call → IsLawful (event ∷ before) → AreKnown event before SameQueues (EndsRendezvous by call) (Some caller)
 unfolding creation_in call_in meeting_in released_in
 end_known event before by caller call ends held lawful = record {
   makes = ap creation_in ends.is;
-  queues = queues_ended event _ before caller call ends.is refl refl refl held lawful;
+  queues = queues_served event _ before call ends.is refl refl refl (ended_met event before by call ends.raised lawful ends.is);
   nests = nests_of_end event before by by call ends.raised ends.is (ender_is_callee event before by call ends.raised lawful ends.is) lawful;
   touches = released_touches event _ before caller call ends.is refl lawful held;
 }
