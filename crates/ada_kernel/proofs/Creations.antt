@@ -6,7 +6,7 @@ use Rattle.ada_events.specs.declared.names.Family.{Family}
 use Rattle.ada_events.specs.declared.names.Master.{Master}
 use Rattle.ada_events.specs.Says.{Creation, creation_in, moment_in}
 use Rattle.ada_events.specs.Tasks.{moment}
-use Rattle.ada_records.specs.Noting.{MakesTask}
+use Rattle.ada_records.specs.TableEvents.{MakesTask}
 
 -- the creation of an event that makes a task
 pub creation_made : (event : Event) (master : Master) (families : List Family) → MakesTask event master families → (c : Creation) × (creation_in event ≡ Some c)

@@ -7,7 +7,7 @@ use Rattle.ada_events.specs.declared.event.Event.{Event}
 use Rattle.ada_events.specs.Lawful.{IsLawful}
 use Rattle.ada_events.specs.Says.{creation_in, moment_in}
 use Rattle.ada_events.specs.Tasks.{moment}
-use Rattle.ada_records.specs.Noting.{HaveAllQueues}
+use Rattle.ada_records.specs.TableEvents.{HaveAllQueues}
 use Rattle.ada_triggers.specs.Bounds.{IsDueBound, IsStartBound}
 use Rattle.ada_triggers.proofs.Starts.{bound_stays}
 use Rattle.ada_records.specs.declared.record.Record.{Record}

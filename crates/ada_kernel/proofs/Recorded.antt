@@ -11,7 +11,7 @@ use Rattle.ada_laws.proofs.Suspending.{suspended_exists}
 use Rattle.ada_records.specs.declared.record.Record.{Record}
 use Rattle.ada_records.specs.Noted.{HaveNotedAfter, HaveNotedHold, HaveNotedRelease, waits_at_open_terminate}
 use Rattle.ada_records.specs.Followed.{StandAfter, HaveFollowedAfter, HaveFollowedHold, HaveFollowedRelease}
-use Rattle.ada_records.specs.Noting.{passing_in}
+use Rattle.ada_records.specs.TableEvents.{passing_in}
 use Rattle.ada_records.specs.Records.{AreRecords}
 use Rattle.ada_tables.specs.Standing.{StandFor}
 use Rattle.ada_tables.specs.Tables.{TableState}

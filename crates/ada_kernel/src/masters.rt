@@ -10,7 +10,7 @@ ghost use Rattle.ada_rows.specs.declared.row.Row.TheVariants as row;
 ghost use Rattle.ada_kernel.specs.internal.Indexes.{IsIndexOf};
 ghost use Rattle.ada_kernel.specs.internal.Stepping.{MayBegin, MayTake, Takes};
 ghost use Rattle.ada_steps.specs.Beginning.{HasBegun};
-ghost use Rattle.ada_records.specs.Noting.{MakesTask};
+ghost use Rattle.ada_records.specs.TableEvents.{MakesTask};
 ghost use Rattle.ada_events.specs.Forced.{is_to_quit};
 
 use crate::index::Index;

@@ -51,7 +51,7 @@ use Rattle.ada_tables.specs.Queues.{QueuedCall, queue_at}
 use Rattle.ada_tables.specs.Tables.{TableState, declared, slots_before, slot_at, HasEntry}
 use Rattle.ada_tables.specs.Standing.{phase_of, facts_in, caller_of, AreQueued, StandFor}
 use Rattle.ada_records.specs.Facing.{HoldFacts, HoldQueues}
-use Rattle.ada_records.specs.Noting.{MakesTask}
+use Rattle.ada_records.specs.TableEvents.{MakesTask}
 use Rattle.ada_records.proofs.Agreeing.{ends_phase}
 use Rattle.ada_records.proofs.Creations.{older_creation, new_creation}
 use Rattle.ada_records.proofs.Entries.{call_names_entry, declarer_exists, families_stay}

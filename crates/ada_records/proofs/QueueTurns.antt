@@ -33,7 +33,7 @@ use Rattle.ada_records.proofs.QueueKinds.{queue_called, queue_released, queue_me
 use Rattle.ada_records.proofs.Saying.{held_apart}
 use Rattle.ada_records.proofs.TaskEnds.{completion_exists}
 use Rattle.ada_tables.specs.Standing.{caller_of}
-use Rattle.ada_records.specs.Noting.{passing_in}
+use Rattle.ada_records.specs.TableEvents.{passing_in}
 use Rattle.ada_records.proofs.Requeuing.{without_caller, ComesLast, ChangesQueues}
 use Rattle.ada_records.proofs.Requeuing.QueueChange.{Nothing, Joins, Leaves}
 use Rattle.ada_records.proofs.Empty.{is_some}

@@ -22,7 +22,7 @@ use Rattle.ada_laws.proofs.Searching.{option_map_or-true}
 use Rattle.ada_laws.proofs.Stepping.{queued_open}
 use Rattle.ada_records.proofs.Saying.{not_both}
 use Rattle.ada_laws.proofs.Members.{nest_open, ended_within}
-use Rattle.ada_records.specs.Noting.{passing_in}
+use Rattle.ada_records.specs.TableEvents.{passing_in}
 
 -- the position of an open call
 abbrev pub HasOpenCall : List Event → ℕ → Type 0

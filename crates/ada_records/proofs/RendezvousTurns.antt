@@ -12,7 +12,7 @@ use Rattle.ada_laws.specs.Suspension.{IsSuspendedAt}
 use Rattle.ada_laws.proofs.Members.{nest_met, ended_within}
 use Rattle.ada_records.proofs.Renesting.NestChange.{Nothing as SameNests, Enters, EndsRendezvous}
 use Rattle.ada_records.proofs.Requeuing.QueueChange.{Nothing as SameQueues, Joins, Leaves}
-use Rattle.ada_records.specs.Noting.{MakesCall}
+use Rattle.ada_records.specs.TableEvents.{MakesCall}
 use Rattle.ada_records.specs.internal.Ending.{EndsCall}
 use Rattle.ada_records.proofs.Known.{AreKnown}
 use Rattle.ada_records.proofs.NestTurns.{nests_kept, nests_cancelled, nests_of_end, nests_met, accepted_by_callee}

@@ -8,6 +8,6 @@ pub mod Holders
 pub mod Pending
 pub mod RecordedPhases
 pub mod Following
-pub mod Noting
+pub mod TableEvents
 pub mod Noted
 pub mod Followed

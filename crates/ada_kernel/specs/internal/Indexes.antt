@@ -1,7 +1,7 @@
 -- What is kept of a journal, so that none has to search it.
 use Rattle.std.specs.Prelude.{List}
 use Rattle.ada_events.specs.declared.event.Event.{Event}
-use Rattle.ada_records.specs.Noting.{HaveAllQueues}
+use Rattle.ada_records.specs.TableEvents.{HaveAllQueues}
 use Rattle.ada_triggers.specs.Bounds.{IsDueBound, IsStartBound}
 use Rattle.ada_view.specs.Views.{IsKept}
 use Rattle.ada_agenda.specs.Keeping.{IsAgendaOf}
