@@ -36,7 +36,7 @@ pub mod Owners
 pub mod LiveHolders
 pub mod Cuts
 pub mod RecordedPhases
-pub mod Following
+pub mod TableChanges
 pub mod KeptPhases
 pub mod OnePhase
 pub mod OnePhaseKinds

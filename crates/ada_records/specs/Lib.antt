@@ -7,7 +7,7 @@ pub mod Facing
 pub mod Holders
 pub mod Pending
 pub mod RecordedPhases
-pub mod Following
+pub mod TableChanges
 pub mod TableEvents
 pub mod Noted
 pub mod Followed

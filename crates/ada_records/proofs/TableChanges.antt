@@ -13,7 +13,7 @@ use Rattle.ada_tables.specs.Dependents.{Facts, task_at}
 use Rattle.ada_tables.specs.Queues.{queue_at}
 use Rattle.ada_tables.specs.Tables.{TableState, declared, slot_at, HasEntry}
 use Rattle.ada_tables.specs.Standing.{phase_of, facts_in, AreQueued, StandFor}
-use Rattle.ada_records.specs.Following.{AreFollowing, TablesFollow}
+use Rattle.ada_records.specs.TableChanges.{AreFollowing, TablesFollow}
 use Rattle.ada_records.proofs.Creations.{same_creation}
 use Rattle.ada_records.proofs.Standing.{held_tables_stand}
 
