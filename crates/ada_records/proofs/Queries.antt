@@ -18,7 +18,7 @@ use Rattle.ada_records.specs.Records.{freed, no_stage, record_at, IsHeldAt, IsRe
 use Rattle.ada_records.specs.Latest.{latest_outcome}
 use Rattle.ada_records.proofs.Creations.{creation_stands}
 use Rattle.ada_records.proofs.Existing.{positive}
-use Rattle.ada_records.specs.Telling.{RecordsTell}
+use Rattle.ada_records.specs.RecordedStates.{RecordsTell}
 
 -- the main program's record at first
 abbrev pub main_record : Record

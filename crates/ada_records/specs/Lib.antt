@@ -1,7 +1,7 @@
 pub mod Changes
 pub mod Latest
 pub mod Records
-pub mod Telling
+pub mod RecordedStates
 pub mod internal
 pub mod Facing
 pub mod Holders
