@@ -13,7 +13,7 @@ use Rattle.ada_laws.proofs.Growing.{task_count-same}
 use Rattle.ada_records.specs.declared.record.Record.{Record}
 use Rattle.ada_records.specs.Records.{record_at, AreRecords, IsPlainHold, IsPlainRelease}
 use Rattle.ada_records.proofs.Creations.{same_creation}
-use Rattle.ada_records.proofs.Noting.{untouched}
+use Rattle.ada_records.proofs.RecordChanges.{untouched}
 
 pub holds_of : (e x : Event) (task : ℕ) → e ≡ x → held_in x ≡ Some task → started_in x ≡ [] → IsPlainHold e task
 holds_of e x task is holds starts = record { holds = ap held_in is ∙ holds; starts = ap started_in is ∙ starts }

@@ -15,7 +15,7 @@ pub mod NestKinds
 pub mod Distinct
 pub mod LatestOutcomes
 pub mod Doings
-pub mod Noting
+pub mod RecordChanges
 pub mod Stages
 pub mod Existing
 pub mod TaskEnds

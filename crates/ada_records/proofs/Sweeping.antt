@@ -20,7 +20,7 @@ use Rattle.ada_records.specs.internal.Records.{quit_record, quit_live_record, ab
 use Rattle.ada_records.proofs.Changing.{IsOnce, all_changed}
 use Rattle.ada_records.proofs.Creations.{same_creation, created_kept}
 use Rattle.ada_records.proofs.Doings.{doing_same, doing_ended}
-use Rattle.ada_records.proofs.Noting.{untouched}
+use Rattle.ada_records.proofs.RecordChanges.{untouched}
 use Rattle.ada_records.proofs.Stages.{stage_more}
 
 -- one record after all that depend on a master terminated together

@@ -15,7 +15,7 @@ use Rattle.ada_records.specs.internal.Records.{IsCompletion, elaborated_record}
 use Rattle.ada_records.proofs.Creations.{created_kept}
 use Rattle.ada_records.proofs.Doings.{doing_same}
 use Rattle.ada_records.proofs.Existing.{completed_exists, gone_exists, elaborated_exists}
-use Rattle.ada_records.proofs.Noting.{TouchesOne, records_one, records_end}
+use Rattle.ada_records.proofs.RecordChanges.{TouchesOne, records_one, records_end}
 use Rattle.ada_records.proofs.Stages.{stage_more}
 
 completed_touches : (before : List Event) (task : TaskNo) → TouchesOne (Completed task) before task.0

@@ -28,7 +28,7 @@ use Rattle.ada_records.proofs.Doings.{doing_same}
 use Rattle.ada_records.proofs.Existing.{positive, elaborated_exists, raiser_exists, ends_exists, started_exists}
 use Rattle.ada_records.proofs.Holding.{holder_ran}
 use Rattle.ada_records.proofs.LatestOutcomes.{what_is_released_held}
-use Rattle.ada_records.proofs.Noting.{IsUntouched, untouched}
+use Rattle.ada_records.proofs.RecordChanges.{IsUntouched, untouched}
 use Rattle.ada_records.proofs.QueueChanges.{ends}
 use Rattle.ada_records.proofs.Saying.{number_none, no_meeting}
 use Rattle.ada_records.proofs.Stages.{stage_after, stage_more}

@@ -1,7 +1,7 @@
 use Rattle.std.proofs.Common.{arith, ◌∷◌, ap, refl, subst}
 use Rattle.ada_events.specs.Says.{creation_in, moment_in, released_in}
 use Rattle.ada_triggers.proofs.Bounds.{bound_kept}
-use Rattle.ada_records.proofs.Noting.{release_holds}
+use Rattle.ada_records.proofs.RecordChanges.{release_holds}
 use Rattle.ada_agenda.specs.Keeping.{IsAgendaOf}
 use Rattle.ada_kernel.proofs.Quiet.{quiet_as, not_due_as, noted}
 use Rattle.ada_records.proofs.Existing.{ender_exists}
