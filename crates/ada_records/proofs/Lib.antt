@@ -14,7 +14,7 @@ pub mod LeftBlocks
 pub mod NestKinds
 pub mod Distinct
 pub mod LatestOutcomes
-pub mod Doings
+pub mod Suspensions
 pub mod RecordChanges
 pub mod Stages
 pub mod Existing

@@ -15,10 +15,10 @@ use Rattle.ada_events.specs.Lawful.{IsLawful}
 use Rattle.ada_laws.proofs.Growing.{task_count-same}
 use Rattle.ada_records.specs.declared.record.Suspension.{Suspension}
 use Rattle.ada_records.specs.declared.record.Record.{Record}
-use Rattle.ada_records.specs.Records.{no_record, record_at, IsDoingOf, IsStageOf, IsRecordOf, AreRecords}
+use Rattle.ada_records.specs.Records.{no_record, record_at, IsSuspensionOf, IsStageOf, IsRecordOf, AreRecords}
 use Rattle.ada_records.specs.internal.Records.{held, start_record, HaveChanged}
 use Rattle.ada_records.proofs.Creations.{created_kept}
-use Rattle.ada_records.proofs.Doings.{doing_held, doing_same}
+use Rattle.ada_records.proofs.Suspensions.{suspension_held, suspension_same}
 use Rattle.ada_records.proofs.Existing.{started_at_exists}
 use Rattle.ada_records.proofs.Holding.{holder_ran}
 use Rattle.ada_records.proofs.Stages.{stage_more}
@@ -27,19 +27,19 @@ use Rattle.ada_records.proofs.Stages.{stage_more}
 abbrev pub starting : List Event → Suspension
 starting before = held (length before + 1) false
 
-starter_doing : (before : List Event) (by : TaskNo) (tasks : List TaskNo) → IsLawful (Started by tasks ∷ before)
-    → IsDoingOf (Started by tasks ∷ before) by.0 (starting before)
+starter_suspension : (before : List Event) (by : TaskNo) (tasks : List TaskNo) → IsLawful (Started by tasks ∷ before)
+    → IsSuspensionOf (Started by tasks ∷ before) by.0 (starting before)
 unfolding held_in wait_in
-starter_doing before by tasks lawful =
+starter_suspension before by tasks lawful =
     let next : suc (length before) ≡ length before + 1 = omega arith in
-    subst (λ (n : ℕ). IsDoingOf (Started by tasks ∷ before) by.0 (held n false)) next
-    (doing_held (Started by tasks) before by.0 lawful refl)
+    subst (λ (n : ℕ). IsSuspensionOf (Started by tasks ∷ before) by.0 (held n false)) next
+    (suspension_held (Started by tasks) before by.0 lawful refl)
 
-other_doing : (before : List Event) (by : TaskNo) (tasks : List TaskNo) (task : ℕ) (kept : Suspension) → IsLawful (Started by tasks ∷ before)
-    → IsDoingOf before task kept → task ≢ by.0 → IsDoingOf (Started by tasks ∷ before) task kept
+other_suspension : (before : List Event) (by : TaskNo) (tasks : List TaskNo) (task : ℕ) (kept : Suspension) → IsLawful (Started by tasks ∷ before)
+    → IsSuspensionOf before task kept → task ≢ by.0 → IsSuspensionOf (Started by tasks ∷ before) task kept
 unfolding held_in released_in completed_in gone_in quit_in meeting_in raised_in
-other_doing before by tasks task kept lawful old differs =
-    doing_same (Started by tasks) before task kept lawful old (ne_eqb task by.0 differs) refl refl refl refl
+other_suspension before by tasks task kept lawful old differs =
+    suspension_same (Started by tasks) before task kept lawful old (ne_eqb task by.0 differs) refl refl refl refl
 
 start_stage : (before : List Event) (by : TaskNo) (tasks : List TaskNo) (task : ℕ) (kept : Record) → IsStageOf before task kept.stage
     → IsStageOf (Started by tasks ∷ before) task (start_record (lists_task task tasks) kept).stage
@@ -84,7 +84,7 @@ started_record before records by tasks task lawful old has_by known =
           (start_record (lists_task n tasks) (record_at (with_starter before records by.0) n))) (sym same)
           (rw (get_or-set_same records by.0 (record (record_at records by.0) { suspension = starting before }) no_record has_by)
           (record {
-            suspension = starter_doing before by tasks lawful;
+            suspension = starter_suspension before by tasks lawful;
             stage = start_stage before by tasks by.0 (record_at records by.0)
                 (old.each by.0 has_by).stage;
             created = created_kept (Started by tasks) before by.0 (record_at records by.0).created refl (old.each by.0 has_by).created;
@@ -92,7 +92,7 @@ started_record before records by tasks task lawful old has_by known =
       | inr differs ↦
           rw (get_or-set_other records by.0 task (record (record_at records by.0) { suspension = starting before }) no_record differs)
           (record {
-            suspension = other_doing before by tasks task (record_at records task).suspension lawful (old.each task known).suspension differs;
+            suspension = other_suspension before by tasks task (record_at records task).suspension lawful (old.each task known).suspension differs;
             stage = start_stage
                 before by tasks task (record_at records task) (old.each task known).stage;
             created = created_kept (Started by tasks) before task (record_at records task).created refl (old.each task known).created;

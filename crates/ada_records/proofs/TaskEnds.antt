@@ -13,7 +13,7 @@ use Rattle.ada_records.specs.declared.record.Record.{Record}
 use Rattle.ada_records.specs.Records.{record_at, IsStageOf, IsRecordOf, AreRecords, freed}
 use Rattle.ada_records.specs.internal.Records.{IsCompletion, elaborated_record}
 use Rattle.ada_records.proofs.Creations.{created_kept}
-use Rattle.ada_records.proofs.Doings.{doing_same}
+use Rattle.ada_records.proofs.Suspensions.{suspension_same}
 use Rattle.ada_records.proofs.Existing.{completed_exists, gone_exists, elaborated_exists}
 use Rattle.ada_records.proofs.RecordChanges.{TouchesOne, records_one, records_end}
 use Rattle.ada_records.proofs.Stages.{stage_more}
@@ -150,7 +150,7 @@ unfolding held_in released_in completed_in gone_in quit_in started_in aborted_in
 records_elaborated before records by true now lawful old within is =
     records_one (Elaborated by true) before records by.0 now lawful old (elaborated_touches before by true) within
     (subst (IsRecordOf (Elaborated by true ∷ before) by.0) (sym is) (record {
-      suspension = doing_same (Elaborated by true) before by.0 (record_at records by.0).suspension lawful
+      suspension = suspension_same (Elaborated by true) before by.0 (record_at records by.0).suspension lawful
           (old.each by.0 within).suspension refl refl refl refl refl;
       stage = subst (IsStageOf (Elaborated by true ∷ before) by.0) (rw (eq-eqb by.0 by.0 refl) refl)
           (stage_more (Elaborated by true) before by.0 (record_at records by.0).stage (old.each by.0 within).stage);

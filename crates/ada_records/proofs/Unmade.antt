@@ -24,7 +24,7 @@ use Rattle.ada_records.specs.declared.record.Stage.{Stage}
 use Rattle.ada_events.specs.declared.outcome.Outcome.TheVariants.{Nothing}
 use Rattle.ada_records.specs.Records.{freed, no_stage, new_record, no_record, record_at, IsStageOf, IsRecordOf, AreRecords}
 use Rattle.ada_records.proofs.Creations.{older_creation, unmade_creation, created_now}
-use Rattle.ada_records.proofs.Doings.{doing_same}
+use Rattle.ada_records.proofs.Suspensions.{suspension_same}
 use Rattle.ada_records.proofs.Existing.{positive, elaborated_exists, raiser_exists, ends_exists, started_exists}
 use Rattle.ada_records.proofs.Holding.{holder_ran}
 use Rattle.ada_records.proofs.LatestOutcomes.{what_is_released_held}
@@ -140,7 +140,7 @@ made_record event before c lawful says =
     let apart = unmade_untouched event before u lawful beyond in
     let old = unmade before u lawful.0 beyond in
     record {
-      suspension = doing_same event before u (freed Nothing) lawful old.suspension apart.holds apart.raises apart.frees apart.meets apart.ends;
+      suspension = suspension_same event before u (freed Nothing) lawful old.suspension apart.holds apart.raises apart.frees apart.meets apart.ends;
       stage = subst (IsStageOf (event ∷ before) u) (unmade_stage event before u lawful.1 beyond apart.ends) (stage_more event before u no_stage old.stage);
       created = created_now event before c says;
     }

@@ -55,7 +55,7 @@ pub record IsHeldAt (journal : List Event) (task at : ℕ) : Type 0 where
   pub held : 0 < at → IsSuspendedAt journal task at
 
 -- what is kept of the task's latest suspension is right
-pub record IsDoingOf (journal : List Event) (task : ℕ) (kept : Suspension) : Type 0 where
+pub record IsSuspensionOf (journal : List Event) (task : ℕ) (kept : Suspension) : Type 0 where
   pub at : IsHeldAt journal task kept.at
   pub joined : 0 < kept.at → kept.joined ≡ is_met journal kept.at
   pub quittable : kept.quittable ≡ (is_at_open_terminate journal task && not (has_ended journal task))
@@ -78,7 +78,7 @@ pub record IsCreatedAt (journal : List Event) (task at : ℕ) : Type 0 where
 
 -- the record is right
 pub record IsRecordOf (journal : List Event) (task : ℕ) (kept : Record) : Type 0 where
-  pub suspension : IsDoingOf journal task kept.suspension
+  pub suspension : IsSuspensionOf journal task kept.suspension
   pub stage : IsStageOf journal task kept.stage
   pub created : IsCreatedAt journal task kept.created
 
