@@ -41,7 +41,7 @@ use Rattle.ada_rows.specs.Touching.{is_uncallable, is_idle, IsNewlyBelow, MayQui
 use Rattle.ada_rows.specs.Touching.Touches.{newest, task_made, aborts, frees, loses, calls, moves, elaborates, completes, abandons, ends_below, body_quits}
 use Rattle.ada_rows.specs.Touching.Touches.{block_quits, ends_within}
 use Rattle.ada_rows.specs.Touching.MayQuit.{complete, idle, made}
-use Rattle.ada_rows.proofs.TakingNewly.{waits_newly_take, pending_before}
+use Rattle.ada_rows.proofs.TakenCalls.{waits_newly_take, pending_before}
 use Rattle.ada_rows.proofs.Keys.{of_found}
 
 three_of : (a b c : Bool) → (a && not b && c) ≡ true → (a ≡ true) × (b ≡ false) × (c ≡ true)

@@ -11,7 +11,7 @@ ghost use Rattle.ada_events.specs.declared.names.TaskNo.{TaskNo as Number};
 ghost use Rattle.ada_agenda.specs.Keeping.{IsAgendaOf, Puts, When};
 ghost use Rattle.ada_events.specs.Tasks.{moment};
 ghost use Rattle.ada_events.specs.Waits as waits;
-ghost use Rattle.ada_rows.specs.Newly.{IsCallOf};
+ghost use Rattle.ada_rows.specs.CalledTasks.{IsCallOf};
 ghost use Rattle.ada_triggers.specs.internal.Keys.{AsDependent, AsCalleeAt, AsCallerAt};
 
 use crate::masters::put_dependent;
