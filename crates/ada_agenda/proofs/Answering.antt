@@ -28,7 +28,7 @@ use Rattle.ada_laws.proofs.Meeting.{met_taking, taken_queued}
 use Rattle.ada_laws.proofs.Queueing.{is_open_at-call, open_call_suspends}
 use Rattle.ada_laws.proofs.Suspending.{suspended_before, suspended_once, suspended_exists}
 use Rattle.ada_rows.specs.declared.row.Row.{Row}
-use Rattle.ada_rows.specs.Touching.{is_uncallable}
+use Rattle.ada_rows.specs.TouchedKeys.{is_uncallable}
 use Rattle.ada_records.proofs.Holding.{quiet_ends}
 use Rattle.ada_records.proofs.Saying.{release_only}
 use Rattle.ada_agenda.specs.Kinds.{OfEnd, OfCancellation}

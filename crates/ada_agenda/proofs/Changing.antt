@@ -20,7 +20,7 @@ use Rattle.ada_events.specs.Lawful.{IsLawful}
 use Rattle.ada_rows.specs.declared.row.Row.{Row}
 use Rattle.ada_rows.specs.declared.row.Row.TheVariants.{Halting, Failing, Activating, Terminating}
 use Rattle.ada_laws.proofs.Searching.{is_number-some}
-use Rattle.ada_rows.specs.Touching.{is_uncallable}
+use Rattle.ada_rows.specs.TouchedKeys.{is_uncallable}
 use Rattle.ada_records.proofs.QueueChanges.{ends, has_ended-more}
 use Rattle.ada_agenda.specs.Kinds.{IsActivationOf, IsOpenCallTo, IsHit, OfCreation, OfElaboration, OfAbort}
 use Rattle.ada_agenda.specs.Kinds.OfCreation.{goes}

@@ -22,7 +22,7 @@ use Rattle.ada_laws.proofs.Growing.{has_ended-completed}
 use Rattle.ada_laws.proofs.Framing.{IsBlockOf}
 use Rattle.ada_laws.proofs.DependentLaws.{IsEnd, is_terminated-cases}
 use Rattle.ada_laws.proofs.DependentLaws.IsEnd.{alone, together, earlier}
-use Rattle.ada_rows.specs.Touching.{is_uncallable}
+use Rattle.ada_rows.specs.TouchedKeys.{is_uncallable}
 use Rattle.ada_rows.specs.declared.row.Row.{Row}
 use Rattle.ada_rows.specs.declared.row.Row.TheVariants.{Failing, Activating, Terminating, QuittingBlock, Leaving}
 use Rattle.ada_records.proofs.QueueChanges.{ends, has_ended-more}

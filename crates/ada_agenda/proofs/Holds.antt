@@ -20,7 +20,7 @@ use Rattle.ada_laws.specs.Suspension.{IsSuspendedAt}
 use Rattle.ada_rows.specs.declared.row.Row.{Row}
 use Rattle.ada_rows.specs.declared.row.Row.TheVariants.{Halting, Failing, Meeting, Cancelling, Passing, Waking, Activating, QuittingBlock, Leaving}
 use Rattle.ada_events.specs.Tasks.{moment}
-use Rattle.ada_rows.specs.Touching.{is_uncallable}
+use Rattle.ada_rows.specs.TouchedKeys.{is_uncallable}
 use Rattle.ada_records.proofs.Calling.{same_abnormal}
 use Rattle.ada_records.proofs.Holding.{IsQuiet, quiet_ends, quiet_ended}
 use Rattle.ada_events.specs.Waits.{way_of}

@@ -25,7 +25,7 @@ use Rattle.ada_agenda.specs.Keeping.{has_key, IsAgendaOf, Grows, Puts, AsKey, Wh
 use Rattle.ada_agenda.specs.internal.Keeping.{Both}
 use Rattle.ada_agenda.specs.Keeping.AsKey.{itself as that_key}
 use Rattle.ada_agenda.specs.Keeping.When.{holds_so}
-use Rattle.ada_rows.specs.Touching.{is_uncallable}
+use Rattle.ada_rows.specs.TouchedKeys.{is_uncallable}
 use Rattle.ada_agenda.specs.Kinds.{itself, is_immediate, is_immediate_call, OfCreation, OfStart, OfCall, OfDelay, Adds}
 use Rattle.ada_agenda.specs.Kinds.OfCreation.{goes}
 use Rattle.ada_agenda.specs.Kinds.OfStart.{is_over}

@@ -8,7 +8,7 @@ ghost use Rattle.ada_events.specs.Says.{start_in, delay_in, creation_in};
 ghost use Rattle.ada_events.specs.Tasks.{task_count};
 ghost use Rattle.ada_rows.specs.CalledTasks.{IsCallOf};
 ghost use Rattle.ada_records.specs.Records.{IsHeldAt};
-ghost use Rattle.ada_rows.specs.Touching.{is_uncallable};
+ghost use Rattle.ada_rows.specs.TouchedKeys.{is_uncallable};
 ghost use Rattle.ada_agenda.specs.declared.numbers.TheConstants.{MOST_KEYS};
 ghost use Rattle.ada_agenda.specs.Keeping.{IsAgendaOf, Puts, AsKey, When};
 ghost use Rattle.ada_agenda.specs.Kinds.{is_immediate_call};
