@@ -31,7 +31,7 @@ use Rattle.ada_agenda.proofs.Readying.{IsOpenWait, IsUnqueued}
 use Rattle.ada_agenda.proofs.Refining.{Key}
 use Rattle.ada_agenda.proofs.Refining.Key.{own, made, hit, freed, lost, called, due, done, completed, abandoned, going, quits_done, quits_ended, quits_idle}
 use Rattle.ada_agenda.proofs.Refining.Key.{leaving}
-use Rattle.ada_agenda.proofs.Silent.{IsSilent, no_own}
+use Rattle.ada_agenda.proofs.OwnPositions.{IsSilent, no_own}
 
 -- the event ends the task
 pub record IsNewlyOver (event : Event) (before : List Event) (task : ℕ) : Type 0 where

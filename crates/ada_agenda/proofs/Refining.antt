@@ -45,7 +45,7 @@ use Rattle.ada_rows.specs.TouchedKeys.MayQuit.{complete, idle, made as newly_mad
 use Rattle.ada_rows.proofs.Keys.{of_found}
 use Rattle.ada_rows.proofs.TouchedKeys.{open_before}
 use Rattle.ada_agenda.specs.Kinds.{itself, quitting_row, quitting_key, IsActivationOf, IsOpenCallTo, IsLeaving, ComesDue, IsHit, IsCloseAt}
-use Rattle.ada_agenda.proofs.Acting.{starters_made}
+use Rattle.ada_agenda.proofs.StartedTasks.{starters_made}
 use Rattle.ada_agenda.proofs.Completing.{IsNewlyAbandoned, abandoned_newly}
 use Rattle.ada_agenda.proofs.Depending.{quits_live, depended_known}
 use Rattle.ada_agenda.proofs.Moments.{IsGivenOrDue, call_due, wait_due, delay_due}
