@@ -19,7 +19,7 @@ use Rattle.ada_agenda.proofs.Answering.{meeting_adds, end_adds, fail_adds, cance
 use Rattle.ada_agenda.proofs.Changing.{creation_adds, elaboration_adds, abort_adds}
 use Rattle.ada_agenda.proofs.Completions.{completion_adds, failure_adds, halt_adds}
 use Rattle.ada_agenda.proofs.Endings.{going_adds}
-use Rattle.ada_agenda.proofs.Holds.{opening_adds, start_adds, call_adds, wait_adds, delay_adds, close_adds, tick_adds}
+use Rattle.ada_agenda.proofs.Suspensions.{opening_adds, start_adds, call_adds, wait_adds, delay_adds, close_adds, tick_adds}
 use Rattle.ada_agenda.proofs.Quitting.{quit_adds}
 use Rattle.ada_agenda.proofs.Refining.{Key, refined}
 use Rattle.ada_agenda.proofs.Releases.{freed_adds}

@@ -1,36 +1,26 @@
 -- What becomes of a call: what meetings, ends of rendezvous, failures and cancellations add.
-use Rattle.std.proofs.Common.{◌≡◌, ℕ, Bool, true, false, not, ◌&&◌, Option, Some, None, List, ◌∷◌, length, sym, refl, ap, ◌∙◌, subst, inl, inr, eqb}
-use Rattle.std.specs.Prelude.{◌-◌}
-use Rattle.std.specs.Option.{option_map_or}
-use Rattle.std.specs.Bool.{then_some}
-use Rattle.std.specs.List.{Contains}
-use Rattle.std.proofs.lemmas.Bool.{and_parts, or_cases, not-true, not-false, false≢true, true≢false, both_ways, eqb-true, eq-eqb}
-use Rattle.std.proofs.lemmas.Option.{none-some, same_Some, slice_get_within, get_or_from_slice_get}
+use Rattle.std.proofs.Common.{◌≡◌, ℕ, Bool, true, false, not, Some, List, ◌∷◌, sym, refl, ap, ◌∙◌, subst, inl, inr, eqb}
+use Rattle.std.proofs.lemmas.Bool.{and_parts, or_cases, not-true, false≢true, true≢false, both_ways, eqb-true}
+use Rattle.std.proofs.lemmas.Option.{none-some, same_Some}
 use Rattle.ada_events.specs.declared.event.Event.{Event}
 use Rattle.ada_events.specs.declared.event.Event.TheVariants as event
 use Rattle.ada_events.specs.declared.request.Request.{Request}
 use Rattle.ada_events.specs.declared.request.Request.TheVariants as request
 use Rattle.ada_events.specs.declared.names.TaskNo.{TaskNo}
-use Rattle.ada_events.specs.declared.names.Member.{Member}
-use Rattle.ada_events.specs.declared.names.Member.TheVariants.{Block, Rendezvous}
 use Rattle.ada_events.specs.Search.{is_number, is_some_and, event_at}
-use Rattle.ada_events.specs.Says.{Call, Wait, Opening, Meeting, call_in, wait_in, opening_in, meeting_in, released_in, held_in}
-use Rattle.ada_events.specs.Asks.{member_position, asked_event}
+use Rattle.ada_events.specs.Says.{Call, Wait, Meeting, call_in, wait_in, meeting_in, released_in, held_in}
+use Rattle.ada_events.specs.Asks.{asked_event}
 use Rattle.ada_events.specs.Masters.{depends_on}
 use Rattle.ada_events.specs.Phases.{is_released, has_ended, is_abnormal}
-use Rattle.ada_events.specs.Calls.{is_met, is_open_at, is_queued_at, is_open_call}
-use Rattle.ada_events.specs.Nests.{is_left, is_wait_of, member_at, nest, innermost}
-use Rattle.ada_events.specs.Refusals.{refusal, is_rendezvous, is_not_in_accept}
+use Rattle.ada_events.specs.Calls.{is_met, is_open_at, is_queued_at}
 use Rattle.ada_events.specs.Forced.{is_to_fail, is_to_cancel, forced}
 use Rattle.ada_events.specs.Termination.{is_at_open_terminate, is_ready_to_quit}
 use Rattle.ada_events.specs.Lawful.{IsLawful, MayFollow}
 use Rattle.ada_laws.specs.Calls.{IsCallAt, IsWaitAt}
 use Rattle.ada_laws.specs.Suspension.{IsSuspendedAt}
-use Rattle.ada_laws.proofs.Searching.{option_or-some, then_some-some, option_map_or-true}
-use Rattle.ada_laws.proofs.Gathering.{gathered-found}
+use Rattle.ada_laws.proofs.Searching.{option_map_or-true}
 use Rattle.ada_laws.proofs.Growing.{is_released-now, has_ended-before}
 use Rattle.ada_laws.proofs.Saying.{held_in-wait}
-use Rattle.ada_laws.proofs.Accepting.{is_accepted}
 use Rattle.ada_laws.proofs.Stepping.{queued_open}
 use Rattle.ada_laws.proofs.Rows.{IsRow, forced-row}
 use Rattle.ada_laws.proofs.Rows.IsRow.{fails, cancels}
@@ -38,13 +28,13 @@ use Rattle.ada_laws.proofs.Meeting.{met_taking, taken_queued}
 use Rattle.ada_laws.proofs.Queueing.{is_open_at-call, open_call_suspends}
 use Rattle.ada_laws.proofs.Suspending.{suspended_before, suspended_once, suspended_exists}
 use Rattle.ada_rows.specs.declared.row.Row.{Row}
-use Rattle.ada_rows.specs.Touching.{is_uncallable}
+use Rattle.ada_rows.specs.TouchedKeys.{is_uncallable}
 use Rattle.ada_records.proofs.Holding.{quiet_ends}
 use Rattle.ada_records.proofs.Saying.{release_only}
 use Rattle.ada_agenda.specs.Kinds.{OfEnd, OfCancellation}
 use Rattle.ada_agenda.specs.Kinds.OfEnd.{halts as halts_caller}
 use Rattle.ada_agenda.specs.Kinds.OfCancellation.{quits as quits_with}
-use Rattle.ada_agenda.proofs.Completing.{any_at}
+use Rattle.ada_laws.proofs.Members.{nest_met, ended_within}
 use Rattle.ada_agenda.proofs.Readying.{IsUnqueued}
 use Rattle.ada_agenda.proofs.Refining.{Key}
 use Rattle.ada_agenda.proofs.Releases.{ReleaseKey, release_key, left_position, only_calls, same_event}
@@ -124,70 +114,6 @@ unfolding released_in
 meeting_adds before call wait row key lawful touched =
     met_key before call wait row key lawful (release_key (begins call wait) before wait row key lawful refl touched)
 
--- the call of a rendezvous that ends was met
-not_opened : (test : Opening → Bool) (q call : ℕ) (o : Option Opening)
-    → option_map_or (λ (o : Opening). then_some (test o) (Block q)) o None ≡ Some (Rendezvous call) → ⊥
-not_opened test q call None gives = none-some (Rendezvous call) gives
-not_opened test q call (Some o) gives =
-    let found = then_some-some (test o) (Block q) (Rendezvous call) gives in
-    cc (found.1)
-
-met_by : (test : Meeting → Bool) (e : Event) (call : ℕ) (o : Option Meeting) → meeting_in e ≡ o
-    → option_map_or (λ (m : Meeting). then_some (test m) (Rendezvous m.call)) o None ≡ Some (Rendezvous call)
-    → is_some_and (meeting_in e) (λ (m : Meeting). eqb m.call call) ≡ true
-met_by test e call None says gives = absurd (none-some (Rendezvous call) gives)
-met_by test e call (Some m) says gives =
-    let found = then_some-some (test m) (Rendezvous m.call) (Rendezvous call) gives in
-    let same : m.call ≡ call = cc (found.1) in
-    rw says (eq-eqb m.call call same)
-
-nest_met : (journal : List Event) (task call : ℕ) → Contains (nest journal task) (Rendezvous call) → is_met journal call ≡ true
-unfolding nest member_at is_met
-nest_met journal task call contains =
-    let (q, e, at, gives) = gathered-found (member_at journal task) journal (Rendezvous call) contains in
-    elim (option_or-some
-    (option_map_or (λ (o : Opening). then_some (eqb o.by task && not (is_left journal q)) (Block q)) (opening_in e) None)
-    (option_map_or (λ (m : Meeting). then_some (is_wait_of journal task m.wait && is_open_call journal m.call) (Rendezvous m.call)) (meeting_in e) None)
-    (Rendezvous call) gives) [
-      | inl opened ↦ absurd (not_opened (λ o. eqb o.by task && not (is_left journal q)) q call (opening_in e) opened)
-      | inr met ↦
-          any_at (λ (e : Event). is_some_and (meeting_in e) (λ (m : Meeting). eqb m.call call)) journal q e at
-          (met_by (λ m. is_wait_of journal task m.wait && is_open_call journal m.call) e call (meeting_in e) refl met)
-    ]
-
-innermost_met : (journal : List Event) (task : ℕ) (member : Option Member) → innermost (nest journal task) ≡ member → is_some_and member is_rendezvous ≡ true
-    → is_met journal (member_position member) ≡ true
-innermost_met journal task None last within = absurd (false≢true within)
-innermost_met journal task (Some (Block p)) last within = absurd (false≢true within)
-innermost_met journal task (Some (Rendezvous call)) last within =
-    let place = length (nest journal task) - 1 in
-    nest_met journal task call (
-      place,
-      slice_get_within (nest journal task) place (Rendezvous call) last,
-      get_or_from_slice_get (nest journal task) place (Rendezvous call)
-          (Rendezvous call) last,
-    )
-
-abbrev ended_call : Event → Option ℕ
-ended_call (event.Ended by call raised) = Some call
-ended_call _ = None
-
-asked_ended : (journal : List Event) (r : Request) (call : ℕ) → refusal journal r ≡ None → ended_call (asked_event journal r) ≡ Some call
-    → is_met journal call ≡ true
-unfolding asked_event is_not_in_accept
-asked_ended journal (request.End by raised) call accepted says =
-    let within = not-false (is_some_and (innermost (nest journal by.0)) is_rendezvous) (is_accepted journal (request.End by raised) accepted).in_accept in
-    subst (λ (n : ℕ). is_met journal n ≡ true) (same_Some _ call says) (innermost_met journal by.0 (innermost (nest journal by.0)) refl within)
-asked_ended journal _ call accepted says = absurd (none-some call says)
-
-row_ended : (journal : List Event) (e : Event) → IsRow journal e → ended_call e ≡ None
-row_ended journal e (fails p d at fail) = refl
-row_ended journal e _ = refl
-
-ended_met : (journal : List Event) (e : Event) (call : ℕ) → MayFollow journal e → ended_call e ≡ Some call → is_met journal call ≡ true
-ended_met journal e call (inl forces) says = absurd (none-some call (sym (row_ended journal e (forced-row journal e forces)) ∙ says))
-ended_met journal e call (inr asked) says = asked_ended journal asked.request call asked.accepted (ap ended_call (sym asked.becomes) ∙ says)
-
 queued_unmet : (journal : List Event) (p : ℕ) (e : Event) → is_queued_at journal p e ≡ true → is_met journal p ≡ false
 unfolding is_queued_at
 queued_unmet journal p e queued = not-true (is_met journal p) (and_parts (is_open_at journal p e) (not (is_met journal p)) queued).1
@@ -202,7 +128,7 @@ end_key by call raised before row key lawful (frees c at abnormal) = halts_calle
 end_key by call raised before row key lawful (empties m v left ready depends) =
     let same : left.position ≡ call = left_position (ends_it by call raised) before call v refl refl left in
     absurd
-    (true≢false (sym (ended_met before (ends_it by call raised) call lawful.1 refl) ∙
+    (true≢false (sym (nest_met before by.0 call (ended_within (ends_it by call raised) before by call raised lawful.1 refl)) ∙
     (ap (is_met before) (sym same) ∙ queued_unmet before left.position left.called left.queued)))
 
 pub end_adds : (by : TaskNo) (call : ℕ) (raised : Bool) (before : List Event) (row : Row) (key : ℕ) → IsLawful (ends_it by call raised ∷ before)

@@ -20,7 +20,7 @@ use Rattle.ada_events.specs.Lawful.{IsLawful}
 use Rattle.ada_rows.specs.declared.row.Row.{Row}
 use Rattle.ada_rows.specs.declared.row.Row.TheVariants.{Halting, Failing, Activating, Terminating}
 use Rattle.ada_laws.proofs.Searching.{is_number-some}
-use Rattle.ada_rows.specs.Touching.{is_uncallable}
+use Rattle.ada_rows.specs.TouchedKeys.{is_uncallable}
 use Rattle.ada_records.proofs.QueueChanges.{ends, has_ended-more}
 use Rattle.ada_agenda.specs.Kinds.{IsActivationOf, IsOpenCallTo, IsHit, OfCreation, OfElaboration, OfAbort}
 use Rattle.ada_agenda.specs.Kinds.OfCreation.{goes}
@@ -31,7 +31,7 @@ use Rattle.ada_agenda.proofs.Readying.{IsOpenWait, IsUnqueued}
 use Rattle.ada_agenda.proofs.Refining.{Key}
 use Rattle.ada_agenda.proofs.Refining.Key.{own, made, hit, freed, lost, called, due, done, completed, abandoned, going, quits_done, quits_ended, quits_idle}
 use Rattle.ada_agenda.proofs.Refining.Key.{leaving}
-use Rattle.ada_agenda.proofs.Silent.{IsSilent, no_own}
+use Rattle.ada_agenda.proofs.OwnPositions.{IsSilent, no_own}
 
 -- the event ends the task
 pub record IsNewlyOver (event : Event) (before : List Event) (task : ℕ) : Type 0 where

@@ -33,14 +33,14 @@ use Rattle.ada_laws.proofs.Framing.{IsBlockOf}
 use Rattle.ada_laws.proofs.Queueing.{is_open_at-call, open_call_suspends}
 use Rattle.ada_laws.proofs.Stepping.{queued_open}
 use Rattle.ada_laws.proofs.Suspending.{is_suspended-from}
-use Rattle.ada_rows.specs.Touching.{is_uncallable}
+use Rattle.ada_rows.specs.TouchedKeys.{is_uncallable}
 use Rattle.ada_rows.specs.declared.row.Row.{Row}
 use Rattle.ada_rows.specs.declared.row.Row.TheVariants.{Failing, Activating, Terminating, QuittingBody}
 use Rattle.ada_records.proofs.QueueChanges.{ends}
 use Rattle.ada_agenda.specs.Kinds.{quitting_row, quitting_key, IsActivationOf, IsOpenCallTo, IsHit, IsUnstartedBy, OfCompletion, OfHalt}
 use Rattle.ada_agenda.specs.Kinds.OfCompletion.{goes, quits, fails, activates, abandons}
 use Rattle.ada_agenda.specs.Kinds.OfHalt.{completes, quits_block, empties}
-use Rattle.ada_agenda.proofs.Acting.{made_within}
+use Rattle.ada_agenda.proofs.StartedTasks.{made_within}
 use Rattle.ada_agenda.proofs.Changing.{IsNewlyOver, newly_uncallable, newly_done, newly_over}
 use Rattle.ada_agenda.proofs.Completing.{IsNewlyAbandoned, body_newly, block_newly}
 use Rattle.ada_agenda.proofs.Readying.{IsOpenWait, IsUnqueued}
@@ -48,7 +48,7 @@ use Rattle.ada_agenda.proofs.Refining.{Key}
 use Rattle.ada_agenda.proofs.Refining.Key.{own, made, hit, freed, lost, called, due, done, completed, abandoned, going, quits_done, quits_ended, quits_idle}
 use Rattle.ada_agenda.proofs.Refining.Key.{leaving}
 use Rattle.ada_agenda.proofs.Releases.{same_event}
-use Rattle.ada_agenda.proofs.Silent.{IsSilent, no_own}
+use Rattle.ada_agenda.proofs.OwnPositions.{IsSilent, no_own}
 
 -- the event completes the task, and does nothing else
 pub record OnlyCompletes (event : Event) (task : TaskNo) : Type 0 where

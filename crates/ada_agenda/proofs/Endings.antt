@@ -22,13 +22,13 @@ use Rattle.ada_laws.proofs.Growing.{has_ended-completed}
 use Rattle.ada_laws.proofs.Framing.{IsBlockOf}
 use Rattle.ada_laws.proofs.DependentLaws.{IsEnd, is_terminated-cases}
 use Rattle.ada_laws.proofs.DependentLaws.IsEnd.{alone, together, earlier}
-use Rattle.ada_rows.specs.Touching.{is_uncallable}
+use Rattle.ada_rows.specs.TouchedKeys.{is_uncallable}
 use Rattle.ada_rows.specs.declared.row.Row.{Row}
 use Rattle.ada_rows.specs.declared.row.Row.TheVariants.{Failing, Activating, Terminating, QuittingBlock, Leaving}
 use Rattle.ada_records.proofs.QueueChanges.{ends, has_ended-more}
 use Rattle.ada_agenda.specs.Kinds.{quitting_row, quitting_key, IsActivationOf, IsOpenCallTo, IsHit, IsUnstartedBy, OfTermination}
 use Rattle.ada_agenda.specs.Kinds.OfTermination.{fails, activates, goes, quits, leaves}
-use Rattle.ada_agenda.proofs.Acting.{IsNamed, opener_named, held_named, made_within}
+use Rattle.ada_agenda.proofs.StartedTasks.{IsNamed, opener_named, held_named, made_within}
 use Rattle.ada_agenda.proofs.Changing.{IsNewlyOver, newly_uncallable, newly_done, newly_over}
 use Rattle.ada_agenda.proofs.Completing.{IsNewlyAbandoned, IsBlockEnded, body_newly, block_newly}
 use Rattle.ada_agenda.proofs.Completions.{same_task, queued_suspends}
@@ -36,7 +36,7 @@ use Rattle.ada_agenda.proofs.Readying.{IsOpenWait, IsUnqueued}
 use Rattle.ada_agenda.proofs.Refining.{IsNewlyEnded, Key}
 use Rattle.ada_agenda.proofs.Refining.Key.{own, made, hit, freed, lost, called, due, done, completed, abandoned, going, quits_done, quits_ended, quits_idle}
 use Rattle.ada_agenda.proofs.Refining.Key.{leaving}
-use Rattle.ada_agenda.proofs.Silent.{IsSilent, no_own}
+use Rattle.ada_agenda.proofs.OwnPositions.{IsSilent, no_own}
 use Rattle.ada_agenda.proofs.Unstarted.{gone_goes, goes_how, abandoned_unnamed, goes_unnamed}
 
 -- the event only terminates

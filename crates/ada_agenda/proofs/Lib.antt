@@ -1,7 +1,7 @@
 pub mod RowsHeld
 pub mod ThreeLevels
 pub mod Words
-pub mod Acting
+pub mod StartedTasks
 pub mod Adding
 pub mod Answering
 pub mod Changing
@@ -11,15 +11,15 @@ pub mod Depending
 pub mod Moments
 pub mod Newcomers
 pub mod Endings
-pub mod Holds
+pub mod Suspensions
 pub mod Noting
 pub mod Places
-pub mod Quietly
+pub mod QuietEvents
 pub mod Quitting
 pub mod Readying
 pub mod Refining
 pub mod Releases
-pub mod Silent
+pub mod OwnPositions
 pub mod Unhalted
 pub mod Unstarted
 pub mod Waiting

@@ -22,7 +22,7 @@ use Rattle.ada_events.specs.Forced.{is_conditional, is_to_cancel, passed_at, is_
 use Rattle.ada_laws.proofs.Searching.{then_some-some, if_some, option_map-some, option_map_or-true}
 use Rattle.ada_laws.proofs.Saying.{held_in-call, held_in-wait, held_in-delay}
 use Rattle.ada_laws.proofs.Stepping.{queued_open}
-use Rattle.ada_rows.proofs.TakingNewly.{pending_before}
+use Rattle.ada_rows.proofs.TakenCalls.{pending_before}
 use Rattle.ada_rows.proofs.TouchedKeys.{queued_before}
 use Rattle.ada_rows.specs.declared.row.Row.{Row}
 use Rattle.ada_rows.specs.declared.row.Row.TheVariants.{Cancelling, Passing, Waking}

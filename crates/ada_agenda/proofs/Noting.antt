@@ -16,7 +16,7 @@ use Rattle.ada_laws.proofs.Searching.{event_at-within}
 use Rattle.ada_laws.proofs.Suspending.{is_suspended-from, suspended_once}
 use Rattle.ada_rows.specs.declared.row.Row.{Row}
 use Rattle.ada_rows.specs.declared.row.Row.TheVariants.{Failing, Meeting, Cancelling, Waking, Activating, Terminating}
-use Rattle.ada_rows.specs.Newly.{IsCallOf}
+use Rattle.ada_rows.specs.CalledTasks.{IsCallOf}
 use Rattle.ada_rows.specs.Rows.{rank, step_at}
 use Rattle.ada_agenda.specs.declared.numbers.TheConstants.{MOST_KEYS}
 use Rattle.ada_agenda.specs.Rows.{keeps}
@@ -26,7 +26,7 @@ use Rattle.ada_agenda.specs.Keeping.{KeepsUpWithStart, KeepsUpWithDelay, KeepsUp
 use Rattle.ada_agenda.specs.internal.Keeping.{Both}
 use Rattle.ada_agenda.specs.Keeping.AsKey.{itself as that_key}
 use Rattle.ada_agenda.specs.Keeping.When.{holds_so}
-use Rattle.ada_rows.specs.Touching.{is_uncallable}
+use Rattle.ada_rows.specs.TouchedKeys.{is_uncallable}
 use Rattle.ada_agenda.specs.Kinds.{itself, is_immediate, is_immediate_call, OfCreation, OfStart, OfCall, OfDelay, Adds}
 use Rattle.ada_agenda.specs.Kinds.OfCreation.{goes}
 use Rattle.ada_agenda.specs.Kinds.OfStart.{is_over}

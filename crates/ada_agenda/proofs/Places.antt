@@ -1,11 +1,10 @@
 -- Where open calls stand, and that who closed a block is within it until it is left.
-use Rattle.std.proofs.Common.{◌≡◌, ℕ, suc, Bool, true, false, not, ◌&&◌, Option, Some, None, List, [], ◌∷◌, length, sym, refl, ap, ◌∙◌, subst, ◌⊎◌, inl, inr}
+use Rattle.std.proofs.Common.{◌≡◌, ℕ, suc, true, false, ◌&&◌, Option, Some, None, List, [], ◌∷◌, length, sym, refl, ap, ◌∙◌, subst, ◌⊎◌, inl, inr}
 use Rattle.std.proofs.Common.{eqb}
 use Rattle.std.specs.Prelude.{◌-◌}
 use Rattle.std.specs.Option.{option_map_or}
-use Rattle.std.specs.Bool.{then_some}
 use Rattle.std.specs.List.{Contains}
-use Rattle.std.proofs.lemmas.Bool.{and_parts, and_from, or_cases, or_left, or_right, not-true, both_ways, cases_Bool, eqb-true, eq-eqb, false≢true, true≢false}
+use Rattle.std.proofs.lemmas.Bool.{and_parts, and_from, or_cases, or_left, or_right, both_ways, cases_Bool, eqb-true, eq-eqb, false≢true, true≢false}
 use Rattle.std.proofs.lemmas.Option.{none-some, same_Some, slice_get_within, get_or_from_slice_get}
 use Rattle.ada_events.specs.declared.event.Event.{Event}
 use Rattle.ada_events.specs.declared.event.Event.TheVariants as event
@@ -15,7 +14,7 @@ use Rattle.ada_events.specs.declared.request.Request.TheVariants as request
 use Rattle.ada_events.specs.declared.names.Member.{Member}
 use Rattle.ada_events.specs.declared.names.Member.TheVariants.{Block, Rendezvous}
 use Rattle.ada_events.specs.Search.{is_number, is_some_and, event_at}
-use Rattle.ada_events.specs.Says.{Call, Opening, Closing, Meeting, opening_in, closing_in, meeting_in, call_in, left_in, released_in}
+use Rattle.ada_events.specs.Says.{Call, Opening, Closing, opening_in, closing_in, meeting_in, call_in, left_in, released_in}
 use Rattle.ada_events.specs.Asks.{member_position, asked_event}
 use Rattle.ada_events.specs.Phases.{is_released}
 use Rattle.ada_events.specs.Calls.{is_pending, is_open_call, queue}
@@ -25,13 +24,15 @@ use Rattle.ada_events.specs.Forced.{is_to_leave}
 use Rattle.ada_events.specs.Lawful.{IsLawful, MayFollow}
 use Rattle.ada_laws.specs.Calls.{IsOpenCallAt}
 use Rattle.ada_laws.specs.Suspension.{IsSuspendedAt}
-use Rattle.ada_laws.proofs.Searching.{option_or-some, option_map_or-true, then_some-some, is_number-some, is_number-from, event_at-cases, event_at-older}
+use Rattle.ada_laws.proofs.Searching.{option_map_or-true, is_number-some, is_number-from, event_at-cases, event_at-older}
 use Rattle.ada_laws.proofs.Searching.{any_event-found, any_event-from}
-use Rattle.ada_laws.proofs.Gathering.{gathered-found, gathered-from}
+use Rattle.ada_laws.proofs.Gathering.{gathered-from}
 use Rattle.ada_laws.proofs.Growing.{is_released-now, is_released-before, has_ended-before}
 use Rattle.ada_laws.proofs.Saying.{held_in-closing}
 use Rattle.ada_laws.proofs.Accepting.{is_accepted}
 use Rattle.ada_laws.proofs.CallLaws.{open_calls_are_joined_or_queued, one_meeting_for_a_joined_call}
+use Rattle.ada_laws.proofs.Members.{IsMember, nest_member}
+use Rattle.ada_laws.proofs.Members.IsMember.{block_in}
 use Rattle.ada_laws.proofs.Framing.{IsBlockOf}
 use Rattle.ada_laws.proofs.Queueing.{is_open_at-from}
 use Rattle.ada_laws.proofs.Rows.{IsRow, forced-row}
@@ -71,38 +72,12 @@ pub record IsOpenBlock (journal : List Event) (task p : ℕ) : Type 0 where
   pub block : IsBlockOf journal task p
   pub unleft : is_left journal p ≡ false
 
-open_block : (journal : List Event) (task p q : ℕ) (e : Event) (o : Option Opening) → opening_in e ≡ o → event_at journal q ≡ Some e
-    → option_map_or (λ (o : Opening). then_some (eqb o.by task && not (is_left journal q)) (Block q)) o None ≡ Some (Block p) → IsOpenBlock journal task p
-open_block journal task p q e None says at gives = absurd (none-some (Block p) gives)
-open_block journal task p q e (Some o) says at gives =
-    let found = then_some-some (eqb o.by task && not (is_left journal q)) (Block q) (Block p) gives in
-    let both = and_parts (eqb o.by task) (not (is_left journal q)) found.0 in
-    let same : q ≡ p = cc (found.1) in
-    subst (IsOpenBlock journal task) same
-    (record {
-      block = record { event = e; opening = o; stands = at; says = says; by = eqb-true o.by task both.0 };
-      unleft = not-true
-          (is_left journal q) both.1;
-    })
-
-not_rendezvous : (test : Meeting → Bool) (p : ℕ) (o : Option Meeting)
-    → option_map_or (λ (m : Meeting). then_some (test m) (Rendezvous m.call)) o None ≡ Some (Block p) → ⊥
-not_rendezvous test p None gives = none-some (Block p) gives
-not_rendezvous test p (Some m) gives =
-    let found = then_some-some (test m) (Rendezvous m.call) (Block p) gives in
-    cc (found.1)
-
 within_open : (journal : List Event) (task p : ℕ) → Contains (nest journal task) (Block p) → IsOpenBlock journal task p
-unfolding nest member_at
-within_open journal task p contains =
-    let (q, e, at, gives) = gathered-found (member_at journal task) journal (Block p) contains in
-    elim (option_or-some
-    (option_map_or (λ (o : Opening). then_some (eqb o.by task && not (is_left journal q)) (Block q)) (opening_in e) None)
-    (option_map_or (λ (m : Meeting). then_some (is_wait_of journal task m.wait && is_open_call journal m.call) (Rendezvous m.call)) (meeting_in e) None)
-    (Block p) gives) [
-      | inl opened ↦ open_block journal task p q e (opening_in e) refl at opened
-      | inr met ↦ absurd (not_rendezvous (λ m. is_wait_of journal task m.wait && is_open_call journal m.call) p (meeting_in e) met)
-    ]
+within_open journal task p contains = of_member (nest_member journal task (Block p) contains)
+  where
+    of_member : IsMember journal task (Block p) → IsOpenBlock journal task p
+    of_member (block_in q e o at says by unleft) =
+        record { block = record { event = e; opening = o; stands = at; says = says; by = by }; unleft = unleft }
 
 -- who closes a block is within it
 innermost_within : (journal : List Event) (task : ℕ) (member : Option Member) → innermost (nest journal task) ≡ member

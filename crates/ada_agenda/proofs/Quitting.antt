@@ -29,7 +29,7 @@ use Rattle.ada_rows.specs.declared.row.Row.{Row}
 use Rattle.ada_records.proofs.QueueChanges.{ends}
 use Rattle.ada_agenda.specs.Kinds.{IsUnstartedBy, OfQuit}
 use Rattle.ada_agenda.specs.Kinds.OfQuit.{ends as ends_each, abandons}
-use Rattle.ada_agenda.proofs.Acting.{made_within}
+use Rattle.ada_agenda.proofs.StartedTasks.{made_within}
 use Rattle.ada_agenda.proofs.Changing.{IsNewlyOver, newly_over}
 use Rattle.ada_agenda.proofs.Completing.{IsNewlyAbandoned, IsBlockEnded}
 use Rattle.ada_agenda.proofs.Completions.{one_owner, no_body}

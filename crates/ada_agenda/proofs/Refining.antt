@@ -38,14 +38,14 @@ use Rattle.ada_rows.specs.Rows.{goes_by_task, goes_by_moment, at_event, of_task,
 use Rattle.ada_rows.specs.declared.row.Row.{Row}
 use Rattle.ada_rows.specs.declared.row.Row.TheVariants.{Halting, Failing, Meeting, Cancelling, Passing, Waking, Activating, Terminating, QuittingBody}
 use Rattle.ada_rows.specs.declared.row.Row.TheVariants.{QuittingBlock, Leaving}
-use Rattle.ada_rows.specs.Touching.{is_uncallable, MayQuit, Touches}
-use Rattle.ada_rows.specs.Touching.Touches.{newest, task_made, aborts, frees, loses, calls, moves, elaborates, completes, abandons, ends_below, body_quits}
-use Rattle.ada_rows.specs.Touching.Touches.{block_quits, ends_within}
-use Rattle.ada_rows.specs.Touching.MayQuit.{complete, idle, made as newly_made}
+use Rattle.ada_rows.specs.TouchedKeys.{is_uncallable, MayQuit, Touches}
+use Rattle.ada_rows.specs.TouchedKeys.Touches.{newest, task_made, aborts, frees, loses, calls, moves, elaborates, completes, abandons, ends_below, body_quits}
+use Rattle.ada_rows.specs.TouchedKeys.Touches.{block_quits, ends_within}
+use Rattle.ada_rows.specs.TouchedKeys.MayQuit.{complete, idle, made as newly_made}
 use Rattle.ada_rows.proofs.Keys.{of_found}
 use Rattle.ada_rows.proofs.TouchedKeys.{open_before}
 use Rattle.ada_agenda.specs.Kinds.{itself, quitting_row, quitting_key, IsActivationOf, IsOpenCallTo, IsLeaving, ComesDue, IsHit, IsCloseAt}
-use Rattle.ada_agenda.proofs.Acting.{starters_made}
+use Rattle.ada_agenda.proofs.StartedTasks.{starters_made}
 use Rattle.ada_agenda.proofs.Completing.{IsNewlyAbandoned, abandoned_newly}
 use Rattle.ada_agenda.proofs.Depending.{quits_live, depended_known}
 use Rattle.ada_agenda.proofs.Moments.{IsGivenOrDue, call_due, wait_due, delay_due}

@@ -25,9 +25,9 @@ use Rattle.ada_records.proofs.Saying.{release_only}
 use Rattle.ada_agenda.specs.Kinds.{quitting_row, quitting_key}
 use Rattle.ada_agenda.proofs.Readying.{IsUnqueued}
 use Rattle.ada_agenda.proofs.Refining.{Key}
-use Rattle.ada_agenda.proofs.Quietly.{QuietKey, quietly}
-use Rattle.ada_agenda.proofs.Quietly.QuietKey.{at_own, frees_caller, calls_waiting, brings_moment, closes_around, closes_block, waits_open, empties_queue}
-use Rattle.ada_agenda.proofs.Silent.{IsSilent, no_own}
+use Rattle.ada_agenda.proofs.QuietEvents.{QuietKey, quietly}
+use Rattle.ada_agenda.proofs.QuietEvents.QuietKey.{at_own, frees_caller, calls_waiting, brings_moment, closes_around, closes_block, waits_open, empties_queue}
+use Rattle.ada_agenda.proofs.OwnPositions.{IsSilent, no_own}
 
 -- what a release touches: the caller of a call, and the masters of a task whose queue is emptied
 pub data ReleaseKey (event : Event) (before : List Event) (position : ℕ) : Row → ℕ → Type 0 where

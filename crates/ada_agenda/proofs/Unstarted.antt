@@ -20,7 +20,7 @@ use Rattle.ada_laws.proofs.Growing.{has_ended-completed}
 use Rattle.ada_laws.proofs.Rows.{IsRow, forced-row}
 use Rattle.ada_laws.proofs.Rows.IsRow.{goes, quits}
 use Rattle.ada_laws.proofs.Depending.{created_positive}
-use Rattle.ada_agenda.proofs.Acting.{IsNamed}
+use Rattle.ada_agenda.proofs.StartedTasks.{IsNamed}
 
 row_goes : (journal : List Event) (e : Event) (task : ℕ) → IsRow journal e → gone_in e ≡ Some task → is_to_go journal task ≡ true
 unfolding gone_in

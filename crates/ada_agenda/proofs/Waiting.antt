@@ -11,7 +11,7 @@ use Rattle.ada_laws.specs.Suspension.{IsSuspendedAt}
 use Rattle.ada_laws.proofs.Searching.{option_map_or-true, any_event-found}
 use Rattle.ada_laws.proofs.Saying.{held_in-wait}
 use Rattle.ada_laws.proofs.Stepping.{pending_parts}
-use Rattle.ada_rows.proofs.TakingNewly.{pending_before}
+use Rattle.ada_rows.proofs.TakenCalls.{pending_before}
 
 -- a task that is held up at a position at which it is pending is suspended there
 pub suspended_at : (journal : List Event) (p task : ℕ) (e : Event) → event_at journal p ≡ Some e → held_in e ≡ Some task → is_pending journal p task ≡ true

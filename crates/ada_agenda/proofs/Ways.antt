@@ -18,7 +18,7 @@ use Rattle.ada_laws.proofs.Reaching.{parent_was_known, reaches_known}
 use Rattle.ada_laws.proofs.Depending.{depends_exists, depends_reaches}
 use Rattle.ada_laws.proofs.Parents.{tasks_depend_by_parents}
 use Rattle.ada_agenda.specs.Additions.{MastersAreFoundOutwards}
-use Rattle.ada_agenda.proofs.Acting.{still_made}
+use Rattle.ada_agenda.proofs.StartedTasks.{still_made}
 
 -- a parent stays so
 parent_later : (event : Event) (before : List Event) (m n : Master) → parent_of before m ≡ Some n → parent_of (event ∷ before) m ≡ Some n

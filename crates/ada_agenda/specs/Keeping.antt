@@ -6,9 +6,9 @@ use Rattle.ada_events.specs.Lawful.{IsLawful}
 use Rattle.ada_events.specs.Says.{start_in, delay_in, creation_in}
 use Rattle.ada_events.specs.Tasks.{task_count}
 use Rattle.ada_rows.specs.declared.row.Row.{Row}
-use Rattle.ada_rows.specs.Newly.{IsCallOf}
+use Rattle.ada_rows.specs.CalledTasks.{IsCallOf}
 use Rattle.ada_rows.specs.Rows.{rank, IsAgenda}
-use Rattle.ada_rows.specs.Touching.{is_uncallable}
+use Rattle.ada_rows.specs.TouchedKeys.{is_uncallable}
 use Rattle.ada_records.specs.Records.{IsHeldAt}
 use Rattle.ada_agenda.specs.Kinds.{is_immediate_call}
 use Rattle.ada_agenda.specs.Rows.{keeps}

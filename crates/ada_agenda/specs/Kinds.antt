@@ -25,7 +25,7 @@ use Rattle.ada_events.specs.Forced.{is_conditional, is_done_activating}
 use Rattle.ada_events.specs.Termination.{is_open_terminate, is_ready_to_quit}
 use Rattle.ada_laws.specs.Calls.{IsCallAt, IsOpenCallAt}
 use Rattle.ada_laws.specs.Suspension.{IsSuspendedAt}
-use Rattle.ada_rows.specs.Touching.{is_uncallable}
+use Rattle.ada_rows.specs.TouchedKeys.{is_uncallable}
 use Rattle.ada_rows.specs.declared.row.Row.{Row}
 use Rattle.ada_rows.specs.declared.row.Row.TheVariants.{Halting, Failing, Meeting, Cancelling, Passing, Waking, Activating, Terminating, QuittingBody}
 use Rattle.ada_rows.specs.declared.row.Row.TheVariants.{QuittingBlock, Leaving}

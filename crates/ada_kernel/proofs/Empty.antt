@@ -1,11 +1,8 @@
 -- What is kept of the empty journal.
-use Rattle.std.proofs.Common.{◌≡◌, ℕ, zero, suc, ◌<◌, ◌≤◌, None, List, [], ◌∷◌, length, refl, sym, ◌∙◌, arith}
-use Rattle.std.specs.Option.{option_and_then}
+use Rattle.std.proofs.Common.{◌≡◌, ℕ, zero, suc, None, List, [], refl, sym, ◌∙◌, arith}
 use Rattle.std.proofs.lemmas.Bool.{le-ltb}
 use Rattle.std.proofs.lemmas.Option.{none-some}
-use Rattle.std.specs.Prelude.{slice_index_or}
 use Rattle.ada_events.specs.Search.{event_at, any_event, first_given, gathered, first_below, all_below}
-use Rattle.ada_events.specs.Says.{creation_in}
 use Rattle.ada_events.specs.Tasks.{task_count, creation_of}
 use Rattle.ada_events.specs.Masters.{reaches, depends_on}
 use Rattle.ada_events.specs.Phases.{has_start, is_completed, is_terminated, has_ended, is_abnormal}
@@ -15,27 +12,7 @@ use Rattle.ada_rows.specs.declared.row.Row.{Row}
 use Rattle.ada_rows.specs.declared.row.Row.TheVariants.{Halting, Failing, Meeting, Cancelling, Passing, Waking, Activating, Terminating, QuittingBody}
 use Rattle.ada_rows.specs.declared.row.Row.TheVariants.{QuittingBlock, Leaving}
 use Rattle.ada_rows.specs.Rows.{step_at}
-use Rattle.ada_view.specs.Views.{AreMade}
 use Rattle.ada_agenda.specs.Keeping.{IsAgendaOf}
-
-main_unmade : (position task : ℕ) → option_and_then creation_in (event_at [] position) ≡ creation_of [] task
-unfolding event_at creation_of
-main_unmade position task = refl
-
-abbrev main_alone : List ℕ
-main_alone = 0 ∷ []
-
--- the main program has no creation
-pub main_is_made : AreMade main_alone []
-unfolding task_count
-main_is_made = record { many = refl; each = of_main; past = none_past }
-  where
-    of_main : (task : ℕ) → task < length main_alone → option_and_then creation_in (event_at [] (slice_index_or main_alone task 0)) ≡ creation_of [] task
-    of_main task below = main_unmade (slice_index_or main_alone task 0) task
-
-    none_past : (task : ℕ) → task < length main_alone → slice_index_or main_alone task 0 ≤ 0
-    none_past zero below = omega arith
-    none_past (suc n) below = absurd (omega (arith, below))
 
 -- no row gives a step
 pub none_at_first : (row : Row) (key : ℕ) → step_at [] row key ≡ None

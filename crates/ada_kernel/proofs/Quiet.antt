@@ -7,7 +7,7 @@ use Rattle.ada_events.specs.declared.event.Event.{Event}
 use Rattle.ada_events.specs.Lawful.{IsLawful}
 use Rattle.ada_events.specs.Says.{creation_in, moment_in}
 use Rattle.ada_events.specs.Tasks.{moment}
-use Rattle.ada_records.specs.Noting.{HaveAllQueues}
+use Rattle.ada_records.specs.TableEvents.{HaveAllQueues}
 use Rattle.ada_triggers.specs.Bounds.{IsDueBound, IsStartBound}
 use Rattle.ada_triggers.proofs.Starts.{bound_stays}
 use Rattle.ada_records.specs.declared.record.Record.{Record}
@@ -18,7 +18,6 @@ use Rattle.ada_agenda.specs.Keeping.{IsAgendaOf, KeepsUp}
 use Rattle.ada_kernel.specs.declared.index.Index.{Index}
 use Rattle.ada_kernel.specs.declared.index.Kept.{Kept}
 use Rattle.ada_kernel.specs.internal.Indexes.{IsIndexOf}
-use Rattle.ada_kernel.proofs.Creations.{made_same}
 
 -- the event makes no task and moves no moment
 pub record IsQuiet (event : Event) : Type 0 where
@@ -49,7 +48,6 @@ noted_from index event before records tables rows next first stands lawful quiet
     lawful = lawful;
     recorded = subst (λ (rs : List Record). AreRecords rs (event ∷ before)) (sym (with_items_is index.kept.records records long)) recorded;
     tabled = tabled;
-    created = made_same index.kept.made.items event before stands.kept.created quiet.makes;
     timed = stands.kept.timed ∙ sym (same_moment event before quiet);
   };
   slots = slots;
@@ -76,7 +74,6 @@ noted_tables index event before tables stands lawful quiet recorded tabled slots
     lawful = lawful;
     recorded = recorded;
     tabled = tabled;
-    created = made_same index.kept.made.items event before stands.kept.created quiet.makes;
     timed = stands.kept.timed ∙ sym (same_moment event before quiet);
   };
   slots = slots;

@@ -9,7 +9,7 @@ use Rattle.ada_events.specs.Tasks.{task_count}
 use Rattle.ada_laws.specs.Suspension.{IsSuspendedAt}
 use Rattle.ada_laws.proofs.Suspending.{suspended_exists}
 use Rattle.ada_records.specs.declared.record.Record.{Record}
-use Rattle.ada_records.specs.Noted.{HaveNotedAfter, HaveNotedHold, HaveNotedRelease, may_terminate}
+use Rattle.ada_records.specs.Noted.{HaveNotedAfter, HaveNotedHold, HaveNotedRelease, waits_at_open_terminate}
 use Rattle.ada_records.specs.Followed.{HaveFollowedAfter, HaveFollowedHold}
 use Rattle.ada_records.specs.Records.{AreRecords}
 use Rattle.ada_tables.specs.Standing.{StandFor}
@@ -41,7 +41,7 @@ noted_as event before records lent new noted same lawful stand = noted lawful (r
 
 -- likewise a hold
 pub noted_hold : (event : Event) (before : List Event) (records lent new : List Record) (task at : ℕ) (quittable : Bool)
-    → HaveNotedHold task at quittable lent new → held_in event ≡ Some task → started_in event ≡ [] → may_terminate event ≡ quittable
+    → HaveNotedHold task at quittable lent new → held_in event ≡ Some task → started_in event ≡ [] → waits_at_open_terminate event ≡ quittable
     → at ≡ length before + 1 → lent ≡ records → IsLawful (event ∷ before) → AreRecords records before → AreRecords new (event ∷ before)
 noted_hold event before records lent new task at quittable noted holds starts opens position same lawful stand =
     noted event before (holds_of event event task refl holds starts) (sym position) opens lawful (rw same stand)

@@ -20,7 +20,7 @@ use Rattle.ada_rows.specs.Rows.{at_event, step_at}
 use Rattle.ada_laws.proofs.LimitLaws.{events_are_few}
 use Rattle.ada_laws.proofs.Searching.{event_at-within}
 use Rattle.ada_records.proofs.Nesting.{and_false}
-use Rattle.ada_records.proofs.Noting.{met_holds, release_holds}
+use Rattle.ada_records.proofs.RecordChanges.{met_holds, release_holds}
 use Rattle.ada_kernel.specs.declared.index.Index.{Index}
 use Rattle.ada_kernel.specs.internal.Indexes.{IsIndexOf}
 use Rattle.ada_kernel.proofs.Keys.{key_dropped}

@@ -12,13 +12,11 @@ use ada_triggers::{FirstUnstarted, NextDue};
 use ada_view::View;
 use std::alloc::Global;
 
-/// What a view of a journal takes beside it: a record of each task, the tables, the positions of the creations of all
-/// tasks, and the moment in milliseconds.
+/// What a view of a journal takes beside it: a record of each task, the tables, and the moment in milliseconds.
 #[derive(Drop)]
 pub(crate) struct Kept {
     pub(crate) records: Vec<Record>,
     pub(crate) tables: Tables,
-    pub(crate) made: Vec<u32>,
     pub(crate) moment: i64,
 }
 
@@ -27,16 +25,10 @@ impl Kept {
     #[inline(always)]
     pub(crate) fn view<'a>(&'a self, journal: &'a Journal) -> View<'a>
         requires { IsKept journal.now.events
-            self.now.records.items self.now.tables self.now.made.items self.now.moment }
+            self.now.records.items self.now.tables self.now.moment }
         ensures { result ≡ journal.now.events }
     {
-        View::new(
-            journal,
-            &self.records,
-            &self.tables,
-            &self.made,
-            self.moment,
-        )
+        View::new(journal, &self.records, &self.tables, self.moment)
     }
 }
 
@@ -59,9 +51,6 @@ impl Index {
         let mut records = Vec::new(alloc);
         records.reserve(1)?;
         records.push_reserved(Record::of_main());
-        let mut made = Vec::new(alloc);
-        made.reserve(1)?;
-        made.push_reserved(0);
         let tables = Tables::new(alloc)?;
         let agenda = Agenda::new(alloc)?;
         let next_due = NextDue::new();
@@ -69,7 +58,6 @@ impl Index {
         let kept = Kept {
             records,
             tables,
-            made,
             moment: 0,
         };
         Ok(Index {

@@ -10,7 +10,7 @@ ghost use Rattle.ada_rows.specs.declared.row.Row.TheVariants as row;
 ghost use Rattle.ada_kernel.specs.internal.Indexes.{IsIndexOf};
 ghost use Rattle.ada_kernel.specs.internal.Stepping.{MayBegin, MayNote, HasNoted, MayTake, Takes};
 ghost use Rattle.ada_steps.specs.Beginning.{HasBegun};
-ghost use Rattle.ada_records.specs.Noting.{MakesTask};
+ghost use Rattle.ada_records.specs.TableEvents.{MakesTask};
 ghost use Rattle.ada_events.specs.Forced.{is_to_quit};
 
 use crate::index::Index;
@@ -53,10 +53,8 @@ impl Index {
     {
         let tasks = usize::from(self.kept.tables.tasks());
         self.kept.records.reserve(1)?;
-        self.kept.made.reserve(1)?;
         follow_creation(&mut self.kept.tables, master, families)?;
-        record_creation(&mut self.kept.records);
-        self.kept.made.push_reserved(journal.len() + 1);
+        record_creation(&mut self.kept.records, journal.len() + 1);
         put_creation_keys(&mut self.agenda, tasks);
         Ok(())
     }

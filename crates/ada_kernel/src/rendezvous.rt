@@ -13,7 +13,7 @@ ghost use Rattle.ada_kernel.specs.internal.Indexes.{IsIndexOf};
 ghost use Rattle.ada_kernel.specs.internal.Stepping.{MayBegin, MayNote, HasNoted, MayTake, Takes};
 ghost use Rattle.ada_steps.specs.Beginning.{HasBegun};
 ghost use Rattle.ada_agenda.specs.Kinds.{due_in};
-ghost use Rattle.ada_records.specs.Noting.{MakesCall};
+ghost use Rattle.ada_records.specs.TableEvents.{MakesCall};
 ghost use Rattle.ada_events.specs.declared.event.EventTail.TheVariants.{Nothing as NoTail};
 ghost use Rattle.ada_events.specs.declared.request.Tail.TheVariants.{Nothing};
 

@@ -14,7 +14,7 @@ use ada_admission::waits::refusal_of_wait;
 use ada_events::{
     ChoiceList, Choices, Event, EventTail, Journal, Refusal, Tail, TaskNo, Way, asked_tail,
 };
-use ada_records::records::{holder_at, may_terminate, record_hold, record_release, took};
+use ada_records::records::{holder_at, is_open_terminate, record_hold, record_release, took};
 use ada_records::suspension::{follow_hold, follow_release};
 use ada_steps::make_room;
 use ada_triggers::calls::after_wait;
@@ -45,7 +45,7 @@ impl Index {
         );
         self.next_due = self.next_due.with(tail_due(tail));
         let records = kept.records.as_mut_slice();
-        record_hold(records, by, journal.len() + 1, may_terminate(tail));
+        record_hold(records, by, journal.len() + 1, is_open_terminate(tail));
         follow_hold(&mut kept.tables, records, by);
     }
 

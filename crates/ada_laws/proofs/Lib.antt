@@ -11,6 +11,7 @@ pub mod Sums
 pub mod Working
 pub mod LimitLaws
 pub mod Gathering
+pub mod Members
 pub mod Numbering
 pub mod Parents
 pub mod Releasing

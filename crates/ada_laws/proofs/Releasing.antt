@@ -1,30 +1,22 @@
 -- What releases a position: it wasn't released before.
-use Rattle.std.proofs.Common.{◌≡◌, ℕ, Bool, ◌==◌, true, false, not, ◌&&◌, Option, Some, None, List, [], ◌∷◌, length, sym, refl, ap, ◌∙◌, subst, inl, inr}
-use Rattle.std.specs.Option.{option_map_or}
-use Rattle.std.specs.Bool.{then_some}
-use Rattle.std.specs.List.{Contains}
-use Rattle.std.proofs.lemmas.Bool.{and_parts, not-false, false≢true, true≢false}
-use Rattle.std.proofs.lemmas.Option.{same_Some, none-some, slice_get_within, get_or_from_slice_get}
-use Rattle.std.specs.Prelude.{◌-◌}
+use Rattle.std.proofs.Common.{◌≡◌, ℕ, true, false, Some, None, List, [], ◌∷◌, sym, ap, ◌∙◌, subst, inl, inr}
+use Rattle.std.proofs.lemmas.Bool.{and_parts, true≢false}
+use Rattle.std.proofs.lemmas.Option.{same_Some, none-some}
 use Rattle.ada_events.specs.declared.event.Event.{Event}
 use Rattle.ada_events.specs.declared.request.Request.{Request}
 use Rattle.ada_events.specs.declared.request.Request.TheVariants as request
-use Rattle.ada_events.specs.declared.names.Member.{Member}
-use Rattle.ada_events.specs.declared.names.Member.TheVariants.{Block, Rendezvous}
-use Rattle.ada_events.specs.Search.{is_some_and, event_at}
-use Rattle.ada_events.specs.Says.{Opening, Meeting, opening_in, meeting_in, released_in}
+use Rattle.ada_events.specs.Search.{event_at}
+use Rattle.ada_events.specs.Says.{released_in}
 use Rattle.ada_events.specs.Phases.{is_released}
 use Rattle.ada_events.specs.Calls.{is_pending, is_open_at, is_queued_at, is_open_call}
-use Rattle.ada_events.specs.Nests.{is_left, is_wait_of, member_at, nest, innermost}
 use Rattle.ada_events.specs.Forced.{is_to_fail, is_to_cancel, is_to_wake, is_to_leave}
-use Rattle.ada_events.specs.Asks.{member_position, asked_event}
-use Rattle.ada_events.specs.Refusals.{refusal, is_rendezvous, is_not_in_accept}
+use Rattle.ada_events.specs.Asks.{asked_event}
+use Rattle.ada_events.specs.Refusals.{refusal}
 use Rattle.ada_events.specs.Lawful.{MayFollow}
 use Rattle.ada_laws.specs.Suspension.{OneReleaseEach}
-use Rattle.ada_laws.proofs.Searching.{option_or-some, option_map_or-true, then_some-some, event_at-cases}
-use Rattle.ada_laws.proofs.Gathering.{gathered-found}
+use Rattle.ada_laws.proofs.Searching.{option_map_or-true, event_at-cases}
+use Rattle.ada_laws.proofs.Members.{nest_open, end_within}
 use Rattle.ada_laws.proofs.Growing.{is_released-now, is_released-more}
-use Rattle.ada_laws.proofs.Accepting.{is_accepted}
 use Rattle.ada_laws.proofs.Queueing.{is_open_at-call}
 use Rattle.ada_laws.proofs.Stepping.{pending_parts, queued_open}
 use Rattle.ada_laws.proofs.Rows.{IsRow, forced-row}
@@ -56,62 +48,19 @@ row_unreleased journal event x (leaves p e closing at says leave) frees =
     (pending_parts journal p closing.by (and_parts (is_pending journal p closing.by) _ leave).0).0
 row_unreleased journal event x _ frees = absurd (none-some x frees)
 
-not_rendezvous : (test : Opening → Bool) (q call : ℕ) (o : Option Opening)
-    → option_map_or (λ (o : Opening). then_some (test o) (Block q)) o None ≡ Some (Rendezvous call) → ⊥
-not_rendezvous test q call None gives = none-some (Rendezvous call) gives
-not_rendezvous test q call (Some o) gives =
-    let found = then_some-some (test o) (Block q) (Rendezvous call) gives in
-    cc (found.1)
-
-rendezvous_open : (journal : List Event) (task call : ℕ) (o : Option Meeting)
-    → option_map_or (λ (m : Meeting). then_some (is_wait_of journal task m.wait && is_open_call journal m.call) (Rendezvous m.call)) o None
-    ≡ Some (Rendezvous call) → is_open_call journal call ≡ true
-rendezvous_open journal task call None gives = absurd (none-some (Rendezvous call) gives)
-rendezvous_open journal task call (Some m) gives =
-    let found = then_some-some (is_wait_of journal task m.wait && is_open_call journal m.call) (Rendezvous m.call) (Rendezvous call) gives in
-    let same : m.call ≡ call = cc (found.1) in
-    subst (λ (n : ℕ). is_open_call journal n ≡ true) same (and_parts (is_wait_of journal task m.wait) (is_open_call journal m.call) found.0).1
-
--- the call of a rendezvous in a nest is open
-nest_open : (journal : List Event) (task call : ℕ) → Contains (nest journal task) (Rendezvous call) → is_open_call journal call ≡ true
-unfolding nest member_at
-nest_open journal task call contains =
-    let (q, e, at, gives) = gathered-found (member_at journal task) journal (Rendezvous call) contains in
-    elim (option_or-some
-    (option_map_or (λ (o : Opening). then_some (o.by == task && not (is_left journal q)) (Block q)) (opening_in e) None)
-    (option_map_or (λ (m : Meeting). then_some (is_wait_of journal task m.wait && is_open_call journal m.call) (Rendezvous m.call)) (meeting_in e) None)
-    (Rendezvous call) gives) [
-      | inl opened ↦ absurd (not_rendezvous (λ o. o.by == task && not (is_left journal q)) q call (opening_in e) opened)
-      | inr met ↦ rendezvous_open journal task call (meeting_in e) met
-    ]
-
 call_unreleased : (journal : List Event) (call : ℕ) → is_open_call journal call ≡ true → is_released journal call ≡ false
 unfolding is_open_call
 call_unreleased journal call opened =
     let (e, at, here) = option_map_or-true (is_open_at journal call) (event_at journal call) opened in
     open_unreleased journal call e at here
 
-rendezvous_unreleased : (journal : List Event) (task : ℕ) (member : Option Member) → innermost (nest journal task) ≡ member
-    → is_some_and member is_rendezvous ≡ true → is_released journal (member_position member) ≡ false
-rendezvous_unreleased journal task None last within = absurd (false≢true within)
-rendezvous_unreleased journal task (Some (Block p)) last within = absurd (false≢true within)
-rendezvous_unreleased journal task (Some (Rendezvous call)) last within =
-    let place = length (nest journal task) - 1 in
-    call_unreleased journal call
-    (nest_open journal task call (
-      place,
-      slice_get_within (nest journal task) place (Rendezvous call) last,
-      get_or_from_slice_get (nest journal task) place
-          (Rendezvous call) (Rendezvous call) last,
-    ))
-
 -- a request releases only what isn't released: the call of the rendezvous that it ends
 asked_unreleased : (journal : List Event) (r : Request) (x : ℕ) → refusal journal r ≡ None → released_in (asked_event journal r) ≡ Some x
     → is_released journal x ≡ false
-unfolding asked_event released_in is_not_in_accept
+unfolding asked_event released_in
 asked_unreleased journal (request.End by raised) x accepted frees =
-    let within = not-false (is_some_and (innermost (nest journal by.0)) is_rendezvous) (is_accepted journal (request.End by raised) accepted).in_accept in
-    subst (λ (n : ℕ). is_released journal n ≡ false) (same_Some _ x frees) (rendezvous_unreleased journal by.0 (innermost (nest journal by.0)) refl within)
+    subst (λ (n : ℕ). is_released journal n ≡ false) (same_Some _ x frees)
+    (call_unreleased journal _ (nest_open journal by.0 _ (end_within journal by raised accepted)))
 asked_unreleased journal _ x accepted frees = absurd (none-some x frees)
 
 -- an event releases only what isn't released

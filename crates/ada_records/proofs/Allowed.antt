@@ -19,7 +19,7 @@ use Rattle.ada_tables.specs.Queues.{waits}
 use Rattle.ada_tables.specs.Standing.{StandFor}
 use Rattle.ada_tables.specs.Tables.{TableState, HasEntry}
 use Rattle.ada_records.specs.Facing.{HoldFacts}
-use Rattle.ada_records.specs.Noting.{HaveAllQueues, MakesCall}
+use Rattle.ada_records.specs.TableEvents.{HaveAllQueues, MakesCall}
 use Rattle.ada_records.proofs.MasterTurns.{opening_known, leaving_known}
 use Rattle.ada_records.proofs.EndingTurns.{failure_known}
 use Rattle.ada_records.proofs.Renested.{idle_left}

@@ -19,7 +19,7 @@ use Rattle.ada_records.proofs.Requeuing.QueueChange.{Nothing as SameQueues, Join
 use Rattle.ada_records.specs.declared.record.Record.{Record}
 use Rattle.ada_records.specs.Facing.{HoldFacts, HoldQueues}
 use Rattle.ada_records.specs.Followed.{HaveFollowedAfter, StandAfter}
-use Rattle.ada_records.specs.Noting.{HaveAllQueues}
+use Rattle.ada_records.specs.TableEvents.{HaveAllQueues}
 use Rattle.ada_records.specs.Records.{IsRecordOf, record_at}
 use Rattle.ada_records.proofs.Known.{AreKnown}
 use Rattle.ada_records.specs.internal.Phasing.{TouchesOnly, AreRenested, refreshed}

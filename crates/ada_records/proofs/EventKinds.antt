@@ -12,7 +12,8 @@ use Rattle.ada_events.specs.Lawful.{IsLawful}
 use Rattle.ada_laws.proofs.Growing.{task_count-same}
 use Rattle.ada_records.specs.declared.record.Record.{Record}
 use Rattle.ada_records.specs.Records.{record_at, AreRecords, IsPlainHold, IsPlainRelease}
-use Rattle.ada_records.proofs.Noting.{untouched}
+use Rattle.ada_records.proofs.Creations.{same_creation}
+use Rattle.ada_records.proofs.RecordChanges.{untouched}
 
 pub holds_of : (e x : Event) (task : ℕ) → e ≡ x → held_in x ≡ Some task → started_in x ≡ [] → IsPlainHold e task
 holds_of e x task is holds starts = record { holds = ap held_in is ∙ holds; starts = ap started_in is ∙ starts }
@@ -32,7 +33,7 @@ unfolding held_in released_in completed_in gone_in quit_in started_in aborted_in
 opened_records before by under records lawful old = record {
   many = old.many ∙ sym (task_count-same (Opened by under) before refl);
   each = λ task below. untouched (Opened by under) before task (record_at records task) lawful (old.each task below)
-      (record { holds = refl; raises = refl; frees = refl; meets = refl; ends = refl }) refl;
+      (record { holds = refl; raises = refl; frees = refl; meets = refl; ends = refl }) refl (same_creation (Opened by under) before task refl);
 }
 
 pub records_opened : (e : Event) (before : List Event) (by : TaskNo) (under : Master) (records : List Record) → e ≡ Opened by under → IsLawful (e ∷ before)
@@ -48,7 +49,7 @@ unfolding held_in released_in completed_in gone_in quit_in started_in aborted_in
 ticked_records before now records lawful old = record {
   many = old.many ∙ sym (task_count-same (Ticked now) before refl);
   each = λ task below. untouched (Ticked now) before task (record_at records task) lawful (old.each task below)
-      (record { holds = refl; raises = refl; frees = refl; meets = refl; ends = refl }) refl;
+      (record { holds = refl; raises = refl; frees = refl; meets = refl; ends = refl }) refl (same_creation (Ticked now) before task refl);
 }
 
 pub records_ticked : (e : Event) (before : List Event) (now : ℤ) (records : List Record) → e ≡ Ticked now → IsLawful (e ∷ before) → AreRecords records before

@@ -16,7 +16,7 @@ use Rattle.ada_tables.specs.Queues.{QueuedCall, queue_at}
 use Rattle.ada_tables.specs.Tables.{TableState, slot_at, HasEntry}
 use Rattle.ada_tables.specs.Standing.{phase_of, AreQueued, StandFor}
 use Rattle.ada_records.specs.Facing.{HoldFacts, HoldQueues}
-use Rattle.ada_records.proofs.Following.{tables_follow, same_facts}
+use Rattle.ada_records.proofs.TableChanges.{tables_follow, same_facts}
 use Rattle.ada_records.proofs.SlotsApart.{same_slots}
 
 module _ (event : Event) (before : List Event) (old queued nested new : TableState) (makes : creation_in event ≡ None) (stand : StandFor old before)

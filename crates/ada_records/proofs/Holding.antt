@@ -35,38 +35,22 @@ pub record OnlyHolds (event : Event) : Type 0 where
   pub releases : released_in event ≡ None
   pub meets : meeting_in event ≡ None
 
+-- so it is with an event that says none of it
+pub quiet_from : (e : Event) → completed_in e ≡ None → gone_in e ≡ None → quit_in e ≡ None → aborted_in e ≡ [] → elaborated_in e ≡ None → failed_in e ≡ None
+    → creation_in e ≡ None → IsQuiet e
+quiet_from e completes goes quits aborts elaborates fails makes =
+    record { completes = completes; goes = goes; quits = quits; aborts = aborts; elaborates = elaborates; fails = fails; makes = makes }
+
+only_holds : (e : Event) → IsQuiet e → released_in e ≡ None → meeting_in e ≡ None → OnlyHolds e
+only_holds e quiet releases meets = record { quiet = quiet; releases = releases; meets = meets }
+
 pub hold_only : (e : Event) (task : ℕ) → held_in e ≡ Some task → OnlyHolds e
 unfolding held_in completed_in gone_in quit_in aborted_in elaborated_in failed_in creation_in released_in meeting_in
-hold_only (event.Called by callee entry patience due) task holds =
-    record {
-      quiet = record { completes = refl; goes = refl; quits = refl; aborts = refl; elaborates = refl; fails = refl; makes = refl };
-      releases = refl;
-      meets = refl;
-    }
-hold_only (event.Waiting by choices tail pick) task holds =
-    record {
-      quiet = record { completes = refl; goes = refl; quits = refl; aborts = refl; elaborates = refl; fails = refl; makes = refl };
-      releases = refl;
-      meets = refl;
-    }
-hold_only (event.Paused by due) task holds =
-    record {
-      quiet = record { completes = refl; goes = refl; quits = refl; aborts = refl; elaborates = refl; fails = refl; makes = refl };
-      releases = refl;
-      meets = refl;
-    }
-hold_only (event.Started by tasks) task holds =
-    record {
-      quiet = record { completes = refl; goes = refl; quits = refl; aborts = refl; elaborates = refl; fails = refl; makes = refl };
-      releases = refl;
-      meets = refl;
-    }
-hold_only (event.Closed by block) task holds =
-    record {
-      quiet = record { completes = refl; goes = refl; quits = refl; aborts = refl; elaborates = refl; fails = refl; makes = refl };
-      releases = refl;
-      meets = refl;
-    }
+hold_only (event.Called by callee entry patience due) task holds = only_holds _ (quiet_from _ refl refl refl refl refl refl refl) refl refl
+hold_only (event.Waiting by choices tail pick) task holds = only_holds _ (quiet_from _ refl refl refl refl refl refl refl) refl refl
+hold_only (event.Paused by due) task holds = only_holds _ (quiet_from _ refl refl refl refl refl refl refl) refl refl
+hold_only (event.Started by tasks) task holds = only_holds _ (quiet_from _ refl refl refl refl refl refl refl) refl refl
+hold_only (event.Closed by block) task holds = only_holds _ (quiet_from _ refl refl refl refl refl refl refl) refl refl
 hold_only _ task holds = absurd (none-some task holds)
 
 -- a quiet event ends nobody

@@ -14,7 +14,7 @@ use Rattle.ada_laws.proofs.Searching.{is_number-some}
 use Rattle.ada_records.specs.declared.record.Record.{Record}
 use Rattle.ada_records.specs.Latest.{latest_outcome}
 use Rattle.ada_records.specs.Records.{IsRecordOf}
-use Rattle.ada_records.proofs.Doings.{doing_later}
+use Rattle.ada_records.proofs.Suspensions.{suspension_later}
 use Rattle.ada_records.proofs.Existing.{positive}
 use Rattle.ada_records.proofs.LatestOutcomes.{what_is_released_held}
 use Rattle.ada_records.proofs.Queries.{record_exists}
@@ -51,14 +51,16 @@ live_phase event before task lawful holds listed apart lives =
     let now : Record = record {
       suspension = record r.suspension { joined = is_met (event ∷ before) r.suspension.at; outcome = latest_outcome (event ∷ before) task };
       stage = stage_after event before task r.stage;
+      created = (record_exists (event ∷ before) task).0.created;
     } in
     let right : IsRecordOf (event ∷ before) task now = record {
-      suspension = doing_later event before task r.suspension (is_met (event ∷ before) r.suspension.at) (latest_outcome
+      suspension = suspension_later event before task r.suspension (is_met (event ∷ before) r.suspension.at) (latest_outcome
           (event ∷ before) task) lawful is.suspension
           (never task (held_in event) holds)
           (unreleased_at event before task r.suspension.at apart is.suspension.at.held (releases_some event before lawful))
           lives (λ some. refl) refl;
       stage = stage_more event before task r.stage is.stage;
+      created = (record_exists (event ∷ before) task).1.created;
     } in
     let same : phase_by now ≡ phase_by r = rw (listed, parts.0, parts.1) refl in
     sym (records_tell_phases (event ∷ before) task now right) ∙ same ∙ records_tell_phases before task r is

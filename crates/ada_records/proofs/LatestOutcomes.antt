@@ -1,27 +1,23 @@
 -- What becomes of a task's latest suspension by one more event.
-use Rattle.std.proofs.Common.{◌≡◌, ℕ, suc, ◌-◌, Bool, true, false, cond, Option, Some, None, List, [], ◌∷◌, length, sym, refl, ap, ◌∙◌, subst, inl, inr}
+use Rattle.std.proofs.Common.{◌≡◌, ℕ, suc, Bool, true, false, cond, Option, Some, None, List, [], ◌∷◌, length, sym, refl, ap, ◌∙◌, subst, inl, inr}
 use Rattle.std.specs.Option.{unwrap_or}
-use Rattle.std.proofs.lemmas.Bool.{not-false, false_from_ne_true, false≢true, both_ways}
-use Rattle.std.proofs.lemmas.Option.{none-some, same_Some, slice_get_within, get_or_from_slice_get}
+use Rattle.std.proofs.lemmas.Bool.{false_from_ne_true, both_ways}
+use Rattle.std.proofs.lemmas.Option.{none-some, same_Some}
 use Rattle.ada_events.specs.declared.event.Event.{Event}
 use Rattle.ada_events.specs.declared.outcome.Outcome.{Outcome}
 use Rattle.ada_events.specs.declared.outcome.Outcome.TheVariants.{Raised, Nothing}
 use Rattle.ada_events.specs.declared.request.Request.{Request}
 use Rattle.ada_events.specs.declared.request.Request.TheVariants as request
-use Rattle.ada_events.specs.declared.names.Member.{Member}
-use Rattle.ada_events.specs.declared.names.Member.TheVariants.{Block, Rendezvous}
-use Rattle.ada_events.specs.Search.{is_number, event_at, is_some_and}
+use Rattle.ada_events.specs.Search.{is_number, event_at}
 use Rattle.ada_events.specs.Says.{held_in, released_in}
-use Rattle.ada_events.specs.Asks.{asked_event, member_position}
+use Rattle.ada_events.specs.Asks.{asked_event}
 use Rattle.ada_events.specs.Phases.{is_terminated}
 use Rattle.ada_events.specs.Calls.{is_open_at, is_open_call}
-use Rattle.ada_events.specs.Nests.{nest, innermost}
 use Rattle.ada_events.specs.Outcomes.{raised_in, released_to, became, last_given, outcome_at}
-use Rattle.ada_events.specs.Refusals.{refusal, is_not_in_accept, is_rendezvous}
+use Rattle.ada_events.specs.Refusals.{refusal}
 use Rattle.ada_events.specs.Lawful.{IsLawful}
 use Rattle.ada_laws.specs.Suspension.{IsSuspendedAt}
 use Rattle.ada_laws.proofs.Searching.{event_at-older, event_at-newest, is_number-some, is_number-from, option_map_or-true}
-use Rattle.ada_laws.proofs.Accepting.{is_accepted}
 use Rattle.ada_laws.proofs.Stepping.{Progress, forced-step}
 use Rattle.ada_laws.proofs.Stepping.Progress.{completes, releases, terminates}
 use Rattle.ada_laws.proofs.Queueing.{is_open_at-call, open_call_suspends}
@@ -29,7 +25,8 @@ use Rattle.ada_laws.proofs.OutcomeLaws.{became-held, raises_none, unraised, unhe
 use Rattle.ada_records.specs.Latest.{WhatIsReleasedHeld, HoldsAreHeld, ReleasesDecide, RaisersHaveRaised, OthersKeepOutcomes}
 use Rattle.ada_records.proofs.Calling.{same_terminated}
 use Rattle.ada_records.proofs.Saying.{release_only}
-use Rattle.ada_records.proofs.Within.{nest_open, next_unreleased}
+use Rattle.ada_laws.proofs.Members.{nest_open, end_within}
+use Rattle.ada_records.proofs.Within.{next_unreleased}
 
 -- a forced step releases what a task is suspended at
 step_holder : (before : List Event) (event : Event) (p : ℕ) → Progress before event → released_in event ≡ Some p → (task : ℕ) × IsSuspendedAt before task p
@@ -46,27 +43,12 @@ caller_there journal call opened =
     let (c, says, is) = is_open_at-call journal call e at here in
     (c.by, open_call_suspends journal c call is)
 
-innermost_caller : (journal : List Event) (task : ℕ) (o : Option Member) → innermost (nest journal task) ≡ o → is_some_and o is_rendezvous ≡ true → (u : ℕ)
-    × IsSuspendedAt journal u (member_position o)
-innermost_caller journal task None is served = absurd (false≢true served)
-innermost_caller journal task (Some (Block p)) is served = absurd (false≢true served)
-innermost_caller journal task (Some (Rendezvous call)) is served =
-    let place = length (nest journal task) - 1 in
-    caller_there journal call
-    (nest_open journal task call (
-      place,
-      slice_get_within (nest journal task) place (Rendezvous call) is,
-      get_or_from_slice_get (nest journal task) place
-          (Rendezvous call) (Rendezvous call) is,
-    ))
-
 -- a request releases the call of the rendezvous that it ends
 asked_holder : (journal : List Event) (r : Request) (p : ℕ) → refusal journal r ≡ None → released_in (asked_event journal r) ≡ Some p → (task : ℕ)
     × IsSuspendedAt journal task p
-unfolding asked_event released_in is_not_in_accept
+unfolding asked_event released_in
 asked_holder journal (request.End by raised) p accepted frees =
-    let within = not-false (is_some_and (innermost (nest journal by.0)) is_rendezvous) (is_accepted journal (request.End by raised) accepted).in_accept in
-    let (u, held) = innermost_caller journal by.0 (innermost (nest journal by.0)) refl within in
+    let (u, held) = caller_there journal _ (nest_open journal by.0 _ (end_within journal by raised accepted)) in
     (u, subst (λ (n : ℕ). IsSuspendedAt journal u n) (same_Some _ p frees) held)
 asked_holder journal _ p accepted frees = absurd (none-some p frees)
 

@@ -14,8 +14,8 @@ pub mod LeftBlocks
 pub mod NestKinds
 pub mod Distinct
 pub mod LatestOutcomes
-pub mod Doings
-pub mod Noting
+pub mod Suspensions
+pub mod RecordChanges
 pub mod Stages
 pub mod Existing
 pub mod TaskEnds
@@ -26,6 +26,7 @@ pub mod Queries
 pub mod KeptQueues
 pub mod Agreeing
 pub mod Entries
+pub mod Creations
 pub mod Empty
 pub mod NestedBlocks
 pub mod Standing
@@ -35,7 +36,7 @@ pub mod Owners
 pub mod LiveHolders
 pub mod Cuts
 pub mod RecordedPhases
-pub mod Following
+pub mod TableChanges
 pub mod KeptPhases
 pub mod OnePhase
 pub mod OnePhaseKinds

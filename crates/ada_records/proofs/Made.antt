@@ -4,7 +4,7 @@ use Rattle.std.proofs.Common.{arith, inl, inr, length-append}
 use Rattle.std.specs.Option.{option_and_then, unwrap_or}
 use Rattle.std.specs.List.{Contains}
 use Rattle.std.proofs.Math.Seq.{get_or-append_seam}
-use Rattle.std.proofs.lemmas.Bool.{cases_lt, eq-eqb, ne_eqb, leb-false, ltb-false}
+use Rattle.std.proofs.lemmas.Bool.{cases_lt, leb-false, ltb-false}
 use Rattle.std.proofs.lemmas.List.{get_or_append_left, get_or-append-add, length-replicate}
 use Rattle.std.proofs.lemmas.List.Elements.{All-nil}
 use Rattle.std.proofs.lemmas.Option.{none-some, same_Some}
@@ -26,7 +26,7 @@ use Rattle.ada_events.specs.Search.{event_at}
 use Rattle.ada_events.specs.Says.{Creation, Opening, Call, creation_in, opening_in, call_in, meeting_in, released_in, completed_in, gone_in, quit_in, held_in}
 use Rattle.ada_events.specs.Says.{started_in}
 use Rattle.ada_events.specs.Slots.{number_within}
-use Rattle.ada_events.specs.Tasks.{task_count, creation_of}
+use Rattle.ada_events.specs.Tasks.{task_count}
 use Rattle.ada_events.specs.Phases.{is_terminated}
 use Rattle.ada_events.specs.Calls.{queue}
 use Rattle.ada_events.specs.Nests.{nest}
@@ -51,8 +51,9 @@ use Rattle.ada_tables.specs.Queues.{QueuedCall, queue_at}
 use Rattle.ada_tables.specs.Tables.{TableState, declared, slots_before, slot_at, HasEntry}
 use Rattle.ada_tables.specs.Standing.{phase_of, facts_in, caller_of, AreQueued, StandFor}
 use Rattle.ada_records.specs.Facing.{HoldFacts, HoldQueues}
-use Rattle.ada_records.specs.Noting.{MakesTask}
+use Rattle.ada_records.specs.TableEvents.{MakesTask}
 use Rattle.ada_records.proofs.Agreeing.{ends_phase}
+use Rattle.ada_records.proofs.Creations.{older_creation, new_creation}
 use Rattle.ada_records.proofs.Entries.{call_names_entry, declarer_exists, families_stay}
 use Rattle.ada_records.proofs.LiveHolders.{masters_are_held}
 use Rattle.ada_records.proofs.NestTurns.{accepted_by_callee}
@@ -147,14 +148,6 @@ unfolding held_in started_in released_in completed_in gone_in quit_in
 same_phase event before by under master families task is lawful =
     nobody_touched event (kind.Created by under master families) before is refl refl refl refl refl refl lawful task
 
-same_creation : (event : Event) (before : List Event) (task : ℕ) → task < task_count before → creation_of (event ∷ before) task ≡ creation_of before task
-unfolding creation_of
-same_creation event before task below = rw (ne_eqb task (task_count before) (λ same. omega (arith, same, below))) refl
-
-new_creation : (event : Event) (before : List Event) (c : Creation) → creation_in event ≡ Some c → creation_of (event ∷ before) (task_count before) ≡ Some c
-unfolding creation_of
-new_creation event before c says = rw (eq-eqb (task_count before) (task_count before) refl, says) refl
-
 asked_few : (journal : List Event) (r : Request) (c : Creation) → refusal journal r ≡ None → creation_in (asked_event journal r) ≡ Some c
     → (task_count journal < MOST_TASKS) × (slot_count journal + entries_in c.families ≤ MOST_SLOTS)
 unfolding asked_event creation_in makes_too_many_tasks makes_too_many_slots
@@ -217,7 +210,7 @@ module _ (event : Event) (before : List Event) (old new : TableState) (master : 
   phases task = same_phase event before makes.by makes.under master families task makes.is lawful
 
   new_phase : phase_of (event ∷ before) new_task ≡ Unstarted
-  new_phase = phases new_task ∙ sym (records_tell_phases before new_task new_record (unmade before new_task lawful.0 (omega arith)))
+  new_phase = phases new_task ∙ sym (records_tell_phases before new_task (new_record 0) (unmade before new_task lawful.0 (omega arith)))
 
   new_live : is_terminated (event ∷ before) new_task ≡ false
   new_live =
@@ -253,7 +246,7 @@ module _ (event : Event) (before : List Event) (old new : TableState) (master : 
 
   older_facts : (task : ℕ) → task < task_count before → facts_in (event ∷ before) task ≡ facts_in before task
   older_facts task below =
-      rw (same_creation event before task below, families_stay event before task below, same_nest task, phases task) refl
+      rw (older_creation event before task below, families_stay event before task below, same_nest task, phases task) refl
 
   newest_facts : facts_in (event ∷ before) new_task ≡ made_facts (Some master) families
   newest_facts =

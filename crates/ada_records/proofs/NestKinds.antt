@@ -1,10 +1,10 @@
 -- What each kind of event changes in what a task is within.
 use Rattle.std.proofs.Common.{◌≡◌, ℕ, suc, ◌-◌, ◌≤◌, Bool, true, false, not, ◌&&◌, eqb, Option, Some, None, List, [], ◌∷◌, ◌++◌, length, sym, refl, ap, ◌∙◌}
-use Rattle.std.proofs.Common.{subst, arith, inl, inr, append-nil}
+use Rattle.std.proofs.Common.{arith, inl, inr, append-nil}
 use Rattle.std.specs.Option.{option_map_or, option_or, option_to_list}
 use Rattle.std.specs.Bool.{then_some}
 use Rattle.std.specs.List.{filter, Contains, list_any}
-use Rattle.std.proofs.lemmas.Bool.{and_parts, and_from, or_left, cases_eq, ne_eqb, eq-eqb, eqb-true, not-true, not_from_false, false_from_ne_true, true≢false}
+use Rattle.std.proofs.lemmas.Bool.{and_parts, and_from, or_left, cases_eq, ne_eqb, eq-eqb, eqb-true, not_from_false, false_from_ne_true, true≢false}
 use Rattle.std.proofs.lemmas.Option.{none-some, same_Some, slice_get_within, get_or_from_slice_get}
 use Rattle.ada_events.specs.declared.event.Event.{Event}
 use Rattle.ada_events.specs.declared.event.Event.TheVariants.{Opened, Closed, Left}
@@ -22,13 +22,15 @@ use Rattle.ada_events.specs.Asks.{asked_event, member_position}
 use Rattle.ada_events.specs.Refusals.{refusal, has_no_block, is_rendezvous}
 use Rattle.ada_events.specs.Lawful.{IsLawful}
 use Rattle.ada_laws.specs.Calls.{IsOpenCallAt}
-use Rattle.ada_laws.proofs.Searching.{event_at-older, event_at-other, event_at-within, event_at-cases, any_event-found, any_event-from, option_or-some}
-use Rattle.ada_laws.proofs.Searching.{then_some-some, option_map_or-true, is_number-some, is_number-from}
-use Rattle.ada_laws.proofs.Gathering.{gathered-found, Contains-first, Contains-later}
+use Rattle.ada_laws.proofs.Searching.{event_at-older, event_at-other, event_at-within, event_at-cases, any_event-found, any_event-from}
+use Rattle.ada_laws.proofs.Searching.{option_map_or-true, is_number-some, is_number-from}
+use Rattle.ada_laws.proofs.Members.{IsMember as Stands, nest_member as stands_there, nest_met}
+use Rattle.ada_laws.proofs.Members.IsMember.{block_in, rendezvous_in}
+use Rattle.ada_laws.proofs.Gathering.{Contains-first, Contains-later}
 use Rattle.ada_laws.proofs.Growing.{is_released-before, has_ended-before}
 use Rattle.ada_laws.proofs.Accepting.{is_accepted}
 use Rattle.ada_laws.proofs.Framing.{nest_block}
-use Rattle.ada_laws.proofs.Meeting.{meeting_in-met, meeting_at, is_met-from}
+use Rattle.ada_laws.proofs.Meeting.{meeting_in-met, meeting_at}
 use Rattle.ada_laws.proofs.Queueing.{is_open_at-from, is_open_at-call}
 use Rattle.ada_laws.proofs.Saying.{held_in-closing}
 use Rattle.ada_laws.proofs.Stepping.{forced-step}
@@ -157,34 +159,15 @@ pub data IsMember (journal : List Event) (task : ℕ) : Member → Type 0 where
   of_rendezvous : (call : ℕ) (c : Call) → IsOpenCallAt journal c call → is_met journal call ≡ true → IsMember journal task (Rendezvous call)
 
 pub nest_member : (journal : List Event) (task : ℕ) (x : Member) → IsLawful journal → Contains (nest journal task) x → IsMember journal task x
-unfolding nest member_at is_open_call
-nest_member journal task x lawful contains =
-    let (q, e, at, gives) = gathered-found (member_at journal task) journal x contains in
-    elim (option_or-some
-    (option_map_or (λ (o : Opening). then_some (eqb o.by task && not (is_left journal q)) (Block q)) (opening_in e) None)
-    (option_map_or (λ (m : Meeting). then_some (is_wait_of journal task m.wait && is_open_call journal m.call) (Rendezvous m.call)) (meeting_in e) None)
-    x gives) [
-      | inl opened ↦ by_opening q (opening_in e) opened
-      | inr met ↦ by_meeting q e at (meeting_in e) refl met
-    ]
+unfolding is_open_call
+nest_member journal task x lawful contains = of_member x contains (stands_there journal task x contains)
   where
-    by_opening : (q : ℕ) (o : Option Opening) → option_map_or (λ (o : Opening). then_some (eqb o.by task && not (is_left journal q)) (Block q)) o None ≡ Some x
-        → IsMember journal task x
-    by_opening q None gives = absurd (none-some x gives)
-    by_opening q (Some o) gives =
-        let found = then_some-some (eqb o.by task && not (is_left journal q)) (Block q) x gives in
-        subst (IsMember journal task) found.1 (of_block q (not-true (is_left journal q) (and_parts (eqb o.by task) (not (is_left journal q)) found.0).1))
-
-    by_meeting : (q : ℕ) (e : Event) → event_at journal q ≡ Some e → (m : Option Meeting) → meeting_in e ≡ m
-        → option_map_or (λ (m : Meeting). then_some (is_wait_of journal task m.wait && is_open_call journal m.call) (Rendezvous m.call)) m None ≡ Some x
-        → IsMember journal task x
-    by_meeting q e at None says gives = absurd (none-some x gives)
-    by_meeting q e at (Some m) says gives =
-        let found = then_some-some (is_wait_of journal task m.wait && is_open_call journal m.call) (Rendezvous m.call) x gives in
-        let opened = (and_parts (is_wait_of journal task m.wait) (is_open_call journal m.call) found.0).1 in
-        let (f, stands, here) = option_map_or-true (is_open_at journal m.call) (event_at journal m.call) opened in
-        let (c, calls, is) = is_open_at-call journal m.call f stands here in
-        subst (IsMember journal task) found.1 (of_rendezvous m.call c is (is_met-from journal m.call m.wait q (at ∙ ap Some (meeting_in-met e m says))))
+    of_member : (x : Member) → Contains (nest journal task) x → Stands journal task x → IsMember journal task x
+    of_member (Block p) has (block_in q e o at says by unleft) = of_block p unleft
+    of_member (Rendezvous call) has (rendezvous_in p q e m same at says waits unended) =
+        let (f, stands, here) = option_map_or-true (is_open_at journal call) (event_at journal call) unended in
+        let (c, calls, is) = is_open_at-call journal call f stands here in
+        of_rendezvous call c is (nest_met journal task call has)
 
 -- a rendezvous stays in a nest unless its call is released
 rendezvous_stays : (event : Event) (before : List Event) (call : ℕ) (c : Call) → IsLawful (event ∷ before) → IsOpenCallAt before c call

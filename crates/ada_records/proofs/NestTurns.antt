@@ -50,7 +50,7 @@ use Rattle.ada_records.proofs.Saying.{met_says}
 use Rattle.ada_records.proofs.Unnesting.{nest_released}
 use Rattle.ada_tables.specs.Dependents.{has_block, count_below}
 use Rattle.ada_tables.specs.Standing.{live_count}
-use Rattle.ada_records.specs.Noting.{passing_in}
+use Rattle.ada_records.specs.TableEvents.{passing_in}
 use Rattle.ada_records.proofs.Renesting.{IsIdleIn, ChangesNests}
 use Rattle.ada_records.proofs.Renesting.NestChange.{Nothing, Enters, LeavesBlock, EndsRendezvous}
 use Rattle.ada_records.proofs.Cuts.{all_apart, cuts_keep_the_rest}

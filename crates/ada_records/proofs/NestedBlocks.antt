@@ -56,6 +56,14 @@ abbrev pub block_at : List Event → ℕ → ℕ → Event → Option Member
 block_at journal task p e =
     option_map_or (λ (o : Opening). then_some (eqb o.by task && not (is_left journal p)) (Block p)) (opening_in e) None
 
+-- it is no rendezvous
+no_rendezvous : (journal : List Event) (task p call : ℕ) (o : Option Opening)
+    → option_map_or (λ (o : Opening). then_some (eqb o.by task && not (is_left journal p)) (Block p)) o None ≡ Some (Rendezvous call) → ⊥
+no_rendezvous journal task p call None gives = none-some (Rendezvous call) gives
+no_rendezvous journal task p call (Some o) gives =
+    let found = then_some-some (eqb o.by task && not (is_left journal p)) (Block p) (Rendezvous call) gives in
+    cc (found.1)
+
 -- the blocks of a task's nest
 abbrev pub blocks : List Event → ℕ → List Member
 blocks journal task = gathered (block_at journal task) journal
@@ -207,16 +215,7 @@ shrink event before task outer (e ∷ earlier) last nested =
       where
         newest_is : (x : Member) → block_at (event ∷ before) task (suc (length earlier)) e ≡ Some x → Some x ≡ Some (Block (suc (length earlier)))
         newest_is (Block q) is = ap (λ (n : ℕ). Some (Block n)) (sym (member_parts (event ∷ before) task (suc (length earlier)) q e is).4)
-        newest_is (Rendezvous call) is = absurd (no_rendezvous (opening_in e) is)
-          where
-            no_rendezvous : (o : Option Opening) → option_map_or
-                (λ (o : Opening). then_some (eqb o.by task && not (is_left (event ∷ before) (suc (length earlier)))) (Block (suc (length earlier)))) o None
-                ≡ Some (Rendezvous call) → ⊥
-            no_rendezvous None gives = none-some (Rendezvous call) gives
-            no_rendezvous (Some o) gives =
-                let found = then_some-some (eqb o.by task && not (is_left (event ∷ before) (suc (length earlier)))) (Block (suc (length earlier)))
-                (Rendezvous call) gives in
-                cc (found.1)
+        newest_is (Rendezvous call) is = absurd (no_rendezvous (event ∷ before) task (suc (length earlier)) call (opening_in e) is)
 
         newly_left : (x : Member) → block_at (event ∷ before) task (suc (length earlier)) e ≡ Some x
             → is_left (event ∷ before) (suc (length earlier)) ≡ true → ⊥
@@ -451,16 +450,7 @@ blocks_nest (event ∷ before) task lawful =
         rw (append-nil (gathered (block_at (event ∷ before) task) before))
         (nested_later event before outer (gathered (block_at (event ∷ before) task) before)
         (shrink event before task outer before (leaves_last event before task lawful) older))
-    by_newest (Some (Rendezvous call)) is older = absurd (no_rendezvous (opening_in event) is)
-      where
-        no_rendezvous : (o : Option Opening) → option_map_or
-            (λ (o : Opening). then_some (eqb o.by task && not (is_left (event ∷ before) (suc (length before)))) (Block (suc (length before)))) o None
-            ≡ Some (Rendezvous call) → ⊥
-        no_rendezvous None gives = none-some (Rendezvous call) gives
-        no_rendezvous (Some o) gives =
-            let found = then_some-some (eqb o.by task && not (is_left (event ∷ before) (suc (length before)))) (Block (suc (length before)))
-            (Rendezvous call) gives in
-            cc (found.1)
+    by_newest (Some (Rendezvous call)) is older = absurd (no_rendezvous (event ∷ before) task (suc (length before)) call (opening_in event) is)
     by_newest (Some (Block p)) is older =
         let (o, says, by, unleft, place) = member_parts (event ∷ before) task (suc (length before)) p event is in
         let asked = opening_asked event before o lawful.1 says in

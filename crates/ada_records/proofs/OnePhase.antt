@@ -19,7 +19,7 @@ use Rattle.ada_records.proofs.KeptQueues.{others_keep_queues}
 use Rattle.ada_records.proofs.NestKinds.{others_keep_nests}
 use Rattle.ada_tables.specs.Queues.{QueuedCall}
 use Rattle.ada_tables.specs.Standing.{caller_of, AreQueued}
-use Rattle.ada_records.specs.Following.{HoldsChangeOnePhase, GoingChangesOnePhase}
+use Rattle.ada_records.specs.TableChanges.{HoldsChangeOnePhase, GoingChangesOnePhase}
 use Rattle.ada_records.proofs.KeptPhases.{others_keep_phases}
 
 -- who made a call stays who made it

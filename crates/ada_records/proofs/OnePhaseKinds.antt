@@ -27,8 +27,8 @@ use Rattle.ada_records.proofs.QueueChanges.{ends, ends_caller, queue_more, queue
 use Rattle.ada_records.proofs.Releasing.{says_release}
 use Rattle.ada_records.proofs.Saying.{release_only, held_apart}
 use Rattle.ada_records.proofs.Unnesting.{nest_released}
-use Rattle.ada_records.proofs.Within.{nest_open}
-use Rattle.ada_records.specs.Following.{ReleasesChangeOnePhase, CompletionsChangeOnePhase}
+use Rattle.ada_laws.proofs.Members.{nest_open}
+use Rattle.ada_records.specs.TableChanges.{ReleasesChangeOnePhase, CompletionsChangeOnePhase}
 use Rattle.ada_records.proofs.Cuts.{all_apart}
 use Rattle.ada_records.proofs.KeptPhases.{others_keep_phases}
 

@@ -1,24 +1,21 @@
 -- A master is held by one task at most.
-use Rattle.std.proofs.Common.{◌≡◌, ℕ, zero, suc, ◌<◌, true, false, ◌&&◌, eqb, Option, Some, None, List, [], ◌∷◌, length, get_or, refl, sym, ap, ◌∙◌, subst}
+use Rattle.std.proofs.Common.{◌≡◌, ℕ, zero, suc, ◌<◌, true, false, eqb, List, [], ◌∷◌, length, get_or, refl, sym, ap, ◌∙◌, subst}
 use Rattle.std.proofs.Common.{arith, inl, inr}
-use Rattle.std.specs.Option.{option_map_or}
-use Rattle.std.specs.Bool.{then_some}
 use Rattle.std.specs.List.{Contains}
 use Rattle.std.proofs.lemmas.Bool.{or_cases, or_left, or_right, eq-eqb, eqb-true, false≢true}
-use Rattle.std.proofs.lemmas.Option.{none-some, same_Some}
+use Rattle.std.proofs.lemmas.Option.{same_Some}
 use Rattle.ada_events.specs.declared.event.Event.{Event}
 use Rattle.ada_events.specs.declared.names.Master.{Master}
 use Rattle.ada_events.specs.declared.names.Master.TheVariants.{Body, Block as BlockMaster}
 use Rattle.ada_events.specs.declared.names.Member.{Member}
 use Rattle.ada_events.specs.declared.names.Member.TheVariants.{Block, Rendezvous}
-use Rattle.ada_events.specs.Says.{Opening, Meeting, opening_in, meeting_in}
-use Rattle.ada_events.specs.Calls.{is_open_call}
-use Rattle.ada_events.specs.Nests.{is_left, is_wait_of, member_at, nest}
-use Rattle.ada_laws.proofs.Searching.{option_or-some, then_some-some}
-use Rattle.ada_laws.proofs.Gathering.{gathered-found, gathered-from, Contains-first, Contains-later}
+use Rattle.ada_events.specs.Says.{Opening, opening_in}
+use Rattle.ada_events.specs.Nests.{is_left, member_at, nest}
+use Rattle.ada_laws.proofs.Gathering.{gathered-from, Contains-first, Contains-later}
 use Rattle.ada_laws.proofs.Framing.{IsBlockOf}
 use Rattle.ada_tables.specs.Dependents.{is_block, has_block, holds}
-use Rattle.ada_records.proofs.NestedBlocks.{block_at, member_parts}
+use Rattle.ada_laws.proofs.Members.{IsMember, nest_member}
+use Rattle.ada_laws.proofs.Members.IsMember.{block_in}
 
 pub contains_block : (members : List Member) (b : ℕ) → has_block b members ≡ true → Contains members (Block b)
 contains_block [] b has = absurd (false≢true has)
@@ -31,26 +28,10 @@ contains_block (Rendezvous call ∷ rest) b has = Contains-later (Rendezvous cal
 
 -- a block of a task's nest was opened by the task and isn't left
 pub block_in_nest : (journal : List Event) (task b : ℕ) → has_block b (nest journal task) ≡ true → IsBlockOf journal task b × (is_left journal b ≡ false)
-unfolding nest member_at
-block_in_nest journal task b has =
-    let (q, e, at, gives) = gathered-found (member_at journal task) journal (Block b) (contains_block (nest journal task) b has) in
-    elim (option_or-some (block_at journal task q e)
-    (option_map_or (λ (m : Meeting). then_some (is_wait_of journal task m.wait && is_open_call journal m.call) (Rendezvous m.call)) (meeting_in e) None)
-    (Block b) gives) [
-      | inl opened ↦
-          let parts = member_parts journal task q b e opened in (
-            subst (IsBlockOf journal task) parts.4 (record { event = e; opening = parts.0; stands = at; says = parts.1; by = parts.2 }),
-            subst (λ (n : ℕ). is_left journal n ≡ false) parts.4 parts.3,
-          )
-      | inr met ↦ absurd (no_block (meeting_in e) met)
-    ]
+block_in_nest journal task b has = of_member (nest_member journal task (Block b) (contains_block (nest journal task) b has))
   where
-    no_block : (o : Option Meeting) → option_map_or
-        (λ (m : Meeting). then_some (is_wait_of journal task m.wait && is_open_call journal m.call) (Rendezvous m.call)) o None ≡ Some (Block b) → ⊥
-    no_block None gives = none-some (Block b) gives
-    no_block (Some m) gives =
-        let found = then_some-some (is_wait_of journal task m.wait && is_open_call journal m.call) (Rendezvous m.call) (Block b) gives in
-        cc (found.1)
+    of_member : IsMember journal task (Block b) → IsBlockOf journal task b × (is_left journal b ≡ false)
+    of_member (block_in q e o at says by unleft) = (record { event = e; opening = o; stands = at; says = says; by = by }, unleft)
 
 pub has_contained : (members : List Member) (b k : ℕ) → k < length members → get_or members k (Block b) ≡ Block b → has_block b members ≡ true
 has_contained [] b k below is = absurd (omega (arith, below))

@@ -5,7 +5,7 @@ use Rattle.std.proofs.lemmas.Bool.{ne_eqb}
 use Rattle.ada_events.specs.declared.event.Event.{Event}
 use Rattle.ada_events.specs.declared.outcome.Outcome.TheVariants.{Dead, Done, Nothing}
 use Rattle.ada_events.specs.Search.{any_event, event_at}
-use Rattle.ada_events.specs.Tasks.{task_count}
+use Rattle.ada_events.specs.Tasks.{task_count, creation_of}
 use Rattle.ada_events.specs.Phases.{has_start, is_started, is_elaborated, has_failed, is_completed, has_ended, is_abnormal, is_terminated, is_suspended}
 use Rattle.ada_events.specs.Phases.{is_running}
 use Rattle.ada_events.specs.Calls.{is_met}
@@ -16,15 +16,16 @@ use Rattle.ada_laws.proofs.Suspending.{is_suspended-from, is_suspended-at}
 use Rattle.ada_records.specs.declared.record.Record.{Record}
 use Rattle.ada_records.specs.Records.{freed, no_stage, record_at, IsHeldAt, IsRecordOf, AreRecords}
 use Rattle.ada_records.specs.Latest.{latest_outcome}
+use Rattle.ada_records.proofs.Creations.{creation_stands}
 use Rattle.ada_records.proofs.Existing.{positive}
-use Rattle.ada_records.specs.Telling.{RecordsTell}
+use Rattle.ada_records.specs.RecordedStates.{RecordsTell}
 
 -- the main program's record at first
 abbrev pub main_record : Record
-main_record = record { suspension = freed Nothing; stage = record no_stage { started = true; elaborated = true } }
+main_record = record { suspension = freed Nothing; stage = record no_stage { started = true; elaborated = true }; created = 0 }
 
 main_is : IsRecordOf [] 0 main_record
-unfolding is_suspended any_event last_given has_start is_started is_elaborated has_failed is_completed is_abnormal is_terminated
+unfolding creation_of event_at is_suspended any_event last_given has_start is_started is_elaborated has_failed is_completed is_abnormal is_terminated
 main_is = record {
   suspension = record {
     at = record { free = λ _. refl; held = λ some. absurd (omega (arith, some)) };
@@ -33,6 +34,7 @@ main_is = record {
     outcome = refl;
   };
   stage = record { named = refl; started = refl; elaborated = refl; failed = refl; completed = refl; abnormal = refl; terminated = refl };
+  created = record { stands = refl; within = omega arith };
 }
 
 pub main_records : (r : Record) → r ≡ main_record → AreRecords (r ∷ []) []
@@ -91,7 +93,8 @@ records_tell journal task kept is = record {
 -- there is a right record of each task
 pub record_exists : (journal : List Event) (task : ℕ) → (r : Record) × IsRecordOf journal task r
 record_exists journal task =
-    let (at, held) = place (is_suspended journal task) refl in (
+    let (at, held) = place (is_suspended journal task) refl in
+    let creation = creation_stands journal task in (
       record {
         suspension = record {
           at = at;
@@ -110,10 +113,12 @@ record_exists journal task =
           abnormal = is_abnormal journal task;
           terminated = is_terminated journal task;
         };
+        created = creation.0;
       },
       record {
         suspension = record { at = held; joined = λ some. refl; quittable = refl; outcome = refl };
         stage = record { named = refl; started = refl; elaborated = refl; failed = refl; completed = refl; abnormal = refl; terminated = refl };
+        created = creation.1;
       },
     )
   where

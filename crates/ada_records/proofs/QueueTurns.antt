@@ -15,7 +15,7 @@ use Rattle.ada_events.specs.Says.{Call, call_in, call_at, meeting_in, released_i
 use Rattle.ada_events.specs.Slots.{number_within}
 use Rattle.ada_events.specs.Tasks.{families_of}
 use Rattle.ada_events.specs.Phases.{is_suspended}
-use Rattle.ada_events.specs.Calls.{queue}
+use Rattle.ada_events.specs.Calls.{is_met, queue}
 use Rattle.ada_events.specs.Asks.{asker, asked_event}
 use Rattle.ada_events.specs.Lawful.{IsLawful, MayFollow}
 use Rattle.ada_laws.specs.Suspension.{IsSuspendedAt}
@@ -33,7 +33,7 @@ use Rattle.ada_records.proofs.QueueKinds.{queue_called, queue_released, queue_me
 use Rattle.ada_records.proofs.Saying.{held_apart}
 use Rattle.ada_records.proofs.TaskEnds.{completion_exists}
 use Rattle.ada_tables.specs.Standing.{caller_of}
-use Rattle.ada_records.specs.Noting.{passing_in}
+use Rattle.ada_records.specs.TableEvents.{passing_in}
 use Rattle.ada_records.proofs.Requeuing.{without_caller, ComesLast, ChangesQueues}
 use Rattle.ada_records.proofs.Requeuing.QueueChange.{Nothing, Joins, Leaves}
 use Rattle.ada_records.proofs.Empty.{is_some}
@@ -164,6 +164,14 @@ queues_ended event f before task p is frees meets calls held lawful = record {
       queue_released event before other entry p (ap released_in is ∙ frees) (ap meeting_in is ∙ meets) (ap call_in is ∙ calls)
       ∙ same_taken before task.0 p other entry lawful.0 held;
 }
+
+-- a call with which a rendezvous began has left its queue, so its end takes none out
+pub queues_served : (event f : Event) (before : List Event) (p : ℕ) → event ≡ f → released_in f ≡ Some p → meeting_in f ≡ None → call_in f ≡ None
+    → is_met before p ≡ true → ChangesQueues event before Nothing
+queues_served event f before p is frees meets calls met = λ other entry.
+    queue_released event before other entry p (ap released_in is ∙ frees) (ap meeting_in is ∙ meets) (ap call_in is ∙ calls)
+    ∙ filter_whole (λ q. not (eqb q p)) (queue before other entry) (λ q has.
+    ap not (ne_eqb q p (λ same. true≢false (sym met ∙ ap (is_met before) (sym same) ∙ (queue-found before other entry q has).unmet))))
 
 -- a call whose rendezvous begins leaves its queue
 pub queues_met : (event : Event) (before : List Event) (task : TaskNo) (call wait : ℕ) → event ≡ kind.Met call wait → IsSuspendedAt before task.0 call

@@ -23,7 +23,7 @@ use Rattle.ada_records.specs.Facing.{HoldFacts}
 use Rattle.ada_records.specs.internal.Phasing.{TouchesOnly, facts_between, AreBetween, AreNamed, AreRenested, refreshed}
 use Rattle.ada_records.specs.RecordedPhases.{phase_by}
 use Rattle.ada_records.proofs.Agreeing.{ends_phase}
-use Rattle.ada_records.proofs.Following.{same_facts}
+use Rattle.ada_records.proofs.TableChanges.{same_facts}
 use Rattle.ada_records.proofs.RecordedPhases.{records_tell_phases}
 use Rattle.ada_records.proofs.TouchedTasks.{start_touches}
 

@@ -1,34 +1,28 @@
 -- What stands at the position that an event of each kind releases.
-use Rattle.std.proofs.Common.{◌≡◌, ℕ, ◌-◌, Bool, true, false, not, ◌&&◌, Option, Some, None, List, ◌∷◌, length, refl, sym, ap, ◌∙◌, subst, inl, inr}
-use Rattle.std.specs.Option.{option_map_or, option_and_then}
-use Rattle.std.specs.List.{Contains, slice_get}
-use Rattle.std.proofs.lemmas.Bool.{and_parts, not-true, true≢false}
-use Rattle.std.proofs.lemmas.Option.{none-some, same_Some, slice_get_within, get_or_from_slice_get}
+use Rattle.std.proofs.Common.{◌≡◌, ℕ, Bool, true, false, not, ◌&&◌, Option, Some, None, List, ◌∷◌, refl, sym, ap, ◌∙◌, subst, inl, inr}
+use Rattle.std.specs.Option.{option_and_then}
+use Rattle.std.proofs.lemmas.Bool.{and_parts, not-true}
+use Rattle.std.proofs.lemmas.Option.{none-some, same_Some}
 use Rattle.ada_events.specs.declared.event.Event.{Event}
 use Rattle.ada_events.specs.declared.event.Event.TheVariants as kind
-use Rattle.ada_events.specs.declared.names.Member.{Member}
-use Rattle.ada_events.specs.declared.names.Member.TheVariants.{Block, Rendezvous}
 use Rattle.ada_events.specs.declared.names.TaskNo.{TaskNo}
 use Rattle.ada_events.specs.declared.request.Request.{Request}
 use Rattle.ada_events.specs.declared.request.Request.TheVariants as request
 use Rattle.ada_events.specs.Search.{event_at}
 use Rattle.ada_events.specs.Says.{Call, Delay, Start, Closing, call_in, call_at, delay_in, start_in, closing_in, left_in}
 use Rattle.ada_events.specs.Calls.{is_open_at, is_open_call, is_queued_at, is_met}
-use Rattle.ada_events.specs.Nests.{nest, innermost}
-use Rattle.ada_events.specs.Asks.{asked_event, member_position}
+use Rattle.ada_events.specs.Asks.{asked_event}
 use Rattle.ada_events.specs.Forced.{is_to_fail, is_to_cancel, is_to_leave}
-use Rattle.ada_events.specs.Refusals.{refusal, is_not_in_accept, is_rendezvous}
 use Rattle.ada_events.specs.Lawful.{IsLawful, MayFollow}
 use Rattle.ada_laws.specs.Calls.{IsOpenCallAt}
-use Rattle.ada_laws.proofs.Accepting.{is_accepted}
 use Rattle.ada_laws.proofs.Queueing.{is_open_at-call}
 use Rattle.ada_laws.proofs.Rows.{IsRow, forced-row}
 use Rattle.ada_laws.proofs.Rows.IsRow.{fails, cancels, passes, wakes, activates, leaves}
 use Rattle.ada_laws.proofs.Searching.{option_map_or-true}
 use Rattle.ada_laws.proofs.Stepping.{queued_open}
 use Rattle.ada_records.proofs.Saying.{not_both}
-use Rattle.ada_records.proofs.Within.{nest_open}
-use Rattle.ada_records.specs.Noting.{passing_in}
+use Rattle.ada_laws.proofs.Members.{nest_open, ended_within}
+use Rattle.ada_records.specs.TableEvents.{passing_in}
 
 -- the position of an open call
 abbrev pub HasOpenCall : List Event → ℕ → Type 0
@@ -137,44 +131,14 @@ plainly_uncalled event before p lawful ends = by_row lawful.1
     by_row (inl forces) = row_uncalled before event p (forced-row before event forces) ends
     by_row (inr asked) = absurd (none-some p (sym (ap passing_in asked.becomes ∙ (asked_plainly before asked.request).1) ∙ ends))
 
--- the call that an end names
-abbrev ended_call : Event → Option ℕ
-ended_call (kind.Ended by call raised) = Some call
-ended_call _ = None
-
-contained : {A : Type 0} (xs : List A) (k : ℕ) (x : A) → slice_get xs k ≡ Some x → Contains xs x
-contained xs k x found = (k, slice_get_within xs k x found, get_or_from_slice_get xs k x x found)
-
-innermost_open : (journal : List Event) (task p : ℕ) (o : Option Member) → innermost (nest journal task) ≡ o → not (option_map_or is_rendezvous o false) ≡ false
-    → member_position o ≡ p → is_open_call journal p ≡ true
-innermost_open journal task p None is served same = absurd (true≢false served)
-innermost_open journal task p (Some (Block q)) is served same = absurd (true≢false served)
-innermost_open journal task p (Some (Rendezvous call)) is served same =
-    subst (λ (n : ℕ). is_open_call journal n ≡ true) same
-    (nest_open journal task call (contained (nest journal task) (length (nest journal task) - 1) (Rendezvous call) is))
-
-asked_open : (journal : List Event) (r : Request) (p : ℕ) → refusal journal r ≡ None → ended_call (asked_event journal r) ≡ Some p
-    → is_open_call journal p ≡ true
-unfolding asked_event is_not_in_accept
-asked_open journal (request.End by raised) p accepted ends =
-    innermost_open journal by.0 p (innermost (nest journal by.0)) refl (is_accepted journal (request.End by raised) accepted).in_accept (same_Some _ p ends)
-asked_open journal _ p accepted ends = absurd (none-some p ends)
-
-row_ends_none : (journal : List Event) (event : Event) → IsRow journal event → ended_call event ≡ None
-row_ends_none journal event (fails q e at fail) = refl
-row_ends_none journal event _ = refl
-
 -- what a task ends is a rendezvous with an open call
 pub ended_open : (event : Event) (before : List Event) (by : TaskNo) (p : ℕ) (raised : Bool) → IsLawful (event ∷ before) → event ≡ kind.Ended by p raised
     → HasOpenCall before p
 unfolding is_open_call
 ended_open event before by p raised lawful is =
-    let (e, at, opened) = option_map_or-true (is_open_at before p) (event_at before p) (by_row lawful.1) in
+    let unended = nest_open before by.0 p (ended_within event before by p raised lawful.1 is) in
+    let (e, at, opened) = option_map_or-true (is_open_at before p) (event_at before p) unended in
     open_call before p e at opened
-  where
-    by_row : MayFollow before event → is_open_call before p ≡ true
-    by_row (inl forces) = absurd (none-some p (sym (row_ends_none before event (forced-row before event forces)) ∙ ap ended_call is))
-    by_row (inr asked) = asked_open before asked.request p asked.accepted (ap ended_call (sym asked.becomes) ∙ ap ended_call is)
 
 -- the close that is left, which is pending, and all dependents of whose block are terminated
 pub record IsLeaving (journal : List Event) (close : ℕ) : Type 0 where

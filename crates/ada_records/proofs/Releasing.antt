@@ -15,10 +15,10 @@ use Rattle.ada_rows.specs.Rows.{goes_by_task, at_event, step_at}
 use Rattle.ada_rows.specs.declared.row.Row.{Row}
 use Rattle.ada_rows.specs.declared.row.Row.TheVariants.{Halting, Failing, Meeting, Cancelling, Passing, Waking, Activating, Terminating, QuittingBody}
 use Rattle.ada_rows.specs.declared.row.Row.TheVariants.{QuittingBlock, Leaving}
-use Rattle.ada_rows.specs.Touching.{is_uncallable, is_idle, IsNewlyBelow, MayQuit, Touches}
-use Rattle.ada_rows.specs.Touching.Touches.{newest, task_made, aborts, frees, loses, calls, moves, elaborates, completes, abandons, ends_below, body_quits}
-use Rattle.ada_rows.specs.Touching.Touches.{block_quits, ends_within}
-use Rattle.ada_rows.specs.Touching.MayQuit.{complete, idle, made}
+use Rattle.ada_rows.specs.TouchedKeys.{is_uncallable, is_idle, IsNewlyBelow, MayQuit, Touches}
+use Rattle.ada_rows.specs.TouchedKeys.Touches.{newest, task_made, aborts, frees, loses, calls, moves, elaborates, completes, abandons, ends_below, body_quits}
+use Rattle.ada_rows.specs.TouchedKeys.Touches.{block_quits, ends_within}
+use Rattle.ada_rows.specs.TouchedKeys.MayQuit.{complete, idle, made}
 use Rattle.ada_records.proofs.Holding.{quiet_ended}
 use Rattle.ada_records.proofs.Saying.{OnlyReleases, release_only}
 use Rattle.ada_records.proofs.Calling.{SaysCall, same_abnormal, same_complete, same_abandoned, not_done, nothing_said, no_end}

@@ -13,7 +13,7 @@ use Rattle.ada_events.specs.Lawful.{IsLawful}
 use Rattle.ada_laws.specs.Suspension.{IsSuspendedAt}
 use Rattle.ada_laws.proofs.Meeting.{met_taking, taken_queued}
 use Rattle.ada_records.proofs.Within.{met_within}
-use Rattle.ada_records.proofs.Holding.{IsQuiet}
+use Rattle.ada_records.proofs.Holding.{IsQuiet, quiet_from}
 
 -- an event that changes only where tasks are suspended and which calls are joined
 pub record IsPlain (event : Event) : Type 0 where
@@ -55,72 +55,19 @@ pub record OnlyReleases (event : Event) : Type 0 where
   pub plain : IsPlain event
   pub holds : held_in event ≡ None
 
+only_releases : (e : Event) → IsQuiet e → started_in e ≡ [] → held_in e ≡ None → OnlyReleases e
+only_releases e quiet starts holds = record { plain = record { quiet = quiet; starts = starts }; holds = holds }
+
 pub release_only : (e : Event) (p : ℕ) → released_in e ≡ Some p → OnlyReleases e
 unfolding held_in completed_in gone_in quit_in aborted_in elaborated_in failed_in creation_in released_in started_in
-release_only (event.Ended by call raised) p frees =
-    record {
-      plain = record {
-        quiet = record { completes = refl; goes = refl; quits = refl; aborts = refl; elaborates = refl; fails = refl; makes = refl };
-        starts = refl;
-      };
-      holds = refl;
-    }
-release_only (event.Failed call) p frees =
-    record {
-      plain = record {
-        quiet = record { completes = refl; goes = refl; quits = refl; aborts = refl; elaborates = refl; fails = refl; makes = refl };
-        starts = refl;
-      };
-      holds = refl;
-    }
-release_only (event.Met call wait) p frees =
-    record {
-      plain = record {
-        quiet = record { completes = refl; goes = refl; quits = refl; aborts = refl; elaborates = refl; fails = refl; makes = refl };
-        starts = refl;
-      };
-      holds = refl;
-    }
-release_only (event.Cancelled call) p frees =
-    record {
-      plain = record {
-        quiet = record { completes = refl; goes = refl; quits = refl; aborts = refl; elaborates = refl; fails = refl; makes = refl };
-        starts = refl;
-      };
-      holds = refl;
-    }
-release_only (event.Passed wait way) p frees =
-    record {
-      plain = record {
-        quiet = record { completes = refl; goes = refl; quits = refl; aborts = refl; elaborates = refl; fails = refl; makes = refl };
-        starts = refl;
-      };
-      holds = refl;
-    }
-release_only (event.Woken pause) p frees =
-    record {
-      plain = record {
-        quiet = record { completes = refl; goes = refl; quits = refl; aborts = refl; elaborates = refl; fails = refl; makes = refl };
-        starts = refl;
-      };
-      holds = refl;
-    }
-release_only (event.Activated start ok) p frees =
-    record {
-      plain = record {
-        quiet = record { completes = refl; goes = refl; quits = refl; aborts = refl; elaborates = refl; fails = refl; makes = refl };
-        starts = refl;
-      };
-      holds = refl;
-    }
-release_only (event.Left close) p frees =
-    record {
-      plain = record {
-        quiet = record { completes = refl; goes = refl; quits = refl; aborts = refl; elaborates = refl; fails = refl; makes = refl };
-        starts = refl;
-      };
-      holds = refl;
-    }
+release_only (event.Ended by call raised) p frees = only_releases _ (quiet_from _ refl refl refl refl refl refl refl) refl refl
+release_only (event.Failed call) p frees = only_releases _ (quiet_from _ refl refl refl refl refl refl refl) refl refl
+release_only (event.Met call wait) p frees = only_releases _ (quiet_from _ refl refl refl refl refl refl refl) refl refl
+release_only (event.Cancelled call) p frees = only_releases _ (quiet_from _ refl refl refl refl refl refl refl) refl refl
+release_only (event.Passed wait way) p frees = only_releases _ (quiet_from _ refl refl refl refl refl refl refl) refl refl
+release_only (event.Woken pause) p frees = only_releases _ (quiet_from _ refl refl refl refl refl refl refl) refl refl
+release_only (event.Activated start ok) p frees = only_releases _ (quiet_from _ refl refl refl refl refl refl refl) refl refl
+release_only (event.Left close) p frees = only_releases _ (quiet_from _ refl refl refl refl refl refl refl) refl refl
 release_only _ p frees = absurd (none-some p frees)
 
 -- two tasks aren't suspended at one position

@@ -6,7 +6,6 @@ use Rattle.std.proofs.lemmas.List.{length-set, get_or-set_same, get_or-set_other
 use Rattle.ada_events.specs.declared.event.Event.{Event}
 use Rattle.ada_events.specs.declared.event.Event.TheVariants.{Started}
 use Rattle.ada_events.specs.declared.names.TaskNo.{TaskNo}
-use Rattle.ada_events.specs.declared.outcome.Outcome.TheVariants.{Held}
 use Rattle.ada_events.specs.Says.{wait_in, held_in, released_in, completed_in, gone_in, quit_in, started_in, aborted_in, elaborated_in, failed_in, meeting_in}
 use Rattle.ada_events.specs.Says.{creation_in}
 use Rattle.ada_events.specs.Tasks.{task_count}
@@ -16,30 +15,31 @@ use Rattle.ada_events.specs.Lawful.{IsLawful}
 use Rattle.ada_laws.proofs.Growing.{task_count-same}
 use Rattle.ada_records.specs.declared.record.Suspension.{Suspension}
 use Rattle.ada_records.specs.declared.record.Record.{Record}
-use Rattle.ada_records.specs.Records.{no_record, record_at, IsDoingOf, IsStageOf, IsRecordOf, AreRecords}
-use Rattle.ada_records.specs.internal.Records.{start_record, HaveChanged}
-use Rattle.ada_records.proofs.Doings.{doing_held, doing_same}
+use Rattle.ada_records.specs.Records.{no_record, record_at, IsSuspensionOf, IsStageOf, IsRecordOf, AreRecords}
+use Rattle.ada_records.specs.internal.Records.{held, start_record, HaveChanged}
+use Rattle.ada_records.proofs.Creations.{created_kept}
+use Rattle.ada_records.proofs.Suspensions.{suspension_held, suspension_same}
 use Rattle.ada_records.proofs.Existing.{started_at_exists}
 use Rattle.ada_records.proofs.Holding.{holder_ran}
 use Rattle.ada_records.proofs.Stages.{stage_more}
 
 -- who starts an activation waits for its end
 abbrev pub starting : List Event → Suspension
-starting before = record { at = length before + 1; joined = false; quittable = false; outcome = Held }
+starting before = held (length before + 1) false
 
-starter_doing : (before : List Event) (by : TaskNo) (tasks : List TaskNo) → IsLawful (Started by tasks ∷ before)
-    → IsDoingOf (Started by tasks ∷ before) by.0 (starting before)
+starter_suspension : (before : List Event) (by : TaskNo) (tasks : List TaskNo) → IsLawful (Started by tasks ∷ before)
+    → IsSuspensionOf (Started by tasks ∷ before) by.0 (starting before)
 unfolding held_in wait_in
-starter_doing before by tasks lawful =
+starter_suspension before by tasks lawful =
     let next : suc (length before) ≡ length before + 1 = omega arith in
-    subst (λ (n : ℕ). IsDoingOf (Started by tasks ∷ before) by.0 (record { at = n; joined = false; quittable = false; outcome = Held })) next
-    (doing_held (Started by tasks) before by.0 lawful refl)
+    subst (λ (n : ℕ). IsSuspensionOf (Started by tasks ∷ before) by.0 (held n false)) next
+    (suspension_held (Started by tasks) before by.0 lawful refl)
 
-other_doing : (before : List Event) (by : TaskNo) (tasks : List TaskNo) (task : ℕ) (kept : Suspension) → IsLawful (Started by tasks ∷ before)
-    → IsDoingOf before task kept → task ≢ by.0 → IsDoingOf (Started by tasks ∷ before) task kept
+other_suspension : (before : List Event) (by : TaskNo) (tasks : List TaskNo) (task : ℕ) (kept : Suspension) → IsLawful (Started by tasks ∷ before)
+    → IsSuspensionOf before task kept → task ≢ by.0 → IsSuspensionOf (Started by tasks ∷ before) task kept
 unfolding held_in released_in completed_in gone_in quit_in meeting_in raised_in
-other_doing before by tasks task kept lawful old differs =
-    doing_same (Started by tasks) before task kept lawful old (ne_eqb task by.0 differs) refl refl refl refl
+other_suspension before by tasks task kept lawful old differs =
+    suspension_same (Started by tasks) before task kept lawful old (ne_eqb task by.0 differs) refl refl refl refl
 
 start_stage : (before : List Event) (by : TaskNo) (tasks : List TaskNo) (task : ℕ) (kept : Record) → IsStageOf before task kept.stage
     → IsStageOf (Started by tasks ∷ before) task (start_record (lists_task task tasks) kept).stage
@@ -76,6 +76,7 @@ starter_exists event before by tasks lawful is = (holder_ran event before by.0 l
 started_record : (before : List Event) (records : List Record) (by : TaskNo) (tasks : List TaskNo) (task : ℕ) → IsLawful (Started by tasks ∷ before)
     → AreRecords records before → by.0 < length records → task < length records
     → IsRecordOf (Started by tasks ∷ before) task (start_record (lists_task task tasks) (record_at (with_starter before records by.0) task))
+unfolding creation_in
 started_record before records by tasks task lawful old has_by known =
     elim (cases_eq task by.0) [
       | inl same ↦
@@ -83,16 +84,18 @@ started_record before records by tasks task lawful old has_by known =
           (start_record (lists_task n tasks) (record_at (with_starter before records by.0) n))) (sym same)
           (rw (get_or-set_same records by.0 (record (record_at records by.0) { suspension = starting before }) no_record has_by)
           (record {
-            suspension = starter_doing before by tasks lawful;
+            suspension = starter_suspension before by tasks lawful;
             stage = start_stage before by tasks by.0 (record_at records by.0)
                 (old.each by.0 has_by).stage;
+            created = created_kept (Started by tasks) before by.0 (record_at records by.0).created refl (old.each by.0 has_by).created;
           }))
       | inr differs ↦
           rw (get_or-set_other records by.0 task (record (record_at records by.0) { suspension = starting before }) no_record differs)
           (record {
-            suspension = other_doing before by tasks task (record_at records task).suspension lawful (old.each task known).suspension differs;
+            suspension = other_suspension before by tasks task (record_at records task).suspension lawful (old.each task known).suspension differs;
             stage = start_stage
                 before by tasks task (record_at records task) (old.each task known).stage;
+            created = created_kept (Started by tasks) before task (record_at records task).created refl (old.each task known).created;
           })
     ]
 

@@ -9,7 +9,7 @@ use Rattle.ada_events.specs.Says.{creation_in, opening_in, call_in, meeting_in, 
 use Rattle.ada_laws.specs.Suspension.{IsSuspendedAt}
 use Rattle.ada_records.proofs.Renesting.NestChange.{Nothing as SameNests}
 use Rattle.ada_records.proofs.Requeuing.QueueChange.{Nothing as SameQueues}
-use Rattle.ada_records.specs.Noting.{IsMereHold, passing_in}
+use Rattle.ada_records.specs.TableEvents.{IsMereHold, passing_in}
 use Rattle.ada_records.proofs.Known.{AreKnown}
 use Rattle.ada_records.proofs.NestTurns.{nests_kept, nests_passed}
 use Rattle.ada_records.proofs.QueueTurns.{queues_kept, queues_passed}

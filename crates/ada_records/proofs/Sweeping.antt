@@ -15,23 +15,26 @@ use Rattle.ada_events.specs.Outcomes.{raised_in}
 use Rattle.ada_events.specs.Lawful.{IsLawful}
 use Rattle.ada_laws.proofs.Growing.{has_ended-terminated}
 use Rattle.ada_records.specs.declared.record.Record.{Record}
-use Rattle.ada_records.specs.Records.{record_at, IsDoingOf, IsStageOf, IsRecordOf, AreRecords, ListsLive, is_hit}
+use Rattle.ada_records.specs.Records.{record_at, IsSuspensionOf, IsStageOf, IsRecordOf, AreRecords, ListsLive, is_hit}
 use Rattle.ada_records.specs.internal.Records.{quit_record, quit_live_record, abort_record, HaveChanged}
 use Rattle.ada_records.proofs.Changing.{IsOnce, all_changed}
-use Rattle.ada_records.proofs.Doings.{doing_same, doing_ended}
-use Rattle.ada_records.proofs.Noting.{untouched}
+use Rattle.ada_records.proofs.Creations.{same_creation, created_kept}
+use Rattle.ada_records.proofs.Suspensions.{suspension_same, suspension_ended}
+use Rattle.ada_records.proofs.RecordChanges.{untouched}
 use Rattle.ada_records.proofs.Stages.{stage_more}
 
 -- one record after all that depend on a master terminated together
 pub quit_record_of : (before : List Event) (m : Master) (task : ℕ) (was : Record) (depends : Bool) → IsLawful (event.Quit m ∷ before)
     → depends_on before task m ≡ depends → IsRecordOf before task was → IsRecordOf (event.Quit m ∷ before) task (quit_record depends was)
-unfolding held_in released_in completed_in gone_in quit_in started_in aborted_in elaborated_in failed_in meeting_in raised_in
+unfolding held_in released_in completed_in gone_in quit_in started_in aborted_in elaborated_in failed_in meeting_in creation_in raised_in
 quit_record_of before m task was true lawful says old = record {
-  suspension = doing_ended (event.Quit m) before task was.suspension lawful old.suspension says;
+  suspension = suspension_ended (event.Quit m) before task was.suspension lawful old.suspension says;
   stage = subst (IsStageOf (event.Quit m ∷ before) task) (rw says refl) (stage_more (event.Quit m) before task was.stage old.stage);
+  created = created_kept (event.Quit m) before task was.created refl old.created;
 }
 quit_record_of before m task was false lawful says old =
     untouched (event.Quit m) before task was lawful old (record { holds = refl; raises = refl; frees = refl; meets = refl; ends = says }) (rw says refl)
+    (same_creation (event.Quit m) before task refl)
 
 no_more : (b : Bool) → (b && false) ≡ false
 no_more true = refl
@@ -41,7 +44,7 @@ no_more false = refl
 kept_terminated : (before : List Event) (m : Master) (task : ℕ) (was : Record) (depends : Bool) → is_terminated before task ≡ true → IsRecordOf before task was
     → IsRecordOf (event.Quit m ∷ before) task (quit_record depends was) → IsRecordOf (event.Quit m ∷ before) task was
 kept_terminated before m task was false ended old new = new
-kept_terminated before m task was true ended old new = record { suspension = suspension; stage = stage }
+kept_terminated before m task was true ended old new = record { suspension = suspension; stage = stage; created = new.created }
   where
     over : has_ended before task ≡ true
     over = has_ended-terminated before task ended
@@ -49,7 +52,7 @@ kept_terminated before m task was true ended old new = record { suspension = sus
     free : 0 < was.suspension.at → ⊥
     free held = true≢false (sym over ∙ (old.suspension.at.held held).live)
 
-    suspension : IsDoingOf (event.Quit m ∷ before) task was.suspension
+    suspension : IsSuspensionOf (event.Quit m ∷ before) task was.suspension
     suspension = record {
       at = record { free = λ _. new.suspension.at.free refl; held = λ held. absurd (free held) };
       joined = λ held. absurd (free held);
@@ -106,14 +109,15 @@ and_within false b c = refl
 -- one record after an abort
 pub abort_record_of : (before : List Event) (by : TaskNo) (tasks : List TaskNo) (task : ℕ) (was : Record) → IsLawful (event.Aborted by tasks ∷ before)
     → task < task_count before → IsRecordOf before task was → IsRecordOf (event.Aborted by tasks ∷ before) task (abort_record (is_hit before tasks task) was)
-unfolding held_in released_in completed_in gone_in quit_in started_in aborted_in elaborated_in failed_in meeting_in raised_in
+unfolding held_in released_in completed_in gone_in quit_in started_in aborted_in elaborated_in failed_in meeting_in creation_in raised_in
 abort_record_of before by tasks task was lawful exists old = record {
-  suspension = doing_same (event.Aborted by tasks) before task was.suspension lawful old.suspension refl refl refl refl refl;
+  suspension = suspension_same (event.Aborted by tasks) before task was.suspension lawful old.suspension refl refl refl refl refl;
   stage =
       subst (IsStageOf (event.Aborted by tasks ∷ before) task)
       (rw (lt-ltb task (task_count before) exists)
       (ap (λ (b : Bool). record was.stage { abnormal = b }) (and_within (is_hit before tasks task) (not was.stage.terminated) was.stage.abnormal)))
       (stage_more (event.Aborted by tasks) before task was.stage old.stage);
+  created = created_kept (event.Aborted by tasks) before task was.created refl old.created;
 }
 
 -- an abort changes no record of a terminated task

@@ -12,9 +12,10 @@ use Rattle.ada_events.specs.Lawful.{IsLawful}
 use Rattle.ada_records.specs.declared.record.Record.{Record}
 use Rattle.ada_records.specs.Records.{record_at, IsStageOf, IsRecordOf, AreRecords, freed}
 use Rattle.ada_records.specs.internal.Records.{IsCompletion, elaborated_record}
-use Rattle.ada_records.proofs.Doings.{doing_same}
+use Rattle.ada_records.proofs.Creations.{created_kept}
+use Rattle.ada_records.proofs.Suspensions.{suspension_same}
 use Rattle.ada_records.proofs.Existing.{completed_exists, gone_exists, elaborated_exists}
-use Rattle.ada_records.proofs.Noting.{TouchesOne, records_one, records_end}
+use Rattle.ada_records.proofs.RecordChanges.{TouchesOne, records_one, records_end}
 use Rattle.ada_records.proofs.Stages.{stage_more}
 
 completed_touches : (before : List Event) (task : TaskNo) → TouchesOne (Completed task) before task.0
@@ -82,7 +83,10 @@ completion_exists event before task lawful (inr is) = completed_exists event bef
 
 completed_records : (before : List Event) (records : List Record) (task : TaskNo) (now : Record) → IsLawful (Completed task ∷ before)
     → AreRecords records before → task.0 < length records
-    → now ≡ record { suspension = freed (record_at records task.0).suspension.outcome; stage = record (record_at records task.0).stage { completed = true } }
+    → now ≡ record (record_at records task.0) {
+      suspension = freed (record_at records task.0).suspension.outcome;
+      stage = record (record_at records task.0).stage { completed = true };
+    }
     → AreRecords (set records task.0 now) (Completed task ∷ before)
 unfolding held_in released_in completed_in gone_in quit_in started_in aborted_in elaborated_in failed_in meeting_in creation_in raised_in
 completed_records before records task now lawful old within is =
@@ -90,7 +94,7 @@ completed_records before records task now lawful old within is =
     (rw (eq-eqb task.0 task.0 refl) is)
 
 halted_records : (before : List Event) (records : List Record) (task : TaskNo) (now : Record) → IsLawful (Halted task ∷ before) → AreRecords records before
-    → task.0 < length records → now ≡ record {
+    → task.0 < length records → now ≡ record (record_at records task.0) {
       suspension = freed (record_at records task.0).suspension.outcome;
       stage = record (record_at records task.0).stage
           { completed = true };
@@ -102,7 +106,7 @@ halted_records before records task now lawful old within is =
 
 -- the records after a task terminated by itself
 pub records_gone : (before : List Event) (records : List Record) (task : TaskNo) (now : Record) → IsLawful (Gone task ∷ before) → AreRecords records before
-    → task.0 < length records → now ≡ record {
+    → task.0 < length records → now ≡ record (record_at records task.0) {
       suspension = freed (record_at records task.0).suspension.outcome;
       stage = record (record_at records task.0).stage
           { terminated = true };
@@ -115,7 +119,10 @@ records_gone before records task now lawful old within is =
 -- the records after a task completed
 pub records_completed : (event : Event) (before : List Event) (records : List Record) (task : TaskNo) (now : Record) → IsLawful (event ∷ before)
     → AreRecords records before → IsCompletion event task → task.0 < length records
-    → now ≡ record { suspension = freed (record_at records task.0).suspension.outcome; stage = record (record_at records task.0).stage { completed = true } }
+    → now ≡ record (record_at records task.0) {
+      suspension = freed (record_at records task.0).suspension.outcome;
+      stage = record (record_at records task.0).stage { completed = true };
+    }
     → AreRecords (set records task.0 now) (event ∷ before)
 records_completed event before records task now lawful old (inl by_itself) within is =
     subst (λ (e : Event). AreRecords (set records task.0 now) (e ∷ before)) (sym by_itself)
@@ -143,10 +150,11 @@ unfolding held_in released_in completed_in gone_in quit_in started_in aborted_in
 records_elaborated before records by true now lawful old within is =
     records_one (Elaborated by true) before records by.0 now lawful old (elaborated_touches before by true) within
     (subst (IsRecordOf (Elaborated by true ∷ before) by.0) (sym is) (record {
-      suspension = doing_same (Elaborated by true) before by.0 (record_at records by.0).suspension lawful
+      suspension = suspension_same (Elaborated by true) before by.0 (record_at records by.0).suspension lawful
           (old.each by.0 within).suspension refl refl refl refl refl;
       stage = subst (IsStageOf (Elaborated by true ∷ before) by.0) (rw (eq-eqb by.0 by.0 refl) refl)
           (stage_more (Elaborated by true) before by.0 (record_at records by.0).stage (old.each by.0 within).stage);
+      created = created_kept (Elaborated by true) before by.0 (record_at records by.0).created refl (old.each by.0 within).created;
     }))
 records_elaborated before records by false now lawful old within is =
     records_end (Elaborated by false) before records by.0 now lawful old (elaborated_touches before by false) within (rw (eq-eqb by.0 by.0 refl) refl)

@@ -11,7 +11,7 @@ use Rattle.ada_events.specs.declared.event.Event.TheVariants.{Created, Elaborate
 use Rattle.ada_events.specs.Search.{is_number, is_some_and, event_at, any_event}
 use Rattle.ada_events.specs.Says.{Creation, Meeting, creation_in, held_in, released_in, meeting_in, completed_in, gone_in, quit_in, started_in, aborted_in}
 use Rattle.ada_events.specs.Says.{elaborated_in, failed_in}
-use Rattle.ada_events.specs.Tasks.{task_count}
+use Rattle.ada_events.specs.Tasks.{task_count, creation_of}
 use Rattle.ada_events.specs.Masters.{depends_on}
 use Rattle.ada_events.specs.Phases.{lists_task, has_start, is_started, is_elaborated, has_failed, is_completed, is_abnormal, is_terminated, is_suspended}
 use Rattle.ada_events.specs.Outcomes.{raised_in, last_given}
@@ -21,14 +21,17 @@ use Rattle.ada_laws.proofs.Growing.{task_count-more}
 use Rattle.ada_laws.proofs.Meeting.{met_taking, taken_queued}
 use Rattle.ada_records.specs.declared.record.Record.{Record}
 use Rattle.ada_records.specs.declared.record.Stage.{Stage}
-use Rattle.ada_records.specs.Records.{no_stage, new_record, no_record, record_at, IsRecordOf, AreRecords}
+use Rattle.ada_events.specs.declared.outcome.Outcome.TheVariants.{Nothing}
+use Rattle.ada_records.specs.Records.{freed, no_stage, new_record, no_record, record_at, IsStageOf, IsRecordOf, AreRecords}
+use Rattle.ada_records.proofs.Creations.{older_creation, unmade_creation, created_now}
+use Rattle.ada_records.proofs.Suspensions.{suspension_same}
 use Rattle.ada_records.proofs.Existing.{positive, elaborated_exists, raiser_exists, ends_exists, started_exists}
 use Rattle.ada_records.proofs.Holding.{holder_ran}
 use Rattle.ada_records.proofs.LatestOutcomes.{what_is_released_held}
-use Rattle.ada_records.proofs.Noting.{IsUntouched, untouched}
+use Rattle.ada_records.proofs.RecordChanges.{IsUntouched, untouched}
 use Rattle.ada_records.proofs.QueueChanges.{ends}
 use Rattle.ada_records.proofs.Saying.{number_none, no_meeting}
-use Rattle.ada_records.proofs.Stages.{stage_after}
+use Rattle.ada_records.proofs.Stages.{stage_after, stage_more}
 
 never : (u : ℕ) (o : Option ℕ) → (o ≡ Some u → ⊥) → is_number u o ≡ false
 never u o none = false_from_ne_true (is_number u o) (λ is. none (is_number-some u o is))
@@ -74,8 +77,8 @@ unmade_stage event before u follows beyond lives =
     unhit true = refl
     unhit false = refl
 
-nothing_yet : (u : ℕ) → task_count [] ≤ u → IsRecordOf [] u new_record
-unfolding task_count is_suspended any_event last_given has_start is_started is_elaborated has_failed is_completed is_abnormal is_terminated
+nothing_yet : (u : ℕ) → task_count [] ≤ u → IsRecordOf [] u (new_record 0)
+unfolding creation_of event_at task_count is_suspended any_event last_given has_start is_started is_elaborated has_failed is_completed is_abnormal is_terminated
 nothing_yet u beyond =
     let main : eqb u 0 ≡ false = ne_eqb u 0 (λ same. omega (arith, same, beyond)) in
     record {
@@ -86,15 +89,17 @@ nothing_yet u beyond =
         outcome = refl;
       };
       stage = record { named = refl; started = sym main; elaborated = rw main refl; failed = refl; completed = refl; abnormal = refl; terminated = refl };
+      created = record { stands = refl; within = omega arith };
     }
 
 -- nothing has become of a task that isn't made
-pub unmade : (journal : List Event) (u : ℕ) → IsLawful journal → task_count journal ≤ u → IsRecordOf journal u new_record
+pub unmade : (journal : List Event) (u : ℕ) → IsLawful journal → task_count journal ≤ u → IsRecordOf journal u (new_record 0)
 unmade [] u lawful beyond = nothing_yet u beyond
 unmade (event ∷ before) u lawful beyond =
     let older : task_count before ≤ u = omega (arith, beyond, task_count-more event before) in
     let apart = unmade_untouched event before u lawful older in
-    untouched event before u new_record lawful (unmade before u lawful.0 older) apart (unmade_stage event before u lawful.1 older apart.ends)
+    untouched event before u (new_record 0) lawful (unmade before u lawful.0 older) apart (unmade_stage event before u lawful.1 older apart.ends)
+    (unmade_creation event before u beyond)
 
 -- a creation touches no task that was made before
 makes_only : (e : Event) (c : Creation) → creation_in e ≡ Some c → (held_in e ≡ None) × (raised_in e ≡ None) × (released_in e ≡ None) × (meeting_in e ≡ None)
@@ -113,8 +118,8 @@ makes_stage (Created by under master families) before c task kept says = refl
 makes_stage _ before c task kept says = absurd (none-some c says)
 
 made_untouched : (event : Event) (before : List Event) (task : ℕ) (kept : Record) (c : Creation) → IsLawful (event ∷ before) → IsRecordOf before task kept
-    → creation_in event ≡ Some c → IsRecordOf (event ∷ before) task kept
-made_untouched event before task kept c lawful old says =
+    → task < task_count before → creation_in event ≡ Some c → IsRecordOf (event ∷ before) task kept
+made_untouched event before task kept c lawful old known says =
     let only = makes_only event c says in
     untouched event before task kept lawful old
     (record {
@@ -124,44 +129,54 @@ made_untouched event before task kept c lawful old says =
       meets = no_meeting event kept.suspension.at only.3;
       ends = makes_ends_none event before c task says;
     })
-    (makes_stage event before c task kept.stage says)
+    (makes_stage event before c task kept.stage says) (older_creation event before task known)
 
--- the new task comes last
-length_one_more : (records : List Record) → length (records ++ new_record ∷ []) ≡ length records + 1
-length_one_more records = length-append records (new_record ∷ []) ∙ omega arith
+-- the record of the task that a creation makes
+made_record : (event : Event) (before : List Event) (c : Creation) → IsLawful (event ∷ before) → creation_in event ≡ Some c
+    → IsRecordOf (event ∷ before) (task_count before) (new_record (length before + 1))
+made_record event before c lawful says =
+    let u = task_count before in
+    let beyond : task_count before ≤ u = omega arith in
+    let apart = unmade_untouched event before u lawful beyond in
+    let old = unmade before u lawful.0 beyond in
+    record {
+      suspension = suspension_same event before u (freed Nothing) lawful old.suspension apart.holds apart.raises apart.frees apart.meets apart.ends;
+      stage = subst (IsStageOf (event ∷ before) u) (unmade_stage event before u lawful.1 beyond apart.ends) (stage_more event before u no_stage old.stage);
+      created = created_now event before c says;
+    }
 
-older_record : (records : List Record) (task : ℕ) → task < length records → record_at (records ++ new_record ∷ []) task ≡ record_at records task
-older_record records task below = get_or_append_left records (new_record ∷ []) no_record task below
-
-newest_record : (records : List Record) (task : ℕ) → task ≡ length records → record_at (records ++ new_record ∷ []) task ≡ new_record
-newest_record records task same = rw same (get_or-append_seam records new_record [] no_record)
-
--- the records after a task was made
-pub records_created : (event : Event) (before : List Event) (records : List Record) (c : Creation) → IsLawful (event ∷ before) → AreRecords records before
-    → creation_in event ≡ Some c → AreRecords (records ++ new_record ∷ []) (event ∷ before)
+-- the records after a task was made: its own comes last
+records_created : (event : Event) (before : List Event) (records : List Record) (c : Creation) → IsLawful (event ∷ before) → AreRecords records before
+    → creation_in event ≡ Some c → AreRecords (records ++ new_record (length before + 1) ∷ []) (event ∷ before)
 unfolding task_count
 records_created event before records c lawful old says = record {
-  many = length_one_more records ∙ omega (arith, old.many, ap option_len says);
+  many = longer ∙ omega (arith, old.many, ap option_len says);
   each = λ task below.
       elim (cases_eq task (length records)) [
         | inl same ↦
-            rw (newest_record records task same)
-            (let beyond : task_count before ≤ task = omega (arith, same, old.many) in
-            let apart = unmade_untouched event before task lawful beyond in
-            untouched event before task new_record lawful (unmade before task lawful.0 beyond) apart
-            (unmade_stage event before task lawful.1 beyond apart.ends))
+            rw (same, get_or-append_seam records new [] no_record)
+            (subst (λ (u : ℕ). IsRecordOf (event ∷ before) u new) (sym old.many) (made_record event before c lawful says))
         | inr other ↦
-            let known : task < length records = omega (arith, below, other, length_one_more records) in
-            rw (older_record records task known) (made_untouched event before task (record_at records task) c lawful (old.each task known) says)
+            let known : task < length records = omega (arith, below, other, longer) in
+            rw (get_or_append_left records (new ∷ []) no_record task known)
+            (made_untouched event before task (record_at records task) c lawful (old.each task known) (omega (arith, known, old.many)) says)
       ];
 }
+  where
+    new : Record
+    new = new_record (length before + 1)
 
-pub records_made : (event : Event) (before : List Event) (records now : List Record) (new : Record) → IsLawful (event ∷ before) → AreRecords records before
-    → IsSome (creation_in event) → now ≡ records ++ new ∷ [] → new ≡ new_record → AreRecords now (event ∷ before)
-records_made event before records now new lawful old makes pushed is = by_creation (creation_in event) refl makes
+    longer : length (records ++ new ∷ []) ≡ length records + 1
+    longer = length-append records (new ∷ []) ∙ omega arith
+
+pub records_made : (event : Event) (before : List Event) (records now : List Record) (new : Record) (at : ℕ) → IsLawful (event ∷ before)
+    → AreRecords records before → IsSome (creation_in event) → length before + 1 ≡ at → now ≡ records ++ new ∷ [] → new ≡ new_record at
+    → AreRecords now (event ∷ before)
+records_made event before records now new at lawful old makes place pushed is = by_creation (creation_in event) refl makes
   where
     by_creation : (o : Option Creation) → creation_in event ≡ o → IsSome o → AreRecords now (event ∷ before)
     by_creation None says some = absurd (false≢true some)
     by_creation (Some c) says some =
-        subst (λ (rs : List Record). AreRecords rs (event ∷ before)) (ap (λ (r : Record). records ++ r ∷ []) (sym is) ∙ sym pushed)
+        subst (λ (rs : List Record). AreRecords rs (event ∷ before))
+        (ap (λ (r : Record). records ++ r ∷ []) (ap new_record place ∙ sym is) ∙ sym pushed)
         (records_created event before records c lawful old says)

@@ -14,7 +14,7 @@ use Rattle.ada_laws.specs.Suspension.{IsSuspendedAt}
 use Rattle.ada_tables.specs.Standing.{StandFor}
 use Rattle.ada_tables.specs.Tables.{TableState}
 use Rattle.ada_records.specs.declared.record.Record.{Record}
-use Rattle.ada_records.specs.Noting.{HaveAllQueues, IsMereHold, MakesCall, MakesTask, passing_in}
+use Rattle.ada_records.specs.TableEvents.{HaveAllQueues, IsMereHold, MakesCall, MakesTask, passing_in}
 use Rattle.ada_records.specs.Records.{AreRecords, ListsLive}
 
 -- tables that stood for that journal stand for it with the event

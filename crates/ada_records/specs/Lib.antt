@@ -1,13 +1,13 @@
 pub mod Changes
 pub mod Latest
 pub mod Records
-pub mod Telling
+pub mod RecordedStates
 pub mod internal
 pub mod Facing
 pub mod Holders
 pub mod Pending
 pub mod RecordedPhases
-pub mod Following
-pub mod Noting
+pub mod TableChanges
+pub mod TableEvents
 pub mod Noted
 pub mod Followed

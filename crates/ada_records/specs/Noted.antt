@@ -24,13 +24,13 @@ abbrev pub HaveNoted : Event → List Record → List Record → Type 0
 HaveNoted event old new = (before : List Event) → HaveNotedAfter before event old new
 
 -- the event is a wait with an open terminate alternative (9.7.1)
-abbrev pub may_terminate : Event → Bool
-may_terminate event = is_some_and (wait_in event) (λ (w : Wait). is_open_terminate w.tail)
+abbrev pub waits_at_open_terminate : Event → Bool
+waits_at_open_terminate event = is_some_and (wait_in event) (λ (w : Wait). is_open_terminate w.tail)
 
 -- any event was noted that holds the task up at a position, and starts nobody
 abbrev pub HaveNotedHold : ℕ → ℕ → Bool → List Record → List Record → Type 0
 HaveNotedHold task at quittable old new =
-    (event : Event) (before : List Event) → IsPlainHold event task → length before + 1 ≡ at → may_terminate event ≡ quittable
+    (event : Event) (before : List Event) → IsPlainHold event task → length before + 1 ≡ at → waits_at_open_terminate event ≡ quittable
     → HaveNotedAfter before event old new
 
 -- the start of an activation was noted, at a position (9.3)
@@ -65,9 +65,10 @@ HaveNotedAbort hit old new =
     (before : List Event) (by : TaskNo) (tasks : List TaskNo) → ListsLive before hit (is_hit before tasks)
     → HaveNotedAfter before (Aborted by tasks) old new
 
--- the making of a task was noted (9.1)
-abbrev pub HaveNotedCreation : List Record → List Record → Type 0
-HaveNotedCreation old new = (event : Event) → IsSome (creation_in event) → HaveNoted event old new
+-- the making of a task was noted, by the event at a position (9.1)
+abbrev pub HaveNotedCreation : ℕ → List Record → List Record → Type 0
+HaveNotedCreation at old new =
+    (event : Event) (before : List Event) → IsSome (creation_in event) → length before + 1 ≡ at → HaveNotedAfter before event old new
 
 -- there is a record of each listed task
 abbrev pub HaveRecords : List TaskNo → List Record → Type 0

@@ -1,13 +1,15 @@
 -- Records that stand for a journal: each field is what the definitions give.
-use Rattle.std.specs.Prelude.{◌≡◌, ℕ, ◌<◌, Bool, false, not, ◌==◌, ◌||◌, ◌&&◌, Some, None, List, [], length, slice_index_or}
+use Rattle.std.specs.Prelude.{◌≡◌, ℕ, ◌<◌, ◌≤◌, Bool, false, not, ◌==◌, ◌||◌, ◌&&◌, Some, None, List, [], length, slice_index_or}
 use Rattle.std.specs.List.{list_any}
+use Rattle.std.specs.Option.{option_and_then}
 use Rattle.ada_events.specs.declared.event.Event.{Event}
 use Rattle.ada_events.specs.declared.names.TaskNo.{TaskNo}
 use Rattle.ada_events.specs.declared.names.Master.TheVariants.{Body}
 use Rattle.ada_events.specs.declared.outcome.Outcome.{Outcome}
 use Rattle.ada_events.specs.declared.outcome.Outcome.TheVariants.{Dead, Nothing}
-use Rattle.ada_events.specs.Says.{held_in, started_in, released_in, meeting_in}
-use Rattle.ada_events.specs.Tasks.{task_count}
+use Rattle.ada_events.specs.Search.{event_at}
+use Rattle.ada_events.specs.Says.{creation_in, held_in, started_in, released_in, meeting_in}
+use Rattle.ada_events.specs.Tasks.{task_count, creation_of}
 use Rattle.ada_events.specs.Masters.{depends_on}
 use Rattle.ada_events.specs.Phases.{has_start, is_started, is_elaborated, has_failed, is_completed, has_ended, is_abnormal, is_terminated, lists_task}
 use Rattle.ada_events.specs.Phases.{is_suspended}
@@ -36,13 +38,13 @@ no_stage = record {
   terminated = false;
 }
 
--- the record of a task that was just made
-abbrev pub new_record : Record
-new_record = record { suspension = freed Nothing; stage = no_stage }
+-- the record of a task that was just made, by the creation at a position
+abbrev pub new_record : ℕ → Record
+new_record created = record { suspension = freed Nothing; stage = no_stage; created = created }
 
 -- no task's record
 abbrev pub no_record : Record
-no_record = record { suspension = freed Dead; stage = no_stage }
+no_record = record { suspension = freed Dead; stage = no_stage; created = 0 }
 
 abbrev pub record_at : List Record → ℕ → Record
 record_at records task = slice_index_or records task no_record
@@ -53,7 +55,7 @@ pub record IsHeldAt (journal : List Event) (task at : ℕ) : Type 0 where
   pub held : 0 < at → IsSuspendedAt journal task at
 
 -- what is kept of the task's latest suspension is right
-pub record IsDoingOf (journal : List Event) (task : ℕ) (kept : Suspension) : Type 0 where
+pub record IsSuspensionOf (journal : List Event) (task : ℕ) (kept : Suspension) : Type 0 where
   pub at : IsHeldAt journal task kept.at
   pub joined : 0 < kept.at → kept.joined ≡ is_met journal kept.at
   pub quittable : kept.quittable ≡ (is_at_open_terminate journal task && not (has_ended journal task))
@@ -69,10 +71,16 @@ pub record IsStageOf (journal : List Event) (task : ℕ) (kept : Stage) : Type 0
   pub abnormal : kept.abnormal ≡ is_abnormal journal task
   pub terminated : kept.terminated ≡ is_terminated journal task
 
+-- the position is that of the task's creation (9.1), or 0 for the main program, which has none; it doesn't lie past the end
+pub record IsCreatedAt (journal : List Event) (task at : ℕ) : Type 0 where
+  pub stands : option_and_then creation_in (event_at journal at) ≡ creation_of journal task
+  pub within : at ≤ length journal
+
 -- the record is right
 pub record IsRecordOf (journal : List Event) (task : ℕ) (kept : Record) : Type 0 where
-  pub suspension : IsDoingOf journal task kept.suspension
+  pub suspension : IsSuspensionOf journal task kept.suspension
   pub stage : IsStageOf journal task kept.stage
+  pub created : IsCreatedAt journal task kept.created
 
 -- there is a record of each task, and it is right
 pub record AreRecords (records : List Record) (journal : List Event) : Type 0 where

@@ -3,7 +3,7 @@
 ghost use Rattle.ada_records.specs.Changes.{CallsComeLast, ReleasedCallsLeave, MetCallsLeave, CompletedCallersLeave, OthersKeepQueues, RendezvousAreEntered};
 ghost use Rattle.ada_records.specs.Changes.{RendezvousAreLeft, BlocksAreEntered, BlocksAreLeft, OthersKeepNests, NestsAreDistinct};
 ghost use Rattle.ada_records.specs.Latest.{WhatIsReleasedHeld, HoldsAreHeld, ReleasesDecide, RaisersHaveRaised, OthersKeepOutcomes};
-ghost use Rattle.ada_records.specs.Telling.{RecordsTell};
+ghost use Rattle.ada_records.specs.RecordedStates.{RecordsTell};
 
 /// A call comes last in the queue of its entry (9.5).
 #[tactic(auto, using(crate::proofs::QueueKinds::queue_called))]

@@ -80,7 +80,8 @@ pub fn follow_meeting(
     refresh(tables, acceptor, &records[acceptor.0 as usize]);
 }
 
-/// Lets tables follow the end of a rendezvous by the task called, which leaves it and lets the caller go on (9.5).
+/// Lets tables follow the end of a rendezvous by the task called, which leaves it and lets the caller go on (9.5). The
+/// call left its queue when the rendezvous began.
 #[inline(always)]
 pub fn follow_end(tables: &mut Tables, records: &[Record], by: TaskNo, caller: TaskNo, call: u32)
     requires by { by.0 < length tables.old.tasks }
@@ -88,7 +89,6 @@ pub fn follow_end(tables: &mut Tables, records: &[Record], by: TaskNo, caller: T
     requires recorded { caller.0 < length records.now }
     ensures { HaveFollowedEnd by caller.0 call records.now tables.old tables.new }
 {
-    leave_queue(tables, caller);
     tables.cut_nest(by, call);
     refresh(tables, caller, &records[caller.0 as usize]);
 }

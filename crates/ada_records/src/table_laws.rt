@@ -3,7 +3,7 @@
 ghost use Rattle.ada_records.specs.Holders.{BlocksNestProperly, OneHolderEach, ALeftBlockHasNoLiveDependent, MastersAreHeld, HeldTablesStand, CutsKeepTheRest};
 ghost use Rattle.ada_records.specs.Pending.{ClosedBlocksAreInnermost, WaitsHaveRoom, OpenTerminatesAreInNoRendezvous};
 ghost use Rattle.ada_records.specs.RecordedPhases.{RecordsTellPhases, OthersKeepPhases};
-ghost use Rattle.ada_records.specs.Following.{TablesFollow, HoldsChangeOnePhase, ReleasesChangeOnePhase, CompletionsChangeOnePhase, GoingChangesOnePhase};
+ghost use Rattle.ada_records.specs.TableChanges.{TablesFollow, HoldsChangeOnePhase, ReleasesChangeOnePhase, CompletionsChangeOnePhase, GoingChangesOnePhase};
 
 /// Each block that a task is within was opened within the block before it, the first within the task's body
 /// (9.4).

@@ -1,4 +1,4 @@
 pub mod Keys
 pub mod Ranks
-pub mod TakingNewly
+pub mod TakenCalls
 pub mod TouchedKeys

@@ -37,11 +37,11 @@ use Rattle.ada_rows.specs.declared.row.Row.{Row}
 use Rattle.ada_rows.specs.declared.row.Row.TheVariants.{Halting, Failing, Meeting as MeetingRow, Cancelling}
 use Rattle.ada_rows.specs.declared.row.Row.TheVariants.{Passing, Waking, Activating, Terminating, QuittingBody}
 use Rattle.ada_rows.specs.declared.row.Row.TheVariants.{QuittingBlock, Leaving}
-use Rattle.ada_rows.specs.Touching.{is_uncallable, is_idle, IsNewlyBelow, MayQuit, Touches}
-use Rattle.ada_rows.specs.Touching.Touches.{newest, task_made, aborts, frees, loses, calls, moves, elaborates, completes, abandons, ends_below, body_quits}
-use Rattle.ada_rows.specs.Touching.Touches.{block_quits, ends_within}
-use Rattle.ada_rows.specs.Touching.MayQuit.{complete, idle, made}
-use Rattle.ada_rows.proofs.TakingNewly.{waits_newly_take, pending_before}
+use Rattle.ada_rows.specs.TouchedKeys.{is_uncallable, is_idle, IsNewlyBelow, MayQuit, Touches}
+use Rattle.ada_rows.specs.TouchedKeys.Touches.{newest, task_made, aborts, frees, loses, calls, moves, elaborates, completes, abandons, ends_below, body_quits}
+use Rattle.ada_rows.specs.TouchedKeys.Touches.{block_quits, ends_within}
+use Rattle.ada_rows.specs.TouchedKeys.MayQuit.{complete, idle, made}
+use Rattle.ada_rows.proofs.TakenCalls.{waits_newly_take, pending_before}
 use Rattle.ada_rows.proofs.Keys.{of_found}
 
 three_of : (a b c : Bool) → (a && not b && c) ≡ true → (a ≡ true) × (b ≡ false) × (c ≡ true)

@@ -4,7 +4,7 @@ use Rattle.ada_events.specs.declared.event.Event.{Event}
 use Rattle.ada_events.specs.Forced.{forced}
 use Rattle.ada_rows.specs.declared.row.Row.{Row}
 use Rattle.ada_rows.specs.Rows.{step_at, IsAgenda, IsFirst}
-use Rattle.ada_rows.specs.Touching.{Touches}
+use Rattle.ada_rows.specs.TouchedKeys.{Touches}
 
 abbrev pub FirstKeysAreForced : Type 0
 FirstKeysAreForced = (journal : List Event) (has : Row → ℕ → Bool) (row : Row) (key : ℕ) (step : Event)

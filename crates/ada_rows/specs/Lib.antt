@@ -1,5 +1,5 @@
 pub mod Agendas
-pub mod Newly
+pub mod CalledTasks
 pub mod Rows
-pub mod Touching
+pub mod TouchedKeys
 pub mod internal

@@ -1,2 +1,2 @@
 -- What only private contracts and invariants cite: no caller meets it.
-pub mod Newly
+pub mod TakenCalls

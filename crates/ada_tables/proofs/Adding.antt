@@ -37,31 +37,32 @@ pub held_once : (tasks : List Facts) (one other : ℕ) (master : Master) → Sta
 held_once tasks one other (Body t) single low there first second = sym (eqb-true t.0 one first) ∙ eqb-true t.0 other second
 held_once tasks one other (Block block) single low there first second = single.alone one other block low there first second
 
-module _ (tasks : List Task) (master : Option Master) (holder : ℕ) (families : List Family) (right : AreCounted tasks) where
+module _ (tasks : List Task) (master : Option Master) (holder first : ℕ) (families : List Family) (right : AreCounted tasks) where
   abbrev pub pushed : List Task
-  pushed = tasks ++ made master holder families ∷ []
+  pushed = tasks ++ made master holder first families ∷ []
 
-  pub facts_pushed : facts pushed ≡ facts tasks ++ facts_of (made master holder families) ∷ []
-  facts_pushed = map-append facts_of tasks (made master holder families ∷ [])
+  pub facts_pushed : facts pushed ≡ facts tasks ++ facts_of (made master holder first families) ∷ []
+  facts_pushed = map-append facts_of tasks (made master holder first families ∷ [])
 
   many : length (facts tasks) ≡ length tasks
   many = length-map tasks facts_of
 
   longer : length (facts pushed) ≡ suc (length tasks)
-  longer = ap (λ fs. length fs) facts_pushed ∙ omega (arith, length-append (facts tasks) (facts_of (made master holder families) ∷ []), many)
+  longer = ap (λ fs. length fs) facts_pushed ∙ omega (arith, length-append (facts tasks) (facts_of (made master holder first families) ∷ []), many)
 
   old_fact : (task : ℕ) → task < length tasks → task_at (facts pushed) task ≡ task_at (facts tasks) task
   old_fact task low = ap (λ fs. task_at fs task) facts_pushed
-      ∙ get_or_append_left (facts tasks) (facts_of (made master holder families) ∷ []) nobody task (omega (arith, many))
+      ∙ get_or_append_left (facts tasks) (facts_of (made master holder first families) ∷ []) nobody task (omega (arith, many))
 
-  new_fact : task_at (facts pushed) (length tasks) ≡ facts_of (made master holder families)
-  new_fact = ap (λ fs. task_at fs (length tasks)) facts_pushed ∙ get_or_push (facts tasks) (facts_of (made master holder families)) nobody (length tasks) many
+  new_fact : task_at (facts pushed) (length tasks) ≡ facts_of (made master holder first families)
+  new_fact = ap (λ fs. task_at fs (length tasks)) facts_pushed
+      ∙ get_or_push (facts tasks) (facts_of (made master holder first families)) nobody (length tasks) many
 
   old_record : (task : ℕ) → task < length tasks → record_at pushed task ≡ record_at tasks task
-  old_record task low = get_or_append_left tasks (made master holder families ∷ []) no_record task low
+  old_record task low = get_or_append_left tasks (made master holder first families ∷ []) no_record task low
 
-  new_record : record_at pushed (length tasks) ≡ made master holder families
-  new_record = get_or_push tasks (made master holder families) no_record (length tasks) refl
+  new_record : record_at pushed (length tasks) ≡ made master holder first families
+  new_record = get_or_push tasks (made master holder first families) no_record (length tasks) refl
 
   below : (task : ℕ) → task < length (facts pushed) → (task < length tasks) ⊎ (task ≡ length tasks)
   below task low =
@@ -213,10 +214,10 @@ open_led tasks master holder right is_open low held =
     once task there too = held_once (facts tasks) task holder master (stand_alone tasks right) there (omega (arith, length-map tasks facts_of)) too held
 
 -- the main program has no master, and is the first task
-pub added_main : (holder : ℕ) (families : List Family) → AreCounted [] → AreCounted (made None holder families ∷ [])
+pub added_main : (holder first : ℕ) (families : List Family) → AreCounted [] → AreCounted (made None holder first families ∷ [])
 unfolding reaches is_led
-added_main holder families right =
-    added_counted [] None holder families right (omega arith) refl (made None holder families ∷ [])
-    (along_same Added (made None holder families ∷ []) (made None holder families ∷ []) (depends_on (facts (made None holder families ∷ [])) 0)
-    (depends_on (facts (made None holder families ∷ [])) 0) (λ _. false) (λ to. refl)
-    (along_begins Added (made None holder families ∷ []) (depends_on (facts (made None holder families ∷ [])) 0)))
+added_main holder first families right =
+    let main = made None holder first families ∷ [] in
+    let passed = depends_on (facts main) 0 in
+    added_counted [] None holder first families right (omega arith) refl main
+    (along_same Added main main passed passed (λ _. false) (λ to. refl) (along_begins Added main passed))

@@ -14,7 +14,7 @@ use Rattle.ada_tables.specs.internal.Changes.{changed}
 use Rattle.ada_tables.specs.Layers.{members}
 use Rattle.ada_tables.specs.internal.Layers.{live_at}
 use Rattle.ada_tables.specs.Dependents.{Facts, nobody, task_at, has_block, holds, encloses, reaches, depends_on}
-use Rattle.ada_tables.specs.Counts.{facts_of, facts}
+use Rattle.ada_tables.specs.Counts.{facts_of, facts, first_slots}
 use Rattle.ada_tables.specs.internal.Counts.{no_record, record_at, recounted, ChangesAlong, StandAlone, IsLed}
 use Rattle.ada_tables.proofs.Nests.{members-moved_to, live_at-moved_to}
 use Rattle.ada_tables.proofs.Reaching.{reaches_none, passes_holds, reached_held, body_below, Leads, leads}
@@ -41,11 +41,29 @@ facts-set tasks task new same =
     ∙ ap (set (facts tasks) task) (same ∙ sym (facts_at tasks task))
     ∙ set-get_or (facts tasks) task nobody
 
+pub first_slot_at : (tasks : List Task) (task : ℕ) → get_or (first_slots tasks) task 0 ≡ (record_at tasks task).first_slot
+first_slot_at [] task = refl
+first_slot_at (first ∷ rest) zero = refl
+first_slot_at (first ∷ rest) (suc task) = first_slot_at rest task
+
+-- a record written with the same first slot changes none
+pub first_slots-set : (tasks : List Task) (task : ℕ) (new : Task) → new.first_slot ≡ (record_at tasks task).first_slot
+    → first_slots (set tasks task new) ≡ first_slots tasks
+first_slots-set tasks task new same =
+    map-set (λ (t : Task). t.first_slot) tasks task new
+    ∙ ap (set (first_slots tasks) task) (same ∙ sym (first_slot_at tasks task))
+    ∙ set-get_or (first_slots tasks) task 0
+
+first_slot_counted : (change : Change) (from : Master) (task : Task) → (recounted change from task).first_slot ≡ task.first_slot
+first_slot_counted change (Body t) task = refl
+first_slot_counted change (Block block) task = refl
+
 pub along_begins : (change : Change) (tasks : List Task) (passed : Master → Bool) → ChangesAlong change tasks tasks passed passed
 along_begins change tasks passed =
     record {
       same = refl;
       holders = λ task. refl;
+      firsts = refl;
       bodies = λ task low. rw (never (passed (Body (record { 0 = task })))) refl;
       blocks = λ task block low has. rw (never (passed (Block block))) refl;
       within = λ master is. is;
@@ -62,6 +80,7 @@ along_same change old new passed left other same along =
     record {
       same = along.same;
       holders = along.holders;
+      firsts = along.firsts;
       bodies = λ task low. rw (same (Body (record { 0 = task }))) (along.bodies task low);
       blocks = λ task block low has. rw (same (Block block)) (along.blocks task block low has);
       within = λ master is. along.within master (rw same at is);
@@ -199,6 +218,7 @@ module _ (change : Change) (old now : List Task) (passed : Master → Bool) (at 
       record {
         same = facts-set now at (recounted change from (record_at now at)) (facts_counted change from (record_at now at)) ∙ along.same;
         holders = holders_now;
+        firsts = first_slots-set now at (recounted change from (record_at now at)) (first_slot_counted change from (record_at now at)) ∙ along.firsts;
         bodies = bodies_now;
         blocks = blocks_now;
         within = λ master is. along.within master (left_is master ∙ or_right _ _ is);

@@ -2,7 +2,7 @@
 use Rattle.std.proofs.Common.{◌≡◌, ℕ, zero, suc, ◌+◌, ◌<◌, ◌≤◌, List, [], ◌∷◌, length, get_or, set, refl, ap, sym, ◌∙◌, arith}
 use Rattle.std.specs.List.{sum_by}
 use Rattle.std.specs.Prelude.{slice_index}
-use Rattle.std.proofs.lemmas.List.{map-set, length-set, length-map, set-get_or, get_or_read, take_all}
+use Rattle.std.proofs.lemmas.List.{map-set, length-set, length-map, set-get_or, take_all}
 use Rattle.std.proofs.lemmas.List.Sums.{sum_by_more_le}
 use Rattle.ada_events.specs.declared.names.Member.{Member}
 use Rattle.ada_events.specs.Entries.{entries_in}
@@ -33,20 +33,20 @@ tied_same old new queues callers firsts long same tied =
       few = tied.few;
     }
 
-pub tied_nest : (old new : Known) (queues : List (List QueuedCall)) (callers : ℕ) (firsts : List ℕ) (task : ℕ) (nest : List Member) → new ≡ record old {
+pub tied_nest : (old new : Known) (queues : List (List QueuedCall)) (callers : ℕ) (task : ℕ) (nest : List Member) → new ≡ record old {
   tasks =
       with_nest task nest old.tasks;
-} → AreTied old.tasks queues callers firsts → AreTied new.tasks queues callers firsts
-tied_nest old new queues callers firsts task nest is tied =
-    rw is (tied_same old.tasks (with_nest task nest old.tasks) queues callers firsts (length-set old.tasks task _)
+} → AreTied old.tasks queues callers old.firsts → AreTied new.tasks queues callers new.firsts
+tied_nest old new queues callers task nest is tied =
+    rw is (tied_same old.tasks (with_nest task nest old.tasks) queues callers old.firsts (length-set old.tasks task _)
     (declared-set old.tasks task (record (task_at old.tasks task) { nest = nest }) refl) tied)
 
-pub tied_phase : (old new : Known) (queues : List (List QueuedCall)) (callers : ℕ) (firsts : List ℕ) (task : ℕ) (phase : Phase) → new ≡ record old {
+pub tied_phase : (old new : Known) (queues : List (List QueuedCall)) (callers : ℕ) (task : ℕ) (phase : Phase) → new ≡ record old {
   tasks =
       with_phase task phase old.tasks;
-} → AreTied old.tasks queues callers firsts → AreTied new.tasks queues callers firsts
-tied_phase old new queues callers firsts task phase is tied =
-    rw is (tied_same old.tasks (with_phase task phase old.tasks) queues callers firsts (length-set old.tasks task _)
+} → AreTied old.tasks queues callers old.firsts → AreTied new.tasks queues callers new.firsts
+tied_phase old new queues callers task phase is tied =
+    rw is (tied_same old.tasks (with_phase task phase old.tasks) queues callers old.firsts (length-set old.tasks task _)
     (declared-set old.tasks task (record (task_at old.tasks task) { phase = phase }) refl) tied)
 
 -- the main program alone, which runs
@@ -84,7 +84,3 @@ slot_fits tasks queues callers firsts task first number tied low first_is below 
 pub few_entries : (tasks : List Facts) (queues : List (List QueuedCall)) (callers : ℕ) (firsts : List ℕ) (task : ℕ) → AreTied tasks queues callers firsts
     → task < length tasks → entries_in (task_at tasks task).families ≤ 1024
 few_entries tasks queues callers firsts task tied low = omega (arith, slots_within tasks queues callers firsts task tied low, tied.few)
-
-pub first_read : (tasks : List Facts) (queues : List (List QueuedCall)) (callers : ℕ) (firsts : List ℕ) (task : ℕ) (read : ℕ)
-    → AreTied tasks queues callers firsts → task < length tasks → read ≡ get_or firsts task read → read ≡ slice_index firsts task
-first_read tasks queues callers firsts task read tied low is = get_or_read firsts task read (omega (arith, tied.firsts_known)) is 0

@@ -13,9 +13,9 @@ use Rattle.ada_tables.specs.declared.phase.Phase.{Phase}
 use Rattle.ada_tables.specs.Layers.{members, member_of}
 use Rattle.ada_tables.specs.internal.Layers.{layer_of, live_at}
 use Rattle.ada_tables.specs.Dependents.{Facts, task_at, has_block, depends_on, is_terminated, live_dependents, holds, cut, Known}
-use Rattle.ada_tables.specs.Counts.{facts_of, facts}
+use Rattle.ada_tables.specs.Counts.{facts_of, facts, first_slots}
 use Rattle.ada_tables.specs.internal.Counts.{no_record, record_at, ChangesAlong, StandAlone, AreCounted, IsLed, is_led}
-use Rattle.ada_tables.proofs.Alongs.{facts_at}
+use Rattle.ada_tables.proofs.Alongs.{facts_at, first_slot_at, first_slots-set}
 use Rattle.std.proofs.lemmas.List.{take-append-drop, drop_more, drop_all, take-map, get_or_read}
 use Rattle.std.proofs.lemmas.Option.{slice_get-get_or}
 use Rattle.std.proofs.Common.{drop}
@@ -33,8 +33,8 @@ use Rattle.ada_tables.proofs.Ending.{goes_on, ends}
 use Rattle.ada_tables.proofs.Parents.{parent_is}
 use Rattle.ada_tables.proofs.Adding.{stand_alone, facts_pushed, pushed_alone, pushed_led, added_counted, open_led, added_main}
 
-abbrev known_of : List Facts → ℕ → Known
-known_of tasks room = record { tasks = tasks; room = room }
+abbrev known_of : List Facts → List ℕ → ℕ → Known
+known_of tasks firsts room = record { tasks = tasks; firsts = firsts; room = room }
 
 -- a nest that changes in a record changes in what is known
 pub facts-with_nest : (tasks : List Task) (task : ℕ) (layers : List Layer)
@@ -54,13 +54,14 @@ member_of-layer_of (BlockMember block) = refl
 member_of-layer_of (Rendezvous call) = refl
 
 -- what follows for the records and for what is known
-abbrev pub Holds : List Task → List Facts → Type 0
-Holds tasks known = AreCounted tasks × (facts tasks ≡ known)
+abbrev pub Holds : List Task → List Facts → List ℕ → Type 0
+Holds tasks known firsts = AreCounted tasks × (facts tasks ≡ known) × (first_slots tasks ≡ firsts)
 
 -- a member comes into a nest
 pub pushed : (tasks : List Task) (task : ℕ) (read : Task) (nest : List Layer) (member : Member) → AreCounted tasks → task < length tasks
     → read ≡ get_or tasks task read → nest ≡ read.nest ++ layer_of member ∷ [] → IsFresh member (facts tasks)
     → Holds (set tasks task (record read { nest = nest })) (with_nest task ((task_at (facts tasks) task).nest ++ member ∷ []) (facts tasks))
+    (first_slots tasks)
 pushed tasks task read nest member right within read_is nest_new fresh =
     let there = get_or_read tasks task read within read_is no_record in
     rw (nest_new, there) (
@@ -69,6 +70,7 @@ pushed tasks task read nest member right within read_is nest_new fresh =
           ∙ ap (λ ms. with_nest task ms (facts tasks))
           (map-append member_of (record_at tasks task).nest (layer_of member ∷ [])
           ∙ ap (λ m. members (record_at tasks task).nest ++ m ∷ []) (member_of-layer_of member) ∙ ap (λ ms. ms ++ member ∷ []) (sym (nest_is tasks task))),
+      first_slots-set tasks task (record (record_at tasks task) { nest = (record_at tasks task).nest ++ layer_of member ∷ [] }) refl,
     )
   where
     counted_still : (m : Member) → IsFresh m (facts tasks)
@@ -92,12 +94,13 @@ pub popped : (tasks : List Task) (task : ℕ) (read : Task) (nest : List Layer) 
     → nest ≡ take (length read.nest - 1) read.nest → 0 < length (task_at (facts tasks) task).nest
     → ForSome (innermost (task_at (facts tasks) task).nest) (IsIdle (facts tasks))
     → Holds (set tasks task (record read { nest = nest }))
-    (with_nest task (take (length (task_at (facts tasks) task).nest - 1) (task_at (facts tasks) task).nest) (facts tasks))
+    (with_nest task (take (length (task_at (facts tasks) task).nest - 1) (task_at (facts tasks) task).nest) (facts tasks)) (first_slots tasks)
 popped tasks task read nest right within read_is nest_new some idle =
     let there = get_or_read tasks task read within read_is no_record in
     rw (nest_new, there) (
       counted_still (member_of last) refl (idle (member_of last) innermost_is),
       facts-with_nest tasks task shorter ∙ ap (λ ms. with_nest task ms (facts tasks)) shorter_is,
+      first_slots-set tasks task (record (record_at tasks task) { nest = shorter }) refl,
     )
   where
     old : List Layer
@@ -137,43 +140,56 @@ popped tasks task read nest right within read_is nest_new some idle =
 -- a task gets another phase, and doesn't end
 pub phased : (tasks : List Task) (task : ℕ) (read : Task) (phase : Phase) → AreCounted tasks → task < length tasks → read ≡ get_or tasks task read
     → is_terminated (task_at (facts tasks) task).phase ≡ false → is_terminated phase ≡ false
-    → Holds (set tasks task (record read { phase = phase })) (with_phase task phase (facts tasks))
+    → Holds (set tasks task (record read { phase = phase })) (with_phase task phase (facts tasks)) (first_slots tasks)
 phased tasks task read phase right within read_is lives on =
     let there = get_or_read tasks task read within read_is no_record in
-    rw there (goes_on tasks task phase right within lives on, facts-with_phase tasks task phase)
+    rw there (
+      goes_on tasks task phase right within lives on,
+      facts-with_phase tasks task phase,
+      first_slots-set tasks task (record (record_at tasks task) { phase = phase }) refl,
+    )
 
 -- a task ends
 pub ended : (tasks lowered : List Task) (task : ℕ) (d : Task) → AreCounted tasks → task < length tasks
     → is_terminated (task_at (facts tasks) task).phase ≡ false → ChangesAlong Ended tasks lowered (depends_on (facts tasks) task) (λ _. false)
-    → Holds (set lowered task (record (get_or lowered task d) { phase = Terminated })) (with_phase task Terminated (facts tasks))
+    → Holds (set lowered task (record (get_or lowered task d) { phase = Terminated })) (with_phase task Terminated (facts tasks)) (first_slots tasks)
 ended tasks lowered task d right within lives along =
     let long : length lowered ≡ length tasks = sym (length-map lowered facts_of) ∙ ap (λ fs. length fs) along.same ∙ length-map tasks facts_of in
     let there : get_or lowered task d ≡ record_at lowered task = get_or_default lowered task d no_record (omega (arith, long)) in
     rw there (
       ends tasks lowered task (depends_on (facts tasks) task) right within lives along (λ master. refl),
       facts-with_phase lowered task Terminated ∙ ap (with_phase task Terminated) along.same,
+      first_slots-set lowered task (record (record_at lowered task) { phase = Terminated }) refl ∙ along.firsts,
     )
 
 -- a rendezvous leaves a nest
 pub cut_out : (tasks : List Task) (task call : ℕ) (read : Task) (nest : List Layer) → AreCounted tasks → task < length tasks → read ≡ get_or tasks task read
     → nest ≡ cut_layers call read.nest
-    → Holds (set tasks task (record read { nest = nest })) (with_nest task (cut call (task_at (facts tasks) task).nest) (facts tasks))
+    → Holds (set tasks task (record read { nest = nest })) (with_nest task (cut call (task_at (facts tasks) task).nest) (facts tasks)) (first_slots tasks)
 cut_out tasks task call read nest right within read_is nest_new =
     let there = get_or_read tasks task read within read_is no_record in
     rw (nest_new, there, cut_layers_is call (record_at tasks task).nest) (
       cut_counted tasks task right within call,
       facts-with_nest tasks task (cut_rec call (record_at tasks task).nest)
           ∙ ap (λ ms. with_nest task ms (facts tasks)) (members-cut_rec call (record_at tasks task).nest ∙ ap (cut call) (sym (nest_is tasks task))),
+      first_slots-set tasks task (record (record_at tasks task) { nest = cut_rec call (record_at tasks task).nest }) refl,
     )
 
 -- what a contract sees, with other tasks
-pub same_known : (room : ℕ) (tasks known : List Facts) → tasks ≡ known → known_of tasks room ≡ known_of known room
-same_known room tasks known same = ap (λ ts. known_of ts room) same
+pub same_known : (room : ℕ) (tasks known : List Facts) (now firsts : List ℕ) → tasks ≡ known → now ≡ firsts
+    → known_of tasks now room ≡ known_of known firsts room
+same_known room tasks known now firsts same same_firsts = rw (same, same_firsts) refl
 
 -- what is read of a record is known
 pub known_of_read : (tasks : List Task) (task : ℕ) (read : Task) → task < length tasks → read ≡ get_or tasks task read
     → task_at (facts tasks) task ≡ facts_of read
 known_of_read tasks task read within read_is = facts_at tasks task ∙ ap facts_of (sym (get_or_read tasks task read within read_is no_record))
+
+-- so is its first slot
+pub first_slot_read : (tasks : List Task) (task : ℕ) (read : Task) → task < length tasks → read ≡ get_or tasks task read
+    → read.first_slot ≡ get_or (first_slots tasks) task 0
+first_slot_read tasks task read within read_is =
+    ap (λ (t : Task). t.first_slot) (get_or_read tasks task read within read_is no_record) ∙ sym (first_slot_at tasks task)
 
 module _ (tasks : List Task) (holder block : ℕ) (read : Task) (right : AreCounted tasks) (within : holder < length tasks)
     (read_is : read ≡ get_or tasks holder read) (held : has_block block (task_at (facts tasks) holder).nest ≡ true) where
@@ -196,34 +212,35 @@ not_terminated Completed other = refl
 not_terminated Terminated other = absurd (other refl)
 
 -- the main program is the first task
-pub main_made : (tasks new : List Task) (record_of : Task) (holder : ℕ) (families : List Family) → AreCounted tasks → facts tasks ≡ []
-    → new ≡ tasks ++ record_of ∷ [] → record_of ≡ made None holder families → AreCounted new
-main_made [] new record_of holder families right none new_is made_is = rw (new_is, made_is) (added_main holder families right)
-main_made (first ∷ rest) new record_of holder families right none new_is made_is = absurd (cc)
+pub main_made : (tasks new : List Task) (record_of : Task) (holder first : ℕ) (families : List Family) → AreCounted tasks → facts tasks ≡ []
+    → new ≡ tasks ++ record_of ∷ [] → record_of ≡ made None holder first families → AreCounted new
+main_made [] new record_of holder first families right none new_is made_is = rw (new_is, made_is) (added_main holder first families right)
+main_made (_ ∷ rest) new record_of holder first families right none new_is made_is = absurd (cc)
 
 -- a task is made under an open master
-module _ (tasks pushed : List Task) (record_of : Task) (master : Master) (holder : ℕ) (families : List Family) (right : AreCounted tasks)
+module _ (tasks pushed : List Task) (record_of : Task) (master : Master) (holder first : ℕ) (families : List Family) (right : AreCounted tasks)
     (few : length (facts tasks) < 256) (is_open : IsOpen (facts tasks) master) (low : holder < length tasks)
     (held : holds holder (task_at (facts tasks) holder).nest master ≡ true) (pushed_is : pushed ≡ tasks ++ record_of ∷ [])
-    (made_is : record_of ≡ made (Some master) holder families) where
+    (made_is : record_of ≡ made (Some master) holder first families) where
   room : length tasks < 256
   room = rw length-map at few
 
   led : is_led tasks (length tasks) (Some master) holder ≡ true
   led = open_led tasks master holder right is_open low held
 
-  all_is : pushed ≡ tasks ++ made (Some master) holder families ∷ []
+  all_is : pushed ≡ tasks ++ made (Some master) holder first families ∷ []
   all_is = pushed_is ∙ ap (λ t. tasks ++ t ∷ []) made_is
 
   pub made_alone : StandAlone (facts pushed)
-  made_alone = rw all_is (pushed_alone tasks (Some master) holder families right)
+  made_alone = rw all_is (pushed_alone tasks (Some master) holder first families right)
 
   pub made_led : (number : ℕ) → number ≡ length tasks → IsLed pushed number
-  made_led number number_is = rw (all_is, number_is) (pushed_led tasks (Some master) holder families right room led)
+  made_led number number_is = rw (all_is, number_is) (pushed_led tasks (Some master) holder first families right room led)
 
   pub task_made : (raised : List Task) (number : ℕ) → number ≡ length tasks → ChangesAlong Added pushed raised (depends_on (facts pushed) number) (λ _. false)
-      → Holds raised (facts tasks ++ made_facts (Some master) families ∷ [])
+      → Holds raised (facts tasks ++ made_facts (Some master) families ∷ []) (first_slots tasks ++ first ∷ [])
   task_made raised number number_is along = (
-    added_counted tasks (Some master) holder families right room led raised (rw (all_is, number_is) at along),
-    along.same ∙ ap facts all_is ∙ facts_pushed tasks (Some master) holder families right,
+    added_counted tasks (Some master) holder first families right room led raised (rw (all_is, number_is) at along),
+    along.same ∙ ap facts all_is ∙ facts_pushed tasks (Some master) holder first families right,
+    along.firsts ∙ ap first_slots all_is ∙ map-append (λ (t : Task). t.first_slot) tasks (made (Some master) holder first families ∷ []),
   )

@@ -1,5 +1,5 @@
 -- The records of tasks, what is known of a task by its record, and that each count is right.
-use Rattle.std.specs.Prelude.{List, map}
+use Rattle.std.specs.Prelude.{ℕ, List, map}
 use Rattle.ada_tables.specs.declared.task.Task.{Task}
 use Rattle.ada_tables.specs.Layers.{members}
 use Rattle.ada_tables.specs.Dependents.{Facts}
@@ -10,3 +10,7 @@ facts_of task = record { master = task.master; families = task.families; nest = 
 
 abbrev pub facts : List Task → List Facts
 facts tasks = map facts_of tasks
+
+-- the slot of each task's first entry
+abbrev pub first_slots : List Task → List ℕ
+first_slots tasks = map (λ (task : Task). task.first_slot) tasks

@@ -92,9 +92,10 @@ is_live_dependent tasks master task = not (is_terminated (task_at tasks task).ph
 abbrev pub live_dependents : List Facts → Master → ℕ
 live_dependents tasks master = count_below (is_live_dependent tasks master) (length tasks)
 
--- what a contract sees of the tasks: what is known of each, by number, and how many more find room
+-- what a contract sees of the tasks: what is known of each, by number, the slot of its first entry, and how many more find room
 pub record Known : Type 0 where
   pub tasks : List Facts
+  pub firsts : List ℕ
   pub room : ℕ
 
 -- the member is the rendezvous with a call

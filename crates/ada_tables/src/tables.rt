@@ -26,8 +26,6 @@ use std::marker::Model;
 pub struct Tables {
     tasks: Tasks,
     queues: Queues,
-    // The slot of each task's first entry.
-    firsts: Vec<u16>,
 }
 
 impl Model for Tables {
@@ -43,7 +41,7 @@ impl Model for Tables {
     } };
 
     ghost invariant = { λ t.
-        AreTied t.tasks.tasks t.queues.queues t.queues.callers t.firsts.items };
+        AreTied t.tasks.tasks t.queues.queues t.queues.callers t.tasks.firsts };
 }
 
 impl Tables {
@@ -58,18 +56,11 @@ impl Tables {
     {
         let mut tasks = Tasks::new(alloc);
         let mut queues = Queues::new(alloc);
-        let mut firsts = Vec::new(alloc);
         tasks.reserve()?;
-        firsts.reserve_exact(1)?;
         queues.add_caller(0)?;
-        firsts.push_reserved(0);
         tasks.add_main_reserved();
         tasks.set_phase(0, Phase::Active);
-        Ok(Tables {
-            tasks,
-            queues,
-            firsts,
-        })
+        Ok(Tables { tasks, queues })
     }
 
     /// Adds a task that was made under a master (9.4), the body or an open block of a task that isn't
@@ -91,10 +82,8 @@ impl Tables {
         let first = self.queues.slots() as u16;
         let more = slots::entries_in(families.as_slice()) as u16;
         self.tasks.reserve()?;
-        self.firsts.reserve_exact(1)?;
         self.queues.add_caller(more)?;
-        self.firsts.push_reserved(first);
-        self.tasks.add_reserved(master, families);
+        self.tasks.add_reserved(master, families, first);
         Ok(TaskNo(number))
     }
 
@@ -106,7 +95,7 @@ impl Tables {
         ensures known { result < length self.now.queues }
     {
         let number = slots::number_within(self.tasks.families(task.0).as_slice(), entry);
-        (u64::from(self.firsts[task.0 as usize]) + number) as u16
+        (u64::from(self.tasks.first_slot(task.0)) + number) as u16
     }
 
     /// Makes room for one more queued call. Fails with `OutOfMemory` alone, and then changes nothing.
@@ -317,7 +306,7 @@ impl Tables {
         requires { task < length self.now.tasks }
         ensures { result ≡ has_no_calls self.now.tasks self.now.queues task }
     {
-        let first = self.firsts[task as usize];
+        let first = self.tasks.first_slot(task);
         let many = slots::entries_in(self.tasks.families(task).as_slice()) as u16;
         self.queues.are_empty(first, many)
     }

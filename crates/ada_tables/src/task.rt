@@ -20,6 +20,8 @@ pub(crate) struct Task {
     pub(crate) live: u16,
     /// The number of the task that holds its master; of the main program it says nothing. Set by its creation.
     pub(crate) holder: u16,
+    /// The slot of its first entry: how many entries the tasks before it have. Set by its creation.
+    pub(crate) first_slot: u16,
     /// Set by each event that starts, suspends, releases, completes or terminates the task.
     pub(crate) phase: Phase,
     /// What it is in. An opening and a meeting put a member in; a leaving, an end and a failure take it out.
@@ -29,14 +31,20 @@ pub(crate) struct Task {
 }
 
 impl Task {
-    // A task that has just been made under a master, which the task of that number holds.
-    pub(crate) fn of(master: Option<Master>, holder: u16, families: Families) -> Task
-        ensures { result ≡ made master holder families }
+    // A task that has just been made under a master, which the task of that number holds. Its entries begin at a slot.
+    pub(crate) fn of(
+        master: Option<Master>,
+        holder: u16,
+        first_slot: u16,
+        families: Families,
+    ) -> Task
+        ensures { result ≡ made master holder first_slot families }
     {
         Task {
             master,
             live: 0,
             holder,
+            first_slot,
             phase: Phase::Unstarted,
             nest: Layers::new(),
             families,

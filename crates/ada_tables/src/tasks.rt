@@ -1,12 +1,12 @@
 //! The records of all tasks, and the counts of their masters.
-ghost use Rattle.std.specs.Prelude.{◌≡◌, ℕ, ◌+◌, ◌-◌, ◌<◌, ◌≤◌, Some, None, true, false, [], ◌∷◌, ◌++◌, OnOk, length, take};
+ghost use Rattle.std.specs.Prelude.{◌≡◌, ℕ, ◌+◌, ◌-◌, ◌<◌, ◌≤◌, Some, None, true, false, [], ◌∷◌, ◌++◌, OnOk, length, slice_index, take};
 ghost use Rattle.std.specs.Option.{ForSome};
 ghost use Rattle.ada_events.specs.Nests.{innermost};
 ghost use Rattle.ada_tables.specs.Layers.{members};
 ghost use Rattle.ada_tables.specs.Dependents.{depends_on, task_at, has_block, holds, cut, is_terminated, parent_of, made_facts, with_nest, with_phase};
 ghost use Rattle.ada_tables.specs.Dependents.{live_dependents, Stands};
 ghost use Rattle.ada_tables.specs.Dependents.{IsOpen, IsFresh, IsIdle};
-ghost use Rattle.ada_tables.specs.Counts.{facts};
+ghost use Rattle.ada_tables.specs.Counts.{facts, first_slots};
 ghost use Rattle.ada_tables.specs.internal.Counts.{ChangesAlong, StandAlone, AreCounted, IsLed};
 ghost use Rattle.ada_events.specs.declared.limits.TheConstants.{MOST_MEMBERS, MOST_TASKS};
 
@@ -41,6 +41,7 @@ fn end(tasks: &mut [Task], task: u16)
     requires counted { AreCounted tasks.old }
     ensures counted { AreCounted tasks.new }
     ensures facts { facts tasks.new ≡ with_phase task Phase.Terminated (facts tasks.old) }
+    ensures firsts { first_slots tasks.new ≡ first_slots tasks.old }
 {
     count(tasks, task, Change::Ended);
     let record = &mut tasks[task as usize];
@@ -91,8 +92,8 @@ fn holder_of(tasks: &[Task], master: Master) -> u16
 }
 
 /// All tasks: what each was made under, what it is in and what has become of it, and how many live
-/// dependents each master has. Contracts see what is known of each task, and for how many more there is
-/// room.
+/// dependents each master has. Contracts see what is known of each task, the slot of its first entry, and for
+/// how many more there is room.
 #[derive(Drop)]
 pub(crate) struct Tasks {
     tasks: Vec<Task>,
@@ -104,11 +105,12 @@ impl Model for Tasks {
 
     ghost Value = { Known };
 
-    ghost use Rattle.ada_tables.specs.Counts.{facts};
+    ghost use Rattle.ada_tables.specs.Counts.{facts, first_slots};
     ghost use Rattle.ada_tables.specs.internal.Counts.{AreCounted};
 
     ghost view = { λ t. record {
       tasks = facts t.tasks.items;
+      firsts = first_slots t.tasks.items;
       room = vec_capacity t.tasks - vec_len t.tasks;
     } };
 
@@ -139,20 +141,23 @@ impl Tasks {
         requires room { 0 < self.old.room }
         ensures { self.new ≡ record self.old {
           tasks = made_facts None [] ∷ [];
+          firsts = 0 ∷ [];
           room = self.old.room - 1;
         } }
     {
-        self.tasks.push_reserved(Task::of(None, 0, Families::new()));
+        self.tasks
+            .push_reserved(Task::of(None, 0, 0, Families::new()));
     }
 
     /// Adds a task that was made under a master (9.4), the body or an open block of a task that isn't
-    /// terminated. There are at most 256 tasks.
-    pub(crate) fn add_reserved(&mut self, master: Master, families: &Families)
+    /// terminated. Its entries begin at a slot. There are at most 256 tasks.
+    pub(crate) fn add_reserved(&mut self, master: Master, families: &Families, first_slot: u16)
         requires few { length self.old.tasks < MOST_TASKS }
         requires master { IsOpen self.old.tasks master }
         requires room { 0 < self.old.room }
         ensures { self.new ≡ record self.old {
           tasks = self.old.tasks ++ made_facts (Some master) families.now ∷ [];
+          firsts = self.old.firsts ++ first_slot ∷ [];
           room = self.old.room - 1;
         } }
     {
@@ -160,7 +165,7 @@ impl Tasks {
         let holder = holder_of(self.tasks.as_slice(), master);
         let task = self.tasks.len() as u16;
         self.tasks
-            .push_reserved(Task::of(Some(master), holder, families));
+            .push_reserved(Task::of(Some(master), holder, first_slot, families));
         count(self.tasks.as_mut_slice(), task, Change::Added);
     }
 
@@ -186,6 +191,14 @@ impl Tasks {
         ensures { result.now ≡ (task_at self.now.tasks task).families }
     {
         &self.tasks[task as usize].families
+    }
+
+    /// The slot of a task's first entry.
+    pub(crate) fn first_slot(&self, task: u16) -> u16
+        requires { task < length self.now.tasks }
+        ensures { result ≡ slice_index self.now.firsts task }
+    {
+        self.tasks[task as usize].first_slot
     }
 
     /// What a task is in.

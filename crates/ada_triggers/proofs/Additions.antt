@@ -21,7 +21,7 @@ use Rattle.ada_agenda.specs.internal.Keeping.{Both}
 use Rattle.ada_agenda.specs.Kinds.{itself as own, IsOpenCallTo, IsHit, OfClose, OfAbort}
 use Rattle.ada_agenda.specs.Kinds.OfClose.{leaves as close_leaves, quits as close_quits, abandons as close_abandons}
 use Rattle.ada_agenda.specs.Kinds.OfAbort.{halts as abort_halts, fails as abort_fails}
-use Rattle.ada_agenda.proofs.Acting.{created_exists}
+use Rattle.ada_agenda.proofs.StartedTasks.{created_exists}
 use Rattle.ada_agenda.proofs.Adding.{agendas_stay}
 use Rattle.ada_agenda.proofs.Noting.{noted, noted_giving, own_is}
 use Rattle.ada_agenda.proofs.Places.{closing_open}

@@ -24,7 +24,7 @@ use Rattle.ada_laws.proofs.Growing.{is_terminated-more}
 use Rattle.ada_laws.proofs.Searching.{then_some-some}
 use Rattle.ada_laws.proofs.Reaching.{reaches_known}
 use Rattle.ada_laws.proofs.DependentLaws.{going, all_terminated_at}
-use Rattle.ada_rows.specs.Touching.{is_uncallable}
+use Rattle.ada_rows.specs.TouchedKeys.{is_uncallable}
 use Rattle.ada_rows.specs.Rows.{step_at}
 use Rattle.ada_rows.specs.declared.row.Row.{Row}
 use Rattle.ada_rows.specs.declared.row.Row.TheVariants.{Failing, Activating, Terminating, QuittingBody, Leaving}
@@ -35,7 +35,7 @@ use Rattle.ada_agenda.specs.Kinds.OfElaboration.{activates as task_up}
 use Rattle.ada_agenda.specs.Kinds.OfCompletion.{goes as task_goes, quits as body_quits, fails as call_fails, activates as start_ends}
 use Rattle.ada_agenda.specs.Kinds.OfCompletion.{abandons as task_abandons}
 use Rattle.ada_agenda.specs.Kinds.OfTermination.{fails as end_fails, activates as end_activates, goes as end_goes, quits as end_quits, leaves as end_leaves}
-use Rattle.ada_agenda.proofs.Acting.{created_exists}
+use Rattle.ada_agenda.proofs.StartedTasks.{created_exists}
 use Rattle.ada_agenda.proofs.Depending.{quits_live}
 use Rattle.ada_agenda.proofs.Noting.{grows_same, noted, noted_giving}
 use Rattle.ada_agenda.proofs.Refining.{task_step}

@@ -17,7 +17,7 @@ use Rattle.ada_rows.specs.declared.row.Row.TheVariants.{Halting}
 use Rattle.ada_rows.specs.Rows.{step_at}
 use Rattle.ada_records.specs.declared.record.Record.{Record}
 use Rattle.ada_records.specs.Records.{IsRecordOf}
-use Rattle.ada_records.specs.Telling.{has_ended_by}
+use Rattle.ada_records.specs.RecordedStates.{has_ended_by}
 use Rattle.ada_records.proofs.Callers.{joined_caller}
 use Rattle.ada_agenda.proofs.Refining.{task_step}
 use Rattle.ada_agenda.proofs.Unhalted.{joined_at}

@@ -31,9 +31,9 @@ use Rattle.ada_laws.proofs.Stepping.{forced-step}
 use Rattle.ada_rows.specs.Rows.{step_at}
 use Rattle.ada_rows.specs.declared.row.Row.{Row}
 use Rattle.ada_rows.specs.declared.row.Row.TheVariants.{Activating}
-use Rattle.ada_rows.proofs.TakingNewly.{pending_before}
+use Rattle.ada_rows.proofs.TakenCalls.{pending_before}
 use Rattle.ada_agenda.specs.Kinds.{IsOpenCallTo}
-use Rattle.ada_agenda.proofs.Acting.{any_none}
+use Rattle.ada_agenda.proofs.StartedTasks.{any_none}
 use Rattle.ada_agenda.proofs.Changing.{newly_done}
 use Rattle.ada_agenda.proofs.Depending.{quits_ready}
 use Rattle.ada_agenda.proofs.Quitting.{IsQuitter, quitter_of}

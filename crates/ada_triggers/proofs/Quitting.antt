@@ -32,7 +32,7 @@ use Rattle.ada_agenda.specs.internal.Keeping.{Both}
 use Rattle.ada_agenda.specs.Kinds.{quitting_row, quitting_key, IsLeaving, OfTermination, OfQuit}
 use Rattle.ada_agenda.specs.Kinds.OfTermination.{fails as end_fails, activates as end_activates, goes as end_goes, quits as end_quits, leaves as end_leaves}
 use Rattle.ada_agenda.specs.Kinds.OfQuit.{ends, abandons}
-use Rattle.ada_agenda.proofs.Acting.{created_exists}
+use Rattle.ada_agenda.proofs.StartedTasks.{created_exists}
 use Rattle.ada_agenda.proofs.Depending.{quits_live}
 use Rattle.ada_agenda.proofs.Noting.{grows_same, noted_giving}
 use Rattle.ada_agenda.proofs.Quitting.{IsQuitter, live_depends}

@@ -10,15 +10,15 @@ ghost use Rattle.ada_events.specs.declared.names.Entry.{Entry as EntryName};
 ghost use Rattle.ada_events.specs.declared.names.TaskNo.{TaskNo as Number};
 ghost use Rattle.ada_agenda.specs.Keeping.{KeepsUp, Puts, When};
 ghost use Rattle.ada_events.specs.Tasks.{moment};
-ghost use Rattle.ada_events.specs.Termination as ending;
 ghost use Rattle.ada_events.specs.Waits as waits;
-ghost use Rattle.ada_rows.specs.Newly.{IsCallOf};
+ghost use Rattle.ada_rows.specs.CalledTasks.{IsCallOf};
 ghost use Rattle.ada_triggers.specs.internal.Keys.{AsDependent, AsCalleeAt, AsCallerAt};
 
 use crate::masters::put_dependent;
 use ada_agenda::Agenda;
 use ada_agenda::keeping::{self, put, put_if};
 use ada_events::{Choice, Event, EventTail, TaskNo, way_of};
+use ada_records::records::is_open_terminate;
 use ada_rows::Row;
 use ada_view::View;
 
@@ -89,16 +89,6 @@ pub fn after_failure(agenda: &mut Agenda, view: &View, failed: u32)
     ensures { KeepsUp view.now (FailedEvent failed) agenda.old agenda.new }
 {
     put_caller(agenda, view, failed);
-}
-
-// Whether a wait has an open terminate alternative (9.7.1).
-fn is_open_terminate(tail: &EventTail) -> bool
-    ensures { result ≡ ending.is_open_terminate tail.now }
-{
-    match tail {
-        EventTail::Terminate(guard) => *guard,
-        _ => false,
-    }
 }
 
 // Puts what the masters may force on which a task depends, where that is so.

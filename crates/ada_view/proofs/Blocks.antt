@@ -31,7 +31,7 @@ use Rattle.ada_laws.proofs.Searching.{event_at-cases, option_map_or-true}
 use Rattle.ada_laws.proofs.Stepping.{row-opens_none}
 use Rattle.ada_records.specs.declared.record.Record.{Record}
 use Rattle.ada_records.specs.Records.{IsRecordOf}
-use Rattle.ada_records.specs.Telling.{has_ended_by}
+use Rattle.ada_records.specs.RecordedStates.{has_ended_by}
 use Rattle.ada_records.proofs.Queries.{records_tell}
 use Rattle.ada_agenda.proofs.Completing.{any_at}
 use Rattle.ada_tables.specs.Dependents.{has_block}

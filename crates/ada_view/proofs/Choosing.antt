@@ -28,7 +28,7 @@ use Rattle.ada_tables.specs.Queues.{QueuedCall, queue_at, front_call}
 use Rattle.ada_tables.specs.Tables.{TableState, slot_at, HasEntry}
 use Rattle.ada_tables.specs.Standing.{StandFor}
 use Rattle.ada_tables.specs.Dependents.{Facts}
-use Rattle.ada_agenda.proofs.Acting.{any_none}
+use Rattle.ada_agenda.proofs.StartedTasks.{any_none}
 use Rattle.ada_records.proofs.Entries.{has_number, families_stay, declarer_exists}
 use Rattle.ada_view.specs.internal.Choosing.{IsDeclared, AreOfTask}
 

@@ -1,26 +1,23 @@
 -- A block that its task has closed and hasn't left: the task, where it hasn't ended, is suspended at the close (9.4).
-use Rattle.std.proofs.Common.{◌≡◌, ℕ, suc, ◌-◌, Bool, true, false, ◌&&◌, ◌||◌, eqb, Option, Some, None, List, [], ◌∷◌, length, refl, sym, ap, ◌∙◌, subst}
+use Rattle.std.proofs.Common.{◌≡◌, ℕ, suc, Bool, true, false, ◌&&◌, ◌||◌, eqb, Some, None, List, [], ◌∷◌, length, refl, sym, ap, ◌∙◌, subst}
 use Rattle.std.proofs.Common.{inl, inr}
 use Rattle.std.specs.List.{list_any}
-use Rattle.std.proofs.lemmas.Bool.{and_from, and_parts, or_cases, eq-eqb, eqb-true, false_from_ne_true, false≢true, true≢false, not-false}
-use Rattle.std.proofs.lemmas.Option.{none-some, same_Some, slice_get_within, get_or_from_slice_get}
+use Rattle.std.proofs.lemmas.Bool.{and_from, and_parts, or_cases, eq-eqb, eqb-true, false_from_ne_true, false≢true, true≢false}
+use Rattle.std.proofs.lemmas.Option.{none-some, same_Some}
 use Rattle.ada_events.specs.declared.event.Event.{Event}
 use Rattle.ada_events.specs.declared.event.Event.TheVariants as event
 use Rattle.ada_events.specs.declared.request.Request.{Request}
 use Rattle.ada_events.specs.declared.request.Request.TheVariants as request
-use Rattle.ada_events.specs.declared.names.Member.{Member}
-use Rattle.ada_events.specs.declared.names.Member.TheVariants.{Block, Rendezvous}
-use Rattle.ada_events.specs.Search.{is_number, is_some_and, event_at}
+use Rattle.ada_events.specs.Search.{is_number, event_at}
 use Rattle.ada_events.specs.Says.{Closing, Call, call_in, wait_in, delay_in, start_in, closing_in, released_in, left_in}
 use Rattle.ada_events.specs.Asks.{asked_event, member_position}
 use Rattle.ada_events.specs.Phases.{is_released, has_ended}
 use Rattle.ada_events.specs.Calls.{is_pending, is_open_at, is_queued_at, is_open_call}
 use Rattle.ada_events.specs.Nests.{nest, innermost, is_left, is_left_close}
 use Rattle.ada_events.specs.Forced.{is_to_fail, is_to_cancel}
-use Rattle.ada_events.specs.Refusals.{refusal, is_rendezvous, is_not_in_accept}
+use Rattle.ada_events.specs.Refusals.{refusal}
 use Rattle.ada_events.specs.Lawful.{IsLawful, MayFollow}
 use Rattle.ada_laws.specs.Suspension.{IsSuspendedAt}
-use Rattle.ada_laws.proofs.Accepting.{is_accepted}
 use Rattle.ada_laws.proofs.Framing.{IsBlockOf}
 use Rattle.ada_laws.proofs.Growing.{has_ended-before}
 use Rattle.ada_laws.proofs.Rows.{IsRow, forced-row}
@@ -28,7 +25,8 @@ use Rattle.ada_laws.proofs.Rows.IsRow.{halts, fails, meets, cancels, passes, wak
 use Rattle.ada_laws.proofs.Saying.{held_in-closing}
 use Rattle.ada_laws.proofs.Searching.{event_at-newest, event_at-older, any_event-from, is_number-some, is_number-from, option_map_or-true}
 use Rattle.ada_records.proofs.LeftBlocks.{unleft_before}
-use Rattle.ada_records.proofs.Within.{nest_open, next_unreleased}
+use Rattle.ada_laws.proofs.Members.{nest_open, end_within}
+use Rattle.ada_records.proofs.Within.{next_unreleased}
 use Rattle.ada_agenda.specs.Kinds.{IsCloseAt}
 use Rattle.ada_agenda.proofs.Completions.{one_owner}
 use Rattle.ada_agenda.proofs.Places.{closer_owns, later_block}
@@ -77,25 +75,11 @@ row_leaves journal e x d k (goes u below go) frees there closes = absurd (none-s
 row_leaves journal e x d k (quits m quit) frees there closes = absurd (none-some x frees)
 
 -- no request releases a close
-innermost_call : (journal : List Event) (task : ℕ) (member : Option Member) → innermost (nest journal task) ≡ member → is_some_and member is_rendezvous ≡ true
-    → is_open_call journal (member_position member) ≡ true
-innermost_call journal task None last within = absurd (false≢true within)
-innermost_call journal task (Some (Block p)) last within = absurd (false≢true within)
-innermost_call journal task (Some (Rendezvous call)) last within =
-    let place = length (nest journal task) - 1 in
-    nest_open journal task call (
-      place,
-      slice_get_within (nest journal task) place (Rendezvous call) last,
-      get_or_from_slice_get (nest journal task) place
-          (Rendezvous call) (Rendezvous call) last,
-    )
-
 asked_keeps : (journal : List Event) (r : Request) (x : ℕ) (d : Event) (k : Closing) → refusal journal r ≡ None → released_in (asked_event journal r) ≡ Some x
     → event_at journal x ≡ Some d → closing_in d ≡ Some k → ⊥
-unfolding asked_event released_in is_not_in_accept is_open_call
+unfolding asked_event released_in is_open_call
 asked_keeps journal (request.End by raised) x d k accepted frees there closes =
-    let within = not-false (is_some_and (innermost (nest journal by.0)) is_rendezvous) (is_accepted journal (request.End by raised) accepted).in_accept in
-    let opened = innermost_call journal by.0 (innermost (nest journal by.0)) refl within in
+    let opened = nest_open journal by.0 _ (end_within journal by raised accepted) in
     let p = member_position (innermost (nest journal by.0)) in
     let (e, at, here) = option_map_or-true (is_open_at journal p) (event_at journal p) opened in
     no_open_call journal p e d k (same_event journal p x e d (same_Some p x frees) at there) closes here

@@ -1,6 +1,5 @@
 -- Tasks that were never started and never will be (9.3, 9.4).
-use Rattle.std.proofs.Common.{◌≡◌, ℕ, ◌<◌, ◌≤◌, Bool, true, false, ◌&&◌, ◌||◌, eqb, ltb, Option, Some, None, List, refl, sym, ap, ◌∙◌}
-use Rattle.std.proofs.Common.{arith}
+use Rattle.std.proofs.Common.{◌≡◌, ℕ, ◌<◌, Bool, true, false, ◌&&◌, ◌||◌, eqb, ltb, Some, None, List, refl, sym, ap, ◌∙◌}
 use Rattle.std.specs.List.{list_any}
 use Rattle.std.specs.Option.{option_and_then}
 use Rattle.std.specs.Bool.{then_some}
@@ -12,8 +11,8 @@ use Rattle.ada_events.specs.declared.names.TaskNo.{TaskNo}
 use Rattle.ada_events.specs.declared.names.Master.{Master}
 use Rattle.ada_events.specs.declared.names.Master.TheVariants.{Body, Block}
 use Rattle.ada_events.specs.Search.{event_at}
-use Rattle.ada_events.specs.Says.{Creation, Closing, opening_in, opening_at, closing_in}
-use Rattle.ada_events.specs.Tasks.{task_count, creation_of}
+use Rattle.ada_events.specs.Says.{Closing, opening_in, opening_at, closing_in}
+use Rattle.ada_events.specs.Tasks.{task_count}
 use Rattle.ada_events.specs.Phases.{is_completed, is_terminated}
 use Rattle.ada_events.specs.Nests.{nest, is_left}
 use Rattle.ada_events.specs.Termination.{all_terminated, is_complete_block, is_complete, is_abandoned}
@@ -26,18 +25,9 @@ use Rattle.ada_rows.specs.Rows.{step_at}
 use Rattle.ada_agenda.proofs.Completing.{unclosed_unleft}
 use Rattle.ada_agenda.proofs.Places.{closer_owns}
 use Rattle.ada_tables.specs.Dependents.{has_block}
-use Rattle.ada_records.proofs.Entries.{creation_exists}
 use Rattle.ada_records.proofs.Owners.{nest_has_block}
 use Rattle.ada_view.specs.internal.Ending.{closes}
 use Rattle.ada_view.proofs.Closing.{any_found}
-
--- no task has no creation
-pub unmade_none : (journal : List Event) (task : ℕ) → task_count journal ≤ task → creation_of journal task ≡ None
-unmade_none journal task beyond = of_creation (creation_of journal task) refl
-  where
-    of_creation : (o : Option Creation) → creation_of journal task ≡ o → o ≡ None
-    of_creation None made = refl
-    of_creation (Some c) made = absurd (omega (arith, beyond, creation_exists journal task c made))
 
 -- a block that is left is complete
 pub left_complete : (journal : List Event) (by : TaskNo) (under : Master) (block : ℕ) → event_at journal block ≡ Some (Opened by under)

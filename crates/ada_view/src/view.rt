@@ -24,7 +24,6 @@ pub struct View<'a> {
     journal: &'a Journal,
     records: &'a [Record],
     tables: &'a Tables,
-    made: &'a [u32],
     moment: i64,
 }
 
@@ -39,27 +38,19 @@ impl<'a> Model for View<'a> {
     ghost view = { λ s. s.journal.now.events };
 
     ghost invariant = { λ s.
-        IsKept s.journal.now.events s.records.now s.tables.now s.made.now s.moment };
+        IsKept s.journal.now.events s.records.now s.tables.now s.moment };
 }
 
 impl<'a> View<'a> {
-    /// A journal, and what is kept of it: the records, the tables, the positions of the creations of all tasks, and the
-    /// moment.
-    pub fn new(
-        journal: &'a Journal,
-        records: &'a [Record],
-        tables: &'a Tables,
-        made: &'a [u32],
-        moment: i64,
-    ) -> Self
-        requires { IsKept journal.now.events records.now tables.now made.now moment }
+    /// A journal, and what is kept of it: the records, the tables and the moment.
+    pub fn new(journal: &'a Journal, records: &'a [Record], tables: &'a Tables, moment: i64) -> Self
+        requires { IsKept journal.now.events records.now tables.now moment }
         ensures { result ≡ journal.now.events }
     {
         View {
             journal,
             records,
             tables,
-            made,
             moment,
         }
     }
@@ -91,10 +82,7 @@ impl<'a> View<'a> {
     pub fn creation(&self, task: TaskNo) -> Option<&Event>
         ensures { option_and_then creation_in (option_copied result) ≡ creation_of self.now task.0 }
     {
-        match self.made.get(task.0 as usize) {
-            Some(at) => self.journal.get(*at),
-            None => None,
-        }
+        self.journal.get(self.record(task).created)
     }
 
     /// The moment, in milliseconds.
@@ -119,7 +107,7 @@ impl<'a> View<'a> {
     {
         match self.records.get(task.0 as usize) {
             Some(kept) => *kept,
-            None => Record::of_new_task(),
+            None => Record::of_new_task(0),
         }
     }
 

@@ -16,14 +16,14 @@ held at quittable = record { at = at; joined = false; quittable = quittable; out
 -- a record after its task ended its activation (9.3)
 abbrev pub elaborated_record : Bool → Record → Record
 elaborated_record true r = record r { stage = record r.stage { elaborated = true } }
-elaborated_record false r = record {
+elaborated_record false r = record r {
   suspension = freed r.suspension.outcome;
   stage = record r.stage { elaborated = true; failed = true; completed = true };
 }
 
 -- a record after all that depend on a master terminated together
 abbrev pub quit_record : Bool → Record → Record
-quit_record true r = record { suspension = freed r.suspension.outcome; stage = record r.stage { terminated = true } }
+quit_record true r = record r { suspension = freed r.suspension.outcome; stage = record r.stage { terminated = true } }
 quit_record false r = r
 
 -- a record after an abort

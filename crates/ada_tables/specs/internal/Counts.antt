@@ -11,18 +11,19 @@ use Rattle.ada_tables.specs.declared.change.Change.{Change}
 use Rattle.ada_tables.specs.internal.Layers.{live_at, moved_to}
 use Rattle.ada_tables.specs.internal.Changes.{changed}
 use Rattle.ada_tables.specs.Dependents.{Facts, task_at, has_block, holds, live_dependents, is_terminated}
-use Rattle.ada_tables.specs.Counts.{facts}
+use Rattle.ada_tables.specs.Counts.{facts, first_slots}
 
 -- no task
 abbrev pub no_record : Task
-no_record = record { master = None; families = []; nest = []; live = 0; holder = 0; phase = Unstarted }
+no_record = record { master = None; families = []; nest = []; live = 0; holder = 0; first_slot = 0; phase = Unstarted }
 
 abbrev pub record_at : List Task → ℕ → Task
 record_at tasks task = slice_index_or tasks task no_record
 
--- a task that has just been made under a master, which that task holds
-abbrev pub made : Option Master → ℕ → List Family → Task
-made master holder families = record { master = master; families = families; nest = []; live = 0; holder = holder; phase = Unstarted }
+-- a task that has just been made under a master, which that task holds, with entries from a slot on
+abbrev pub made : Option Master → ℕ → ℕ → List Family → Task
+made master holder first families =
+    record { master = master; families = families; nest = []; live = 0; holder = holder; first_slot = first; phase = Unstarted }
 
 -- a task's record with the counts changed of the masters that it holds, from one of them outwards
 abbrev pub recounted : Change → Master → Task → Task
@@ -59,6 +60,7 @@ pub record AreCounted (tasks : List Task) : Type 0 where
 pub record ChangesAlong (change : Change) (old new : List Task) (passed left : Master → Bool) : Type 0 where
   pub same : facts new ≡ facts old
   pub holders : (task : ℕ) → (record_at new task).holder ≡ (record_at old task).holder
+  pub firsts : first_slots new ≡ first_slots old
   pub bodies : (task : ℕ) → task < length old → (record_at new task).live
       ≡ (if passed (Body (record { 0 = task })) && not (left (Body (record { 0 = task }))) then changed change (record_at old task).live
       else (record_at old task).live)

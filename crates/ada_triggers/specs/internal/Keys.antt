@@ -18,7 +18,7 @@ use Rattle.ada_events.specs.Nests.{nest}
 use Rattle.ada_events.specs.Termination.{all_terminated}
 use Rattle.ada_laws.specs.Calls.{IsCallAt}
 use Rattle.ada_laws.specs.Suspension.{IsSuspendedAt}
-use Rattle.ada_rows.specs.Touching.{is_uncallable}
+use Rattle.ada_rows.specs.TouchedKeys.{is_uncallable}
 use Rattle.ada_rows.specs.declared.row.Row.{Row}
 use Rattle.ada_rows.specs.declared.row.Row.TheVariants.{Halting, Failing, Activating, Terminating, QuittingBody, QuittingBlock, Leaving}
 use Rattle.ada_tables.specs.Dependents.{holds}

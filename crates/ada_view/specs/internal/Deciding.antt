@@ -1,7 +1,7 @@
 -- What a record says of its task where a step is decided.
 use Rattle.std.specs.Prelude.{ℕ, Bool, not, ◌==◌, ◌&&◌, ◌||◌}
 use Rattle.ada_records.specs.declared.record.Record.{Record}
-use Rattle.ada_records.specs.Telling.{has_ended_by}
+use Rattle.ada_records.specs.RecordedStates.{has_ended_by}
 
 -- the task is the caller of a rendezvous (9.5)
 abbrev pub is_met_by : Record → Bool

@@ -3,7 +3,7 @@ use Rattle.std.proofs.lemmas.List.{length-set}
 use Rattle.ada_records.specs.internal.Records.{held, start_record}
 use Rattle.ada_records.proofs.Starting.{start_twice, records_started}
 use Rattle.ada_records.proofs.Changing.{changed_more, still_there}
-use Rattle.ada_records.proofs.Noting.{within_set}
+use Rattle.ada_records.proofs.RecordChanges.{within_set}
 use Rattle.ada_records.proofs.records.record_start.Goals as goal
 
 pub loop-i-init : goal.loop-i-init

@@ -7,4 +7,4 @@ pub returns : goal.returns
 returns c = λ before raised held lawful.
     known_followed _ _ c.args.records.now _ _ _ _ _ _ _
     (end_known _ before c.args.by c.args.caller c.args.call (record { raised = raised; is = refl }) held lawful)
-    c.leave_queue.ensures.queues c.cut_nest.ensures c.requires.recorded c.refresh.ensures lawful
+    refl c.cut_nest.ensures c.requires.recorded c.refresh.ensures lawful

@@ -12,3 +12,7 @@ returns-clause-counted c =
 pub returns-clause-facts : goal.returns-clause-facts
 returns-clause-facts c =
     (ended c.args.tasks.now c.count.new.tasks c.args.task c.index-tasks-task.result c.requires.counted c.requires.known c.requires.live c.count.ensures).1
+
+pub returns-clause-firsts : goal.returns-clause-firsts
+returns-clause-firsts c =
+    (ended c.args.tasks.now c.count.new.tasks c.args.task c.index-tasks-task.result c.requires.counted c.requires.known c.requires.live c.count.ensures).2

@@ -1,10 +1,9 @@
-use Rattle.std.proofs.Common.{List, ℕ, [], ◌∷◌, ◌++◌, length, ap, subst, sym, refl, ◌∙◌}
+use Rattle.std.proofs.Common.{List, [], ◌∷◌, ◌++◌, length, ap, subst, sym, refl, ◌∙◌}
 use Rattle.ada_events.specs.Limits.{slot_count}
 use Rattle.ada_events.specs.Tasks.{moment}
 use Rattle.ada_records.specs.declared.record.Record.{Record}
 use Rattle.ada_records.specs.Records.{AreRecords}
-use Rattle.ada_view.specs.Views.{AreMade}
-use Rattle.ada_kernel.proofs.Empty.{main_is_made, empty_agenda}
+use Rattle.ada_kernel.proofs.Empty.{empty_agenda}
 use Rattle.ada_kernel.proofs.index.Index.new.Goals as goal
 
 pub returns-clause-ok : goal.returns-clause-ok
@@ -18,10 +17,6 @@ returns-clause-ok c = record {
         (c.in_ok-reserve.ensures.items ∙ c.new-records.ensures.items)))
         c.of_main.ensures;
     tabled = c.in_ok-tables.ensures.stands;
-    created =
-        subst (λ (made : List ℕ). AreMade made [])
-        (sym (c.push_reserved-2.ensures.items ∙ ap (λ (made : List ℕ). made ++ 0 ∷ []) (c.in_ok-reserve-2.ensures.items ∙ c.new-made.ensures.items)))
-        main_is_made;
     timed = refl;
   };
   slots = ap length c.in_ok-tables.ensures.queues;

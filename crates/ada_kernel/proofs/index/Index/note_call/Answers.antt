@@ -5,7 +5,7 @@ use Rattle.ada_laws.proofs.LimitLaws.{events_are_few}
 use Rattle.ada_records.proofs.Allowed.{joins_queue}
 use Rattle.ada_triggers.specs.Bounds.{IsDueBound}
 use Rattle.ada_triggers.proofs.Bounds.{bound_noted}
-use Rattle.ada_records.specs.Noted.{may_terminate}
+use Rattle.ada_records.specs.Noted.{waits_at_open_terminate}
 use Rattle.ada_kernel.proofs.Quiet.{kept_up, noted}
 use Rattle.ada_kernel.proofs.Recorded.{holder_recorded, noted_hold, holder_tabled}
 use Rattle.ada_kernel.proofs.index.Index.note_call.Goals as goal
@@ -54,7 +54,7 @@ returns c =
     let event = c.args.event.now in
     let before = c.args.journal.now.events in
     let now = noted_hold event before _ _ _ c.args.by.0 _ _ c.record_hold.ensures (ap held_in c.requires.calls.is) (ap started_in c.requires.calls.is)
-    (ap may_terminate c.requires.calls.is)
+    (ap waits_at_open_terminate c.requires.calls.is)
     (ap (λ n. n + 1) c.len-at.ensures) c.as_mut_slice-records.ensures.value c.requires.may.lawful c.requires.may.stands.kept.recorded in
     let follows = c.follow_call.ensures event before c.requires.calls
     (ap (λ n. n + 1) (sym c.len-at.ensures))

@@ -1,11 +1,10 @@
-use Rattle.std.proofs.Common.{arith, ◌∙◌, ◌+◌, ◌∷◌, ◌++◌, [], ap, sym, subst, rules}
+use Rattle.std.proofs.Common.{arith, ◌∙◌, ◌+◌, ap, sym, rules}
 use Rattle.ada_laws.proofs.LimitLaws.{events_are_few}
 use Rattle.ada_triggers.proofs.Bounds.{creation_keeps_bound}
 use Rattle.ada_triggers.proofs.Starts.{bound_stays}
 use Rattle.ada_records.proofs.EventKinds.{makes_some}
 use Rattle.ada_records.proofs.Made.{made_open, made_tasks, made_entries}
-use Rattle.ada_view.specs.Views.{AreMade}
-use Rattle.ada_kernel.proofs.Creations.{made_more, creation_made, moment_kept}
+use Rattle.ada_kernel.proofs.Creations.{creation_made, moment_kept}
 use Rattle.ada_kernel.proofs.index.Index.note_creation.Goals as goal
 
 pub overflow_add-len : goal.overflow_add-len
@@ -35,14 +34,9 @@ returns-clause-ok c =
       kept = record {
         lawful = c.requires.may.lawful;
         recorded =
-            c.record_creation.ensures c.args.event.now (makes_some c.args.event.now _ _ _ _ c.requires.makes.is) c.args.journal.now.events c.requires.may.lawful
-            (search rules);
+            c.record_creation.ensures c.args.event.now c.args.journal.now.events (makes_some c.args.event.now _ _ _ _ c.requires.makes.is)
+            (ap (λ n. n + 1) (sym c.len.ensures)) c.requires.may.lawful (search rules);
         tabled = follows.0;
-        created =
-            subst (λ made. AreMade made (c.args.event.now ∷ c.args.journal.now.events))
-            (sym (c.push_reserved.ensures.items ∙ ap (λ made. made ++ (c.len.result + 1) ∷ []) c.in_ok-reserve-2.ensures.items))
-            (made_more c.args.self.now.kept.made.items c.args.event.now c.args.journal.now.events creation (c.len.result + 1) c.requires.may.stands.kept.created
-            makes (ap (λ n. n + 1) c.len.ensures));
         timed = c.requires.may.stands.kept.timed ∙ sym (moment_kept c.args.event.now c.args.journal.now.events c.args.master c.args.families.now c.requires.makes);
       };
       slots = follows.1;

@@ -10,7 +10,6 @@ use Rattle.ada_triggers.proofs.Bounds.{ticked_to}
 use Rattle.ada_triggers.proofs.Starts.{bound_stays}
 use Rattle.ada_records.proofs.Applied.{tick_stand}
 use Rattle.ada_records.proofs.EventKinds.{records_ticked}
-use Rattle.ada_kernel.proofs.Creations.{made_same}
 use Rattle.ada_kernel.proofs.index.Index.note_tick.Goals as goal
 
 -- the bound after a tick, by a view of the journal
@@ -33,7 +32,6 @@ returns c =
         lawful = c.requires.may.lawful;
         recorded = now;
         tabled = follows.0;
-        created = made_same c.args.self.now.kept.made.items event before c.requires.may.stands.kept.created (ap creation_in c.requires.ticks);
         timed = to_z-of_z w64 c.args.now c.ranges.now ∙ sym (ticked_to event before _ c.requires.ticks);
       };
       slots = follows.1;

@@ -40,7 +40,7 @@ unfolding creation_in moment_in held_in started_in call_in wait_in
 returns c =
     let event = Waiting c.args.by c.args.pick c.args.choices.now c.args.tail.now in
     let before = c.args.journal.now.events in
-    let now = noted_hold event before _ _ _ c.args.by.0 _ _ c.record_hold.ensures refl refl (sym c.may_terminate.ensures)
+    let now = noted_hold event before _ _ _ c.args.by.0 _ _ c.record_hold.ensures refl refl (sym c.is_open_terminate.ensures)
     (ap (λ n. n + 1) c.len.ensures) c.as_mut_slice-records.ensures.value c.requires.lawful c.requires.stands.kept.recorded in
     let follows = followed_hold event before _ _ _ c.args.by.0 c.follow_hold.ensures refl refl refl c.requires.lawful now
     c.requires.stands.kept.tabled c.requires.stands.slots in

@@ -9,5 +9,6 @@ invariant_of-self c =
 
 pub returns : goal.returns
 returns c =
-    rw (← c.self.view_is) (same_known _ _ _ (cut_out c.self.inside.tasks.items c.args.task c.args.call c.index_mut-record.result.now c.cut.new.self
-    c.self.invariant (rw (← c.self.view_is, length-map) at c.requires) c.index_mut-record.ensures.value c.cut.ensures).1)
+    let held = cut_out c.self.inside.tasks.items c.args.task c.args.call c.index_mut-record.result.now c.cut.new.self
+    c.self.invariant (rw (← c.self.view_is, length-map) at c.requires) c.index_mut-record.ensures.value c.cut.ensures in
+    rw (← c.self.view_is) (same_known _ _ _ _ _ held.1 held.2)

@@ -10,6 +10,7 @@ invariant_of-self c =
 
 pub returns : goal.returns
 returns c =
-    rw (← c.self.view_is) (same_known _ _ _ (popped c.self.inside.tasks.items c.args.task c.index_mut-record.result.now c.pop.new.self c.self.invariant
+    let held = popped c.self.inside.tasks.items c.args.task c.index_mut-record.result.now c.pop.new.self c.self.invariant
     (rw (← c.self.view_is, length-map) at c.requires.known) c.index_mut-record.ensures.value c.pop.ensures (rw (← c.self.view_is) at c.requires.inside)
-    (rw (← c.self.view_is) at c.requires.idle)).1)
+    (rw (← c.self.view_is) at c.requires.idle) in
+    rw (← c.self.view_is) (same_known _ _ _ _ _ held.1 held.2)

@@ -9,6 +9,7 @@ invariant_of-self c =
 
 pub returns : goal.returns
 returns c =
-    rw (← c.self.view_is) (same_known _ _ _ (pushed c.self.inside.tasks.items c.args.task c.index_mut-record.result.now c.push.new.self c.args.member
+    let held = pushed c.self.inside.tasks.items c.args.task c.index_mut-record.result.now c.push.new.self c.args.member
     c.self.invariant (rw (← c.self.view_is, length-map) at c.requires.known) c.index_mut-record.ensures.value c.push.ensures
-    (rw (← c.self.view_is) at c.requires.fresh)).1)
+    (rw (← c.self.view_is) at c.requires.fresh) in
+    rw (← c.self.view_is) (same_known _ _ _ _ _ held.1 held.2)

@@ -10,6 +10,7 @@ invariant_of-self-in_default c =
 
 pub returns-in_default : goal.returns-in_default
 returns-in_default c =
-    rw (← c.self.view_is) (same_known _ _ _ (phased c.self.inside.tasks.items c.args.task c.index_mut-record.result.now c.args.phase c.self.invariant
+    let held = phased c.self.inside.tasks.items c.args.task c.index_mut-record.result.now c.args.phase c.self.invariant
     (rw (← c.self.view_is, length-map) at c.requires.known) c.index_mut-record.ensures.value (rw (← c.self.view_is) at c.requires.live)
-    (not_terminated c.args.phase c.in_default.not-Terminated)).1)
+    (not_terminated c.args.phase c.in_default.not-Terminated) in
+    rw (← c.self.view_is) (same_known _ _ _ _ _ held.1 held.2)

@@ -23,8 +23,8 @@ use Rattle.ada_laws.proofs.Growing.{has_ended-before, is_released-before}
 use Rattle.ada_laws.proofs.Queueing.{IsQueuedCall, is_open_at-from}
 use Rattle.ada_laws.proofs.CallLaws.{none_taken}
 use Rattle.ada_laws.proofs.Meeting.{taken_front, front_queued}
-use Rattle.ada_rows.specs.Newly.{IsCallOf}
-use Rattle.ada_rows.specs.internal.Newly.{WaitsNewlyTake}
+use Rattle.ada_rows.specs.CalledTasks.{IsCallOf}
+use Rattle.ada_rows.specs.internal.TakenCalls.{WaitsNewlyTake}
 
 -- what is queued stands in the queue
 pub queued-in_queue : (journal : List Event) (task : ℕ) (entry : Entry) (position : ℕ) → IsQueuedCall journal task entry position

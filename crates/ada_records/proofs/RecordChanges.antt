@@ -8,9 +8,10 @@ use Rattle.ada_events.specs.declared.event.Event.{Event}
 use Rattle.ada_events.specs.declared.event.Event.TheVariants.{Ended, Met}
 use Rattle.ada_events.specs.declared.names.TaskNo.{TaskNo}
 use Rattle.ada_events.specs.declared.outcome.Outcome.{Outcome}
-use Rattle.ada_events.specs.declared.outcome.Outcome.TheVariants.{Held, Raised, Served, Accepted}
+use Rattle.ada_events.specs.declared.outcome.Outcome.TheVariants.{Raised, Served, Accepted}
 use Rattle.ada_events.specs.Search.{is_number, is_some_and, event_at}
 use Rattle.ada_events.specs.Says.{Meeting, held_in, released_in, meeting_in, creation_in}
+use Rattle.ada_events.specs.Tasks.{creation_of}
 use Rattle.ada_events.specs.Outcomes.{raised_in, released_to, choice_met}
 use Rattle.ada_events.specs.Lawful.{IsLawful}
 use Rattle.ada_laws.specs.Suspension.{IsSuspendedAt}
@@ -23,13 +24,16 @@ use Rattle.ada_laws.proofs.OutcomeLaws.{raises_none, unraised}
 use Rattle.ada_records.specs.declared.record.Suspension.{Suspension}
 use Rattle.ada_records.specs.declared.record.Record.{Record}
 use Rattle.ada_records.specs.declared.record.Stage.{Stage}
-use Rattle.ada_records.specs.Records.{no_record, record_at, IsDoingOf, IsStageOf, IsRecordOf, AreRecords, HoldsSomebody, IsPlainHold, IsPlainRelease, freed}
-use Rattle.ada_records.specs.Noted.{may_terminate}
+use Rattle.ada_records.specs.Records.{no_record, record_at, IsSuspensionOf, IsStageOf, IsRecordOf, AreRecords, HoldsSomebody, IsPlainHold, IsPlainRelease}
+use Rattle.ada_records.specs.Records.{freed}
+use Rattle.ada_records.specs.Noted.{waits_at_open_terminate}
+use Rattle.ada_records.specs.internal.Records.{held}
+use Rattle.ada_records.proofs.Creations.{same_creation, created_still, created_kept}
 use Rattle.ada_records.proofs.Holding.{hold_only, quiet_ends, holder_ran}
 use Rattle.ada_records.proofs.QueueChanges.{ends}
 use Rattle.ada_records.proofs.Saying.{IsPlain, number_none, number_other, no_meeting, other_call, release_only, held_apart, met_frees, call_not_wait}
 use Rattle.ada_records.proofs.Saying.{is_met-now, unmet_same, met_says}
-use Rattle.ada_records.proofs.Doings.{held_there, doing_held, doing_released, doing_later, doing_same, doing_ended, same_outcome}
+use Rattle.ada_records.proofs.Suspensions.{held_there, suspension_held, suspension_released, suspension_later, suspension_same, suspension_ended, same_outcome}
 use Rattle.ada_records.proofs.LatestOutcomes.{what_is_released_held, raisers_have_raised}
 use Rattle.ada_records.proofs.Existing.{positive}
 use Rattle.ada_records.proofs.Stages.{stage_after, stage_more, stage_plain}
@@ -43,19 +47,22 @@ pub record IsUntouched (event : Event) (before : List Event) (task at : ℕ) : T
   pub ends : ends event before task ≡ false
 
 pub untouched : (event : Event) (before : List Event) (task : ℕ) (kept : Record) → IsLawful (event ∷ before) → IsRecordOf before task kept
-    → IsUntouched event before task kept.suspension.at → stage_after event before task kept.stage ≡ kept.stage → IsRecordOf (event ∷ before) task kept
-untouched event before task kept lawful old apart same = record {
-  suspension = doing_same event before task kept.suspension lawful old.suspension apart.holds apart.raises apart.frees apart.meets apart.ends;
+    → IsUntouched event before task kept.suspension.at → stage_after event before task kept.stage ≡ kept.stage
+    → creation_of (event ∷ before) task ≡ creation_of before task → IsRecordOf (event ∷ before) task kept
+untouched event before task kept lawful old apart same creation = record {
+  suspension = suspension_same event before task kept.suspension lawful old.suspension apart.holds apart.raises apart.frees apart.meets apart.ends;
   stage = subst (IsStageOf (event ∷ before) task) same (stage_more event before task kept.stage old.stage);
+  created = created_still event before task kept.created creation old.created;
 }
 
 -- a record with another latest suspension, where the event changes nothing else
-pub doing_only : (event : Event) (before : List Event) (task : ℕ) (was now : Record) (suspension : Suspension) → IsPlain event → IsRecordOf before task was
-    → IsDoingOf (event ∷ before) task suspension → now ≡ record was { suspension = suspension } → IsRecordOf (event ∷ before) task now
-doing_only event before task was now suspension plain old right is =
+pub suspension_only : (event : Event) (before : List Event) (task : ℕ) (was now : Record) (suspension : Suspension) → IsPlain event → IsRecordOf before task was
+    → IsSuspensionOf (event ∷ before) task suspension → now ≡ record was { suspension = suspension } → IsRecordOf (event ∷ before) task now
+suspension_only event before task was now suspension plain old right is =
     subst (IsRecordOf (event ∷ before) task) (sym is) (record {
       suspension = right;
       stage = subst (IsStageOf (event ∷ before) task) (stage_plain event before task was.stage plain) (stage_more event before task was.stage old.stage);
+      created = created_kept event before task was.created plain.quiet.makes old.created;
     })
 
 -- the records with one changed
@@ -103,13 +110,13 @@ two_changed event before records one two first second makes old has_one has_two 
       ];
 }
 
-abbrev pub doing_at : List Record → ℕ → ℕ
-doing_at records task = (record_at records task).suspension.at
+abbrev pub suspended_at : List Record → ℕ → ℕ
+suspended_at records task = (record_at records task).suspension.at
 
 -- the records after an event that holds a task up
 pub records_hold : (event : Event) (before : List Event) (records : List Record) (task : ℕ) (now : Record) → IsLawful (event ∷ before)
     → AreRecords records before → IsPlainHold event task
-    → now ≡ record (record_at records task) { suspension = record { at = length before + 1; joined = false; quittable = may_terminate event; outcome = Held } }
+    → now ≡ record (record_at records task) { suspension = held (length before + 1) (waits_at_open_terminate event) }
     → AreRecords (set records task now) (event ∷ before)
 records_hold event before records task now lawful old hold is =
     let only = hold_only event task hold.holds in
@@ -118,31 +125,31 @@ records_hold event before records task now lawful old hold is =
     let within : task < length records = omega (arith, ran.0, old.many) in
     let next : length before + 1 ≡ suc (length before) = omega arith in
     one_changed event before records task now only.quiet.makes old within
-    (doing_only event before task (record_at records task) now
-    (record { at = length before + 1; joined = false; quittable = may_terminate event; outcome = Held }) plain (old.each task within)
-    (subst (λ (n : ℕ). IsDoingOf (event ∷ before) task (record { at = n; joined = false; quittable = may_terminate event; outcome = Held })) (sym next)
-    (doing_held event before task lawful hold.holds)) is)
+    (suspension_only event before task (record_at records task) now
+    (held (length before + 1) (waits_at_open_terminate event)) plain (old.each task within)
+    (subst (λ (n : ℕ). IsSuspensionOf (event ∷ before) task (held n (waits_at_open_terminate event))) (sym next)
+    (suspension_held event before task lawful hold.holds)) is)
     (λ other known differs.
     untouched event before other (record_at records other) lawful (old.each other known)
     (record {
       holds = number_other other task (held_in event) hold.holds differs;
       raises = number_none other (raised_in event) (raises_none event task hold.holds);
-      frees = number_none (doing_at records other) (released_in event) only.releases;
-      meets = no_meeting event (doing_at records other) only.meets;
+      frees = number_none (suspended_at records other) (released_in event) only.releases;
+      meets = no_meeting event (suspended_at records other) only.meets;
       ends = quiet_ends event before other only.quiet;
     })
-    (stage_plain event before other (record_at records other).stage plain))
+    (stage_plain event before other (record_at records other).stage plain) (same_creation event before other only.quiet.makes))
 
 -- who is suspended elsewhere is kept so
 pub elsewhere : (journal : List Event) (records : List Record) (u v p : ℕ) → AreRecords records journal → u < length records → u ≢ v → 0 < p
-    → IsSuspendedAt journal v p → doing_at records u ≢ p
+    → IsSuspendedAt journal v p → suspended_at records u ≢ p
 elsewhere journal records u v p stand below differs some held = λ same.
     differs (held_apart journal u v p (subst (λ n. IsSuspendedAt journal u n) same ((stand.each u below).suspension.at.held (omega arith))) held)
 
 -- a task that an event which releases another's position neither raises anything in nor meets is untouched
 unreleased : (event : Event) (before : List Event) (records : List Record) (task other p : ℕ) → IsLawful (event ∷ before) → AreRecords records before
     → other < length records → other ≢ task → 0 < p → IsSuspendedAt before task p → released_in event ≡ Some p → is_number other (raised_in event) ≡ false
-    → is_some_and (meeting_in event) (λ (m : Meeting). eqb m.call (doing_at records other)) ≡ false
+    → is_some_and (meeting_in event) (λ (m : Meeting). eqb m.call (suspended_at records other)) ≡ false
     → IsRecordOf (event ∷ before) other (record_at records other)
 unreleased event before records task other p lawful old known differs some held frees raises meets =
     let only = release_only event p frees in
@@ -150,18 +157,18 @@ unreleased event before records task other p lawful old known differs some held 
     (record {
       holds = number_none other (held_in event) only.holds;
       raises = raises;
-      frees = number_other (doing_at records other) p (released_in event) frees (elsewhere before records other task p old known differs some held);
+      frees = number_other (suspended_at records other) p (released_in event) frees (elsewhere before records other task p old known differs some held);
       meets = meets;
       ends = quiet_ends event before other only.plain.quiet;
     })
-    (stage_plain event before other (record_at records other).stage only.plain)
+    (stage_plain event before other (record_at records other).stage only.plain) (same_creation event before other only.plain.quiet.makes)
 
 -- what a position holds up, by the records
 pub record IsKeptAt (journal : List Event) (records : List Record) (task position : ℕ) : Type 0 where
   pub held : IsSuspendedAt journal task position
   pub within : task < length records
   pub some : 0 < position
-  pub at : doing_at records task ≡ position
+  pub at : suspended_at records task ≡ position
 
 some_position : (journal : List Event) (p : ℕ) (e : Event) → event_at journal p ≡ Some e → 0 < p
 some_position journal zero e at = absurd (positive journal e at)
@@ -175,7 +182,7 @@ kept_at journal records task position lawful stand held =
       held = held;
       within = within;
       some = some_position journal position held.event held.stands;
-      at = held_there journal task (doing_at records task) position lawful (stand.each task within).suspension.at held;
+      at = held_there journal task (suspended_at records task) position lawful (stand.each task within).suspension.at held;
     }
 
 -- somebody is suspended at what an event releases
@@ -193,11 +200,11 @@ records_release event before records task position now lawful old frees held is 
     let kept = kept_at before records task position lawful.0 old held in
     let only = release_only event position frees.releases in
     one_changed event before records task now only.plain.quiet.makes old kept.within
-    (doing_only event before task (record_at records task) now (freed (released_to before event)) only.plain (old.each task kept.within)
-    (doing_released event before task position lawful held frees.releases) is)
+    (suspension_only event before task (record_at records task) now (freed (released_to before event)) only.plain (old.each task kept.within)
+    (suspension_released event before task position lawful held frees.releases) is)
     (λ other known differs.
     unreleased event before records task other position lawful old known differs kept.some held frees.releases
-    (number_none other (raised_in event) frees.raises) (no_meeting event (doing_at records other) frees.meets))
+    (number_none other (raised_in event) frees.raises) (no_meeting event (suspended_at records other) frees.meets))
 
 raising_says : (by : TaskNo) (call : ℕ) → (released_in (Ended by call true) ≡ Some call) × (raised_in (Ended by call true) ≡ Some by.0)
     × (meeting_in (Ended by call true) ≡ None) × ((before : List Event) → released_to before (Ended by call true) ≡ Raised)
@@ -235,21 +242,22 @@ records_raised before records by caller p calls raises lawful old has_by held ca
     let is : raises ≡ record (record_at records by.0) { suspension = record (record_at records by.0).suspension { outcome = Raised } } =
     raises_is ∙ ap (λ (r : Record). record r { suspension = record r.suspension { outcome = Raised } }) was in
     two_changed event before records caller by.0 calls raises only.plain.quiet.makes old kept.within has_by differs
-    (doing_only event before caller (record_at records caller) calls (freed Raised) only.plain (old.each caller kept.within)
-    (subst (λ (o : Outcome). IsDoingOf (event ∷ before) caller (freed o)) (says.3 before) (doing_released event before caller p lawful held says.0)) calls_is)
-    (doing_only event before by.0 (record_at records by.0) raises (record (record_at records by.0).suspension { outcome = Raised }) only.plain
+    (suspension_only event before caller (record_at records caller) calls (freed Raised) only.plain (old.each caller kept.within)
+    (subst (λ (o : Outcome). IsSuspensionOf (event ∷ before) caller (freed o)) (says.3 before)
+    (suspension_released event before caller p lawful held says.0)) calls_is)
+    (suspension_only event before by.0 (record_at records by.0) raises (record (record_at records by.0).suspension { outcome = Raised }) only.plain
     (old.each by.0 has_by)
-    (doing_later event before by.0 (record_at records by.0).suspension (record_at records by.0).suspension.joined Raised lawful
+    (suspension_later event before by.0 (record_at records by.0).suspension (record_at records by.0).suspension.joined Raised lawful
     (old.each by.0 has_by).suspension
     (number_none by.0 (held_in event) only.holds)
-    (number_other (doing_at records by.0) p (released_in event) says.0 (elsewhere before records by.0 caller p old has_by differs kept.some held))
+    (number_other (suspended_at records by.0) p (released_in event) says.0 (elsewhere before records by.0 caller p old has_by differs kept.some held))
     (quiet_ends event before by.0 only.plain.quiet)
     (λ some. (old.each by.0 has_by).suspension.joined some
-    ∙ sym (unmet_same event before (doing_at records by.0) (no_meeting event (doing_at records by.0) says.2)))
+    ∙ sym (unmet_same event before (suspended_at records by.0) (no_meeting event (suspended_at records by.0) says.2)))
     (sym (raisers_have_raised event before by.0 says.1))) is)
     (λ other known not_caller not_by.
     unreleased event before records caller other p lawful old known not_caller kept.some held says.0
-    (number_other other by.0 (raised_in event) says.1 not_by) (no_meeting event (doing_at records other) says.2))
+    (number_other other by.0 (raised_in event) says.1 not_by) (no_meeting event (suspended_at records other) says.2))
 
 -- the records after a task ended a rendezvous otherwise
 pub records_served : (before : List Event) (records : List Record) (by : TaskNo) (caller call : ℕ) (now : Record) → IsLawful (Ended by call false ∷ before)
@@ -287,29 +295,31 @@ records_met before records caller acceptor call wait choice waits calls lawful o
     let only = release_only event wait frees in
     let raises : raised_in event ≡ None = met_raises_none call wait in
     let apart : call ≢ wait = call_not_wait event before call wait lawful refl in
-    let differs : caller ≢ acceptor = λ same. apart (sym calling.at ∙ ap (λ n. doing_at records n) same ∙ waiting.at) in
+    let differs : caller ≢ acceptor = λ same. apart (sym calling.at ∙ ap (λ n. suspended_at records n) same ∙ waiting.at) in
     let becomes : released_to before event ≡ Accepted call choice = met_becomes before call wait ∙ ap (Accepted call) (sym chosen) in
-    let unfreed : is_number (doing_at records caller) (released_in event)
-    ≡ false = number_other (doing_at records caller) wait (released_in event) frees (λ same. apart (sym calling.at ∙ same)) in
+    let unfreed : is_number (suspended_at records caller) (released_in event)
+    ≡ false = number_other (suspended_at records caller) wait (released_in event) frees (λ same. apart (sym calling.at ∙ same)) in
     let is : calls ≡ record (record_at records caller) { suspension = record (record_at records caller).suspension { joined = true } } =
     calls_is ∙ ap (λ (r : Record). record r { suspension = record r.suspension { joined = true } })
     (get_or-set_other records acceptor caller waits no_record differs) in
     two_changed event before records acceptor caller waits calls only.plain.quiet.makes old waiting.within calling.within differs
-    (doing_only event before acceptor (record_at records acceptor) waits (freed (Accepted call choice)) only.plain (old.each acceptor waiting.within)
-    (subst (λ (o : Outcome). IsDoingOf (event ∷ before) acceptor (freed o)) becomes (doing_released event before acceptor wait lawful at_wait frees)) waits_is)
-    (doing_only event before caller (record_at records caller) calls (record (record_at records caller).suspension { joined = true }) only.plain
+    (suspension_only event before acceptor (record_at records acceptor) waits (freed (Accepted call choice)) only.plain (old.each acceptor waiting.within)
+    (subst (λ (o : Outcome). IsSuspensionOf (event ∷ before) acceptor (freed o)) becomes
+    (suspension_released event before acceptor wait lawful at_wait frees)) waits_is)
+    (suspension_only event before caller (record_at records caller) calls (record (record_at records caller).suspension { joined = true }) only.plain
     (old.each caller calling.within)
-    (doing_later event before caller (record_at records caller).suspension true (record_at records caller).suspension.outcome lawful
+    (suspension_later event before caller (record_at records caller).suspension true (record_at records caller).suspension.outcome lawful
     (old.each caller calling.within).suspension
     (number_none caller (held_in event) only.holds) unfreed (quiet_ends event before caller only.plain.quiet)
-    (λ some. sym (is_met-now event before (doing_at records caller) (meets ∙ ap Some (sym calling.at))))
+    (λ some. sym (is_met-now event before (suspended_at records caller) (meets ∙ ap Some (sym calling.at))))
     ((old.each caller calling.within).suspension.outcome
-    ∙ same_outcome event before caller (doing_at records caller) lawful (old.each caller calling.within).suspension.at
+    ∙ same_outcome event before caller (suspended_at records caller) lawful (old.each caller calling.within).suspension.at
     (number_none caller (held_in event) only.holds) (number_none caller (raised_in event) raises) unfreed)) is)
     (λ other known not_acceptor not_caller.
     unreleased event before records acceptor other wait lawful old known not_acceptor waiting.some at_wait frees
     (number_none other (raised_in event) raises)
-    (other_call (meeting_in event) (doing_at records other) call meets (elsewhere before records other caller call old known not_caller calling.some at_call)))
+    (other_call (meeting_in event) (suspended_at records other) call meets
+    (elsewhere before records other caller call old known not_caller calling.some at_call)))
 
 -- an event that ends one task at most, or none, and touches nobody else
 pub record TouchesOne (event : Event) (before : List Event) (task : ℕ) : Type 0 where
@@ -332,20 +342,24 @@ records_one event before records task now lawful old only within right =
     (record {
       holds = number_none other (held_in event) only.holds;
       raises = number_none other (raised_in event) only.raises;
-      frees = number_none (doing_at records other) (released_in event) only.frees;
-      meets = no_meeting event (doing_at records other) only.meets;
+      frees = number_none (suspended_at records other) (released_in event) only.frees;
+      meets = no_meeting event (suspended_at records other) only.meets;
       ends = only.ends other differs;
     })
-    (only.stage other (record_at records other).stage differs))
+    (only.stage other (record_at records other).stage differs) (same_creation event before other only.makes))
 
 -- the records after an event that ends one task
 pub records_end : (event : Event) (before : List Event) (records : List Record) (task : ℕ) (now : Record) → IsLawful (event ∷ before)
     → AreRecords records before → TouchesOne event before task → task < length records → ends event before task ≡ true
-    → now ≡ record { suspension = freed (record_at records task).suspension.outcome; stage = stage_after event before task (record_at records task).stage }
+    → now ≡ record (record_at records task) {
+      suspension = freed (record_at records task).suspension.outcome;
+      stage = stage_after event before task (record_at records task).stage;
+    }
     → AreRecords (set records task now) (event ∷ before)
 records_end event before records task now lawful old only within ended is =
     records_one event before records task now lawful old only within
     (subst (IsRecordOf (event ∷ before) task) (sym is) (record {
-      suspension = doing_ended event before task (record_at records task).suspension lawful (old.each task within).suspension ended;
+      suspension = suspension_ended event before task (record_at records task).suspension lawful (old.each task within).suspension ended;
       stage = stage_more event before task (record_at records task).stage (old.each task within).stage;
+      created = created_kept event before task (record_at records task).created only.makes (old.each task within).created;
     }))

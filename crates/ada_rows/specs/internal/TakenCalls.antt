@@ -3,7 +3,7 @@ use Rattle.std.specs.Prelude.{◌≡◌, ◌⊎◌, ℕ, Some, List, ◌∷◌}
 use Rattle.ada_events.specs.declared.event.Event.{Event}
 use Rattle.ada_events.specs.Says.{Wait}
 use Rattle.ada_events.specs.Forced.{met_at}
-use Rattle.ada_rows.specs.Newly.{IsCallOf}
+use Rattle.ada_rows.specs.CalledTasks.{IsCallOf}
 
 -- row 3: a wait takes a call after one more event only where it did before, or where the event calls its task
 abbrev pub WaitsNewlyTake : Type 0

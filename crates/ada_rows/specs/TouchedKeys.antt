@@ -14,7 +14,7 @@ use Rattle.ada_events.specs.Forced.{task_no, is_done_activating}
 use Rattle.ada_events.specs.Termination.{is_complete, is_abandoned, is_ready_to_quit}
 use Rattle.ada_laws.specs.Calls.{IsCallAt, IsWaitAt}
 use Rattle.ada_laws.proofs.Depending.{IsMadeUnder}
-use Rattle.ada_rows.specs.Newly.{IsCallOf}
+use Rattle.ada_rows.specs.CalledTasks.{IsCallOf}
 use Rattle.ada_rows.specs.Rows.{goes_by_task, goes_by_moment}
 use Rattle.ada_rows.specs.declared.row.Row.{Row}
 use Rattle.ada_rows.specs.declared.row.Row.TheVariants.{Halting, Failing, Meeting, Activating, Terminating, QuittingBody, QuittingBlock, Leaving}

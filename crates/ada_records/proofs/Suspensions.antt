@@ -7,7 +7,6 @@ use Rattle.std.proofs.lemmas.Option.{none-some, same_Some}
 use Rattle.ada_events.specs.declared.event.Event.{Event}
 use Rattle.ada_events.specs.declared.event.Event.TheVariants.{Completed, Elaborated, Halted, Gone, Quit}
 use Rattle.ada_events.specs.declared.outcome.Outcome.{Outcome}
-use Rattle.ada_events.specs.declared.outcome.Outcome.TheVariants.{Held}
 use Rattle.ada_events.specs.declared.names.Master.{Master}
 use Rattle.ada_events.specs.Search.{is_number, is_some_and, event_at}
 use Rattle.ada_events.specs.Says.{Wait, Meeting, wait_in, held_in, released_in, meeting_in, completed_in, gone_in, quit_in}
@@ -23,8 +22,9 @@ use Rattle.ada_laws.proofs.Saying.{held_in-wait}
 use Rattle.ada_laws.proofs.Suspending.{is_suspended-from, suspended_cases, suspended_once}
 use Rattle.ada_records.specs.declared.record.Suspension.{Suspension}
 use Rattle.ada_records.specs.Latest.{latest_outcome}
-use Rattle.ada_records.specs.Records.{IsHeldAt, IsDoingOf}
-use Rattle.ada_records.specs.Noted.{may_terminate}
+use Rattle.ada_records.specs.Records.{IsHeldAt, IsSuspensionOf}
+use Rattle.ada_records.specs.Noted.{waits_at_open_terminate}
+use Rattle.ada_records.specs.internal.Records.{held}
 use Rattle.ada_records.proofs.Callers.{IsAtTerminate, at_terminate}
 use Rattle.ada_records.proofs.Holding.{hold_only, held_newest, held_same, held_released, held_ended, suspended_later}
 use Rattle.ada_records.proofs.LatestOutcomes.{holds_are_held, releases_decide, others_keep_outcomes}
@@ -100,11 +100,11 @@ same_quits event before task at lawful kept other stays lives =
 
 -- a task's latest suspension stays what it is where the event neither holds it up, nor releases it, nor ends it, but for
 -- what becomes of a call with which a rendezvous begins, and for an exception that ends one
-pub doing_later : (event : Event) (before : List Event) (task : ℕ) (kept : Suspension) (joined : Bool) (outcome : Outcome) → IsLawful (event ∷ before)
-    → IsDoingOf before task kept → is_number task (held_in event) ≡ false → is_number kept.at (released_in event) ≡ false → ends event before task ≡ false
+pub suspension_later : (event : Event) (before : List Event) (task : ℕ) (kept : Suspension) (joined : Bool) (outcome : Outcome) → IsLawful (event ∷ before)
+    → IsSuspensionOf before task kept → is_number task (held_in event) ≡ false → is_number kept.at (released_in event) ≡ false → ends event before task ≡ false
     → (0 < kept.at → joined ≡ is_met (event ∷ before) kept.at) → outcome ≡ latest_outcome (event ∷ before) task
-    → IsDoingOf (event ∷ before) task (record kept { joined = joined; outcome = outcome })
-doing_later event before task kept joined outcome lawful old other stays lives joins becomes = record {
+    → IsSuspensionOf (event ∷ before) task (record kept { joined = joined; outcome = outcome })
+suspension_later event before task kept joined outcome lawful old other stays lives joins becomes = record {
   at = held_same event before task kept.at old.at other stays lives;
   joined = joins;
   quittable = old.quittable ∙ same_quits event before task kept.at lawful.0 old.at other stays lives;
@@ -122,18 +122,18 @@ same_outcome event before task at lawful kept other unraised stays =
     (λ p frees held. not_some at (released_in event) stays (frees ∙ ap Some (sym (held_there before task at p lawful.0 kept held)))))
 
 -- an event that doesn't touch a task leaves its latest suspension
-pub doing_same : (event : Event) (before : List Event) (task : ℕ) (kept : Suspension) → IsLawful (event ∷ before) → IsDoingOf before task kept
+pub suspension_same : (event : Event) (before : List Event) (task : ℕ) (kept : Suspension) → IsLawful (event ∷ before) → IsSuspensionOf before task kept
     → is_number task (held_in event) ≡ false → is_number task (raised_in event) ≡ false → is_number kept.at (released_in event) ≡ false
-    → is_some_and (meeting_in event) (λ (m : Meeting). eqb m.call kept.at) ≡ false → ends event before task ≡ false → IsDoingOf (event ∷ before) task kept
-doing_same event before task kept lawful old other unraised stays unmet lives =
-    doing_later event before task kept kept.joined kept.outcome lawful old other stays lives
+    → is_some_and (meeting_in event) (λ (m : Meeting). eqb m.call kept.at) ≡ false → ends event before task ≡ false → IsSuspensionOf (event ∷ before) task kept
+suspension_same event before task kept lawful old other unraised stays unmet lives =
+    suspension_later event before task kept kept.joined kept.outcome lawful old other stays lives
     (λ some. old.joined some ∙ sym (unmet_same event before kept.at unmet))
     (old.outcome ∙ same_outcome event before task kept.at lawful old.at other unraised stays)
 
 newest_quits : (event : Event) (before : List Event) (task : ℕ) → IsLawful (event ∷ before) → held_in event ≡ Some task
-    → may_terminate event ≡ quits (event ∷ before) task
+    → waits_at_open_terminate event ≡ quits (event ∷ before) task
 newest_quits event before task lawful holds =
-    elim (cases_Bool (may_terminate event)) [
+    elim (cases_Bool (waits_at_open_terminate event)) [
       | inl here ↦
           let (w, says, terminates) = option_map_or-true (λ (w : Wait). is_open_terminate w.tail) (wait_in event) here in
           here
@@ -156,9 +156,9 @@ newest_quits event before task lawful holds =
     ]
 
 -- who is held up by the newest event is suspended at it
-pub doing_held : (event : Event) (before : List Event) (task : ℕ) → IsLawful (event ∷ before) → held_in event ≡ Some task
-    → IsDoingOf (event ∷ before) task (record { at = suc (length before); joined = false; quittable = may_terminate event; outcome = Held })
-doing_held event before task lawful holds = record {
+pub suspension_held : (event : Event) (before : List Event) (task : ℕ) → IsLawful (event ∷ before) → held_in event ≡ Some task
+    → IsSuspensionOf (event ∷ before) task (held (suc (length before)) (waits_at_open_terminate event))
+suspension_held event before task lawful holds = record {
   at = held_newest event before task lawful holds;
   joined = λ some. sym (next_unmet event before (suc (length before)) (hold_only event task holds).meets refl lawful);
   quittable = newest_quits event before task lawful holds;
@@ -170,10 +170,10 @@ unsuspended_quits journal task free =
     no_terminate journal task (λ is. true≢false (sym (is_suspended-from journal task is.at is.suspended) ∙ free.free refl))
 
 -- what a task is suspended at is released
-pub doing_released : (event : Event) (before : List Event) (task position : ℕ) → IsLawful (event ∷ before) → IsSuspendedAt before task position
-    → released_in event ≡ Some position → IsDoingOf (event ∷ before) task
+pub suspension_released : (event : Event) (before : List Event) (task position : ℕ) → IsLawful (event ∷ before) → IsSuspendedAt before task position
+    → released_in event ≡ Some position → IsSuspensionOf (event ∷ before) task
     (record { at = 0; joined = false; quittable = false; outcome = released_to before event })
-doing_released event before task position lawful held frees =
+suspension_released event before task position lawful held frees =
     let free = held_released event before task position lawful held frees (release_only event position frees).holds in
     record {
       at = free;
@@ -222,9 +222,9 @@ ends_only event before task ended =
     ]
 
 -- a task has ended
-pub doing_ended : (event : Event) (before : List Event) (task : ℕ) (kept : Suspension) → IsLawful (event ∷ before) → IsDoingOf before task kept
-    → ends event before task ≡ true → IsDoingOf (event ∷ before) task (record { at = 0; joined = false; quittable = false; outcome = kept.outcome })
-doing_ended event before task kept lawful old ended =
+pub suspension_ended : (event : Event) (before : List Event) (task : ℕ) (kept : Suspension) → IsLawful (event ∷ before) → IsSuspensionOf before task kept
+    → ends event before task ≡ true → IsSuspensionOf (event ∷ before) task (record { at = 0; joined = false; quittable = false; outcome = kept.outcome })
+suspension_ended event before task kept lawful old ended =
     let only = ends_only event before task ended in
     let free = held_ended event before task ended in
     record {

@@ -16,7 +16,7 @@ use Rattle.ada_laws.specs.Calls.{IsCallAt}
 use Rattle.ada_laws.specs.Suspension.{IsSuspendedAt}
 use Rattle.ada_rows.specs.declared.row.Row.{Row}
 use Rattle.ada_rows.specs.declared.row.Row.TheVariants.{Halting, Meeting, Terminating, QuittingBlock}
-use Rattle.ada_rows.specs.Touching.{is_uncallable}
+use Rattle.ada_rows.specs.TouchedKeys.{is_uncallable}
 use Rattle.ada_records.proofs.Holding.{IsQuiet, quiet_ended}
 use Rattle.ada_records.proofs.Calling.{same_terminated, same_abnormal, not_done}
 use Rattle.ada_agenda.specs.Kinds.{itself, quitting_row, quitting_key, IsUnstartedIn, ComesDue}

@@ -1,12 +1,10 @@
 -- Tables that change only nests, phases and queues, as one more event says, keep standing.
-use Rattle.std.proofs.Common.{◌≡◌, ℕ, suc, ◌<◌, Bool, true, false, eqb, Option, None, IsSome, List, [], ◌∷◌, length, refl, sym, ap, ◌∙◌, subst, arith}
-use Rattle.std.specs.Prelude.{if◌then◌else◌}
-use Rattle.std.specs.Option.{option_or}
+use Rattle.std.proofs.Common.{◌≡◌, ℕ, suc, ◌<◌, None, IsSome, List, [], ◌∷◌, length, refl, sym, ap, ◌∙◌, subst, arith}
 use Rattle.ada_events.specs.declared.event.Event.{Event}
 use Rattle.ada_events.specs.declared.names.Entry.{Entry}
 use Rattle.ada_events.specs.declared.names.Family.{Family}
-use Rattle.ada_events.specs.Says.{Creation, creation_in}
-use Rattle.ada_events.specs.Tasks.{task_count, creation_of, families_of}
+use Rattle.ada_events.specs.Says.{creation_in}
+use Rattle.ada_events.specs.Tasks.{task_count, families_of}
 use Rattle.ada_events.specs.Nests.{nest}
 use Rattle.ada_events.specs.Slots.{number_within}
 use Rattle.ada_events.specs.Lawful.{IsLawful}
@@ -15,17 +13,9 @@ use Rattle.ada_tables.specs.Dependents.{Facts, task_at}
 use Rattle.ada_tables.specs.Queues.{queue_at}
 use Rattle.ada_tables.specs.Tables.{TableState, declared, slot_at, HasEntry}
 use Rattle.ada_tables.specs.Standing.{phase_of, facts_in, AreQueued, StandFor}
-use Rattle.ada_records.specs.Following.{AreFollowing, TablesFollow}
+use Rattle.ada_records.specs.TableChanges.{AreFollowing, TablesFollow}
+use Rattle.ada_records.proofs.Creations.{same_creation}
 use Rattle.ada_records.proofs.Standing.{held_tables_stand}
-
-none_if : (b : Bool) (o : Option Creation) → option_or (if b then (let none : Option Creation = None in none) else None) o ≡ o
-none_if true o = refl
-none_if false o = refl
-
--- an event that makes no task changes no creation
-pub same_creation : (event : Event) (before : List Event) (task : ℕ) → creation_in event ≡ None → creation_of (event ∷ before) task ≡ creation_of before task
-unfolding creation_of
-same_creation event before task makes = rw makes (none_if (eqb task (task_count before)) (creation_of before task))
 
 pub same_facts : (event : Event) (before : List Event) (task : ℕ) → creation_in event ≡ None → record (facts_in before task) {
   nest =

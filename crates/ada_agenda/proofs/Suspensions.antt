@@ -20,7 +20,7 @@ use Rattle.ada_laws.specs.Suspension.{IsSuspendedAt}
 use Rattle.ada_rows.specs.declared.row.Row.{Row}
 use Rattle.ada_rows.specs.declared.row.Row.TheVariants.{Halting, Failing, Meeting, Cancelling, Passing, Waking, Activating, QuittingBlock, Leaving}
 use Rattle.ada_events.specs.Tasks.{moment}
-use Rattle.ada_rows.specs.Touching.{is_uncallable}
+use Rattle.ada_rows.specs.TouchedKeys.{is_uncallable}
 use Rattle.ada_records.proofs.Calling.{same_abnormal}
 use Rattle.ada_records.proofs.Holding.{IsQuiet, quiet_ends, quiet_ended}
 use Rattle.ada_events.specs.Waits.{way_of}
@@ -34,8 +34,8 @@ use Rattle.ada_agenda.specs.Kinds.OfTick.{comes_due}
 use Rattle.ada_agenda.proofs.Completing.{IsClosed}
 use Rattle.ada_agenda.proofs.Readying.{IsUnqueued}
 use Rattle.ada_agenda.proofs.Refining.{says_row, Key}
-use Rattle.ada_agenda.proofs.Quietly.{QuietKey, quietly}
-use Rattle.ada_agenda.proofs.Quietly.QuietKey.{at_own, frees_caller, calls_waiting, brings_moment, closes_around, closes_block, waits_open, empties_queue}
+use Rattle.ada_agenda.proofs.QuietEvents.{QuietKey, quietly}
+use Rattle.ada_agenda.proofs.QuietEvents.QuietKey.{at_own, frees_caller, calls_waiting, brings_moment, closes_around, closes_block, waits_open, empties_queue}
 
 -- nothing leaves a queue where nothing is released or met and nobody ends
 pub kept_queued : (event : Event) (before : List Event) (v : ℕ) → IsQuiet event → released_in event ≡ None → meeting_in event ≡ None → IsUnqueued event before v
