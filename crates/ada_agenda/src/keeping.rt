@@ -56,9 +56,9 @@ pub fn put_creation_keys(agenda: &mut Agenda, tasks: usize)
     put(agenda, Row::Terminating, tasks);
 }
 
-/// Notes that an entry is called at a position (9.5), of a task that is suspended at the wait, or at none where that is
-/// 0: that the call fails, where the task has ended or is abnormal, that it is cancelled, where it is given up, and that
-/// the wait takes it, may be forced.
+/// Notes that an entry is called at a position (9.5), of a task that is suspended at the wait, or at none if that is 0:
+/// that the call fails, if the task has ended or is abnormal, that it is cancelled, if it is given up, and that the
+/// wait takes it, may be forced.
 #[inline(always)]
 pub fn put_call_keys(agenda: &mut Agenda, call: u32, wait: u32, lost: bool, immediate: bool)
     requires call { call < MOST_KEYS }

@@ -1,6 +1,6 @@
 //! Aborts, and the halts that they force (9.10).
 
-ghost use Rattle.std.specs.Prelude.{◌≡◌, ◌∷◌, IfErr, OnOk};
+ghost use Rattle.std.specs.Prelude.{◌∷◌, IfErr, OnOk};
 ghost use Rattle.ada_events.specs.Steps.{IsRefused};
 ghost use Rattle.ada_events.specs.declared.event.Event.TheVariants.{Aborted as AbortedEvent, Halted as HaltedEvent};
 ghost use Rattle.ada_events.specs.declared.names.TaskNo.{TaskNo as Number};

@@ -1,6 +1,6 @@
 //! Activation (9.3): its start, the end of a task's own, and the end of the whole.
 
-ghost use Rattle.std.specs.Prelude.{◌≡◌, ◌∷◌, IfErr, OnOk};
+ghost use Rattle.std.specs.Prelude.{◌∷◌, IfErr, OnOk};
 ghost use Rattle.ada_events.specs.Steps.{IsRefused};
 ghost use Rattle.ada_events.specs.declared.event.Event.TheVariants.{Started as StartedEvent, Elaborated as ElaboratedEvent, Activated as ActivatedEvent};
 ghost use Rattle.ada_events.specs.declared.request.Request.TheVariants as asked;

@@ -1,6 +1,6 @@
 //! Selective waits (9.7.1), and how they end without a call.
 
-ghost use Rattle.std.specs.Prelude.{◌≡◌, ◌∷◌, IfErr, OnOk};
+ghost use Rattle.std.specs.Prelude.{◌∷◌, IfErr, OnOk};
 ghost use Rattle.ada_events.specs.Steps.{IsRefused};
 ghost use Rattle.ada_events.specs.declared.event.Event.TheVariants.{Waiting as WaitingEvent, Passed as PassedEvent};
 ghost use Rattle.ada_events.specs.declared.request.Request.TheVariants as asked;
@@ -31,18 +31,12 @@ impl Index {
         tail: &EventTail,
     )
         requires { MayNote self.old journal.now.events (WaitingEvent by pick choices.now tail.now) }
-        ensures { IsIndexOf self.new (WaitingEvent by pick choices.now tail.now ∷ journal.now.events) }
+        ensures { IsIndexOf self.new
+            (WaitingEvent by pick choices.now tail.now ∷ journal.now.events) }
     {
         let kept = &mut self.kept;
         let view = kept.view(journal);
-        after_wait(
-            &mut self.agenda,
-            &view,
-            by,
-            pick,
-            choices.as_slice(),
-            tail,
-        );
+        after_wait(&mut self.agenda, &view, by, pick, choices.as_slice(), tail);
         self.next_due = self.next_due.with(tail_due(tail));
         let records = kept.records.as_mut_slice();
         record_hold(records, by, journal.len() + 1, is_open_terminate(tail));

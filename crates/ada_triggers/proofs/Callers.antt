@@ -1,5 +1,5 @@
 -- Who is halted when a rendezvous ends or a call fails.
-use Rattle.std.proofs.Common.{◌≡◌, ℕ, Bool, true, List, Some, None, ◌∷◌, sym, ap, ◌∙◌, subst}
+use Rattle.std.proofs.Common.{◌≡◌, ℕ, Bool, true, List, Some, None, sym, ap, ◌∙◌}
 use Rattle.std.specs.Option.{option_map, option_and_then}
 use Rattle.std.proofs.lemmas.Option.{none-some, same_Some}
 use Rattle.ada_events.specs.declared.event.Event.{Event}
@@ -11,7 +11,7 @@ use Rattle.ada_laws.specs.Calls.{IsCallAt}
 use Rattle.ada_rows.specs.declared.row.Row.{Row}
 use Rattle.ada_rows.specs.declared.row.Row.TheVariants.{Halting}
 use Rattle.ada_agenda.specs.Keeping.{has_key, Puts, When, AsKey, KeepsUp}
-use Rattle.ada_agenda.specs.Kinds.{OfEnd, Adds}
+use Rattle.ada_agenda.specs.Kinds.{OfEnd}
 use Rattle.ada_agenda.specs.Kinds.OfEnd.{halts}
 use Rattle.ada_agenda.proofs.Noting.{grows_same, noted}
 use Rattle.ada_triggers.specs.internal.Keys.{AsCallerAt}

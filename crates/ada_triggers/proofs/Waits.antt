@@ -1,5 +1,5 @@
 -- What a wait adds to an agenda.
-use Rattle.std.proofs.Common.{◌≡◌, ℕ, ℤ, ◌+◌, Bool, true, false, Option, List, Some, None, [], ◌∷◌, length, sym, refl, ◌∙◌, subst, inl, inr}
+use Rattle.std.proofs.Common.{◌≡◌, ℕ, ℤ, ◌+◌, Bool, true, false, Option, List, Some, None, [], ◌∷◌, length, sym, refl, ◌∙◌, inl, inr}
 use Rattle.std.specs.Option.{is_some}
 use Rattle.std.proofs.lemmas.Bool.{true≢false, false_from_ne_true}
 use Rattle.ada_events.specs.declared.event.Event.{Event}

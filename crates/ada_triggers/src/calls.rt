@@ -131,7 +131,8 @@ pub fn after_wait(
 /// Notes that a task waits at an accept statement alone (9.5): that it takes a call may be forced.
 pub fn after_accept(agenda: &mut Agenda, view: &View)
     ensures { (by : Number) (pick : ℕ) (entry : EntryName)
-        → KeepsUp view.now (WaitingEvent by pick (record { guard = true; entry = entry } ∷ []) Nothing)
+        → KeepsUp view.now
+        (WaitingEvent by pick (record { guard = true; entry = entry } ∷ []) Nothing)
         agenda.old agenda.new }
 {
     put(agenda, Row::Meeting, view.next_position() as usize);

@@ -85,12 +85,7 @@ fn put_completion(agenda: &mut Agenda, first: &mut FirstUnstarted, view: &View, 
 /// Notes that a task completes (9.4): that it goes, that dependents of its body quit, that calls to it fail, that the
 /// activation ends that names it, and that tasks go that were never started, may be forced.
 #[tactic(auto, using(crate::proofs::Ends::completion_noted))]
-pub fn after_completion(
-    agenda: &mut Agenda,
-    first: &mut FirstUnstarted,
-    view: &View,
-    task: TaskNo,
-)
+pub fn after_completion(agenda: &mut Agenda, first: &mut FirstUnstarted, view: &View, task: TaskNo)
     requires known { task.0 < task_count view.now }
     requires bound { IsStartBound view.now first.old }
     ensures keeps_up { KeepsUp view.now (CompletedEvent task) agenda.old agenda.new }
@@ -118,12 +113,7 @@ fn after_failed_activation(
 
 /// Notes that an abnormal task is halted (9.10): what a completion may force, that dependents of blocks quit that the
 /// task is within, and what the masters may force on which the callee of its call depends, may be forced.
-pub fn after_halt(
-    agenda: &mut Agenda,
-    first: &mut FirstUnstarted,
-    view: &View,
-    task: TaskNo,
-)
+pub fn after_halt(agenda: &mut Agenda, first: &mut FirstUnstarted, view: &View, task: TaskNo)
     requires known { task.0 < task_count view.now }
     requires bound { IsStartBound view.now first.old }
     ensures keeps_up { KeepsUp view.now (HaltedEvent task) agenda.old agenda.new }
@@ -146,12 +136,7 @@ pub fn after_termination(agenda: &mut Agenda, view: &View, task: TaskNo)
 
 /// Notes that all that depend on a master terminate together (9.4): what the master may force, and what those may on
 /// which its task depends, and that tasks go that were never started, may be forced.
-pub fn after_quit(
-    agenda: &mut Agenda,
-    first: &mut FirstUnstarted,
-    view: &View,
-    master: Master,
-)
+pub fn after_quit(agenda: &mut Agenda, first: &mut FirstUnstarted, view: &View, master: Master)
     requires quits { is_to_quit view.now master ≡ true }
     requires bound { IsStartBound view.now first.old }
     ensures keeps_up { KeepsUp view.now (QuitEvent master) agenda.old agenda.new }

@@ -16,15 +16,11 @@ use ada_view::View;
 
 /// Notes that a task closes a block (9.4): that it leaves the block, that the block's dependents quit, and that tasks
 /// go that were never started, may be forced.
-pub fn after_close(
-    agenda: &mut Agenda,
-    first: &mut FirstUnstarted,
-    view: &View,
-    block: u32,
-)
+pub fn after_close(agenda: &mut Agenda, first: &mut FirstUnstarted, view: &View, block: u32)
     requires fits { block < MOST_KEYS }
     requires bound { IsStartBound view.now first.old }
-    ensures keeps_up { (by : Number) → KeepsUp view.now (ClosedEvent by block) agenda.old agenda.new }
+    ensures keeps_up { (by : Number)
+        → KeepsUp view.now (ClosedEvent by block) agenda.old agenda.new }
     ensures bound { IsStartBound view.now first.new }
 {
     put(agenda, Row::Leaving, view.next_position() as usize);

@@ -9,8 +9,8 @@ ghost use Rattle.ada_triggers.specs.Bounds.{IsDueBound};
 ghost use Rattle.ada_triggers.specs.internal.Bounds.{IsBoundOfFirst, IsDueAfter};
 
 use crate::moments::due_in;
-use ada_events::waits::{earlier, is_due};
 use ada_events::TaskNo;
+use ada_events::waits::{earlier, is_due};
 use ada_view::View;
 use std::marker::Model;
 
@@ -78,7 +78,8 @@ fn least_after(view: &View, now: i64) -> NextDue
 /// Keeps the bound up with a tick (9.6). Only a tick that reaches it looks at the tasks.
 pub fn next_after_tick(next: NextDue, view: &View, now: i64) -> NextDue
     requires { IsDueBound view.now next }
-    ensures { IsLawful (TickedEvent now ∷ view.now) → IsDueBound (TickedEvent now ∷ view.now) result }
+    ensures { IsLawful (TickedEvent now ∷ view.now)
+        → IsDueBound (TickedEvent now ∷ view.now) result }
 {
     if next.is_reached_by(now) {
         least_after(view, now)

@@ -1,5 +1,7 @@
 -- What a record tells of what its task does.
-use Rattle.std.proofs.Common.{◌≡◌, ℕ, zero, suc, Bool, true, false, not, ◌&&◌, eqb, Some, List, refl, sym, ◌∙◌, subst, arith}
+use Rattle.std.proofs.Common.{◌≡◌, ℕ, zero, suc, Bool, true, false, not, ◌&&◌, eqb, Option, Some, None, List, refl, sym, ◌∙◌, subst, arith}
+use Rattle.std.specs.Option.{option_and_then}
+use Rattle.std.proofs.lemmas.Option.{none-some}
 use Rattle.std.proofs.lemmas.Bool.{eq-eqb, ne_eqb, false≢true}
 use Rattle.ada_events.specs.declared.event.Event.{Event}
 use Rattle.ada_events.specs.Search.{event_at}
@@ -19,6 +21,11 @@ held_there journal task kept at lawful held there = of_kept kept held
     of_kept : (k : ℕ) → IsHeldAt journal task k → k ≡ at
     of_kept zero h = absurd (false≢true (sym (h.free refl) ∙ is_suspended-from journal task at there))
     of_kept (suc n) h = suspended_once journal task (suc n) at lawful (h.held (omega arith)) there
+
+-- the event that holds the task up
+pub holding_event : (o : Option Event) (task : ℕ) → option_and_then held_in o ≡ Some task → (e : Event) × (o ≡ Some e) × (held_in e ≡ Some task)
+holding_event None task holds = absurd (none-some task holds)
+holding_event (Some e) task holds = (e, refl, holds)
 
 -- what holds a task up is pending exactly where its record says so
 pub pending_told : (journal : List Event) (task kept at : ℕ) (e : Event) → IsLawful journal → IsHeldAt journal task kept → event_at journal at ≡ Some e

@@ -1,6 +1,6 @@
 //! The rows of abnormal tasks and of entry calls: what halts, and what fails.
 
-ghost use Rattle.std.specs.Prelude.{◌≡◌, not, ◌&&◌, ◌||◌, Some};
+ghost use Rattle.std.specs.Prelude.{◌≡◌, not, ◌&&◌, ◌||◌, Some, option_and_then};
 ghost use Rattle.std.specs.Bool.{then_some};
 ghost use Rattle.ada_events.specs.Calls.{is_pending, is_met};
 ghost use Rattle.ada_events.specs.Forced as forced;
@@ -92,7 +92,7 @@ impl<'a> View<'a> {
     {
         match event {
             Event::Called { by, callee, .. } => {
-                let pending = self.is_pending(at, *by, event);
+                let pending = self.is_pending(at, *by);
                 self.is_uncallable(*callee) && pending
             }
             _ => false,
@@ -112,9 +112,8 @@ impl<'a> View<'a> {
     }
 
     // Whether a call is queued: it is open, and no rendezvous began with it.
-    fn is_queued(&self, at: u32, by: TaskNo, _event: &Event) -> bool
-        requires stands { event_at self.now at ≡ Some _event.now }
-        requires holds { held_in _event.now ≡ Some by.0 }
+    fn is_queued(&self, at: u32, by: TaskNo) -> bool
+        requires { option_and_then held_in (event_at self.now at) ≡ Some by.0 }
         ensures { result ≡ (is_pending self.now at by.0 && not (is_met self.now at)) }
     {
         let kept = self.record(by);
@@ -134,7 +133,7 @@ impl<'a> View<'a> {
                 due,
                 ..
             } => {
-                let queued = self.is_queued(at, *by, event);
+                let queued = self.is_queued(at, *by);
                 (is_conditional(*patience) || is_due(self.moment(), *due)) && queued
             }
             _ => false,

@@ -1,8 +1,7 @@
 //! COUNT of a task's own entries (9.9).
 
-ghost use Rattle.std.specs.Prelude.{◌≡◌, ◌<◌, true, Some, slice_get};
+ghost use Rattle.std.specs.Prelude.{◌≡◌, ◌<◌, true, slice_get};
 ghost use Rattle.ada_events.specs.Attributes.{own_count};
-ghost use Rattle.ada_events.specs.Calls.{count_of};
 ghost use Rattle.ada_events.specs.Entries.{is_in_range};
 ghost use Rattle.ada_events.specs.Phases.{is_running};
 ghost use Rattle.ada_events.specs.Tasks.{families_of, task_count};
@@ -41,17 +40,7 @@ pub(crate) fn is_within(family: Family, entry: Entry) -> bool
     family.contains(entry.index)
 }
 
-// How many calls wait at an entry within the range of its family.
-fn queue_len(view: &View<'_>, task: TaskNo, entry: Entry, _family: Family) -> u16
-    requires known { task.0 < task_count view.now }
-    requires declared { slice_get (families_of view.now task.0) entry.family ≡ Some _family }
-    requires within { is_in_range _family entry.index ≡ true }
-    ensures { result ≡ count_of view.now task.0 entry }
-{
-    view.tables().queue_len(task, entry)
-}
-
-// The same of a task that runs.
+// How many calls wait at an entry of a task that runs.
 fn running_count(view: &View<'_>, by: TaskNo, entry: Entry) -> Result<u16, Refusal>
     requires known { by.0 < task_count view.now }
     requires runs { is_running view.now by.0 ≡ true }
@@ -63,5 +52,5 @@ fn running_count(view: &View<'_>, by: TaskNo, entry: Entry) -> Result<u16, Refus
     if !is_within(family, entry) {
         return Err(Refusal::ConstraintError);
     }
-    Ok(queue_len(view, by, entry, family))
+    Ok(view.tables().queue_len(by, entry))
 }

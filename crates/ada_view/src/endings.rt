@@ -5,7 +5,6 @@ ghost use Rattle.std.specs.Bool.{then_some};
 ghost use Rattle.ada_events.specs.Forced as forced;
 ghost use Rattle.ada_events.specs.Lawful.{IsLawful};
 ghost use Rattle.ada_events.specs.Nests.{nest};
-ghost use Rattle.ada_records.specs.Records.{IsRecordOf};
 ghost use Rattle.ada_events.specs.Phases.{is_completed, is_terminated};
 ghost use Rattle.ada_events.specs.Says.{Creation, creation_in};
 ghost use Rattle.ada_events.specs.Search.{event_at, is_some_and};
@@ -15,7 +14,7 @@ ghost use Rattle.ada_events.specs.declared.names.Master.TheVariants.{Body as Bod
 ghost use Rattle.ada_rows.specs.Rows.{at_event, step_at};
 ghost use Rattle.ada_rows.specs.declared.row.Row.TheVariants as row;
 ghost use Rattle.ada_events.specs.Tasks.{task_count};
-ghost use Rattle.ada_view.specs.internal.Ending.{IsOpenedBy, closes_at};
+ghost use Rattle.ada_view.specs.internal.Ending.{IsOfOpener, closes_at};
 ghost use Rattle.ada_view.specs.internal.Views.{IsHeldBySome};
 ghost use Rattle.ada_tables.specs.Dependents.{has_block};
 
@@ -48,7 +47,7 @@ impl<'a> View<'a> {
     {
         match event {
             Event::Closed { by, block } => {
-                self.is_pending(at, *by, event) && self.are_all_terminated(Master::Block(*block))
+                self.is_pending(at, *by) && self.are_all_terminated(Master::Block(*block))
             }
             _ => false,
         }
@@ -105,7 +104,8 @@ impl<'a> View<'a> {
     // Whether a close of the block stands at the position.
     #[tactic(auto, unfolding(ada_events::specs::Says::closing_in))]
     fn is_closed_at(&self, block: u32, at: u32) -> bool
-        ensures { result ≡ closes_at self.now block at }
+        ensures closes { result ≡ closes_at self.now block at }
+        ensures lawful { IsLawful self.now }
     {
         match self.event(at) {
             Some(Event::Closed { block: closed, .. }) => *closed == block,
@@ -115,12 +115,8 @@ impl<'a> View<'a> {
 
     // Whether the block that the task of this record is within is complete (9.4): the task has ended, or is suspended
     // at a close of the block.
-    fn is_complete_block(&self, block: u32, _by: TaskNo, kept: &Record, _event: &Event) -> bool
-        requires lawful { IsLawful self.now }
-        requires right { IsRecordOf self.now _by.0 kept.now }
-        requires opened { event_at self.now block ≡ Some _event.now }
-        requires by { IsOpenedBy _event.now _by.0 }
-        requires within { has_block block (nest self.now _by.0) ≡ true }
+    fn is_complete_block(&self, block: u32, kept: &Record) -> bool
+        requires { IsOfOpener self.now block kept.now }
         ensures { result ≡ ending.is_complete self.now (BlockMaster block) }
     {
         let closed = self.is_closed_at(block, kept.suspension.at);
@@ -140,7 +136,7 @@ impl<'a> View<'a> {
                 if !self.is_within(*by, at) {
                     return false;
                 }
-                let complete = self.is_complete_block(at, *by, &kept, event);
+                let complete = self.is_complete_block(at, &kept);
                 self.is_to_quit(Master::Block(at), complete)
             }
             _ => false,
@@ -170,7 +166,7 @@ impl<'a> View<'a> {
                 if !self.is_within(*by, block) {
                     return true;
                 }
-                self.is_complete_block(block, *by, &self.record(*by), event)
+                self.is_complete_block(block, &self.record(*by))
             }
             _ => false,
         }

@@ -33,7 +33,7 @@ impl<'a> View<'a> {
     {
         match event {
             Event::Paused { by, due } => {
-                let pending = self.is_pending(at, *by, event);
+                let pending = self.is_pending(at, *by);
                 *due <= self.moment() && pending
             }
             _ => false,
@@ -99,7 +99,7 @@ impl<'a> View<'a> {
     {
         match event {
             Event::Started { by, tasks } => {
-                if self.is_pending(at, *by, event) && self.are_done(tasks.as_slice()) {
+                if self.is_pending(at, *by) && self.are_done(tasks.as_slice()) {
                     Some(!self.have_failed(tasks.as_slice()))
                 } else {
                     None

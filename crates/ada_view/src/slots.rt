@@ -1,30 +1,19 @@
 //! Slots: all entries of all tasks (9.5), numbered from 0 in order of task, family and index.
 
-ghost use Rattle.std.specs.Prelude.{◌≡◌, ◌<◌, true, Some, slice_get};
-ghost use Rattle.ada_events.specs.Entries.{is_in_range};
+ghost use Rattle.std.specs.Prelude.{◌≡◌, ◌<◌};
 ghost use Rattle.ada_events.specs.Limits as limits;
 ghost use Rattle.ada_events.specs.Slots.{slot_of};
-ghost use Rattle.ada_events.specs.Tasks.{families_of, task_count};
+ghost use Rattle.ada_events.specs.Tasks.{task_count};
 
 use crate::View;
 use crate::counts::{family, is_within};
-use ada_events::{Entry, Family, TaskNo};
+use ada_events::{Entry, TaskNo};
 
 /// How many entries all tasks have together, at most 1,024.
 pub fn slot_count(view: &View<'_>) -> u16
     ensures { result ≡ limits.slot_count view.now }
 {
     view.tables().slots()
-}
-
-// The slot of an entry within the range of its family.
-fn slot_within(view: &View<'_>, task: TaskNo, entry: Entry, _family: Family) -> u16
-    requires known { task.0 < task_count view.now }
-    requires declared { slice_get (families_of view.now task.0) entry.family ≡ Some _family }
-    requires within { is_in_range _family entry.index ≡ true }
-    ensures { Some result ≡ slot_of view.now task.0 entry }
-{
-    view.tables().slot(task, entry)
 }
 
 // The slot of an entry of a task that is there; none where the task doesn't have the entry.
@@ -34,7 +23,7 @@ fn known_slot(view: &View<'_>, task: TaskNo, entry: Entry) -> Option<u16>
 {
     let family = family(view, task, entry.family)?;
     if is_within(family, entry) {
-        Some(slot_within(view, task, entry, family))
+        Some(view.tables().slot(task, entry))
     } else {
         None
     }

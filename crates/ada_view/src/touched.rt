@@ -1,12 +1,13 @@
 //! Whom the quitting of a master's dependents and an abort touch.
 
-ghost use Rattle.std.specs.Prelude.{◌≡◌, ℕ, ◌<◌, false, true, length, slice_index_or};
+ghost use Rattle.std.specs.Prelude.{◌≡◌, ℕ, ◌<◌, false, true, List, length, slice_index_or};
 ghost use Rattle.ada_events.specs.declared.limits.TheConstants.{MOST_TASKS};
 ghost use Rattle.ada_events.specs.Forced.{is_to_quit};
 ghost use Rattle.ada_events.specs.Masters as masters;
 ghost use Rattle.ada_events.specs.Nests.{nest};
 ghost use Rattle.ada_events.specs.Phases.{is_terminated};
 ghost use Rattle.ada_events.specs.Tasks.{task_count};
+ghost use Rattle.ada_events.specs.declared.names.TaskNo.{TaskNo as Number};
 ghost use Rattle.ada_tables.specs.Dependents.{holds};
 ghost use Rattle.ada_records.specs.Records as records;
 ghost use Rattle.ada_view.specs.internal.Hitting.{AreNamed, TellsOfLive, hits_bodies};
@@ -86,14 +87,13 @@ fn flag_of_holder(view: &View, master: Master, flags: &[bool]) -> bool
     }
 }
 
-// Whether an abort of these tasks hits the task that holds what a task was made under. The flags say whom it hits of
-// the tasks that were made before.
-fn hits_holder(view: &View, task: TaskNo, _tasks: &[TaskNo], hit: &[bool]) -> bool
+// Whether an abort hits the task that holds what a task was made under. The flags say whom it hits of the tasks that
+// were made before.
+fn hits_holder(view: &View, task: TaskNo, hit: &[bool]) -> bool
     requires known { task.0 < task_count view.now }
     requires before { length hit.now ≡ task.0 }
-    requires tells { TellsOfLive view.now hit.now (records.is_hit view.now _tasks.now) }
-    ensures { is_terminated view.now task.0 ≡ false
-        → result ≡ hits_bodies view.now _tasks.now task.0 }
+    ensures { (tasks : List Number) → TellsOfLive view.now hit.now (records.is_hit view.now tasks)
+        → is_terminated view.now task.0 ≡ false → result ≡ hits_bodies view.now tasks task.0 }
 {
     match view.tables().master(task) {
         Some(master) => flag_of_holder(view, master, hit),
@@ -101,18 +101,17 @@ fn hits_holder(view: &View, task: TaskNo, _tasks: &[TaskNo], hit: &[bool]) -> bo
     }
 }
 
-// Whether an abort of these tasks hits a task (9.10): it names that, or hits the task that holds what it was made
-// under. The flags say whom it names, and whom it hits of the tasks that were made before.
-fn is_hit(view: &View, task: TaskNo, _tasks: &[TaskNo], named: &[bool], hit: &[bool]) -> bool
+// Whether an abort hits a task (9.10): it names that, or hits the task that holds what it was made under. The flags say
+// whom it names, and whom it hits of the tasks that were made before.
+fn is_hit(view: &View, task: TaskNo, named: &[bool], hit: &[bool]) -> bool
     requires known { task.0 < task_count view.now }
     requires few { task.0 < MOST_TASKS }
-    requires named { AreNamed named.now _tasks.now }
     requires before { length hit.now ≡ task.0 }
-    requires tells { TellsOfLive view.now hit.now (records.is_hit view.now _tasks.now) }
-    ensures { is_terminated view.now task.0 ≡ false
-        → result ≡ records.is_hit view.now _tasks.now task.0 }
+    ensures { (tasks : List Number) → AreNamed named.now tasks
+        → TellsOfLive view.now hit.now (records.is_hit view.now tasks)
+        → is_terminated view.now task.0 ≡ false → result ≡ records.is_hit view.now tasks task.0 }
 {
-    flag_of(named, task) || hits_holder(view, task, _tasks, hit)
+    flag_of(named, task) || hits_holder(view, task, hit)
 }
 
 /// Whom an abort of these tasks hits (9.10). The task that holds what another was made under was made before that, so
@@ -124,7 +123,7 @@ pub fn hit(view: &View, tasks: &[TaskNo]) -> Tasks
     let mut flags = Flags::new();
     let mut hit = Tasks::new();
     for number in 0..view.tables().tasks() {
-        let hits = is_hit(view, TaskNo(number), tasks, &named, flags.as_slice());
+        let hits = is_hit(view, TaskNo(number), &named, flags.as_slice());
         flags.push(hits);
         if hits {
             hit.push(TaskNo(number));

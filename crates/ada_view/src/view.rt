@@ -111,10 +111,9 @@ impl<'a> View<'a> {
         }
     }
 
-    /// Whether what an event at a position holds up is neither released, nor has its task ended.
-    pub fn is_pending(&self, at: u32, by: TaskNo, _event: &Event) -> bool
-        requires stands { event_at self.now at ≡ Some _event.now }
-        requires holds { held_in _event.now ≡ Some by.0 }
+    /// Whether the task that is held up by the event at a position is neither released, nor has it ended.
+    pub fn is_pending(&self, at: u32, by: TaskNo) -> bool
+        requires { option_and_then held_in (event_at self.now at) ≡ Some by.0 }
         ensures pending { result ≡ is_pending self.now at by.0 }
         ensures lawful { IsLawful self.now }
     {

@@ -2,7 +2,6 @@
 
 ghost use Rattle.std.specs.Prelude.{◌≡◌, ◌≤◌, Some, length, slice_get};
 ghost use Rattle.std.specs.Option.{option_and_then, option_map, unwrap_or};
-ghost use Rattle.ada_events.specs.Lawful.{IsLawful};
 ghost use Rattle.ada_events.specs.Outcomes as outcomes;
 ghost use Rattle.ada_events.specs.Says.{wait_in};
 ghost use Rattle.ada_events.specs.Search.{event_at};
@@ -112,7 +111,7 @@ impl<'a> View<'a> {
                 choices,
                 ..
             } => {
-                if self.is_pending(at, *by, event) {
+                if self.is_pending(at, *by) {
                     self.taken_call(*by, choices.as_slice(), *pick)
                 } else {
                     None
@@ -150,36 +149,23 @@ impl<'a> View<'a> {
         }
     }
 
-    // The number of the choice by which the event takes a call, where it is a wait that takes one; else 0.
-    #[inline(always)]
-    #[tactic(auto, unfolding(ada_events::specs::Waits::taken_choice, ada_events::specs::Says::wait_in))]
-    fn choice_of(&self, _at: u32, event: &Event) -> u8
-        requires stands { event_at self.now _at ≡ Some event.now }
-        requires lawful { IsLawful self.now }
-        ensures { result ≡ unwrap_or
-            (option_and_then (waits.taken_choice self.now) (wait_in event.now)) 0 }
-    {
-        match event {
-            Event::Waiting {
-                by,
-                pick,
-                choices,
-                ..
-            } => self.number_taken(*by, choices.as_slice(), *pick),
-            _ => 0,
-        }
-    }
-
     /// The number of the choice by which the wait at the position takes a call (9.7.1), counted over all of its choices
     /// from 0; 0 where it takes none.
     #[inline(always)]
-    #[tactic(auto, unfolding(ada_events::specs::Outcomes::choice_met))]
+    #[tactic(auto, unfolding(ada_events::specs::Outcomes::choice_met, ada_events::specs::Waits::taken_choice, ada_events::specs::Says::wait_in))]
     pub fn choice_met(&self, wait: u32) -> u8
         ensures { result ≡ outcomes.choice_met self.now wait }
     {
         match self.event(wait) {
-            Some(event) => self.choice_of(wait, event),
-            None => 0,
+            Some(
+                Event::Waiting {
+                    by,
+                    pick,
+                    choices,
+                    ..
+                },
+            ) => self.number_taken(*by, choices.as_slice(), *pick),
+            _ => 0,
         }
     }
 
@@ -196,7 +182,7 @@ impl<'a> View<'a> {
                 choices,
                 tail,
             } => {
-                if self.is_pending(at, *by, event) {
+                if self.is_pending(at, *by) {
                     way_of(self.moment(), choices.as_slice(), *pick, tail)
                 } else {
                     None

@@ -9,13 +9,14 @@ loop-holder-init c = way_begins c.args.view.now c.args.task.0 c.args.agenda.now 
 
 pub put_holder-requires : goal.put_holder-requires
 put_holder-requires c =
-    holder_known c.args.view.now c.args.task.0 c.loop-holder.inner.0 _ c.args.agenda.now c.loop-holder.agenda c.holder_above.ensures.lawful c.loop-holder.invariant
-    (sym c.holder_above.ensures.above ∙ ap (option_map (λ (t : TaskNo). t.0)) c.in-Some.is)
+    holder_known c.args.view.now c.args.task.0 c.loop-holder.inner.0 _ c.args.agenda.now c.loop-holder.agenda c.holder_above.ensures.lawful
+    c.loop-holder.invariant (sym c.holder_above.ensures.above ∙ ap (option_map (λ (t : TaskNo). t.0)) c.in-Some.is)
 
 pub loop-holder-preserved : goal.loop-holder-preserved
 loop-holder-preserved c =
-    way_goes_on c.args.view.now c.args.task.0 c.loop-holder.inner.0 _ c.args.agenda.now c.loop-holder.agenda c.put_holder.new.agenda c.holder_above.ensures.lawful
-    c.loop-holder.invariant (sym c.holder_above.ensures.above ∙ ap (option_map (λ (t : TaskNo). t.0)) c.in-Some.is) c.put_holder.ensures
+    way_goes_on c.args.view.now c.args.task.0 c.loop-holder.inner.0 _ c.args.agenda.now c.loop-holder.agenda c.put_holder.new.agenda
+    c.holder_above.ensures.lawful c.loop-holder.invariant (sym c.holder_above.ensures.above ∙ ap (option_map (λ (t : TaskNo). t.0)) c.in-Some.is)
+    c.put_holder.ensures
 
 pub loop-holder-smaller : goal.loop-holder-smaller
 loop-holder-smaller c =

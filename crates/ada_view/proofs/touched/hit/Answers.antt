@@ -8,23 +8,26 @@ use Rattle.ada_view.proofs.touched.hit.Goals as goal
 use Rattle.ada_view.proofs.touched.hit.Goals.{then-hits, else-hits}
 
 pub loop-number-preserved : goal.loop-number-preserved
-loop-number-preserved c = (
-  ap length c.push.ensures
-      ∙ omega (arith, length-append c.loop-number.flags (c.is_hit-hits.result ∷ []), c.loop-number.invariant.0),
-  subst (λ flags. TellsOfLive c.args.view.now flags (is_hit c.args.view.now c.args.tasks.now)) (sym c.push.ensures)
-      (flags_more c.args.view.now c.loop-number.flags (is_hit c.args.view.now c.args.tasks.now) c.loop-number.number c.is_hit-hits.result
-      c.loop-number.invariant.0 c.loop-number.invariant.1 c.is_hit-hits.ensures),
-  elim c.if-hits.branch [
-    | then-hits w ↦
-        rw (w.hit-is, w.push-then-hits.ensures)
-        (lists_more c.args.view.now c.loop-number.hit (is_hit c.args.view.now c.args.tasks.now) c.loop-number.number
-        (record { 0 = c.loop-number.number }) refl c.loop-number.invariant.2 (λ live. sym w.if-hits.true ∙ c.is_hit-hits.ensures live))
-    | else-hits w ↦
-        rw w.hit-is
-        (lists_past c.args.view.now c.loop-number.hit (is_hit c.args.view.now c.args.tasks.now) c.loop-number.number c.loop-number.invariant.2
-        (λ live. sym w.if-hits.false ∙ c.is_hit-hits.ensures live))
-  ],
-)
+loop-number-preserved c =
+    let tells = subst (λ flags. TellsOfLive c.args.view.now flags (is_hit c.args.view.now c.args.tasks.now)) (sym c.as_slice.ensures.value)
+    c.loop-number.invariant.1 in
+    let hits = c.is_hit-hits.ensures c.args.tasks.now c.named-named.ensures tells in (
+      ap length c.push.ensures
+          ∙ omega (arith, length-append c.loop-number.flags (c.is_hit-hits.result ∷ []), c.loop-number.invariant.0),
+      subst (λ flags. TellsOfLive c.args.view.now flags (is_hit c.args.view.now c.args.tasks.now)) (sym c.push.ensures)
+          (flags_more c.args.view.now c.loop-number.flags (is_hit c.args.view.now c.args.tasks.now) c.loop-number.number c.is_hit-hits.result
+          c.loop-number.invariant.0 c.loop-number.invariant.1 hits),
+      elim c.if-hits.branch [
+        | then-hits w ↦
+            rw (w.hit-is, w.push-then-hits.ensures)
+            (lists_more c.args.view.now c.loop-number.hit (is_hit c.args.view.now c.args.tasks.now) c.loop-number.number
+            (record { 0 = c.loop-number.number }) refl c.loop-number.invariant.2 (λ live. sym w.if-hits.true ∙ hits live))
+        | else-hits w ↦
+            rw w.hit-is
+            (lists_past c.args.view.now c.loop-number.hit (is_hit c.args.view.now c.args.tasks.now) c.loop-number.number c.loop-number.invariant.2
+            (λ live. sym w.if-hits.false ∙ hits live))
+      ],
+    )
 
 pub returns : goal.returns
 returns c =

@@ -16,11 +16,11 @@ note_call-requires-clause-may c =
     record {
       stands = search rules;
       lawful = may_follow old _ request _ unrefused c.in_ok-make_room.ensures.events
-    (call_asked old _ request c.args.by c.args.callee c.args.entry c.args.patience _
-    (to_z-of_z w64 c.moment.result (record { sfits = c.moment.type_inv }) ∙ c.moment.ensures
-    ∙ ap moment (c.view-2.ensures ∙ c.in_ok-make_room.ensures.events))
-    refl c.call_due-due.ensures (is_accepted old request unrefused).in_time)
-    c.requires.stands.kept.lawful c.requires.settled;
+          (call_asked old _ request c.args.by c.args.callee c.args.entry c.args.patience _
+          (to_z-of_z w64 c.moment.result (record { sfits = c.moment.type_inv }) ∙ c.moment.ensures
+          ∙ ap moment (c.view-2.ensures ∙ c.in_ok-make_room.ensures.events))
+          refl c.call_due-due.ensures (is_accepted old request unrefused).in_time)
+          c.requires.stands.kept.lawful c.requires.settled;
     }
 
 pub returns-clause-ok : goal.returns-clause-ok

@@ -1,4 +1,4 @@
-use Rattle.std.proofs.Common.{arith, ◌∷◌, refl, subst, rules}
+use Rattle.std.proofs.Common.{arith, refl, rules}
 use Rattle.ada_events.specs.declared.event.Event.TheVariants.{Aborted}
 use Rattle.ada_events.specs.Says.{creation_in, moment_in}
 use Rattle.ada_kernel.proofs.Quiet.{kept_up, noted}

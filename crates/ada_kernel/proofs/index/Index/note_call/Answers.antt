@@ -26,7 +26,8 @@ record_hold-requires c =
 pub follow_call-requires-clause-tabled : goal.follow_call-requires-clause-tabled
 unfolding held_in
 follow_call-requires-clause-tabled c =
-    holder_tabled c.args.event.now c.args.journal.now.events _ c.args.by.0 (ap held_in c.requires.calls.is) c.requires.may.stands.kept.tabled c.requires.may.lawful
+    holder_tabled c.args.event.now c.args.journal.now.events _ c.args.by.0 (ap held_in c.requires.calls.is) c.requires.may.stands.kept.tabled
+    c.requires.may.lawful
 
 pub follow_call-requires-clause-recorded : goal.follow_call-requires-clause-recorded
 unfolding held_in

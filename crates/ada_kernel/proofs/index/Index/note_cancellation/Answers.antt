@@ -1,4 +1,4 @@
-use Rattle.std.proofs.Common.{arith, ◌∷◌, refl, ap, subst}
+use Rattle.std.proofs.Common.{arith, refl}
 use Rattle.ada_events.specs.declared.event.Event.TheVariants.{Cancelled}
 use Rattle.ada_events.specs.Says.{creation_in, moment_in, released_in, meeting_in}
 use Rattle.ada_records.proofs.RecordChanges.{release_holds}

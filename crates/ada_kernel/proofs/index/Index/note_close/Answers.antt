@@ -1,4 +1,4 @@
-use Rattle.std.proofs.Common.{arith, ◌∷◌, refl, ap, subst, ◌+◌}
+use Rattle.std.proofs.Common.{arith, refl, ap, subst, ◌+◌}
 use Rattle.ada_events.specs.declared.event.Event.TheVariants.{Closed}
 use Rattle.ada_events.specs.Says.{creation_in, moment_in, call_in, held_in, started_in, wait_in}
 use Rattle.ada_triggers.specs.Bounds.{IsStartBound}

@@ -1,4 +1,4 @@
-use Rattle.std.proofs.Common.{arith, ◌∷◌, refl, subst, inl, ◌<◌, sym}
+use Rattle.std.proofs.Common.{arith, refl, subst, inl, ◌<◌, sym}
 use Rattle.ada_events.specs.declared.event.Event.TheVariants.{Completed}
 use Rattle.ada_events.specs.Tasks.{task_count}
 use Rattle.ada_events.specs.Says.{creation_in, moment_in}

@@ -28,8 +28,8 @@ follow_creation-requires-clause-master c =
 pub returns-clause-ok : goal.returns-clause-ok
 returns-clause-ok c =
     let (creation, makes) = creation_made c.args.event.now c.args.master c.args.families.now c.requires.makes in
-    let follows = c.in_ok-follow_creation.ensures.ok c.args.event.now c.args.journal.now.events c.requires.makes c.requires.may.lawful c.requires.may.stands.kept.tabled
-    c.requires.may.stands.slots in
+    let follows = c.in_ok-follow_creation.ensures.ok c.args.event.now c.args.journal.now.events c.requires.makes c.requires.may.lawful
+    c.requires.may.stands.kept.tabled c.requires.may.stands.slots in
     record {
       kept = record {
         lawful = c.requires.may.lawful;
@@ -37,12 +37,15 @@ returns-clause-ok c =
             c.record_creation.ensures c.args.event.now c.args.journal.now.events (makes_some c.args.event.now _ _ _ _ c.requires.makes.is)
             (ap (λ n. n + 1) (sym c.len.ensures)) c.requires.may.lawful (search rules);
         tabled = follows.0;
-        timed = c.requires.may.stands.kept.timed ∙ sym (moment_kept c.args.event.now c.args.journal.now.events c.args.master c.args.families.now c.requires.makes);
+        timed =
+            c.requires.may.stands.kept.timed ∙ sym (moment_kept c.args.event.now c.args.journal.now.events c.args.master c.args.families.now c.requires.makes);
       };
       slots = follows.1;
       agenda =
           c.put_creation_keys.ensures c.args.event.now c.args.journal.now.events (makes_some c.args.event.now _ _ _ _ c.requires.makes.is) (search rules)
           c.requires.may.lawful c.requires.may.stands.agenda;
       unstarted = bound_stays c.args.event.now c.args.journal.now.events c.args.self.now.unstarted c.requires.may.stands.unstarted;
-      due = creation_keeps_bound c.args.event.now c.args.journal.now.events c.args.self.now.next_due creation c.requires.may.lawful c.requires.may.stands.due makes;
+      due =
+          creation_keeps_bound c.args.event.now c.args.journal.now.events c.args.self.now.next_due creation c.requires.may.lawful
+          c.requires.may.stands.due makes;
     }

@@ -1,4 +1,4 @@
-use Rattle.std.proofs.Common.{arith, ◌∷◌, ap, subst, refl}
+use Rattle.std.proofs.Common.{arith, refl}
 use Rattle.ada_events.specs.declared.event.Event.TheVariants.{Failed}
 use Rattle.ada_events.specs.Outcomes.{raised_in, released_to}
 use Rattle.ada_events.specs.Says.{creation_in, moment_in, released_in, meeting_in}

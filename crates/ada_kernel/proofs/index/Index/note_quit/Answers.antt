@@ -1,4 +1,4 @@
-use Rattle.std.proofs.Common.{◌≡◌, true, arith, ◌∷◌, refl, sym, subst, rules}
+use Rattle.std.proofs.Common.{◌≡◌, true, arith, refl, sym, subst, rules}
 use Rattle.ada_events.specs.declared.event.Event.TheVariants.{Quit}
 use Rattle.ada_events.specs.Says.{creation_in, moment_in}
 use Rattle.ada_triggers.specs.Bounds.{IsStartBound}

@@ -17,21 +17,22 @@ overflow_add-len c = record { fits = omega (arith, c.len.ensures, events_are_few
 pub record_hold-requires : goal.record_hold-requires
 unfolding held_in
 record_hold-requires c =
-    holder_recorded (Waiting c.args.by c.args.pick c.args.choices.now c.args.tail.now) c.args.journal.now.events _ _ c.args.by.0 refl c.as_mut_slice-records.ensures.value
-    c.requires.stands.kept.recorded c.requires.lawful
+    holder_recorded (Waiting c.args.by c.args.pick c.args.choices.now c.args.tail.now) c.args.journal.now.events _ _ c.args.by.0
+    refl c.as_mut_slice-records.ensures.value c.requires.stands.kept.recorded c.requires.lawful
 
 pub follow_hold-requires-clause-tabled : goal.follow_hold-requires-clause-tabled
 unfolding held_in
 follow_hold-requires-clause-tabled c =
-    holder_tabled (Waiting c.args.by c.args.pick c.args.choices.now c.args.tail.now) c.args.journal.now.events _ c.args.by.0 refl c.requires.stands.kept.tabled c.requires.lawful
+    holder_tabled (Waiting c.args.by c.args.pick c.args.choices.now c.args.tail.now) c.args.journal.now.events _ c.args.by.0 refl
+    c.requires.stands.kept.tabled c.requires.lawful
 
 pub follow_hold-requires-clause-recorded : goal.follow_hold-requires-clause-recorded
 unfolding held_in
 follow_hold-requires-clause-recorded c =
     omega (
       arith,
-      holder_recorded (Waiting c.args.by c.args.pick c.args.choices.now c.args.tail.now) c.args.journal.now.events _ _ c.args.by.0 refl c.as_mut_slice-records.ensures.value
-          c.requires.stands.kept.recorded c.requires.lawful,
+      holder_recorded (Waiting c.args.by c.args.pick c.args.choices.now c.args.tail.now) c.args.journal.now.events _ _ c.args.by.0
+          refl c.as_mut_slice-records.ensures.value c.requires.stands.kept.recorded c.requires.lawful,
       c.record_hold.auto.records,
     )
 

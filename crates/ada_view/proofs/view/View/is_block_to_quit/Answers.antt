@@ -1,4 +1,4 @@
-use Rattle.std.proofs.Common.{◌∙◌, ap, sym, refl, Some}
+use Rattle.std.proofs.Common.{◌∙◌, ap, sym, Some}
 use Rattle.std.specs.Bool.{then_some}
 use Rattle.ada_events.specs.declared.event.Event.TheVariants.{Quit}
 use Rattle.ada_events.specs.declared.names.Master.TheVariants.{Block}
@@ -20,10 +20,16 @@ returns-then-not-is_within c =
     (sym (left_stays c.args.self.now c.in-Opened.by c.in-Opened.under c.args.at c.record-kept.ensures.lawful (c.requires ∙ ap Some c.in-Opened.is)
     (sym c.is_within.ensures ∙ c.if-not-is_within.true))))
 
-pub is_complete_block-complete-requires-clause-by : goal.is_complete_block-complete-requires-clause-by
+pub is_complete_block-complete-requires : goal.is_complete_block-complete-requires
 unfolding opening_in
-is_complete_block-complete-requires-clause-by c =
-    record { opening = record { by = c.in-Opened.by.0; under = c.in-Opened.under }; says = ap opening_in c.in-Opened.is; by = refl }
+is_complete_block-complete-requires c = record {
+  event = c.args.event.now;
+  opening = record { by = c.in-Opened.by.0; under = c.in-Opened.under };
+  stands = c.requires;
+  says = ap opening_in c.in-Opened.is;
+  right = c.record-kept.ensures.right;
+  within = sym c.is_within.ensures ∙ c.if-not-is_within.false;
+}
 
 pub is_to_quit-requires-clause-held : goal.is_to_quit-requires-clause-held
 unfolding opening_in

@@ -1,4 +1,4 @@
-use Rattle.std.proofs.Common.{◌∙◌, ap, sym, refl, Some}
+use Rattle.std.proofs.Common.{◌∙◌, ap, sym, Some}
 use Rattle.std.specs.Option.{option_and_then}
 use Rattle.ada_events.specs.Says.{opening_in}
 use Rattle.ada_view.proofs.Blocks.{opener_exists}
@@ -16,10 +16,16 @@ returns-then-not-is_within c =
     left_complete c.args.self.now c.in-Opened.by c.in-Opened.under c.args.block (c.requires.opened ∙ ap Some c.in-Opened.is)
     (sym c.is_within.ensures ∙ c.if-not-is_within.true)
 
-pub is_complete_block-requires-clause-by : goal.is_complete_block-requires-clause-by
+pub is_complete_block-requires : goal.is_complete_block-requires
 unfolding opening_in
-is_complete_block-requires-clause-by c =
-    record { opening = record { by = c.in-Opened.by.0; under = c.in-Opened.under }; says = ap opening_in c.in-Opened.is; by = refl }
+is_complete_block-requires c = record {
+  event = c.args.event.now;
+  opening = record { by = c.in-Opened.by.0; under = c.in-Opened.under };
+  stands = c.requires.opened;
+  says = ap opening_in c.in-Opened.is;
+  right = c.record.ensures.right;
+  within = sym c.is_within.ensures ∙ c.if-not-is_within.false;
+}
 
 pub returns-in_default : goal.returns-in_default
 returns-in_default c =
