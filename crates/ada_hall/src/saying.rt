@@ -2,7 +2,6 @@
 ghost use Rattle.std.specs.Prelude.{◌≡◌, ◌+◌, ℕ, false, Some, List, IfOk, IfErr, OnErr};
 ghost use Rattle.std.specs.Option.{option_copied};
 ghost use Rattle.ada_events.specs.Lawful.{IsLawful};
-ghost use Rattle.ada_events.specs.Tasks.{task_count};
 ghost use Rattle.ada_statements.specs.Binding.{is_show};
 ghost use Rattle.ada_replay.specs.Ends.{state};
 ghost use Rattle.ada_hall.specs.History.{IsAnswerTo};
@@ -14,8 +13,8 @@ use crate::answer::Answer;
 use crate::answers::Answers;
 use crate::published::PublishedKernel;
 use ada_board::Naming;
-use ada_events::{Refusal, TaskNo};
-use ada_kernel::Kernel;
+use ada_events::Refusal;
+use ada_replay::play::next_task;
 use ada_script::{Line, Names, Script, request_of};
 use std::sync::Wait;
 
@@ -27,13 +26,6 @@ pub(crate) fn open_line<'s>(script: &'s Script, answers: &Answers, place: u32) -
         return None;
     }
     script.lines().get(place as usize)
-}
-
-// The number of the task that the kernel makes next.
-fn next_task(kernel: &Kernel) -> TaskNo
-    ensures { result.0 ≡ task_count kernel.now }
-{
-    TaskNo(kernel.tasks())
 }
 
 // Makes the request of a line, and binds its name. Refused for want of memory, nothing is changed.

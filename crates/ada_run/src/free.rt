@@ -57,14 +57,4 @@ impl Gate for Free {
             }
         }
     }
-
-    fn after<J: Session, R: Wait>(
-        &self,
-        rt: &R,
-        shared: &Shared<'_, J>,
-        _speaker: u32,
-        place: u32,
-    ) {
-        shared.pass(rt, place);
-    }
 }
