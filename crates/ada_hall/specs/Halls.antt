@@ -10,7 +10,7 @@ use Rattle.ada_statements.specs.Binding.{is_show}
 use Rattle.ada_replay.specs.Play.{PlayState}
 use Rattle.ada_replay.specs.Replay.{beginning}
 use Rattle.ada_hall.specs.declared.answer.Answer.{Answer}
-use Rattle.ada_hall.specs.declared.answer.Answer.TheVariants.{Group, Refused, Shown}
+use Rattle.ada_hall.specs.declared.answer.Answer.TheVariants.{Group}
 use Rattle.ada_hall.specs.declared.answer.KeptAnswer.{KeptAnswer}
 use Rattle.ada_hall.specs.declared.turns.Turns.{Turns}
 use Rattle.ada_hall.specs.Answers.{answer_at}
@@ -63,9 +63,8 @@ kept_at place journal answer = record { place = place; events = length journal; 
 
 -- how many requests an answer says were accepted
 abbrev pub gained : Answer → ℕ
-gained (Group first last) = 1
-gained (Refused cause) = 0
-gained (Shown value) = 0
+gained (Group _ _) = 1
+gained _ = 0
 
 -- what the request of a line was answered is kept, and a group is published
 pub record IsSaid (line : Line) (place : ℕ) (old new : Held) : Type 0 where

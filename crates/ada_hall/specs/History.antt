@@ -31,11 +31,11 @@ pub record IsRefusalOf (line : Line) (request : Request) (cause : Refusal) (old 
 abbrev pub AnswersRequest : Line → PlayState → Answer → List ℕ → PlayState → Request → Type 0
 AnswersRequest line old (Group first last) text new request = IsGroupOf line request first last old text new
 AnswersRequest line old (Refused cause) text new request = IsRefusalOf line request cause old text new
-AnswersRequest line old (Shown value) text new request = ⊥
+AnswersRequest _ _ (Shown _) _ _ _ = ⊥
 
 -- an answer to a line that shows an attribute, which changes nothing
 abbrev pub AnswersShow : Line → PlayState → Answer → List ℕ → PlayState → Type 0
-AnswersShow line old (Group first last) text new = ⊥
+AnswersShow _ _ (Group _ _) _ _ = ⊥
 AnswersShow line old (Refused cause) text new = (new ≡ old) × (text ≡ refusal_text line.line cause)
 AnswersShow line old (Shown value) text new = (new ≡ old) × (text ≡ shown_text line.line value)
 
