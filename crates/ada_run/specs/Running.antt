@@ -1,5 +1,5 @@
 -- A run of a script: threads play its lines, and what the answers print is written.
-use Rattle.std.specs.Prelude.{◌≡◌, ◌⊎◌, ◌<◌, ℕ, Option, List, [], ◌∷◌, ◌++◌, length}
+use Rattle.std.specs.Prelude.{◌⊎◌, ◌<◌, ℕ, Option, List, [], ◌∷◌, ◌++◌, length}
 use Rattle.std.specs.Io.KnownBytes.{Keeps}
 use Rattle.ada_script.specs.declared.script.Line.{Line}
 use Rattle.ada_script.specs.Script.{IsScript}
@@ -17,10 +17,10 @@ use Rattle.ada_hall.specs.Speakers.{created}
 
 -- answers that follow one another: each is that of its own place's line over the very journal and bindings that the one
 -- before it left
-abbrev pub Follow : List Line → List KeptAnswer → PlayState → List ℕ → PlayState → Type 0
-Follow script [] old text new = (text ≡ []) × (new ≡ old)
-Follow script (kept ∷ others) old text new =
-    (after : PlayState) × (said : List ℕ) × (rest : List ℕ) × IsGiven script kept old said after × Follow script others after rest new × (text ≡ said ++ rest)
+pub data Follow (script : List Line) : List KeptAnswer → PlayState → List ℕ → PlayState → Type 0 where
+  no_more : {state : PlayState} → Follow script [] state [] state
+  one_more : {kept : KeptAnswer} {others : List KeptAnswer} {old after new : PlayState} {said rest : List ℕ}
+      → IsGiven script kept old said after → Follow script others after rest new → Follow script (kept ∷ others) old (said ++ rest) new
 
 -- each line of the script is answered once, one after another in some order, from the script's beginning on; this is what
 -- the answers print, and what they lead to
