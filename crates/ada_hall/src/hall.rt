@@ -1,6 +1,5 @@
 //! The value under the lock.
-ghost use Rattle.std.specs.Prelude.{◌≡◌, ◌==◌, ◌+◌, ◌<◌, ◌≤◌, false, Err, [], IsTrue, IfOk, IfErr, OnOk, OnErr, MatchOption, length, slice_get};
-ghost use Rattle.ada_events.specs.Attributes.{is_finished};
+ghost use Rattle.std.specs.Prelude.{◌≡◌, ◌==◌, ◌+◌, ◌<◌, ◌≤◌, false, true, Err, [], IsTrue, IfOk, IfErr, OnOk, OnErr, MatchOption, length, slice_get};
 ghost use Rattle.ada_events.specs.Lawful.{IsLawful, IsSettled};
 ghost use Rattle.ada_events.specs.Steps.{IsAccepted, IsRefused};
 ghost use Rattle.ada_events.specs.Boards.{AreTrueOf};
@@ -10,6 +9,7 @@ ghost use Rattle.ada_hall.specs.Answers.{answer_at, AreAll, AnswerNoPlaceTwice};
 ghost use Rattle.ada_hall.specs.Asking.{Asks};
 ghost use Rattle.ada_hall.specs.Counting.{asked_count};
 ghost use Rattle.ada_replay.specs.Play.{shown as shown_of};
+ghost use Rattle.ada_replay.specs.Replay.{Tells};
 ghost use Rattle.ada_hall.specs.Going.{may_go};
 ghost use Rattle.ada_hall.specs.Halls.{state_of, IsHistory, AnswersPlace, noted, opening};
 ghost use Rattle.ada_hall.specs.internal.Halls.{IsOfShow};
@@ -27,6 +27,8 @@ use crate::turns::{Turns, may_play};
 use ada_board::BoardWriter;
 use ada_events::{Journal, Refusal, Request};
 use ada_kernel::Kernel;
+use ada_replay::Ending;
+use ada_replay::replaying::ending_of;
 use ada_script::{Names, Script, Value};
 use std::alloc::Global;
 use std::marker::Model;
@@ -269,10 +271,10 @@ impl<'s, J: Session> Hall<'s, J> {
     }
 
     /// Whether the main program is terminated.
-    pub fn is_finished(&self) -> bool
-        ensures { result ≡ is_finished self.now.showing.journal }
+    pub fn ending(&self) -> Ending
+        ensures { Tells result self.now.showing.journal }
     {
-        self.published.kernel().finished()
+        ending_of(self.published.kernel())
     }
 
     /// How many requests were accepted: the number of asked events in the journal.
@@ -305,6 +307,15 @@ impl<'s, J: Session> Hall<'s, J> {
         ensures { self.new ≡ record self.old { turns = turns } }
     {
         self.turns = turns;
+    }
+
+    /// From now on no further line is played.
+    pub fn stop(&mut self)
+        ensures { self.new ≡ record self.old {
+          turns = record self.old.turns { stopped = true };
+        } }
+    {
+        self.turns.stop();
     }
 
     /// Whether the task of the line at a place runs, or has completed: then the line needn't wait. A tick never
