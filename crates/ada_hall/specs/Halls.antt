@@ -14,7 +14,7 @@ use Rattle.ada_hall.specs.declared.answer.Answer.TheVariants.{Group}
 use Rattle.ada_hall.specs.declared.answer.KeptAnswer.{KeptAnswer}
 use Rattle.ada_hall.specs.declared.turns.Turns.{Turns}
 use Rattle.ada_hall.specs.Answers.{answer_at}
-use Rattle.ada_hall.specs.PublishedKernels.{Showing, GoesOnShowing}
+use Rattle.ada_hall.specs.PublishedKernels.{Showing, ShowsAnswer}
 use Rattle.ada_hall.specs.Speakers.{speaker_count}
 use Rattle.ada_hall.specs.Turns.{first_turns}
 use Rattle.ada_hall.specs.History.{GoesOn, IsAnswerTo, AreGiven}
@@ -66,13 +66,13 @@ abbrev pub gained : Answer → ℕ
 gained (Group _ _) = 1
 gained _ = 0
 
--- what the request of a line was answered is kept, and a group is published
+-- what the request of a line was answered is kept, and shown
 pub record IsSaid (line : Line) (place : ℕ) (old new : Held) : Type 0 where
   pub answer : Answer
   pub text : List ℕ
   pub answers : IsAnswerTo line (state_of old) answer text (state_of new)
   pub kept : new.answers ≡ old.answers ++ kept_at place old.showing.journal answer ∷ []
-  pub published : GoesOnShowing old.showing new.showing
+  pub published : ShowsAnswer answer old.showing new.showing
   pub turns : new.turns ≡ old.turns
 
 -- the request at a place is answered; nothing changes where there is none, or it has an answer

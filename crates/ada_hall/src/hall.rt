@@ -14,6 +14,7 @@ ghost use Rattle.ada_hall.specs.Going.{may_go};
 ghost use Rattle.ada_hall.specs.Halls.{state_of, IsHistory, AnswersPlace, noted, opening};
 ghost use Rattle.ada_hall.specs.internal.Halls.{IsOfShow};
 ghost use Rattle.ada_hall.specs.PublishedKernels.{Publishes, IsTied};
+ghost use Rattle.ada_hall.specs.Turns.{left, passed, waited};
 
 use crate::answer::{Answer, KeptAnswer};
 use crate::answers::Answers;
@@ -78,19 +79,19 @@ fn beginnings(alloc: Global, script: &Script) -> Result<(Names, Kernel, Answers)
 
 impl<'s, J: Session> Hall<'s, J> {
     /// A hall with an empty journal and no answers, of a writer to which nothing was ever offered. Refused
-    /// for want of memory, it gives the writer back.
+    /// for want of memory, it gives the writer and the book back, so that it may be tried again.
     pub fn new(
         alloc: Global,
         script: &'s Script,
         writer: BoardWriter<J>,
         book: Book<J>,
-    ) -> Result<Hall<'s, J>, (Refusal, BoardWriter<J>)>
+    ) -> Result<Hall<'s, J>, (Refusal, BoardWriter<J>, Book<J>)>
         requires script { script.now ≡ J.script }
         requires writer { writer ≡ record { published = []; offered = [] } }
         requires book { book.total ≡ 0 }
         ensures ok { IfOk result (λ hall. hall ≡ opening J.script) }
-        ensures err { IfErr result (λ refused.
-            (refused.0 ≡ Refusal.OutOfMemory) × (refused.1 ≡ writer)) }
+        ensures err { IfErr result (λ refused. (refused.0 ≡ Refusal.OutOfMemory)
+            × (refused.1 ≡ writer) × (refused.2 ≡ book)) }
     {
         match beginnings(alloc, script) {
             Ok((names, kernel, answers)) => Ok(Hall {
@@ -101,7 +102,7 @@ impl<'s, J: Session> Hall<'s, J> {
                 tally: Tally::new(book),
                 turns: Turns::new(speakers(script.lines())),
             }),
-            Err(cause) => Err((cause, writer)),
+            Err(cause) => Err((cause, writer, book)),
         }
     }
 
@@ -302,11 +303,28 @@ impl<'s, J: Session> Hall<'s, J> {
         self.turns
     }
 
-    /// Says who may go on.
-    pub fn set_turns(&mut self, turns: Turns)
-        ensures { self.new ≡ record self.old { turns = turns } }
+    /// A line was played: it is the next one's turn, and threads that wait have to look again.
+    pub fn pass(&mut self, place: u32)
+        ensures { self.new ≡ record self.old { turns = passed place self.old.turns } }
     {
-        self.turns = turns;
+        self.turns.pass(place);
+    }
+
+    /// A thread is done.
+    pub fn leave(&mut self)
+        ensures { self.new ≡ record self.old { turns = left self.old.turns } }
+    {
+        self.turns.leave();
+    }
+
+    /// A thread that can't go waits for a change: `seen` is the change that it waited for already. The answer
+    /// is the change that it has seen now. Where no thread is left that could bring one about, nobody waits any
+    /// more.
+    pub fn wait(&mut self, seen: Option<u64>) -> u64
+        ensures change { result ≡ self.old.turns.changes }
+        ensures turns { self.new ≡ record self.old { turns = waited seen self.old.turns } }
+    {
+        self.turns.wait(seen)
     }
 
     /// From now on no further line is played.

@@ -5,7 +5,7 @@ ghost use Rattle.ada_events.specs.Lawful.{IsLawful};
 ghost use Rattle.ada_statements.specs.Binding.{is_show};
 ghost use Rattle.ada_replay.specs.Ends.{state};
 ghost use Rattle.ada_hall.specs.History.{IsAnswerTo};
-ghost use Rattle.ada_hall.specs.PublishedKernels.{GoesOnShowing};
+ghost use Rattle.ada_hall.specs.PublishedKernels.{ShowsAnswer};
 ghost use Rattle.ada_hall.specs.Counting.{asked_count};
 ghost use Rattle.ada_hall.specs.Halls.{open_line, gained};
 
@@ -39,7 +39,7 @@ pub(crate) fn answer_request<J: Naming, R: Wait>(
     ensures ok { IfOk result (λ answer. (text : List ℕ)
         × IsAnswerTo line.now (state published.old.journal names.old) answer text
         (state published.new.journal names.new)) }
-    ensures showing { IfOk result (λ _. GoesOnShowing published.old published.new) }
+    ensures showing { IfOk result (λ answer. ShowsAnswer answer published.old published.new) }
     ensures counted { IfOk result (λ answer.
         asked_count published.new.journal ≡ asked_count published.old.journal + gained answer) }
     ensures err { IfErr result (λ cause. cause ≡ Refusal.OutOfMemory) }

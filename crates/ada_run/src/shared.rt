@@ -1,6 +1,6 @@
 //! What threads share.
 
-use ada_hall::{Hall, Session, Turns};
+use ada_hall::{Hall, Session};
 use std::mem::ManuallyDrop;
 use std::sync::{Condvar, Mutex, Wait};
 
@@ -23,31 +23,29 @@ impl<'s, J: Session> Shared<'s, J> {
     }
 
     // Changes who may go on: those who wait look again.
-    fn change<R: Wait, C: FnOnce(&mut Turns)>(&self, rt: &R, change: C)
+    fn change<R: Wait, C: FnOnce(&mut Hall<'s, J>)>(&self, rt: &R, change: C)
         requires { C.IsAlwaysCallable change }
     {
         let mut guard = self.hall.lock(rt);
         let hall: &mut Hall<'s, J> = &mut guard;
-        let mut turns = hall.turns();
-        change(&mut turns);
-        hall.set_turns(turns);
+        change(hall);
         drop(guard);
         self.wake.notify_all();
     }
 
     /// From now on no further line is played, and nobody waits.
     pub fn stop<R: Wait>(&self, rt: &R) {
-        self.change(rt, |turns| turns.stop());
+        self.change(rt, |hall| hall.stop());
     }
 
     /// The line at a place was played: those who wait look again.
     pub(crate) fn pass<R: Wait>(&self, rt: &R, place: u32) {
-        self.change(rt, |turns| turns.pass(place));
+        self.change(rt, |hall| hall.pass(place));
     }
 
     /// A thread is done: those who wait look again.
     pub(crate) fn leave<R: Wait>(&self, rt: &R) {
-        self.change(rt, |turns| turns.leave());
+        self.change(rt, |hall| hall.leave());
     }
 
     /// The hall, once no thread shares it any more.
