@@ -22,30 +22,31 @@ impl<'s, J: Session> Shared<'s, J> {
         }
     }
 
-    // Changes who may go on: those who wait look again.
-    fn change<R: Wait, C: FnOnce(&mut Hall<'s, J>)>(&self, rt: &R, change: C)
-        requires { C.IsAlwaysCallable change }
-    {
+    /// From now on no further line is played, and nobody waits.
+    pub fn stop<R: Wait>(&self, rt: &R) {
         let mut guard = self.hall.lock(rt);
         let hall: &mut Hall<'s, J> = &mut guard;
-        change(hall);
+        hall.stop();
         drop(guard);
         self.wake.notify_all();
     }
 
-    /// From now on no further line is played, and nobody waits.
-    pub fn stop<R: Wait>(&self, rt: &R) {
-        self.change(rt, |hall| hall.stop());
-    }
-
     /// The line at a place was played: those who wait look again.
     pub(crate) fn pass<R: Wait>(&self, rt: &R, place: u32) {
-        self.change(rt, |hall| hall.pass(place));
+        let mut guard = self.hall.lock(rt);
+        let hall: &mut Hall<'s, J> = &mut guard;
+        hall.pass(place);
+        drop(guard);
+        self.wake.notify_all();
     }
 
     /// A thread is done: those who wait look again.
     pub(crate) fn leave<R: Wait>(&self, rt: &R) {
-        self.change(rt, |hall| hall.leave());
+        let mut guard = self.hall.lock(rt);
+        let hall: &mut Hall<'s, J> = &mut guard;
+        hall.leave();
+        drop(guard);
+        self.wake.notify_all();
     }
 
     /// The hall, once no thread shares it any more.
