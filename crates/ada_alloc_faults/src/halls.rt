@@ -2,17 +2,16 @@
 ghost use Rattle.std.specs.Prelude.{◌≡◌, ◌<◌, []};
 ghost use Rattle.ada_board.specs.Sights.{Posted};
 
-use crate::boards::offer_first;
 use crate::saying::{SCRIPT, is_at, try_say};
 use crate::stepping::try_step;
 use crate::trial::{Answer, Reach, Seen};
-use ada_board::{BoardWriter, History, Readers, open_board};
+use ada_board::{BoardReader, BoardWriter, History, open_board};
 use ada_hall::{Hall, Session};
 use ada_script::{Script, read};
 use anyhow::anyhow;
 use std::marker::Brand;
 use std::sync::Wait;
-use std::sync::ledger::Blank;
+use std::sync::ledger::{Blank, Book, Share};
 
 /// What is asked of a trial of a hall.
 #[derive(Clone, Copy, Debug, PartialEq, Eq)]
@@ -32,38 +31,65 @@ pub fn try_hall<R: Wait + AllocGlobal>(
 ) -> anyhow::Result<Option<Seen>> {
     let script = read(rt.alloc(), SCRIPT)?;
     match call {
-        HallCall::New => made_twice(rt, &script, reach),
+        HallCall::New => made::<Brand, R>(rt, History::new(), Blank::new(1), &script, reach),
         _ => played::<Brand, R>(rt, History::new(), Blank::new(1), &script, call, reach),
     }
 }
 
-// Makes a hall, and where that is refused another, on a board and with a book of shares of its own, since the first
-// book is used up. All that is left of the first is its writer, which is looked at there.
-fn made_twice<R: Wait + AllocGlobal>(
+// Makes a hall; refused, none is left, and its writer is closed.
+fn make_again<'s, J: Session, R: Wait + AllocGlobal>(
     rt: &R,
-    script: &Script,
-    reach: Reach,
-) -> anyhow::Result<Option<Seen>> {
-    let Some(answer) = make(rt, script, reach)? else {
-        return Ok(None);
-    };
-    let last = match answer {
-        Answer::Refused => make(rt, script, reach)?,
-        _ => Some(answer),
-    };
-    Ok(Some(Seen {
-        answer,
-        unchanged: true,
-        again: last == Some(Answer::Done),
-    }))
+    script: &'s Script,
+    writer: BoardWriter<J>,
+    book: Book<J>,
+) -> Option<Hall<'s, J>>
+    requires script { script.now ≡ J.script }
+    requires writer { writer ≡ record { published = []; offered = [] } }
+    requires book { book.total ≡ 0 }
+{
+    match Hall::new(rt.alloc(), script, writer, book) {
+        Ok(hall) => Some(hall),
+        Err((_, writer, _book)) => {
+            writer.close(rt);
+            None
+        }
+    }
 }
 
-fn make<R: Wait + AllocGlobal>(
+// Makes a hall, and where that is refused another of what came back: what the first call answered, and the hall.
+fn make<'s, J: Session, R: Wait + AllocGlobal>(
     rt: &R,
-    script: &Script,
-    reach: Reach,
-) -> anyhow::Result<Option<Answer>> {
-    made::<Brand, R>(rt, History::new(), Blank::new(1), script, reach)
+    script: &'s Script,
+    writer: BoardWriter<J>,
+    book: Book<J>,
+) -> (Answer, Option<Hall<'s, J>>)
+    requires script { script.now ≡ J.script }
+    requires writer { writer ≡ record { published = []; offered = [] } }
+    requires book { book.total ≡ 0 }
+{
+    match Hall::new(rt.alloc(), script, writer, book) {
+        Ok(hall) => (Answer::Done, Some(hall)),
+        Err((cause, writer, book)) => (Answer::from(cause), make_again(rt, script, writer, book)),
+    }
+}
+
+// What is seen of a hall that was made at last, whose first call answered so: it is new, and its steps are seen.
+fn seen_of<J: Session, R: Wait>(
+    rt: &R,
+    hall: &mut Hall<'_, J>,
+    share: &mut Share<J>,
+    reader: &mut BoardReader<J>,
+    answer: Answer,
+) -> Option<Seen>
+    requires { 0 < share.old.parts }
+{
+    let unchanged = is_at(hall, 0);
+    let steps = try_step(rt, hall, share, reader, Reach::Whole)?;
+    Some(Seen {
+        answer,
+        unchanged,
+        again: steps.answer == Answer::Done && steps.again,
+    })
 }
 
 fn made<J: Session, R: Wait + AllocGlobal>(
@@ -72,59 +98,31 @@ fn made<J: Session, R: Wait + AllocGlobal>(
     blank: Blank,
     script: &Script,
     reach: Reach,
-) -> anyhow::Result<Option<Answer>>
+) -> anyhow::Result<Option<Seen>>
     requires named { history ≡ J.book }
     requires script { script.now ≡ J.script }
     requires ledger { (blank.name ≡ J.name) × (blank.parts ≡ J.parts) }
+    requires parts { 0 < blank.parts }
 {
     let (writer, mut places) = open_board::<J, R>(rt, rt.alloc(), history, 1)?;
-    let (book, _share) = blank.open::<J>();
+    let (book, mut share) = blank.open::<J>();
+    let reader = places.take();
     if reach == Reach::Before {
         writer.close(rt);
         return Ok(None);
     }
-    match Hall::new(rt.alloc(), script, writer, book) {
-        Ok(hall) => {
-            let good = is_at(&hall, 0);
-            hall.close(rt);
-            Ok(told(reach, if good { Answer::Done } else { Answer::Failed }))
-        }
-        Err((cause, mut writer)) => {
-            let whole = publishes(rt, &mut writer, &mut places);
-            writer.close(rt);
-            let answer = if whole {
-                Answer::from(cause)
-            } else {
-                Answer::Failed
-            };
-            Ok(told(reach, answer))
-        }
-    }
-}
-
-// Whether a writer that was given back, to which nothing was offered, publishes a first board.
-fn publishes<J: Session, R: Wait + AllocGlobal>(
-    rt: &R,
-    writer: &mut BoardWriter<J>,
-    places: &mut Readers<J>,
-) -> bool
-    requires { writer.old ≡ record { published = []; offered = [] } }
-{
-    let Ok(mut reader) = places.take() else {
-        return false;
+    let (answer, hall) = make(rt, script, writer, book);
+    let Some(mut hall) = hall else {
+        return Err(anyhow!("no hall"));
     };
-    match offer_first(rt, writer, &mut reader, Reach::Whole) {
-        Ok(Some(seen)) => seen.answer == Answer::Done && seen.again,
-        _ => false,
-    }
-}
-
-// What is told of a trial: nothing, where nothing behind the call was asked.
-fn told(reach: Reach, answer: Answer) -> Option<Answer> {
-    match reach {
-        Reach::Whole => Some(answer),
+    let seen = match (reach, reader) {
+        (Reach::Whole, Ok(mut reader)) => {
+            seen_of(rt, &mut hall, &mut share, &mut reader, answer)
+        }
         _ => None,
-    }
+    };
+    hall.close(rt);
+    Ok(seen)
 }
 
 fn played<J: Session, R: Wait + AllocGlobal>(
@@ -155,7 +153,7 @@ fn played<J: Session, R: Wait + AllocGlobal>(
             hall.close(rt);
             Ok(seen)
         }
-        Err((_, writer)) => {
+        Err((_, writer, _book)) => {
             writer.close(rt);
             Err(anyhow!("no hall"))
         }

@@ -30,6 +30,7 @@ use Rattle.ada_hall.specs.declared.answer.Answer.{Answer}
 use Rattle.ada_hall.specs.declared.answer.Answer.TheVariants.{Group, Refused, Shown}
 use Rattle.ada_hall.specs.declared.answer.KeptAnswer.{KeptAnswer}
 use Rattle.ada_hall.specs.History.{IsGroupOf, AnswersRequest, AnswersShow, IsAnswerTo, IsGiven, AreGiven}
+use Rattle.ada_hall.specs.History.AreGiven.{no_more, one_more}
 use Rattle.ada_hall.specs.Printing.{Continues, ArePrinted}
 use Rattle.ada_hall.specs.internal.Printing.{EndsWithin, PrintsOne}
 
@@ -57,8 +58,9 @@ one_grows script kept old new said given = grows_by given.line old new kept.answ
 -- the journal of the last state went on from that of each before it
 pub given_grows : (script : List Line) (answers : List KeptAnswer) (old last : PlayState) (said : List ℕ) → AreGiven script answers old said last
     → Continues old.journal last.journal
-given_grows script [] old last said (empty, same) = ([], ap (λ (s : PlayState). s.journal) same)
-given_grows script (kept ∷ others) old last said (before, after, first, rest, on, given, others_given, whole) =
+given_grows script answers old last said no_more = ([], refl)
+given_grows script answers old last said
+    (one_more {kept = kept} {others = others} {before = before} {after = after} {said = first} {rest = rest} on given others_given) =
     further old.journal before.journal last.journal on.journal
     (further before.journal after.journal last.journal (one_grows script kept before after first given)
     (given_grows script others after last rest others_given))
@@ -164,13 +166,14 @@ pub record Next (script : List Line) (kept : KeptAnswer) (events : List Event) :
 
 next_of : (script : List Line) (kept : KeptAnswer) (others : List KeptAnswer) (events : List Event) (now last : PlayState) (text : List ℕ)
     → AreGiven script (kept ∷ others) now text last → Continues last.journal (reverse events) → Next script kept events
-next_of script kept others events now last text (before, after, said, rest, on, given, others_given, whole) goes_on = record {
-  old = before;
-  new = after;
-  said = said;
-  given = given;
-  goes_on = further after.journal last.journal (reverse events) (given_grows script others after last rest others_given) goes_on;
-}
+next_of script kept others events now last text (one_more {before = before} {after = after} {said = said} {rest = rest} on given others_given)
+    goes_on = record {
+      old = before;
+      new = after;
+      said = said;
+      given = given;
+      goes_on = further after.journal last.journal (reverse events) (given_grows script others after last rest others_given) goes_on;
+    }
 
 pub next_left : (script : List Line) (answers : List KeptAnswer) (i : ℕ) (d : KeptAnswer) (events : List Event) (names : Scope) (old new : Option (List ℕ))
     (pending : List ℕ)
@@ -217,7 +220,7 @@ push_left : (script : List Line) (answers : List KeptAnswer) (kept : KeptAnswer)
     → Appends old new written → slice_get script kept.place ≡ Some line → PrintsOne line events kept names bound pending more
     → IsLeft script answers others events bound old new more
 push_left script answers kept others line events names bound old new written pending more now last text
-    printed (before, after, said, rest, on, given, others_given, whole) named appended stands prints =
+    printed (one_more {before = before} {after = after} {said = said} {rest = rest} on given others_given) named appended stands prints =
     let goes_on = further after.journal last.journal (reverse events) (given_grows script others after last rest others_given) printed.1 in
     let one = prints script before after said given (same_line script kept.place given.line line given.stands stands) (on.names ∙ named) goes_on in
     record {
@@ -226,7 +229,7 @@ push_left script answers kept others line events names bound old new written pen
       now = after;
       last = last;
       printed = subst (λ t. ArePrinted script answers (reverse events) t last)
-          (ap (λ t. (written ++ pending) ++ t) whole ∙ sym (append_assoc (written ++ pending) said rest)
+          (sym (append_assoc (written ++ pending) said rest)
           ∙ ap (λ t. t ++ rest) (append_assoc written pending said ∙ ap (λ t. written ++ t) (sym one.0))) printed;
       given = others_given;
       named = sym one.1;
@@ -283,6 +286,10 @@ left_cut script answers others events names old between new pending left (n, app
       appended = appends_both old between new left.written (take n pending) left.appended appended;
     }
 
+-- no answers print nothing
+nothing_given : (script : List Line) (now last : PlayState) (text : List ℕ) → AreGiven script [] now text last → text ≡ []
+nothing_given script now last text no_more = refl
+
 -- all that was pending behind the last answer was written
 pub all_written : (script : List Line) (answers others : List KeptAnswer) (events : List Event) (names : Scope) (old between new : Option (List ℕ))
     (pending : List ℕ)
@@ -294,7 +301,8 @@ all_written script answers others events names old between new pending none left
       record {
         text = left.written ++ pending;
         prints = subst (λ t. ArePrinted script answers (reverse events) t left.last)
-            (ap (λ t. (left.written ++ pending) ++ t) ended.0 ∙ append-nil (left.written ++ pending)) left.printed;
+            (ap (λ t. (left.written ++ pending) ++ t) (nothing_given script left.now left.last left.rest ended) ∙ append-nil (left.written ++ pending))
+            left.printed;
         appended = appends_both old between new left.written pending left.appended appended;
       },
     )

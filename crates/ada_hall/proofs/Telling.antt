@@ -27,6 +27,7 @@ use Rattle.ada_hall.specs.declared.answer.Answer.{Answer}
 use Rattle.ada_hall.specs.declared.answer.Answer.TheVariants.{Group, Refused, Shown}
 use Rattle.ada_hall.specs.declared.answer.KeptAnswer.{KeptAnswer}
 use Rattle.ada_hall.specs.History.{IsAnswerTo, AnswersRequest, AnswersShow, GoesOn, IsGiven, AreGiven}
+use Rattle.ada_hall.specs.History.AreGiven.{no_more, one_more}
 use Rattle.ada_hall.specs.Halls.{IsHistory}
 use Rattle.ada_hall.specs.internal.Halls.{IsOfShow}
 
@@ -55,21 +56,15 @@ accepted_goes_on old new names request at accepted =
 given_push : (script : List Line) (answers : List KeptAnswer) (kept : KeptAnswer) (old last before after : PlayState) (text said : List ℕ)
     → AreGiven script answers old text last
     → GoesOn last before → IsGiven script kept before said after → AreGiven script (answers ++ kept ∷ []) old (text ++ said) after
-given_push script [] kept old last before after text said (empty, same) on given =
-    (before, after, said, [], subst (λ s. GoesOn s before) same on, given, (refl, refl), ap (λ t. t ++ said) empty ∙ sym (append-nil said))
-given_push script (first ∷ others) kept old last before after text said (b, a, s, rest, first_on, first_given, others_given, whole) on given = (
-  b,
-  a,
-  s,
-  rest ++ said,
-  first_on,
-  first_given,
-  given_push script others kept a last before after rest said others_given on given,
-  ap (λ t. t ++ said) whole ∙ append_assoc s rest said,
-)
+given_push script answers kept old last before after text said no_more on given =
+    subst (λ t. AreGiven script (kept ∷ []) old t after) (append-nil said) (one_more on given no_more)
+given_push script answers kept old last before after text said
+    (one_more {kept = first} {others = others} {after = next} {said = s} {rest = rest} first_on first_given others_given) on given =
+    subst (λ t. AreGiven script (first ∷ (others ++ kept ∷ [])) old t after) (sym (append_assoc s rest said))
+    (one_more first_on first_given (given_push script others kept next last before after rest said others_given on given))
 
 pub history_begins : (script : List Line) → IsHistory script [] (beginning script)
-history_begins script = record { text = []; last = beginning script; given = (refl, refl); goes_on = stays (beginning script) }
+history_begins script = record { text = []; last = beginning script; given = no_more; goes_on = stays (beginning script) }
 
 pub history_goes_on : (script : List Line) (answers : List KeptAnswer) (now next : PlayState) → IsHistory script answers now → GoesOn now next
     → IsHistory script answers next

@@ -13,7 +13,8 @@ use Rattle.ada_events.specs.Lawful.{IsLawful, IsSettled}
 use Rattle.ada_events.specs.Steps.{IsAccepted}
 use Rattle.ada_events.specs.Boards.{IsShownBy, AreTrueOf, board_of}
 use Rattle.ada_laws.proofs.Forcing.{forces_keeps}
-use Rattle.ada_laws.proofs.ShowingLaws.{boards_stay_true, answers_are_shown, no_boards_are_true}
+use Rattle.ada_laws.proofs.Publishing.{published_next, published_still}
+use Rattle.ada_laws.proofs.ShowingLaws.{no_boards_are_true}
 use Rattle.ada_laws.proofs.GroupLaws.{empty_is_settled}
 use Rattle.ada_board.specs.Answers.{latest_behind, latest}
 use Rattle.ada_board.specs.Sights.{Posted}
@@ -32,21 +33,6 @@ grown old new request at accepted =
       steps.1 ∙ sym (append_assoc steps.0 (asked_event old request ∷ []) old),
       omega (arith, length-append steps.0 (asked_event old request ∷ [])),
     )
-
--- the board of what a request led to may be published
-pub published_next : (old new : List Event) (request : Request) (at : ℕ) (published : List Board) → AreTrueOf old published → IsSettled old
-    → IsAccepted old request at new → AreTrueOf new (published ++ board_of new ∷ [])
-published_next old new request at published true_of settled accepted =
-    answers_are_shown old request new published true_of settled accepted.unrefused accepted.after
-
--- what is published may also stay behind
-published_still : (old new : List Event) (request : Request) (at : ℕ) (published : List Board) → AreTrueOf old published
-    → IsAccepted old request at new → IsLawful new → AreTrueOf new published
-published_still old new request at published true_of accepted lawful =
-    let more = grown old new request at accepted in
-    let P : List Event → Type 0 = λ j. AreTrueOf j published in
-    let Q : List Event → Type 0 = λ j. IsLawful j in
-    subst P (sym more.1) (boards_stay_true more.0 old published true_of (subst Q more.1 lawful))
 
 board_events : (journal : List Event) → (board_of journal).events ≡ length journal
 unfolding board_of

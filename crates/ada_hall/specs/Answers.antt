@@ -2,7 +2,7 @@
 use Rattle.std.specs.Prelude.{◌≡◌, ◌≢◌, ◌<◌, ℕ, ◌==◌, Option, List, [], ◌∷◌, find, option_map, IsSome}
 use Rattle.std.specs.List.{AllPairs}
 use Rattle.ada_hall.specs.declared.answer.Answer.{Answer}
-use Rattle.ada_hall.specs.declared.answer.Answer.TheVariants.{Group, Refused, Shown}
+use Rattle.ada_hall.specs.declared.answer.Answer.TheVariants.{Group}
 use Rattle.ada_hall.specs.declared.answer.KeptAnswer.{KeptAnswer}
 
 -- how many places there are, and the answers to some of them
@@ -24,9 +24,8 @@ AnswerNoPlaceTwice answers = AllPairs (λ (a : KeptAnswer) (b : KeptAnswer). a.p
 
 -- how many events a journal has behind an answer that it had so many before
 abbrev pub end_of : Answer → ℕ → ℕ
-end_of (Group first last) events = last
-end_of (Refused cause) events = events
-end_of (Shown value) events = events
+end_of (Group _ last) _ = last
+end_of _ events = events
 
 -- each answer was given where the one before it ended, the first at so many events, and the last ended at so many
 abbrev pub AreJoined : List KeptAnswer → ℕ → ℕ → Type 0

@@ -13,10 +13,10 @@ use Rattle.ada_hall.specs.declared.asking.Asking.TheVariants.{Callable, Terminat
 
 -- the attribute of the task, or of the entry at the slot, that a statement names
 abbrev pub Names : Scope → List Event → Statement → Asking → Type 0
-Names names journal (ShowCallable by task) asking = asking ≡ Callable (task_of names task)
-Names names journal (ShowTerminated by task) asking = asking ≡ Terminated (task_of names task)
+Names names _ (ShowCallable _ task) asking = asking ≡ Callable (task_of names task)
+Names names _ (ShowTerminated _ task) asking = asking ≡ Terminated (task_of names task)
 Names names journal (ShowCount by entry) (Count slot) = slot_of journal (task_of names by).0 (entry_of names by entry) ≡ Some slot
-Names names journal _ asking = ⊥
+Names _ _ _ _ = ⊥
 
 -- the statement may show its attribute, and this is it
 pub record Asks (names : Scope) (journal : List Event) (statement : Statement) (asking : Asking) : Type 0 where

@@ -5,16 +5,16 @@ use Rattle.ada_events.specs.declared.event.Event.TheVariants.{Halted, Failed, Me
 
 -- the event is what a request became, and no forced step
 unfoldable pub is_asked : Event → Bool
-is_asked (Halted task) = false
-is_asked (Failed call) = false
-is_asked (Met call wait) = false
-is_asked (Cancelled call) = false
-is_asked (Passed wait way) = false
-is_asked (Woken pause) = false
-is_asked (Activated start ok) = false
-is_asked (Gone task) = false
-is_asked (Quit master) = false
-is_asked (Left close) = false
+is_asked (Halted _) = false
+is_asked (Failed _) = false
+is_asked (Met _ _) = false
+is_asked (Cancelled _) = false
+is_asked (Passed _ _) = false
+is_asked (Woken _) = false
+is_asked (Activated _ _) = false
+is_asked (Gone _) = false
+is_asked (Quit _) = false
+is_asked (Left _) = false
 is_asked _ = true
 
 unfoldable pub asked_count : List Event → ℕ

@@ -1,6 +1,6 @@
 -- Who may go on: what a thread looks at before it plays a line.
-use Rattle.std.specs.Prelude.{ℕ, Option, Some, None, Bool, true, false, ◌&&◌, ◌||◌, List, slice_get}
-use Rattle.std.specs.Option.{option_map_or}
+use Rattle.std.specs.Prelude.{ℕ, Option, Bool, true, false, ◌&&◌, ◌||◌, List, slice_get}
+use Rattle.std.specs.Option.{option_map_or, option_and_then}
 use Rattle.ada_events.specs.declared.event.Event.{Event}
 use Rattle.ada_events.specs.declared.outcome.Outcome.{Outcome}
 use Rattle.ada_events.specs.declared.outcome.Outcome.TheVariants.{Done, Dead}
@@ -18,13 +18,18 @@ statements_are_over Done = true
 statements_are_over Dead = true
 statements_are_over _ = false
 
--- the line of a task needn't wait: the task runs, or its statements are over
+-- a task may play its next line: it runs, or its statements are over
 abbrev pub may_play : List Event → ℕ → Bool
 may_play journal task = has_task journal task && (statements_are_over (outcome_of journal task) || is_running journal task)
 
--- nor need a tick wait, which no task speaks, or a place without a line
+-- there is none, or it passes
+abbrev pub is_none_or : {A : Type 0} → Option A → (A → Bool) → Bool
+is_none_or found test = option_map_or test found true
+
+-- the task that speaks the line at a place; none for a tick and past the last line
+abbrev pub speaker_at : List Line → ℕ → Option (List ℕ)
+speaker_at script place = option_and_then (λ (line : Line). speaker_in line.statement) (slice_get script place)
+
+-- a line needn't wait: nobody speaks it, or its task may play it
 abbrev pub may_go : List Line → Held → ℕ → Bool
-may_go script hall place =
-    option_map_or (λ (line : Line).
-    option_map_or (λ (name : List ℕ). may_play hall.showing.journal (task_of hall.names name).0) (speaker_in line.statement) true)
-    (slice_get script place) true
+may_go script hall place = is_none_or (speaker_at script place) (λ name. may_play hall.showing.journal (task_of hall.names name).0)

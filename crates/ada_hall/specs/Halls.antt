@@ -10,11 +10,11 @@ use Rattle.ada_statements.specs.Binding.{is_show}
 use Rattle.ada_replay.specs.Play.{PlayState}
 use Rattle.ada_replay.specs.Replay.{beginning}
 use Rattle.ada_hall.specs.declared.answer.Answer.{Answer}
-use Rattle.ada_hall.specs.declared.answer.Answer.TheVariants.{Group, Refused, Shown}
+use Rattle.ada_hall.specs.declared.answer.Answer.TheVariants.{Group}
 use Rattle.ada_hall.specs.declared.answer.KeptAnswer.{KeptAnswer}
 use Rattle.ada_hall.specs.declared.turns.Turns.{Turns}
 use Rattle.ada_hall.specs.Answers.{answer_at}
-use Rattle.ada_hall.specs.PublishedKernels.{Showing, GoesOnShowing}
+use Rattle.ada_hall.specs.PublishedKernels.{Showing, ShowsAnswer}
 use Rattle.ada_hall.specs.Speakers.{speaker_count}
 use Rattle.ada_hall.specs.Turns.{first_turns}
 use Rattle.ada_hall.specs.History.{GoesOn, IsAnswerTo, AreGiven}
@@ -63,17 +63,16 @@ kept_at place journal answer = record { place = place; events = length journal; 
 
 -- how many requests an answer says were accepted
 abbrev pub gained : Answer → ℕ
-gained (Group first last) = 1
-gained (Refused cause) = 0
-gained (Shown value) = 0
+gained (Group _ _) = 1
+gained _ = 0
 
--- what the request of a line was answered is kept, and a group is published
+-- what the request of a line was answered is kept, and shown
 pub record IsSaid (line : Line) (place : ℕ) (old new : Held) : Type 0 where
   pub answer : Answer
   pub text : List ℕ
   pub answers : IsAnswerTo line (state_of old) answer text (state_of new)
   pub kept : new.answers ≡ old.answers ++ kept_at place old.showing.journal answer ∷ []
-  pub published : GoesOnShowing old.showing new.showing
+  pub published : ShowsAnswer answer old.showing new.showing
   pub turns : new.turns ≡ old.turns
 
 -- the request at a place is answered; nothing changes where there is none, or it has an answer

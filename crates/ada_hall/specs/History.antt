@@ -31,11 +31,11 @@ pub record IsRefusalOf (line : Line) (request : Request) (cause : Refusal) (old 
 abbrev pub AnswersRequest : Line → PlayState → Answer → List ℕ → PlayState → Request → Type 0
 AnswersRequest line old (Group first last) text new request = IsGroupOf line request first last old text new
 AnswersRequest line old (Refused cause) text new request = IsRefusalOf line request cause old text new
-AnswersRequest line old (Shown value) text new request = ⊥
+AnswersRequest _ _ (Shown _) _ _ _ = ⊥
 
 -- an answer to a line that shows an attribute, which changes nothing
 abbrev pub AnswersShow : Line → PlayState → Answer → List ℕ → PlayState → Type 0
-AnswersShow line old (Group first last) text new = ⊥
+AnswersShow _ _ (Group _ _) _ _ = ⊥
 AnswersShow line old (Refused cause) text new = (new ≡ old) × (text ≡ refusal_text line.line cause)
 AnswersShow line old (Shown value) text new = (new ≡ old) × (text ≡ shown_text line.line value)
 
@@ -60,9 +60,9 @@ pub record IsGiven (script : List Line) (kept : KeptAnswer) (old : PlayState) (t
   pub tasks : kept.tasks ≡ task_count old.journal
   pub answers : IsAnswerTo line old kept.answer text new
 
--- answers that were given one after another, and what they print
-abbrev pub AreGiven : List Line → List KeptAnswer → PlayState → List ℕ → PlayState → Type 0
-AreGiven script [] old text new = (text ≡ []) × (new ≡ old)
-AreGiven script (kept ∷ others) old text new =
-    (before : PlayState) × (after : PlayState) × (said : List ℕ) × (rest : List ℕ)
-    × GoesOn old before × IsGiven script kept before said after × AreGiven script others after rest new × (text ≡ said ++ rest)
+-- answers that were given one after another, what they print, and from where to where they lead
+pub data AreGiven (script : List Line) : List KeptAnswer → PlayState → List ℕ → PlayState → Type 0 where
+  no_more : {state : PlayState} → AreGiven script [] state [] state
+  one_more : {kept : KeptAnswer} {others : List KeptAnswer} {old before after new : PlayState} {said rest : List ℕ}
+      → GoesOn old before → IsGiven script kept before said after → AreGiven script others after rest new
+      → AreGiven script (kept ∷ others) old (said ++ rest) new

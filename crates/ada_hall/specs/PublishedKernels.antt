@@ -1,10 +1,12 @@
 -- A kernel whose boards are published.
-use Rattle.std.specs.Prelude.{◌≡◌, ◌⊎◌, Bool, true, false, Option, List, [], ◌∷◌, ◌++◌, MatchBool, MatchOption}
+use Rattle.std.specs.Prelude.{◌≡◌, Bool, true, false, Option, List, [], ◌∷◌, ◌++◌, MatchBool, MatchOption}
 use Rattle.ada_events.specs.declared.event.Event.{Event}
 use Rattle.ada_events.specs.declared.board.Board.{Board}
 use Rattle.ada_events.specs.Lawful.{IsSettled}
 use Rattle.ada_events.specs.Boards.{AreTrueOf, board_of}
 use Rattle.ada_board.specs.Answers.{latest}
+use Rattle.ada_hall.specs.declared.answer.Answer.{Answer}
+use Rattle.ada_hall.specs.declared.answer.Answer.TheVariants.{Group}
 
 -- the journal, the published list, and whether that is behind the journal
 pub record Showing : Type 0 where
@@ -24,6 +26,7 @@ Publishes old new mark = MatchOption mark
     ((new.published ≡ old.published) × (new.behind ≡ true))
     (λ boards. (boards ≡ new.published) × (new.published ≡ old.published ++ board_of new.journal ∷ []) × (new.behind ≡ false))
 
--- nothing changes, or what a request led to is published or left behind
-abbrev pub GoesOnShowing : Showing → Showing → Type 0
-GoesOnShowing old new = (new ≡ old) ⊎ ((mark : Option (List Board)) × Publishes old new mark)
+-- what an accepted request led to is published, or left behind; else what is shown stays
+abbrev pub ShowsAnswer : Answer → Showing → Showing → Type 0
+ShowsAnswer (Group _ _) old new = (mark : Option (List Board)) × Publishes old new mark
+ShowsAnswer _ old new = new ≡ old

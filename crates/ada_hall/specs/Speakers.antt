@@ -11,33 +11,33 @@ use Rattle.ada_statements.specs.declared.statement.Statement.TheVariants.{Raise,
 
 -- the name of the task that speaks a statement; a tick names none
 abbrev pub speaker_in : Statement → Option (List ℕ)
-speaker_in (Tick now) = None
-speaker_in (Open by block) = Some by
-speaker_in (Create by task under families) = Some by
-speaker_in (Activate by tasks) = Some by
+speaker_in (Tick _) = None
+speaker_in (Open by _) = Some by
+speaker_in (Create by _ _ _) = Some by
+speaker_in (Activate by _) = Some by
 speaker_in (Up by) = Some by
 speaker_in (Fail by) = Some by
-speaker_in (Call by callee entry) = Some by
-speaker_in (CallWithin by callee entry duration) = Some by
-speaker_in (Try by callee entry) = Some by
-speaker_in (Accept by entry) = Some by
-speaker_in (Select by pick choices tail) = Some by
+speaker_in (Call by _ _) = Some by
+speaker_in (CallWithin by _ _ _) = Some by
+speaker_in (Try by _ _) = Some by
+speaker_in (Accept by _) = Some by
+speaker_in (Select by _ _ _) = Some by
 speaker_in (End by) = Some by
 speaker_in (Raise by) = Some by
 speaker_in (Close by) = Some by
-speaker_in (Delay by duration) = Some by
+speaker_in (Delay by _) = Some by
 speaker_in (Complete by) = Some by
-speaker_in (Abort by tasks) = Some by
-speaker_in (ShowCallable by task) = Some by
-speaker_in (ShowTerminated by task) = Some by
-speaker_in (ShowCount by entry) = Some by
+speaker_in (Abort by _) = Some by
+speaker_in (ShowCallable by _) = Some by
+speaker_in (ShowTerminated by _) = Some by
+speaker_in (ShowCount by _) = Some by
 
 abbrev pub main_name : List ℕ
 main_name = codes "main"
 
 -- the name of the task that a statement creates
 abbrev pub created_in : Statement → Option (List ℕ)
-created_in (Create by task under families) = Some task
+created_in (Create _ task _ _) = Some task
 created_in _ = None
 
 -- the names of all tasks that lines create, in their order

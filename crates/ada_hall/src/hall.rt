@@ -1,6 +1,5 @@
 //! The value under the lock.
-ghost use Rattle.std.specs.Prelude.{◌≡◌, ◌==◌, ◌+◌, ◌<◌, ◌≤◌, false, Err, [], IsTrue, IfOk, IfErr, OnOk, OnErr, MatchOption, length, slice_get};
-ghost use Rattle.ada_events.specs.Attributes.{is_finished};
+ghost use Rattle.std.specs.Prelude.{◌≡◌, ◌==◌, ◌+◌, ◌<◌, ◌≤◌, false, true, Err, [], IsTrue, IfOk, IfErr, OnOk, OnErr, MatchOption, length, slice_get};
 ghost use Rattle.ada_events.specs.Lawful.{IsLawful, IsSettled};
 ghost use Rattle.ada_events.specs.Steps.{IsAccepted, IsRefused};
 ghost use Rattle.ada_events.specs.Boards.{AreTrueOf};
@@ -10,10 +9,12 @@ ghost use Rattle.ada_hall.specs.Answers.{answer_at, AreAll, AnswerNoPlaceTwice};
 ghost use Rattle.ada_hall.specs.Asking.{Asks};
 ghost use Rattle.ada_hall.specs.Counting.{asked_count};
 ghost use Rattle.ada_replay.specs.Play.{shown as shown_of};
+ghost use Rattle.ada_replay.specs.Replay.{Tells};
 ghost use Rattle.ada_hall.specs.Going.{may_go};
 ghost use Rattle.ada_hall.specs.Halls.{state_of, IsHistory, AnswersPlace, noted, opening};
 ghost use Rattle.ada_hall.specs.internal.Halls.{IsOfShow};
 ghost use Rattle.ada_hall.specs.PublishedKernels.{Publishes, IsTied};
+ghost use Rattle.ada_hall.specs.Turns.{left, passed, waited};
 
 use crate::answer::{Answer, KeptAnswer};
 use crate::answers::Answers;
@@ -27,6 +28,8 @@ use crate::turns::{Turns, may_play};
 use ada_board::BoardWriter;
 use ada_events::{Journal, Refusal, Request};
 use ada_kernel::Kernel;
+use ada_replay::Ending;
+use ada_replay::replaying::ending_of;
 use ada_script::{Names, Script, Value};
 use std::alloc::Global;
 use std::marker::Model;
@@ -76,19 +79,19 @@ fn beginnings(alloc: Global, script: &Script) -> Result<(Names, Kernel, Answers)
 
 impl<'s, J: Session> Hall<'s, J> {
     /// A hall with an empty journal and no answers, of a writer to which nothing was ever offered. Refused
-    /// for want of memory, it gives the writer back.
+    /// for want of memory, it gives the writer and the book back, so that it may be tried again.
     pub fn new(
         alloc: Global,
         script: &'s Script,
         writer: BoardWriter<J>,
         book: Book<J>,
-    ) -> Result<Hall<'s, J>, (Refusal, BoardWriter<J>)>
+    ) -> Result<Hall<'s, J>, (Refusal, BoardWriter<J>, Book<J>)>
         requires script { script.now ≡ J.script }
         requires writer { writer ≡ record { published = []; offered = [] } }
         requires book { book.total ≡ 0 }
         ensures ok { IfOk result (λ hall. hall ≡ opening J.script) }
-        ensures err { IfErr result (λ refused.
-            (refused.0 ≡ Refusal.OutOfMemory) × (refused.1 ≡ writer)) }
+        ensures err { IfErr result (λ refused. (refused.0 ≡ Refusal.OutOfMemory)
+            × (refused.1 ≡ writer) × (refused.2 ≡ book)) }
     {
         match beginnings(alloc, script) {
             Ok((names, kernel, answers)) => Ok(Hall {
@@ -99,7 +102,7 @@ impl<'s, J: Session> Hall<'s, J> {
                 tally: Tally::new(book),
                 turns: Turns::new(speakers(script.lines())),
             }),
-            Err(cause) => Err((cause, writer)),
+            Err(cause) => Err((cause, writer, book)),
         }
     }
 
@@ -269,10 +272,10 @@ impl<'s, J: Session> Hall<'s, J> {
     }
 
     /// Whether the main program is terminated.
-    pub fn is_finished(&self) -> bool
-        ensures { result ≡ is_finished self.now.showing.journal }
+    pub fn ending(&self) -> Ending
+        ensures { Tells result self.now.showing.journal }
     {
-        self.published.kernel().finished()
+        ending_of(self.published.kernel())
     }
 
     /// How many requests were accepted: the number of asked events in the journal.
@@ -300,11 +303,37 @@ impl<'s, J: Session> Hall<'s, J> {
         self.turns
     }
 
-    /// Says who may go on.
-    pub fn set_turns(&mut self, turns: Turns)
-        ensures { self.new ≡ record self.old { turns = turns } }
+    /// A line was played: it is the next one's turn, and threads that wait have to look again.
+    pub fn pass(&mut self, place: u32)
+        ensures { self.new ≡ record self.old { turns = passed place self.old.turns } }
     {
-        self.turns = turns;
+        self.turns.pass(place);
+    }
+
+    /// A thread is done.
+    pub fn leave(&mut self)
+        ensures { self.new ≡ record self.old { turns = left self.old.turns } }
+    {
+        self.turns.leave();
+    }
+
+    /// A thread that can't go waits for a change: `seen` is the change that it waited for already. The answer
+    /// is the change that it has seen now. Where no thread is left that could bring one about, nobody waits any
+    /// more.
+    pub fn wait(&mut self, seen: Option<u64>) -> u64
+        ensures change { result ≡ self.old.turns.changes }
+        ensures turns { self.new ≡ record self.old { turns = waited seen self.old.turns } }
+    {
+        self.turns.wait(seen)
+    }
+
+    /// From now on no further line is played.
+    pub fn stop(&mut self)
+        ensures { self.new ≡ record self.old {
+          turns = record self.old.turns { stopped = true };
+        } }
+    {
+        self.turns.stop();
     }
 
     /// Whether the task of the line at a place runs, or has completed: then the line needn't wait. A tick never

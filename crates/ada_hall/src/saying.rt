@@ -2,11 +2,10 @@
 ghost use Rattle.std.specs.Prelude.{◌≡◌, ◌+◌, ℕ, false, Some, List, IfOk, IfErr, OnErr};
 ghost use Rattle.std.specs.Option.{option_copied};
 ghost use Rattle.ada_events.specs.Lawful.{IsLawful};
-ghost use Rattle.ada_events.specs.Tasks.{task_count};
 ghost use Rattle.ada_statements.specs.Binding.{is_show};
 ghost use Rattle.ada_replay.specs.Ends.{state};
 ghost use Rattle.ada_hall.specs.History.{IsAnswerTo};
-ghost use Rattle.ada_hall.specs.PublishedKernels.{GoesOnShowing};
+ghost use Rattle.ada_hall.specs.PublishedKernels.{ShowsAnswer};
 ghost use Rattle.ada_hall.specs.Counting.{asked_count};
 ghost use Rattle.ada_hall.specs.Halls.{open_line, gained};
 
@@ -14,8 +13,8 @@ use crate::answer::Answer;
 use crate::answers::Answers;
 use crate::published::PublishedKernel;
 use ada_board::Naming;
-use ada_events::{Refusal, TaskNo};
-use ada_kernel::Kernel;
+use ada_events::Refusal;
+use ada_replay::play::next_task;
 use ada_script::{Line, Names, Script, request_of};
 use std::sync::Wait;
 
@@ -29,13 +28,6 @@ pub(crate) fn open_line<'s>(script: &'s Script, answers: &Answers, place: u32) -
     script.lines().get(place as usize)
 }
 
-// The number of the task that the kernel makes next.
-fn next_task(kernel: &Kernel) -> TaskNo
-    ensures { result.0 ≡ task_count kernel.now }
-{
-    TaskNo(kernel.tasks())
-}
-
 // Makes the request of a line, and binds its name. Refused for want of memory, nothing is changed.
 pub(crate) fn answer_request<J: Naming, R: Wait>(
     rt: &R,
@@ -47,7 +39,7 @@ pub(crate) fn answer_request<J: Naming, R: Wait>(
     ensures ok { IfOk result (λ answer. (text : List ℕ)
         × IsAnswerTo line.now (state published.old.journal names.old) answer text
         (state published.new.journal names.new)) }
-    ensures showing { IfOk result (λ _. GoesOnShowing published.old published.new) }
+    ensures showing { IfOk result (λ answer. ShowsAnswer answer published.old published.new) }
     ensures counted { IfOk result (λ answer.
         asked_count published.new.journal ≡ asked_count published.old.journal + gained answer) }
     ensures err { IfErr result (λ cause. cause ≡ Refusal.OutOfMemory) }

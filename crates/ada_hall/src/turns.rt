@@ -1,8 +1,8 @@
 //! Who may go on.
-ghost use Rattle.std.specs.Prelude.{◌≡◌, ◌+◌, ◌-◌, ◌%◌, ◌^◌, ◌==◌, ◌||◌, nat_le, false, true};
+ghost use Rattle.std.specs.Prelude.{◌≡◌, ◌==◌, true};
 ghost use Rattle.ada_events.specs.Phases.{is_running};
 ghost use Rattle.ada_hall.specs.Going.{may_play};
-ghost use Rattle.ada_hall.specs.Turns.{first_turns, with_one_more};
+ghost use Rattle.ada_hall.specs.Turns.{changed, first_turns, left, passed, waited};
 
 use ada_events::{Outcome, TaskNo};
 use ada_kernel::Kernel;
@@ -27,7 +27,7 @@ pub struct Turns {
 
 impl Turns {
     /// The first place's turn, with so many threads that aren't done.
-    pub fn new(working: u32) -> Turns
+    pub(crate) fn new(working: u32) -> Turns
         ensures { result ≡ first_turns working }
     {
         Turns {
@@ -62,41 +62,30 @@ impl Turns {
     }
 
     /// From now on no further line is played.
-    pub fn stop(&mut self)
+    pub(crate) fn stop(&mut self)
         ensures { self.new ≡ record self.old { stopped = true } }
     {
         self.stopped = true;
     }
 
     /// A line was played: it is the next one's turn, and threads that wait have to look again.
-    pub fn pass(&mut self, place: u32)
-        ensures { self.new ≡ record self.old {
-          turn = (place + 1) % 2 ^ 32;
-          changes = (self.old.changes + 1) % 2 ^ 64;
-          waiting = 0;
-        } }
+    pub(crate) fn pass(&mut self, place: u32)
+        ensures { self.new ≡ passed place self.old }
     {
         self.turn = place.wrapping_add(1);
         self.change();
     }
 
     /// A thread is done.
-    pub fn leave(&mut self)
-        ensures { self.new ≡ record self.old {
-          changes = (self.old.changes + 1) % 2 ^ 64;
-          waiting = 0;
-          working = self.old.working - 1;
-        } }
+    pub(crate) fn leave(&mut self)
+        ensures { self.new ≡ left self.old }
     {
         self.working = self.working.saturating_sub(1);
         self.change();
     }
 
     fn change(&mut self)
-        ensures { self.new ≡ record self.old {
-          changes = (self.old.changes + 1) % 2 ^ 64;
-          waiting = 0;
-        } }
+        ensures { self.new ≡ changed self.old }
     {
         self.changes = self.changes.wrapping_add(1);
         self.waiting = 0;
@@ -105,13 +94,9 @@ impl Turns {
     /// A thread that can't go waits for a change: `seen` is the change that it waited for already. The answer
     /// is the change that it has seen now. Where no thread is left that could bring one about, nobody waits any
     /// more.
-    pub fn wait(&mut self, seen: Option<u64>) -> u64
+    pub(crate) fn wait(&mut self, seen: Option<u64>) -> u64
         ensures change { result ≡ self.old.changes }
-        ensures turns { let waiting = with_one_more self.old.waiting self.old.changes seen in
-            self.new ≡ record self.old {
-              waiting = waiting;
-              stuck = self.old.stuck || nat_le self.old.working waiting;
-            } }
+        ensures turns { self.new ≡ waited seen self.old }
     {
         if seen != Some(self.changes) {
             self.waiting = self.waiting.saturating_add(1);

@@ -80,9 +80,8 @@ families_text families [] = []
 families_text families (family ∷ others) = codes " with" ++ bounds_text families 0 (family ∷ others)
 
 abbrev pub call_verb : Patience → List ℕ
-call_verb patiences.Simple = codes " called "
 call_verb patiences.Conditional = codes " tried "
-call_verb (patiences.Timed duration) = codes " called "
+call_verb _ = codes " called "
 
 abbrev pub until_text : Option ℤ → List ℕ
 until_text None = []

@@ -7,6 +7,7 @@ use Rattle.ada_script.specs.declared.script.Line.{Line}
 use Rattle.ada_replay.specs.declared.fault.RunFault.{RunFault}
 use Rattle.ada_replay.specs.declared.fault.RunFault.TheVariants.{Write}
 use Rattle.ada_replay.specs.Play.{PlayState, SaysLine, Plays}
+use Rattle.ada_replay.specs.Play.Plays.{no_more}
 use Rattle.ada_replay.specs.Ends.{IsShortage, IsWritten, IsCutShort}
 use Rattle.ada_replay.proofs.Bytes.{appends_both}
 use Rattle.ada_replay.proofs.Playing.{IsAtRest, plays-push, plays-append, lines_play}
@@ -20,6 +21,10 @@ pub record IsPending (lines : List Line) (old new : PlayState) (before after : O
   pub written : List ℕ
   pub plays : Plays lines old (written ++ text) new
   pub appended : Appends before after written
+
+-- nothing was played yet
+pub nothing_pending : (old : PlayState) (bytes : Option (List ℕ)) → IsPending [] old old bytes bytes []
+nothing_pending old bytes = record { written = []; plays = no_more; appended = appends_nothing bytes }
 
 -- one more line was played, and what it says was appended to the text
 pub pending_line : (lines : List Line) (i : ℕ) (line : Line) (old mid new : PlayState) (before after : Option (List ℕ)) (text more : List ℕ)

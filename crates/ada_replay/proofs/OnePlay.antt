@@ -1,11 +1,12 @@
 -- Lines have one play.
-use Rattle.std.proofs.Common.{◌≡◌, ℕ, Option, Some, None, List, [], ◌∷◌, ◌++◌, length, sym, ap, ◌∙◌, subst, inl, inr, MatchOption}
+use Rattle.std.proofs.Common.{◌≡◌, ℕ, Option, Some, None, List, ◌++◌, length, refl, sym, ap, ◌∙◌, subst, inl, inr, MatchOption}
 use Rattle.ada_events.specs.declared.request.Request.{Request}
 use Rattle.ada_laws.proofs.RequestLaws.{leads_to_one_journal}
 use Rattle.ada_script.specs.declared.script.Line.{Line}
 use Rattle.ada_statements.specs.Binding.{request_of}
 use Rattle.ada_printing.specs.Texts.{refusal_text}
 use Rattle.ada_replay.specs.Play.{PlayState, group_text, SaysRequest, SaysShown, Plays}
+use Rattle.ada_replay.specs.Play.Plays.{no_more, one_more}
 
 state_same : (a b : PlayState) → a.journal ≡ b.journal → a.names ≡ b.names → a ≡ b
 state_same a b journals names = ap (λ j. record { journal = j; names = a.names }) journals ∙ ap (λ n. record { journal = b.journal; names = n }) names
@@ -28,8 +29,9 @@ asked_once line None old a b text other one two = (one.printed ∙ sym two.print
 asked_once line (Some request) old a b text other one two = request_once line request old a b text other one two
 
 pub plays_once : (lines : List Line) (old a b : PlayState) (text other : List ℕ) → Plays lines old text a → Plays lines old other b → (text ≡ other) × (a ≡ b)
-plays_once [] old a b text other one two = (one.0 ∙ sym two.0, one.1 ∙ sym two.1)
-plays_once (line ∷ lines) old a b text other (m, s, r, says, plays, whole) (m', s', r', says', plays', whole') =
+plays_once lines old a b text other no_more no_more = (refl, refl)
+plays_once lines old a b text other (one_more {line = line} {others = others} {between = m} {rest = r} s says plays)
+    (one_more {between = m'} {rest = r'} s' says' plays') =
     let first = asked_once line (request_of old.names line.statement) old m m' s s' says says' in
-    let rest = plays_once lines m' a b r r' (subst (λ z. Plays lines z r a) first.1 plays) plays' in
-    (whole ∙ ap (λ z. z ++ r) first.0 ∙ ap (λ z. s' ++ z) rest.0 ∙ sym whole', rest.1)
+    let rest = plays_once others m' a b r r' (subst (λ z. Plays others z r a) first.1 plays) plays' in
+    (ap (λ z. z ++ r) first.0 ∙ ap (λ z. s' ++ z) rest.0, rest.1)

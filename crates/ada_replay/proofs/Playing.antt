@@ -1,5 +1,5 @@
 -- Plays of some lines: one more line, some more lines, and that there is one.
-use Rattle.std.proofs.Common.{◌≡◌, ℕ, ◌+◌, Option, Some, None, List, [], ◌∷◌, ◌++◌, refl, sym, ap, ◌∙◌, subst, append_assoc, append-nil, inl, inr, length}
+use Rattle.std.proofs.Common.{◌≡◌, ℕ, ◌+◌, Option, Some, None, List, [], ◌∷◌, ◌++◌, refl, sym, subst, append_assoc, append-nil, inl, inr, length}
 use Rattle.std.proofs.Common.{MatchOption}
 use Rattle.ada_events.specs.declared.request.Request.{Request}
 use Rattle.ada_events.specs.declared.refusal.Refusal.{Refusal}
@@ -13,6 +13,7 @@ use Rattle.ada_script.specs.declared.script.Line.{Line}
 use Rattle.ada_statements.specs.Binding.{bind, request_of}
 use Rattle.ada_printing.specs.Texts.{refusal_text}
 use Rattle.ada_replay.specs.Play.{PlayState, group_text, SaysRequest, SaysShown, SaysLine, Plays, shown, show_text}
+use Rattle.ada_replay.specs.Play.Plays.{no_more, one_more}
 
 -- the journal of a state is lawful and settled
 pub record IsAtRest (state : PlayState) : Type 0 where
@@ -22,18 +23,18 @@ pub record IsAtRest (state : PlayState) : Type 0 where
 -- one more line at the end
 pub plays-push : (lines : List Line) (line : Line) (old mid new : PlayState) (text said : List ℕ) → Plays lines old text mid → SaysLine line mid said new
     → Plays (lines ++ line ∷ []) old (text ++ said) new
-plays-push [] line old mid new text said (empty, same) says =
-    (new, said, [], subst (λ s. SaysLine line s said new) same says, (refl, refl), ap (λ t. t ++ said) empty ∙ sym (append-nil said))
-plays-push (first ∷ lines) line old mid new text said (next, a, b, first_says, plays, whole) says =
-    (next, a, b ++ said, first_says, plays-push lines line next mid new b said plays says, ap (λ t. t ++ said) whole ∙ append_assoc a b said)
+plays-push lines line old mid new text said no_more says = subst (λ t. Plays (line ∷ []) old t new) (append-nil said) (one_more said says no_more)
+plays-push lines line old mid new text said (one_more {line = first} {others = others} {between = next} {rest = b} a first_says plays) says =
+    subst (λ t. Plays (first ∷ (others ++ line ∷ [])) old t new) (sym (append_assoc a b said))
+    (one_more a first_says (plays-push others line next mid new b said plays says))
 
 -- some more lines at the end
 pub plays-append : (lines more : List Line) (old mid new : PlayState) (text rest : List ℕ) → Plays lines old text mid → Plays more mid rest new
     → Plays (lines ++ more) old (text ++ rest) new
-plays-append [] more old mid new text rest (empty, same) plays =
-    subst (λ t. Plays more old t new) (sym (ap (λ t. t ++ rest) empty)) (subst (λ s. Plays more s rest new) same plays)
-plays-append (first ∷ lines) more old mid new text rest (next, a, b, first_says, plays, whole) more_plays =
-    (next, a, b ++ rest, first_says, plays-append lines more next mid new b rest plays more_plays, ap (λ t. t ++ rest) whole ∙ append_assoc a b rest)
+plays-append lines more old mid new text rest no_more plays = plays
+plays-append lines more old mid new text rest (one_more {line = first} {others = others} {between = next} {rest = b} a first_says plays) more_plays =
+    subst (λ t. Plays (first ∷ (others ++ more)) old t new) (sym (append_assoc a b rest))
+    (one_more a first_says (plays-append others more next mid new b rest plays more_plays))
 
 request_at_rest : (line : Line) (request : Request) (old new : PlayState) (text : List ℕ) → IsAtRest old → SaysRequest line old text new request → IsAtRest new
 request_at_rest line request old new text rest (inl group) = record {
@@ -93,12 +94,12 @@ pub record Played (lines : List Line) (old : PlayState) : Type 0 where
 
 -- there is one
 pub lines_play : (lines : List Line) (old : PlayState) → IsAtRest old → Played lines old
-lines_play [] old rest = record { text = []; new = old; plays = (refl, refl) }
+lines_play [] old rest = record { text = []; new = old; plays = no_more }
 lines_play (line ∷ lines) old rest =
     let first = each_line_says line old rest in
     let others = lines_play lines first.new (says_at_rest line old first.new first.text rest first.says) in
     record {
       text = first.text ++ others.text;
       new = others.new;
-      plays = (first.new, first.text, others.text, first.says, others.plays, refl);
+      plays = one_more first.text first.says others.plays;
     }

@@ -82,8 +82,8 @@ pub record SaysShown (line : Line) (old : PlayState) (text : List ℕ) (new : Pl
 abbrev pub SaysLine : Line → PlayState → List ℕ → PlayState → Type 0
 SaysLine line old text new = MatchOption (request_of old.names line.statement) (SaysShown line old text new) (SaysRequest line old text new)
 
--- what some lines print, one after another
-abbrev pub Plays : List Line → PlayState → List ℕ → PlayState → Type 0
-Plays [] old text new = (text ≡ []) × (new ≡ old)
-Plays (line ∷ lines) old text new =
-    (mid : PlayState) × (said : List ℕ) × (rest : List ℕ) × SaysLine line old said mid × Plays lines mid rest new × (text ≡ said ++ rest)
+-- what some lines print, one after another, and from where to where they lead
+pub data Plays : List Line → PlayState → List ℕ → PlayState → Type 0 where
+  no_more : {state : PlayState} → Plays [] state [] state
+  one_more : {line : Line} {others : List Line} {old between new : PlayState} {rest : List ℕ}
+      → (said : List ℕ) → SaysLine line old said between → Plays others between rest new → Plays (line ∷ others) old (said ++ rest) new

@@ -10,7 +10,7 @@ use Rattle.ada_script.specs.Script.{scope_of, IsScript, IsFirstFault}
 use Rattle.ada_replay.specs.declared.fault.Ending.{Ending}
 use Rattle.ada_replay.specs.declared.fault.Ending.TheVariants.{Finished, Unfinished}
 use Rattle.ada_replay.specs.declared.fault.RunFault.{RunFault}
-use Rattle.ada_replay.specs.declared.fault.RunFault.TheVariants.{Script, TooManyTasks, Memory, Read, Write, Threads}
+use Rattle.ada_replay.specs.declared.fault.RunFault.TheVariants.{Script, Memory, Write}
 use Rattle.ada_replay.specs.Input.{text_of, IsInputFault}
 use Rattle.ada_replay.specs.Play.{PlayState, Plays}
 use Rattle.ada_replay.specs.Ends.{IsWritten, IsCutShort}
@@ -49,21 +49,16 @@ IsFaultOf text fault = IsFirstFault text fault × (fault.cause ≡ OutOfMemory �
 -- want of memory, or a fault of a text that is no script
 abbrev pub IsReadingFault : List ℕ → RunFault → Type 0
 IsReadingFault text (Script fault) = IsFaultOf text fault
-IsReadingFault text TooManyTasks = ⊥
-IsReadingFault text Memory = Unit {0}
-IsReadingFault text Read = ⊥
-IsReadingFault text Write = ⊥
-IsReadingFault text Threads = ⊥
+IsReadingFault _ Memory = Unit {0}
+IsReadingFault _ _ = ⊥
 
 -- what a fault says of what was written of a text's play: nothing where the text is no script, and where
 -- memory or the output was refused nothing or a beginning of the play
 abbrev pub BreaksText : RunFault → List ℕ → Option (List ℕ) → Option (List ℕ) → Type 0
 BreaksText (Script fault) text before after = Keeps before after × IsFaultOf text fault
-BreaksText TooManyTasks text before after = ⊥
 BreaksText Memory text before after = Keeps before after ⊎ IsBrokenOff text before after
-BreaksText Read text before after = ⊥
 BreaksText Write text before after = IsBrokenOff text before after
-BreaksText Threads text before after = ⊥
+BreaksText _ _ _ _ = ⊥
 
 -- what was read of an input: its bytes up to the bound, where they are known
 abbrev pub IsReadOf : Option (List ℕ) → List ℕ → Type 0

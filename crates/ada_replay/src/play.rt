@@ -61,8 +61,8 @@ pub fn print_value(line: u32, value: Value, text: &mut Vec<u8>) -> Result<(), Ru
     write_shown(line, value, text).map_err(|_| RunFault::Memory)
 }
 
-// The number of the task that the kernel makes next.
-fn next_task(kernel: &Kernel) -> TaskNo
+/// The number of the task that the kernel makes next.
+pub fn next_task(kernel: &Kernel) -> TaskNo
     ensures { result.0 ≡ task_count kernel.now }
 {
     TaskNo(kernel.tasks())

@@ -54,8 +54,8 @@ pub fn read_script(alloc: Global, text: &[u8]) -> Result<Script, RunFault>
     }
 }
 
-// Whether the main program is terminated.
-fn ending_of(kernel: &Kernel) -> Ending
+/// Whether the main program of a kernel is terminated.
+pub fn ending_of(kernel: &Kernel) -> Ending
     ensures { Tells result kernel.now }
 {
     if kernel.finished() {

@@ -42,15 +42,16 @@ ends_there line old new (Shown value) said (Some request) events answers from = 
 follow_given : (script : List Line) (answers : List KeptAnswer) (old last : PlayState) (text : List ℕ) (journal : List Event)
     → AreGiven script answers old text last
     → Continues last.journal journal → AreJoined answers (length old.journal) (length journal) → Follow script answers old text last × (journal ≡ last.journal)
-follow_given script [] old last text journal (empty, same) goes_on joined =
-    ((empty, same), same_journal last.journal journal goes_on (ap (λ (s : PlayState). length s.journal) same ∙ joined))
-follow_given script (kept ∷ others) old last text journal (before, after, said, rest, on, given, others_given, whole) goes_on (starts, others_joined) =
+follow_given script answers old last text journal AreGiven.no_more goes_on joined = (Follow.no_more, same_journal last.journal journal goes_on joined)
+follow_given script answers old last text journal
+    (AreGiven.one_more {kept = kept} {others = others} {before = before} {after = after} {said = said} {rest = rest} on given others_given) goes_on
+    (starts, others_joined) =
     let same : before ≡ old = same_state old before on (sym starts ∙ given.events) in
     let ends : end_of kept.answer kept.events ≡ length after.journal =
     ends_there given.line before after kept.answer said (request_of before.names given.line.statement) kept.events given.answers given.events in
     let others_follow =
     follow_given script others after last rest journal others_given goes_on (subst (λ n. AreJoined others n (length journal)) ends others_joined) in
-    ((after, said, rest, subst (λ s. IsGiven script kept s said after) same given, others_follow.0, whole), others_follow.1)
+    (Follow.one_more (subst (λ s. IsGiven script kept s said after) same given) others_follow.0, others_follow.1)
 
 -- what is printed of answers without a gap is a run
 run_of : (script : List Line) (answers : List KeptAnswer) (journal : List Event) → AreWhole script answers (length journal)

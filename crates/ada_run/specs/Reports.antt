@@ -6,7 +6,7 @@ use Rattle.ada_hall.specs.declared.answer.KeptAnswer.{KeptAnswer}
 use Rattle.ada_hall.specs.Answers.{answer_at}
 
 abbrev pub is_refused : Option Answer → Bool
-is_refused (Some (Refused cause)) = true
+is_refused (Some (Refused _)) = true
 is_refused _ = false
 
 -- a place that had no answer is answered with a refusal

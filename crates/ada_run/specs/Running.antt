@@ -1,11 +1,11 @@
 -- A run of a script: threads play its lines, and what the answers print is written.
-use Rattle.std.specs.Prelude.{◌≡◌, ◌⊎◌, ◌<◌, ℕ, Option, List, [], ◌∷◌, ◌++◌, length}
+use Rattle.std.specs.Prelude.{◌⊎◌, ◌<◌, ℕ, Option, List, [], ◌∷◌, ◌++◌, length}
 use Rattle.std.specs.Io.KnownBytes.{Keeps}
 use Rattle.ada_script.specs.declared.script.Line.{Line}
 use Rattle.ada_script.specs.Script.{IsScript}
 use Rattle.ada_replay.specs.declared.fault.Ending.{Ending}
 use Rattle.ada_replay.specs.declared.fault.RunFault.{RunFault}
-use Rattle.ada_replay.specs.declared.fault.RunFault.TheVariants.{Script, TooManyTasks, Memory, Read, Write, Threads}
+use Rattle.ada_replay.specs.declared.fault.RunFault.TheVariants.{Script, TooManyTasks, Memory, Write, Threads}
 use Rattle.ada_replay.specs.Input.{IsInputFault}
 use Rattle.ada_replay.specs.Play.{PlayState}
 use Rattle.ada_replay.specs.Ends.{IsWritten, IsCutShort}
@@ -17,10 +17,10 @@ use Rattle.ada_hall.specs.Speakers.{created}
 
 -- answers that follow one another: each is that of its own place's line over the very journal and bindings that the one
 -- before it left
-abbrev pub Follow : List Line → List KeptAnswer → PlayState → List ℕ → PlayState → Type 0
-Follow script [] old text new = (text ≡ []) × (new ≡ old)
-Follow script (kept ∷ others) old text new =
-    (after : PlayState) × (said : List ℕ) × (rest : List ℕ) × IsGiven script kept old said after × Follow script others after rest new × (text ≡ said ++ rest)
+pub data Follow (script : List Line) : List KeptAnswer → PlayState → List ℕ → PlayState → Type 0 where
+  no_more : {state : PlayState} → Follow script [] state [] state
+  one_more : {kept : KeptAnswer} {others : List KeptAnswer} {old after new : PlayState} {said rest : List ℕ}
+      → IsGiven script kept old said after → Follow script others after rest new → Follow script (kept ∷ others) old (said ++ rest) new
 
 -- each line of the script is answered once, one after another in some order, from the script's beginning on; this is what
 -- the answers print, and what they lead to
@@ -43,12 +43,11 @@ pub record IsScriptRun (ending : Ending) (script : List Line) (before after : Op
 
 -- what a fault says of what was written: nothing, or where memory or the output was refused a beginning of a run
 abbrev pub BreaksRun : RunFault → List Line → Option (List ℕ) → Option (List ℕ) → Type 0
-BreaksRun (Script fault) script before after = ⊥
 BreaksRun TooManyTasks script before after = HasTooMany script × Keeps before after
 BreaksRun Memory script before after = Keeps before after ⊎ IsCutShort (IsRun script) before after
-BreaksRun Read script before after = ⊥
 BreaksRun Write script before after = IsCutShort (IsRun script) before after
-BreaksRun Threads script before after = Keeps before after
+BreaksRun Threads _ before after = Keeps before after
+BreaksRun _ _ _ _ = ⊥
 
 -- the text is a script, and a run of it was written
 pub record IsTextRun (ending : Ending) (text : List ℕ) (before after : Option (List ℕ)) : Type 0 where
@@ -65,11 +64,8 @@ pub record IsTextBroken (fault : RunFault) (text : List ℕ) (before after : Opt
 -- the text is no script, or memory was refused before that was known; and nothing was written
 abbrev pub IsUnread : RunFault → List ℕ → Option (List ℕ) → Option (List ℕ) → Type 0
 IsUnread (Script fault) text before after = Keeps before after × IsFaultOf text fault
-IsUnread TooManyTasks text before after = ⊥
-IsUnread Memory text before after = Keeps before after
-IsUnread Read text before after = ⊥
-IsUnread Write text before after = ⊥
-IsUnread Threads text before after = ⊥
+IsUnread Memory _ before after = Keeps before after
+IsUnread _ _ _ _ = ⊥
 
 -- some text was read of the input, and a run of it was written
 abbrev pub Runs : Ending → Option (List ℕ) → Option (List ℕ) → Option (List ℕ) → Type 0

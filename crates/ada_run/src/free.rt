@@ -23,13 +23,12 @@ enum Seen {
 // Looks whether the line at a place may be played. Where it may not, one more thread waits, unless this one has
 // waited already for that change of the turns.
 fn look_at<J: Session>(hall: &mut Hall<'_, J>, place: u32, change: &mut Option<u64>) -> Seen {
-    let mut turns = hall.turns();
+    let turns = hall.turns();
     if turns.is_stopped() || turns.is_stuck() || hall.may_go(place) {
         return Seen::Goes;
     }
-    *change = Some(turns.wait(*change));
-    hall.set_turns(turns);
-    if turns.is_stuck() {
+    *change = Some(hall.wait(*change));
+    if hall.turns().is_stuck() {
         Seen::WakesAll
     } else {
         Seen::Waits
@@ -56,15 +55,5 @@ impl Gate for Free {
                 }
             }
         }
-    }
-
-    fn after<J: Session, R: Wait>(
-        &self,
-        rt: &R,
-        shared: &Shared<'_, J>,
-        _speaker: u32,
-        place: u32,
-    ) {
-        shared.pass(rt, place);
     }
 }

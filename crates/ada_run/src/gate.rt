@@ -10,6 +10,14 @@ pub trait Gate {
     /// Returns once the speaker may play the line at a place, or no further line is to be played.
     fn before<J: Session, R: Wait>(&self, rt: &R, shared: &Shared<'_, J>, speaker: u32, place: u32);
 
-    /// The speaker has played the line at a place.
-    fn after<J: Session, R: Wait>(&self, rt: &R, shared: &Shared<'_, J>, speaker: u32, place: u32);
+    /// The speaker has played the line at a place: the turn passes on.
+    fn after<J: Session, R: Wait>(
+        &self,
+        rt: &R,
+        shared: &Shared<'_, J>,
+        _speaker: u32,
+        place: u32,
+    ) {
+        shared.pass(rt, place);
+    }
 }

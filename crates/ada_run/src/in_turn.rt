@@ -26,14 +26,4 @@ impl Gate for InTurn {
             guard = shared.wake.wait(rt, guard);
         }
     }
-
-    fn after<J: Session, R: Wait>(
-        &self,
-        rt: &R,
-        shared: &Shared<'_, J>,
-        _speaker: u32,
-        place: u32,
-    ) {
-        shared.pass(rt, place);
-    }
 }

@@ -42,7 +42,7 @@ pub fn open_hall<'s, J: Session, R: Wait + AllocGlobal>(
     };
     match Hall::new(rt.alloc(), script, writer, book) {
         Ok(hall) => Ok((hall, seats)),
-        Err((_, writer)) => {
+        Err((_, writer, _book)) => {
             writer.close(rt);
             Err(RunFault::Memory)
         }

@@ -1,31 +1,35 @@
 //! All lines of a script, by threads.
-ghost use Rattle.std.specs.Prelude.{◌≡◌};
-
-use crate::{Gate, Seat, Shared, work};
-use ada_board::BoardReader;
+use crate::{Gate, Report, Seat, Shared, work};
 use ada_hall::Session;
 use ada_script::Script;
 use std::sync::Wait;
-use std::sync::ledger::Share;
 use std::thread;
-use std::thread::{Scope, Threads};
+use std::thread::{JoinHandle, Scope, Threads};
 
-// Starts the work of one speaker in a thread of its own: whether it could be started.
-fn start<'h: 's, 's, E, J: Session + Send + Sync + 's, R: Wait + Sync + 's, G: Gate + Sync + 's>(
+/// Starts the work of the speaker of a seat in a thread of its own. None where the thread is refused.
+pub fn start<
+    'h: 's,
+    's,
+    E,
+    J: Session + Send + Sync + 's,
+    R: Wait + Sync + 's,
+    G: Gate + Sync + 's,
+>(
     scope: &Scope<'s, E>,
     rt: &'s R,
     shared: &'s Shared<'h, J>,
     script: &'s Script,
-    speaker: u32,
-    reader: BoardReader<J>,
-    share: Share<J>,
+    seat: Seat<J>,
     gate: &'s G,
-) -> bool
-    requires { (share.parts ≡ 1) × (share.amount ≡ 0) }
-{
+) -> Option<JoinHandle<Report<J>>> {
+    let Seat {
+        speaker,
+        reader,
+        share,
+    } = seat;
     scope
         .spawn(move || work(rt, shared, script, speaker, reader, share, gate))
-        .is_ok()
+        .ok()
 }
 
 // Starts a thread for each seat: whether each could be started. Where one is refused, the hall is stopped.
@@ -45,12 +49,7 @@ fn start_all<
     gate: &'s G,
 ) -> bool {
     for seat in seats {
-        let Seat {
-            speaker,
-            reader,
-            share,
-        } = seat;
-        if !start(scope, rt, shared, script, speaker, reader, share, gate) {
+        if start(scope, rt, shared, script, seat, gate).is_none() {
             shared.stop(rt);
             return false;
         }

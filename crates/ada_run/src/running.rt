@@ -1,7 +1,6 @@
 //! Running a script: one thread for each of its tasks, from the bytes that are read to those that are written.
 ghost use Rattle.std.specs.Prelude.{◌≡◌, ◌⊎◌, ◌<◌, ◌≤◌, IfOk, IfErr, OnOk, length};
 ghost use Rattle.ada_replay.specs.Input.{most_bytes, TakesAtMost};
-ghost use Rattle.ada_replay.specs.Replay.{Tells};
 ghost use Rattle.ada_hall.specs.Speakers.{created};
 ghost use Rattle.ada_run.specs.Opening.{IsOpeningFault};
 ghost use Rattle.ada_run.specs.Running.{IsScriptRun, BreaksRun, IsTextRun, IsTextBroken, IsUnread, Runs, RunBreaks};
@@ -26,17 +25,6 @@ use std::thread::Threads;
 /// The most tasks that a script may create for a run, each of which takes a thread beside that of the main
 /// program.
 pub const MOST_CREATIONS: usize = 255;
-
-// Whether the main program is terminated.
-fn ending_of<J: Session>(hall: &Hall<'_, J>) -> Ending
-    ensures { Tells result hall.now.showing.journal }
-{
-    if hall.is_finished() {
-        Ending::Finished
-    } else {
-        Ending::Unfinished
-    }
-}
 
 // Looks whether each line has its answer, and whether no event lies between the answers. Where memory is refused
 // the hall is stopped, and a line has none.
@@ -70,7 +58,7 @@ fn tell<J: Session, W: Write>(
 {
     look_through(hall)?;
     write_answers(alloc, script, hall, writer)?;
-    Ok(ending_of(hall))
+    Ok(hall.ending())
 }
 
 // Runs a script with so many speakers.

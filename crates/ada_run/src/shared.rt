@@ -26,9 +26,7 @@ impl<'s, J: Session> Shared<'s, J> {
     pub fn stop<R: Wait>(&self, rt: &R) {
         let mut guard = self.hall.lock(rt);
         let hall: &mut Hall<'s, J> = &mut guard;
-        let mut turns = hall.turns();
-        turns.stop();
-        hall.set_turns(turns);
+        hall.stop();
         drop(guard);
         self.wake.notify_all();
     }
@@ -37,9 +35,7 @@ impl<'s, J: Session> Shared<'s, J> {
     pub(crate) fn pass<R: Wait>(&self, rt: &R, place: u32) {
         let mut guard = self.hall.lock(rt);
         let hall: &mut Hall<'s, J> = &mut guard;
-        let mut turns = hall.turns();
-        turns.pass(place);
-        hall.set_turns(turns);
+        hall.pass(place);
         drop(guard);
         self.wake.notify_all();
     }
@@ -48,9 +44,7 @@ impl<'s, J: Session> Shared<'s, J> {
     pub(crate) fn leave<R: Wait>(&self, rt: &R) {
         let mut guard = self.hall.lock(rt);
         let hall: &mut Hall<'s, J> = &mut guard;
-        let mut turns = hall.turns();
-        turns.leave();
-        hall.set_turns(turns);
+        hall.leave();
         drop(guard);
         self.wake.notify_all();
     }

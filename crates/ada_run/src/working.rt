@@ -1,5 +1,5 @@
 //! The work of one thread.
-ghost use Rattle.std.specs.Prelude.{◌≡◌, ◌+◌, ◌<◌, ◌≤◌, ◌^◌, true, false, cond};
+ghost use Rattle.std.specs.Prelude.{◌≡◌, ◌+◌, ◌<◌, ◌≤◌, ◌^◌, cond};
 ghost use Rattle.std.specs.List.{count_by};
 ghost use Rattle.ada_statements.specs.Binding.{is_show};
 ghost use Rattle.ada_board.specs.Answers.{latest};
@@ -28,15 +28,6 @@ fn value_of<J: Session>(reader: &mut BoardReader<J>, what: Asking) -> Option<Val
     }
 }
 
-// Stops a hall, where a thread holds its lock.
-fn stop<J: Session>(hall: &mut Hall<'_, J>)
-    ensures { hall.new ≡ record hall.old { turns = record hall.old.turns { stopped = true } } }
-{
-    let mut turns = hall.turns();
-    turns.stop();
-    hall.set_turns(turns);
-}
-
 // Plays the request at a place: whether to go on. Where memory is refused, or the board stays behind, the hall
 // is stopped.
 fn say_line<J: Session, R: Wait>(
@@ -58,7 +49,7 @@ fn say_line<J: Session, R: Wait>(
     if said.is_ok() && !hall.behind() {
         return true;
     }
-    stop(hall);
+    hall.stop();
     false
 }
 
@@ -88,7 +79,7 @@ fn note_line<J: Session, R: Wait>(
     match value {
         Ok(Some(value)) => hall.note(place, value),
         Err(cause) => hall.note_refusal(place, cause),
-        Ok(None) => stop(hall),
+        Ok(None) => hall.stop(),
     }
     !hall.turns().is_stopped()
 }

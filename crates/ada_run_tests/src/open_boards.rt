@@ -1,7 +1,7 @@
 //! A station and the places of its readers.
 ghost use Rattle.std.specs.Prelude.{◌≡◌, ◌<◌, ◌≤◌};
 
-use crate::Station;
+use crate::station::Station;
 use ada_board::{History, Naming, Readers, open_board};
 use ada_events::Refusal;
 use ada_kernel::Kernel;

@@ -2,8 +2,8 @@
 ghost use Rattle.std.specs.Prelude.{◌≡◌};
 
 use crate::open_boards::{make_clients, opened};
-use crate::watchers::{SERVER, sees_no_server};
-use crate::{Station, Watchers};
+use crate::station::Station;
+use crate::watchers::{SERVER, Watchers, sees_no_server};
 use ada_board::{BoardFault, BoardReader, History, Mark, Naming, Readers};
 use ada_events::{Refusal, Request, TaskNo};
 use ada_test_requests::{MAIN, SINGLE, abort, create, timed_call};

@@ -101,10 +101,6 @@ impl Gate for AllAtOnce {
         }
         InTurn.before(rt, shared, speaker, place);
     }
-
-    fn after<J: Session, R: Wait>(&self, rt: &R, shared: &Shared<'_, J>, speaker: u32, place: u32) {
-        InTurn.after(rt, shared, speaker, place);
-    }
 }
 
 /// Whether the lines were answered in the order of their places.

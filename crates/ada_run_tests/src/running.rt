@@ -115,10 +115,6 @@ impl Gate for Together {
         }
         InTurn.before(rt, shared, speaker, place);
     }
-
-    fn after<J: Session, R: Wait>(&self, rt: &R, shared: &Shared<'_, J>, speaker: u32, place: u32) {
-        InTurn.after(rt, shared, speaker, place);
-    }
 }
 
 /// The status of a run of the clients behind a gate.

@@ -1,8 +1,8 @@
 //! Steps of a hall, with readers beside it.
 ghost use Rattle.std.specs.Prelude.{◌≡◌, ◌<◌};
 
-use crate::Watchers;
 use crate::scene::{Scene, played};
+use crate::watchers::Watchers;
 use ada_board::{BoardFault, Readers};
 use ada_events::{Refusal, Request};
 use ada_hall::{Hall, Session, Told};

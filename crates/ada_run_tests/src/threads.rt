@@ -1,8 +1,8 @@
 //! Readers and a writer in threads of their own.
 ghost use Rattle.std.specs.Prelude.{◌≡◌};
 
-use crate::Station;
 use crate::open_boards::opened;
+use crate::station::Station;
 use ada_board::{BoardFault, BoardReader, History, Naming, Readers};
 use ada_events::{Request, TaskNo};
 use ada_test_requests::{MAIN, complete, create};

@@ -2,8 +2,8 @@
 ghost use Rattle.std.specs.Prelude.{◌≡◌, ◌+◌, ◌<◌, ◌≤◌, OnOk, vec_len};
 
 use crate::crew::work_all;
-use crate::is_legal;
 use crate::opened::{Setting, opened};
+use crate::referee::is_legal;
 use ada_board::{History, Readers};
 use ada_hall::speakers::speakers;
 use ada_hall::{Hall, KeptAnswer, Session};

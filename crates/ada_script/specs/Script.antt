@@ -2,7 +2,6 @@
 use Rattle.std.specs.Prelude.{◌≡◌, ℕ, ◌+◌, ◌≤◌, ◌<◌, ◌⊎◌, Bool, true, false, ◌==◌, IsTrue, List, [], ◌∷◌, ◌++◌, length, fold, All}
 use Rattle.ada_statements.specs.declared.fault.Cause.{Cause}
 use Rattle.ada_statements.specs.declared.fault.Cause.TheVariants.{NotAscii, LineTooLong, BadStatement, BadNumber, UnknownName, DoubleName, TooManyLines}
-use Rattle.ada_statements.specs.declared.fault.Cause.TheVariants.{OutOfMemory}
 use Rattle.ada_statements.specs.declared.fault.ScriptFault.{ScriptFault}
 use Rattle.ada_script.specs.declared.script.Line.{Line}
 use Rattle.ada_statements.specs.declared.statement.Statement.{Statement}
@@ -23,14 +22,10 @@ IsPlain number line = (number ≤ 4096) × (length line ≤ 200) × IsPrintable 
 
 -- why a line's number, length and bytes aren't
 abbrev pub IsUnplain : ℕ → List ℕ → Cause → Type 0
-IsUnplain number line TooManyLines = 4096 < number
+IsUnplain number _ TooManyLines = 4096 < number
 IsUnplain number line LineTooLong = (number ≤ 4096) × (200 < length line)
 IsUnplain number line NotAscii = (number ≤ 4096) × (length line ≤ 200) × ¬ IsPrintable line
-IsUnplain number line BadStatement = ⊥
-IsUnplain number line BadNumber = ⊥
-IsUnplain number line UnknownName = ⊥
-IsUnplain number line DoubleName = ⊥
-IsUnplain number line OutOfMemory = ⊥
+IsUnplain _ _ _ = ⊥
 
 -- a line without words, or one whose first word begins with a number sign
 abbrev pub begins_comment : List ℕ → Bool
@@ -65,14 +60,11 @@ IsScript text all = AddsLines [] 1 (lines_of text) all
 
 -- the causes that a line's words may be at fault for
 abbrev pub IsOfWords : Cause → Type 0
-IsOfWords NotAscii = ⊥
-IsOfWords LineTooLong = ⊥
 IsOfWords BadStatement = Unit {0}
 IsOfWords BadNumber = Unit {0}
 IsOfWords UnknownName = Unit {0}
 IsOfWords DoubleName = Unit {0}
-IsOfWords TooManyLines = ⊥
-IsOfWords OutOfMemory = ⊥
+IsOfWords _ = ⊥
 
 -- the words are neither skipped nor those of a statement that may stand behind these lines
 abbrev pub SpellsNothing : List Line → List (List ℕ) → Type 0

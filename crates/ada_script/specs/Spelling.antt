@@ -5,7 +5,7 @@ use Rattle.std.specs.List.{flat_map}
 use Rattle.ada_events.specs.declared.names.Family.{Family}
 use Rattle.ada_events.specs.declared.names.Pause.{Pause}
 use Rattle.ada_events.specs.declared.request.Tail.{Tail}
-use Rattle.ada_events.specs.declared.request.Tail.TheVariants.{Nothing, Otherwise, Delays, Terminate}
+use Rattle.ada_events.specs.declared.request.Tail.TheVariants.{Otherwise, Delays, Terminate}
 use Rattle.ada_statements.specs.declared.statement.Statement.{Statement}
 use Rattle.ada_statements.specs.declared.statement.Statement.TheVariants.{Tick, Open, Create, Activate, Up, Fail, Call, CallWithin, Try, Accept, Select, End}
 use Rattle.ada_statements.specs.declared.statement.Statement.TheVariants.{Raise, Close, Delay, Complete, Abort, ShowCallable, ShowTerminated, ShowCount}
@@ -46,16 +46,13 @@ pause_words pause = guard_words pause.guard ++ codes "delay" ∷ signed_decimal 
 
 -- the alternatives behind the accept alternatives
 abbrev pub tail_alternatives : Tail → List (List (List ℕ))
-tail_alternatives Nothing = []
-tail_alternatives Otherwise = []
 tail_alternatives (Delays pauses) = map pause_words pauses
 tail_alternatives (Terminate guard) = (guard_words guard ++ codes "terminate" ∷ []) ∷ []
+tail_alternatives _ = []
 
 abbrev pub else_words : Tail → List (List ℕ)
-else_words Nothing = []
 else_words Otherwise = codes "else" ∷ []
-else_words (Delays pauses) = []
-else_words (Terminate guard) = []
+else_words _ = []
 
 -- alternatives with "or" between them
 abbrev pub joined_by_or : List (List (List ℕ)) → List (List ℕ)

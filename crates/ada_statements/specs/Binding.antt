@@ -34,19 +34,19 @@ with_meaning (entry ∷ names) name change = if bytes_eq name entry.0 then (entr
 
 -- a task that was made
 abbrev pub with_made : Made → Meaning → Meaning
-with_made made (Task entries before) = Task entries (Some made)
-with_made made (Block opened) = Block opened
+with_made made (Task entries _) = Task entries (Some made)
+with_made _ block = block
 
 -- a block that was opened at a position
 abbrev pub with_opened : ℕ → Meaning → Meaning
-with_opened at (Task entries made) = Task entries made
-with_opened at (Block opened) = Block (Some at)
+with_opened at (Block _) = Block (Some at)
+with_opened _ task = task
 
 -- the names, once a statement is accepted: its event stands at a position, and it made a task if it makes one
 abbrev pub bind : Scope → Statement → ℕ → TaskNo → Scope
-bind names (Open by block) at made = with_meaning names block (with_opened at)
-bind names (Create by task under families) at made = with_meaning names task (with_made (record { task = made; at = at }))
-bind names _ at made = names
+bind names (Open _ block) at _ = with_meaning names block (with_opened at)
+bind names (Create _ task _ _) at made = with_meaning names task (with_made (record { task = made; at = at }))
+bind names _ _ _ = names
 
 -- ---- what names stand for
 
@@ -55,7 +55,7 @@ abbrev pub no_task : TaskNo
 no_task = record { 0 = 65535 }
 
 abbrev pub task_in : Option Meaning → TaskNo
-task_in (Some (Task entries (Some made))) = made.task
+task_in (Some (Task _ (Some made))) = made.task
 task_in _ = no_task
 
 -- the task that a name is bound to
@@ -64,8 +64,8 @@ task_of names name = task_in (meaning_of names name)
 
 -- a position at which no block is opened stands for a block that isn't bound
 abbrev pub master_in : Option Meaning → Master
-master_in (Some (Task entries (Some made))) = masters.Body made.task
-master_in (Some (Task entries None)) = masters.Body no_task
+master_in (Some (Task _ (Some made))) = masters.Body made.task
+master_in (Some (Task _ None)) = masters.Body no_task
 master_in (Some (Block opened)) = masters.Block (unwrap_or opened 0)
 master_in None = masters.Block 0
 
@@ -105,9 +105,9 @@ accepted names by entry = requests.Wait (task_of names by) (record { guard = tru
 
 -- a statement shows an attribute
 abbrev pub is_show : Statement → Bool
-is_show (ShowCallable by task) = true
-is_show (ShowTerminated by task) = true
-is_show (ShowCount by entry) = true
+is_show (ShowCallable _ _) = true
+is_show (ShowTerminated _ _) = true
+is_show (ShowCount _ _) = true
 is_show _ = false
 
 -- what a statement asks of the kernel; an attribute that is shown is no request
@@ -129,18 +129,16 @@ request_of names (Close by) = Some (requests.Close (task_of names by))
 request_of names (Delay by duration) = Some (requests.Delay (task_of names by) duration)
 request_of names (Complete by) = Some (requests.Complete (task_of names by))
 request_of names (Abort by tasks) = Some (requests.Abort (task_of names by) (map (task_of names) tasks))
-request_of names (ShowCallable by task) = None
-request_of names (ShowTerminated by task) = None
-request_of names (ShowCount by entry) = None
+request_of names _ = None
 
 -- ---- the names of what is bound
 
 -- a name is bound to a task of this number, to a task made at this position, or to a block opened at this position
 abbrev pub is_bound_to : Bound → Meaning → Bool
-is_bound_to (bounds.Task task) (Task entries (Some made)) = made.task.0 == task.0
-is_bound_to (bounds.Made at) (Task entries (Some made)) = made.at == at
+is_bound_to (bounds.Task task) (Task _ (Some made)) = made.task.0 == task.0
+is_bound_to (bounds.Made at) (Task _ (Some made)) = made.at == at
 is_bound_to (bounds.Opened at) (Block (Some opened)) = opened == at
-is_bound_to bound meaning = false
+is_bound_to _ _ = false
 
 -- the first name that is bound to this, and what it stands for
 abbrev pub bound_to : Scope → Bound → Option (List ℕ × Meaning)
@@ -148,5 +146,5 @@ bound_to names bound = find (λ entry. is_bound_to bound entry.1) names
 
 -- the names of the families of a task, none where no name is bound to it
 abbrev pub families_in : Option (List ℕ × Meaning) → List (List ℕ)
-families_in (Some (name, Task entries made)) = entries
+families_in (Some (_, Task entries _)) = entries
 families_in _ = []

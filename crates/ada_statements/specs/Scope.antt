@@ -8,7 +8,7 @@ use Rattle.std.specs.Str.{bytes_eq}
 use Rattle.indexmap.specs.IndexMap.{insert_entry}
 use Rattle.ada_events.specs.declared.limits.TheConstants.{MOST_CHOICES, MOST_DELAYS, MOST_FAMILIES, MOST_TASKS}
 use Rattle.ada_events.specs.declared.request.Tail.{Tail}
-use Rattle.ada_events.specs.declared.request.Tail.TheVariants.{Nothing, Otherwise, Delays, Terminate}
+use Rattle.ada_events.specs.declared.request.Tail.TheVariants.{Delays}
 use Rattle.ada_statements.specs.declared.meaning.Meaning.{Meaning}
 use Rattle.ada_statements.specs.declared.meaning.Meaning.TheVariants.{Task, Block}
 use Rattle.ada_statements.specs.declared.statement.Statement.{Statement}
@@ -33,8 +33,8 @@ with_name names name meaning = insert_entry bytes_eq names name meaning
 
 -- the names behind a statement
 abbrev pub declare : Scope → Statement → Scope
-declare names (Open by block) = with_name names block (Block None)
-declare names (Create by task under families) = with_name names task (Task (map (λ f. f.name) families) None)
+declare names (Open _ block) = with_name names block (Block None)
+declare names (Create _ task _ families) = with_name names task (Task (map (λ f. f.name) families) None)
 declare names _ = names
 
 -- what a name stands for, if it is declared
@@ -42,9 +42,8 @@ abbrev pub meaning_of : Scope → List ℕ → Option Meaning
 meaning_of names name = lookup (bytes_eq name) names
 
 abbrev pub entry_names_in : Option Meaning → Option (List (List ℕ))
-entry_names_in None = None
-entry_names_in (Some (Task entries made)) = Some entries
-entry_names_in (Some (Block opened)) = None
+entry_names_in (Some (Task entries _)) = Some entries
+entry_names_in _ = None
 
 -- the entry names of a task, if the name is a task's
 abbrev pub entries_of : Scope → List ℕ → Option (List (List ℕ))
@@ -98,11 +97,10 @@ AreFamilies families = (length families ≤ MOST_FAMILIES) × AllByRecursion IsF
 abbrev pub AreChoices : Scope → List ℕ → List Alternative → Type 0
 AreChoices names by choices = (length choices ≤ MOST_CHOICES) × AllByRecursion (λ choice. IsEntryName names by choice.entry) choices
 
+-- delay alternatives are few, and their durations are in range; any other tail may stand
 abbrev pub IsTail : Tail → Type 0
-IsTail Nothing = Unit {0}
-IsTail Otherwise = Unit {0}
 IsTail (Delays pauses) = (1 ≤ length pauses) × (length pauses ≤ MOST_DELAYS) × AllByRecursion (λ pause. IsMoment pause.duration) pauses
-IsTail (Terminate guard) = Unit {0}
+IsTail _ = Unit {0}
 
 -- the statement's names and numbers have their form, and its names are declared
 abbrev pub MayStand : Scope → Statement → Type 0

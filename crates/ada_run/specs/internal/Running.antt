@@ -1,7 +1,6 @@
 -- A run of a script: threads play its lines, and what the answers print is written.
 use Rattle.std.specs.Prelude.{ℕ, List, length}
 use Rattle.ada_script.specs.declared.script.Line.{Line}
-use Rattle.ada_replay.specs.Replay.{beginning}
 use Rattle.ada_hall.specs.declared.answer.KeptAnswer.{KeptAnswer}
 use Rattle.ada_hall.specs.Answers.{AreAll, AnswerNoPlaceTwice, AreJoined}
 

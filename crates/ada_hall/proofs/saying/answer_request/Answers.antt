@@ -1,4 +1,4 @@
-use Rattle.std.proofs.Common.{arith, rules, sym, ap, ◌∙◌, inl, refl, length}
+use Rattle.std.proofs.Common.{arith, rules, sym, ap, ◌∙◌, refl, length}
 use Rattle.ada_replay.specs.Ends.{state}
 use Rattle.ada_events.specs.Tasks.{task_count}
 use Rattle.ada_hall.specs.Counting.{asked_count}
@@ -22,7 +22,7 @@ returns-in-Err g c = record {
   ok = answers_refusal c.args.line.now c.request_of-request.result (state c.args.published.now.journal c.args.names.now)
       (state c.step.new.self.journal c.args.names.now)
       c.in-Err.cause (sym c.request_of-request.ensures) c.in-Err.ensures.err (search rules) refl;
-  showing = inl c.in-Err.ensures.unchanged;
+  showing = c.in-Err.ensures.unchanged;
   counted = omega (arith, ap (λ s. asked_count s.journal) c.in-Err.ensures.unchanged);
   err = tt;
   lawful = c.step.ensures.lawful;

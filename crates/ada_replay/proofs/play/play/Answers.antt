@@ -2,7 +2,7 @@ use Rattle.std.proofs.Common.{◌+◌, ◌∙◌, inl, inr, take}
 use Rattle.std.proofs.lemmas.Result.{err_from_is_err_and}
 use Rattle.ada_replay.specs.Ends.{state}
 use Rattle.ada_replay.proofs.Playing.{says_at_rest}
-use Rattle.ada_replay.proofs.Cuts.{pending_line, pending_piece, lines_cut, some_written, all_played, play_ends, play_is_cut}
+use Rattle.ada_replay.proofs.Cuts.{nothing_pending, pending_line, pending_piece, lines_cut, some_written, all_played, play_ends, play_is_cut}
 use Rattle.ada_replay.proofs.play.play.Goals as goal
 
 pub returns-in-Err-clause-err : goal.returns-in-Err-clause-err
@@ -31,6 +31,10 @@ returns-in_err-write_piece-clause-err g c =
           (record { lawful = c.in_default.ensures.at_rest.0; settled = c.in_default.ensures.at_rest.1 }) c.in_default.ensures.ok.2)
           so_far (c.in_err-write_piece.ensures.err.1, c.in_err-write_piece.ensures.err.2),
     )
+
+pub loop-line-init : goal.loop-line-init
+loop-line-init g c =
+    rw c.new-text.ensures.items (nothing_pending (state c.args.kernel.now c.args.names.now) (g.W.Write.contents c.args.writer.now))
 
 pub loop-line-preserved : goal.loop-line-preserved
 loop-line-preserved g c =

@@ -28,5 +28,5 @@ returns-clause-ok g c =
       few = λ many. absurd (omega (arith, c.requires.few, many));
       new = last;
       written = written;
-      tells = subst (λ j. Tells c.ending_of.result j) same c.ending_of.ensures;
+      tells = subst (λ j. Tells c.ending.result j) same c.ending.ensures;
     }

@@ -1,6 +1,5 @@
 use Rattle.std.proofs.Common.{◌≡◌, ◌<◌, Some, None, length, sym, subst, arith}
 use Rattle.std.proofs.lemmas.List.{length-set}
-use Rattle.ada_hall.specs.declared.answer.KeptAnswer.{KeptAnswer}
 use Rattle.ada_hall.specs.Answers.{AnswersKept, answer_at}
 use Rattle.ada_hall.proofs.Places.{room_for_one, stay_apart, stay_within}
 use Rattle.ada_hall.proofs.ByPlace.{one_kept}

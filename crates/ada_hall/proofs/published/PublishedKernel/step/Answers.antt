@@ -1,4 +1,5 @@
-use Rattle.ada_hall.proofs.Tied.{published_next, tied_after}
+use Rattle.ada_laws.proofs.Publishing.{published_next}
+use Rattle.ada_hall.proofs.Tied.{tied_after}
 use Rattle.ada_hall.proofs.published.PublishedKernel.step.Goals as goal
 
 pub publish-mark-requires-clause-true_list : goal.publish-mark-requires-clause-true_list

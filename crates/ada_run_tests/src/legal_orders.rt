@@ -1,8 +1,8 @@
 //! What the check of legal orders refuses.
 
+use crate::referee::{is_legal, replayed};
 use crate::rows::RENDEZVOUS;
 use crate::together::play;
-use crate::{is_legal, replayed};
 use ada_hall::{Answer, KeptAnswer};
 use ada_kernel::Kernel;
 use ada_run::InTurn;
