@@ -1,6 +1,6 @@
 //! Scripts as the threads come whose requests may be accepted or refused, by who comes first.
 
-use crate::rows::RENDEZVOUS;
+use crate::scripts::RENDEZVOUS;
 use crate::together::play;
 use ada_hall::Session;
 use ada_run::{Free, Gate, Shared};

@@ -1,7 +1,7 @@
 //! What the check of legal orders refuses.
 
 use crate::referee::{is_legal, replayed};
-use crate::rows::RENDEZVOUS;
+use crate::scripts::RENDEZVOUS;
 use crate::together::play;
 use ada_hall::{Answer, KeptAnswer};
 use ada_kernel::Kernel;

@@ -1,16 +1,15 @@
 //! Scripts of which each speaker's lines are played by work of its own, one after another.
 ghost use Rattle.std.specs.Prelude.{◌≡◌};
 
-use crate::opened::{Setting, opened};
-use crate::rows::AllAtOnce;
-use ada_board::{History, Readers};
+use crate::all_at_once::AllAtOnce;
+use ada_board::History;
 use ada_events::Refusal;
 use ada_hall::{Answer, Hall, Session};
-use ada_run::{Free, Gate, InTurn, Report, Shared, work};
+use ada_run::{Free, Gate, InTurn, Report, Seat, Shared, open_hall, work};
 use ada_script::{Script, Value, read};
 use std::marker::Brand;
 use std::sync::Wait;
-use std::sync::ledger::{Blank, Share};
+use std::sync::ledger::Blank;
 use std::test::Fail;
 
 /// Two speakers, whose lines stand one speaker after the other.
@@ -31,21 +30,35 @@ tick 5
 /// How many requests of each speaker were accepted and refused, the total, and the answers to two places.
 type Came = ([(u32, u32); 2], u32, Option<Answer>, Option<Answer>);
 
+/// The work of the speaker of a seat.
+fn report<J: Session, R: Wait, G: Gate>(
+    rt: &R,
+    shared: &Shared<'_, J>,
+    script: &Script,
+    seat: Seat<J>,
+    gate: &G,
+) -> Report<J> {
+    let Seat {
+        speaker,
+        reader,
+        share,
+    } = seat;
+    work(rt, shared, script, speaker, reader, share, gate)
+}
+
 /// The work of two speakers, one after the other.
 fn two_reports<J: Session, R: Wait, G: Gate>(
     rt: &R,
     shared: &Shared<'_, J>,
     script: &Script,
-    places: &mut Readers<J>,
-    share: Share<J>,
+    mut seats: Vec<Seat<J>>,
     gate: &G,
-) -> Result<(Report<J>, Report<J>), Fail>
-    requires { (share.parts ≡ 2) × (share.amount ≡ 0) }
-{
-    let mut share = share;
-    let first = share.split_off(1, 0);
-    let main = work(rt, shared, script, 0, places.take()?, first, gate);
-    let other = work(rt, shared, script, 1, places.take()?, share, gate);
+) -> Result<(Report<J>, Report<J>), Fail> {
+    let (Some(second), Some(first)) = (seats.pop(), seats.pop()) else {
+        return Err("two seats".into());
+    };
+    let main = report(rt, shared, script, first, gate);
+    let other = report(rt, shared, script, second, gate);
     Ok((main, other))
 }
 
@@ -76,13 +89,9 @@ fn played<J: Session, R: Wait + AllocGlobal, G: Gate>(
     requires ledger { (blank.name ≡ J.name) × (blank.parts ≡ J.parts) }
     requires parts { blank.parts ≡ 2 }
 {
-    let Setting {
-        hall,
-        mut places,
-        share,
-    } = opened::<J, R>(rt, history, blank, script, 2)?;
+    let (hall, seats) = open_hall::<J, R>(rt, history, blank, script, 2)?;
     let shared = Shared::new(hall);
-    let reports = two_reports(rt, &shared, script, &mut places, share, gate);
+    let reports = two_reports(rt, &shared, script, seats, gate);
     let mut hall = shared.into_hall();
     let came = match reports {
         Ok(reports) => Ok(came_of(&mut hall, reports)),

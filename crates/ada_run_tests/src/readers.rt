@@ -1,16 +1,15 @@
 //! A reader in a thread of its own, beside a hall whose lock is held.
 ghost use Rattle.std.specs.Prelude.{◌≡◌, ◌<◌};
 
-use crate::opened::{Setting, opened};
-use ada_board::{BoardReader, History, Mark, Readers};
+use ada_board::{BoardReader, History, Mark};
 use ada_events::TaskNo;
 use ada_hall::{Hall, Session};
-use ada_run::Shared;
+use ada_run::{Seat, Shared, open_hall};
 use ada_script::{Script, read};
 use std::marker::Brand;
 use std::process::Abort;
 use std::sync::Wait;
-use std::sync::ledger::{Blank, Share};
+use std::sync::ledger::Blank;
 use std::test::Fail;
 use std::thread;
 use std::thread::{JoinHandle, Scope, Threads};
@@ -67,16 +66,21 @@ fn look_beside<J: Session + Send + Sync, R: Threads + Wait + Sync>(
 fn prepare<J: Session, R: Wait>(
     rt: &R,
     hall: &mut Hall<'_, J>,
-    share: &mut Share<J>,
-    places: &mut Readers<J>,
-) -> Result<(BoardReader<J>, Mark<J>), Fail>
-    requires { 0 < share.old.parts }
-{
+    mut seats: Vec<Seat<J>>,
+) -> Result<(BoardReader<J>, Mark<J>), Fail> {
+    let Some(seat) = seats.pop() else {
+        return Err("a seat".into());
+    };
+    let Seat {
+        reader,
+        mut share,
+        ..
+    } = seat;
     for place in 0..6 {
-        hall.say(rt, share, place)?;
+        hall.say(rt, &mut share, place)?;
     }
     let asked = hall.ask(6)?;
-    Ok((places.take()?, asked.mark))
+    Ok((reader, asked.mark))
 }
 
 fn seen_beside<J: Session + Send + Sync, R: Threads + Wait + Sync + AllocGlobal>(
@@ -88,14 +92,10 @@ fn seen_beside<J: Session + Send + Sync, R: Threads + Wait + Sync + AllocGlobal>
     requires named { history ≡ J.book }
     requires script { script.now ≡ J.script }
     requires ledger { (blank.name ≡ J.name) × (blank.parts ≡ J.parts) }
-    requires parts { 0 < blank.parts }
+    requires parts { blank.parts ≡ 1 }
 {
-    let Setting {
-        mut hall,
-        mut places,
-        mut share,
-    } = opened::<J, R>(rt, history, blank, script, 1)?;
-    let ready = prepare(rt, &mut hall, &mut share, &mut places);
+    let (mut hall, seats) = open_hall::<J, R>(rt, history, blank, script, 1)?;
+    let ready = prepare(rt, &mut hall, seats);
     let shared = Shared::new(hall);
     let seen = match ready {
         Ok((reader, mark)) => Ok(look_beside(rt, &shared, reader, mark)),

@@ -1,107 +1,13 @@
 //! The worked plays by a thread for each speaker.
 
+use crate::all_at_once::{AllAtOnce, LOOKS};
+use crate::scripts::{OWN_CALL, RENDEZVOUS, THREE};
 use crate::together::{Played, play};
 use ada_events::Refusal;
-use ada_hall::{Answer, KeptAnswer, Session};
-use ada_run::{Free, Gate, InTurn, Shared};
+use ada_hall::{Answer, KeptAnswer};
+use ada_run::{Free, InTurn};
 use std::process::Abort;
-use std::sync::Wait;
-use std::sync::atomic::{AtomicBool, AtomicU64, Ordering};
 use std::test::Fail;
-use std::thread::yield_now;
-
-/// One rendezvous.
-pub const RENDEZVOUS: &[u8] = b"main: create S under main E
-main: create C under main
-main: activate S C
-S: up
-C: up
-C: call S E
-S: accept E
-S: end
-";
-
-/// Three tasks that are activated at once.
-const THREE: &[u8] = b"main: create S under main E G
-main: create A under main
-main: create B under main
-main: activate S A B
-S: up
-A: up
-B: up
-";
-
-/// A task that calls itself, and waits for good.
-const OWN_CALL: &[u8] = b"main: create S under main E
-main: activate S
-S: up
-S: call S E
-S: complete
-main: complete
-";
-
-/// A thread that has looked so often gives up.
-const LOOKS: u32 = 100_000_000;
-
-/// Holds the first line of each of four speakers until all four have come, and then lets the lines go in turn.
-#[derive(Drop)]
-pub struct AllAtOnce {
-    /// How often a thread looks for the others.
-    looks: u32,
-    /// Which speakers have come.
-    came: [AtomicBool; 4],
-    /// How many gave up.
-    late: AtomicU64,
-}
-
-impl AllAtOnce {
-    /// A gate at which a thread looks so often.
-    pub fn new(looks: u32) -> AllAtOnce {
-        AllAtOnce {
-            looks,
-            came: [
-                AtomicBool::new(false),
-                AtomicBool::new(false),
-                AtomicBool::new(false),
-                AtomicBool::new(false),
-            ],
-            late: AtomicU64::new(0),
-        }
-    }
-
-    /// Looks until all four have come.
-    fn hold(&self) {
-        for _ in 0..self.looks {
-            if self.came.iter().all(|came| came.load(Ordering::SeqCst)) {
-                return;
-            }
-            yield_now();
-        }
-        self.late.fetch_add(1, Ordering::SeqCst);
-    }
-
-    /// Whether a thread gave up.
-    pub fn is_late(&self) -> bool {
-        self.late.load(Ordering::SeqCst) > 0
-    }
-}
-
-impl Gate for AllAtOnce {
-    fn before<J: Session, R: Wait>(
-        &self,
-        rt: &R,
-        shared: &Shared<'_, J>,
-        speaker: u32,
-        place: u32,
-    ) {
-        if let Some(came) = self.came.get(speaker as usize) {
-            if !came.swap(true, Ordering::SeqCst) {
-                self.hold();
-            }
-        }
-        InTurn.before(rt, shared, speaker, place);
-    }
-}
 
 /// Whether the lines were answered in the order of their places.
 fn is_in_turn(answers: &[KeptAnswer]) -> bool {

@@ -1,57 +1,15 @@
 //! Runs of scripts by threads: what they print, in turn and free, and how they end.
 
-use ada_hall::Session;
-use ada_run::{Ending, Free, Gate, InTurn, RunFault, Shared, read_and_run, replay, status_of};
+use crate::all_at_once::{AllAtOnce, LOOKS};
+use crate::scripts::{ARRIVALS, MISSING, OWN_CALL, THREE};
+use ada_run::{Ending, Free, Gate, InTurn, RunFault, read_and_run, replay, status_of};
 use ada_script_tests::rendezvous::SCRIPT;
 use ada_script_tests::streams::Writes;
 use std::alloc::{AllocError, Global};
 use std::process::Abort;
 use std::sync::Wait;
-use std::sync::atomic::{AtomicU64, Ordering};
 use std::test::Fail;
-use std::thread::{Threads, yield_now};
-
-/// A server with two entries, and two clients, all activated.
-const CLIENTS: &str = "main: create S under main E G
-main: create A under main
-main: create B under main
-main: activate S A B
-S: up
-A: up
-B: up
-";
-
-/// The order of arrival, and COUNT, behind the clients.
-const COUNTING: &str = "S: accept E
-A: call S E
-B: call S E
-main: call S E
-S: show count E
-S: end
-S: accept E
-S: show count E
-";
-
-/// Attributes of tasks that are there and of one that isn't, and a task that is never activated.
-const SHOWING: &str = "main: create A under main
-main: create T under A
-main: show callable T
-main: show callable A
-A: show terminated main
-T: show callable A
-";
-
-/// A task that calls itself waits for good.
-const STUCK: &[u8] = b"main: create S under main E
-main: activate S
-S: up
-S: call S E
-S: complete
-main: complete
-";
-
-/// A gate that has been looked at so often gives up.
-const LOOKS: u32 = 100_000_000;
+use std::thread::Threads;
 
 fn same<R: Threads + Wait + Sync + Abort + AllocGlobal>(rt: &R, script: &[u8]) -> Result<(), Fail> {
     let mut wanted = Vec::new(rt.alloc());
@@ -65,74 +23,26 @@ fn same<R: Threads + Wait + Sync + Abort + AllocGlobal>(rt: &R, script: &[u8]) -
     Ok(())
 }
 
-fn joined(alloc: Global, first: &str, second: &str) -> Result<String, AllocError> {
-    let mut script = String::new(alloc);
-    script.push_str(first)?;
-    script.push_str(second)?;
-    Ok(script)
-}
-
 // The lines of one rendezvous to the end, those of a queue, and those that show attributes.
 #[test]
 fn runs_in_turn_print_what_replays_print(rt: HostRuntime) -> Result<(), Fail> {
     same(&rt, SCRIPT)?;
-    same(&rt, joined(rt.alloc(), CLIENTS, COUNTING)?.as_bytes())?;
-    same(&rt, SHOWING.as_bytes())
+    same(&rt, ARRIVALS)?;
+    same(&rt, MISSING)
 }
 
-/// Holds the first line of each of four speakers until all four have come, and then lets the lines go in turn.
-#[derive(Drop)]
-struct Together {
-    come: AtomicU64,
-    given_up: AtomicU64,
-}
-
-impl Together {
-    /// Waits for the others. It gives up after so many looks.
-    fn meet(&self) {
-        self.come.fetch_add(1, Ordering::SeqCst);
-        for _ in 0..LOOKS {
-            if self.come.load(Ordering::SeqCst) >= 4 {
-                return;
-            }
-            yield_now();
-        }
-        self.given_up.fetch_add(1, Ordering::SeqCst);
-    }
-}
-
-impl Gate for Together {
-    fn before<J: Session, R: Wait>(
-        &self,
-        rt: &R,
-        shared: &Shared<'_, J>,
-        speaker: u32,
-        place: u32,
-    ) {
-        // The main program has the first four lines, and each task one of the others.
-        if place == 0 || place >= 4 {
-            self.meet();
-        }
-        InTurn.before(rt, shared, speaker, place);
-    }
-}
-
-/// The status of a run of the clients behind a gate.
+/// The status of a run of three tasks behind a gate.
 fn status_behind<R: Threads + Wait + Sync + AllocGlobal, G: Gate + Sync>(rt: &R, gate: &G) -> u8 {
     let mut output = Vec::new(rt.alloc());
-    let mut reader = CLIENTS.as_bytes();
+    let mut reader = THREE;
     status_of(&read_and_run(rt, &mut reader, gate, &mut output))
 }
 
 #[test]
 fn one_thread_for_all(rt: HostRuntime) -> Result<(), Fail> {
-    let gate = Together {
-        come: AtomicU64::new(0),
-        given_up: AtomicU64::new(0),
-    };
+    let gate = AllAtOnce::new(LOOKS);
     assert_eq!(rt; status_behind(&rt, &gate), 3);
-    assert_eq!(rt; gate.given_up.load(Ordering::SeqCst), 0);
-    assert_eq!(rt; gate.come.load(Ordering::SeqCst), 4);
+    assert!(rt; gate.is_full() && !gate.is_late());
     Ok(())
 }
 
@@ -147,7 +57,7 @@ fn lines_with(text: &[u8], beginning: &[u8]) -> usize {
 #[test]
 fn free_runs_end_where_all_wait(rt: HostRuntime) -> Result<(), Fail> {
     let mut output = Vec::new(rt.alloc());
-    let mut reader = STUCK;
+    let mut reader = OWN_CALL;
     let outcome = read_and_run(&rt, &mut reader, &Free, &mut output);
     assert_eq!(rt; status_of(&outcome), 3);
     assert_eq!(rt; lines_with(&output, b"refused"), 1);

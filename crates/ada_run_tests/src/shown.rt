@@ -1,5 +1,6 @@
 //! The attributes that lines show, read by a thread for each speaker, in turn.
 
+use crate::scripts::{ARRIVALS, MISSING};
 use crate::together::play;
 use ada_events::Refusal;
 use ada_hall::{Answer, KeptAnswer};
@@ -7,33 +8,6 @@ use ada_run::InTurn;
 use ada_script::Value;
 use std::process::Abort;
 use std::test::Fail;
-
-/// Calls in the order of their arrival, and COUNT.
-const ARRIVALS: &[u8] = b"main: create S under main E G
-main: create A under main
-main: create B under main
-main: activate S A B
-S: up
-A: up
-B: up
-S: accept E
-A: call S E
-B: call S E
-main: call S E
-S: show count E
-S: end
-S: accept E
-S: show count E
-";
-
-/// A creation that is refused, and tasks that aren't there.
-const MISSING: &[u8] = b"main: create A under main
-main: create T under A
-main: show callable T
-main: show callable A
-A: show terminated main
-T: show callable A
-";
 
 /// Whether the line at a place was answered as the one behind so many others, and so.
 fn is_answered(answers: &[KeptAnswer], place: usize, answer: Answer) -> bool {

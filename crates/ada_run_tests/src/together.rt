@@ -2,12 +2,11 @@
 ghost use Rattle.std.specs.Prelude.{◌≡◌, ◌+◌, ◌<◌, ◌≤◌, OnOk, vec_len};
 
 use crate::crew::work_all;
-use crate::opened::{Setting, opened};
 use crate::referee::is_legal;
-use ada_board::{History, Readers};
+use ada_board::History;
 use ada_hall::speakers::speakers;
 use ada_hall::{Hall, KeptAnswer, Session};
-use ada_run::{Gate, Report, Shared};
+use ada_run::{Gate, Report, Shared, open_hall};
 use ada_script::{Script, read};
 use std::alloc::Global;
 use std::marker::Brand;
@@ -50,29 +49,28 @@ impl Played {
     }
 }
 
-/// Puts the shares of all reports together: what the reports say, that of the last speaker first.
+/// What reports say, in their order, and the sum of their shares. Fails where there is none.
 fn merge_all<J: Session>(
     alloc: Global,
     mut reports: Vec<Report<J>>,
-    whole: &mut Share<J>,
-) -> Result<Vec<(u32, u32)>, Fail>
-    ensures { OnOk result (whole.new.parts ≡ whole.old.parts + vec_len reports) }
+) -> Result<(Vec<(u32, u32)>, Share<J>), Fail>
+    ensures { IfOk result (λ merged. merged.1.parts ≡ vec_len reports) }
 {
+    let Some(last) = reports.pop() else {
+        return Err("a report".into());
+    };
     let mut counts = Vec::new(alloc);
+    counts.push((last.accepted, last.refused))?;
+    let mut whole = last.share;
     for _ in 0..reports.len() {
         let Some(report) = reports.pop() else {
             break;
         };
-        let Report {
-            accepted,
-            refused,
-            share,
-        } = report;
-        whole.merge(share);
-        counts.push((accepted, refused))?;
+        counts.push((report.accepted, report.refused))?;
+        whole.merge(report.share);
     }
     counts.reverse();
-    Ok(counts)
+    Ok((counts, whole))
 }
 
 /// What came of a script, by the hall and what its threads report. The shares add up to the hall's total.
@@ -82,16 +80,14 @@ fn came_of<J: Session>(
     script: &Script,
     hall: &mut Hall<'_, J>,
     reports: Vec<Report<J>>,
-    left: Share<J>,
     speakers: u32,
 ) -> Result<Played, Fail>
-    requires { left.parts + speakers ≡ J.parts }
+    requires { speakers ≡ J.parts }
 {
     if reports.len() != speakers as usize {
         return Err("a report of each speaker".into());
     }
-    let mut whole = left;
-    let counts = merge_all(alloc, reports, &mut whole)?;
+    let (counts, mut whole) = merge_all(alloc, reports)?;
     hall.audit(&mut whole);
     let mut answers = Vec::new(alloc);
     answers.extend_from_slice(hall.answers())?;
@@ -117,21 +113,14 @@ fn play_script<J: Session + Send + Sync, R: Threads + Wait + Sync + AllocGlobal,
     requires named { history ≡ J.book }
     requires script { script.now ≡ J.script }
     requires ledger { (blank.name ≡ J.name) × (blank.parts ≡ J.parts) }
-    requires parts { blank.parts ≡ speakers + 1 }
-    requires readers { (0 < speakers) × (speakers ≤ 256) }
+    requires speakers { (0 < speakers) × (speakers ≤ 256) × (blank.parts ≡ speakers) }
 {
-    let Setting {
-        hall,
-        mut places,
-        share,
-    } = opened::<J, R>(rt, history, blank, script, speakers as usize)?;
+    let (hall, seats) = open_hall::<J, R>(rt, history, blank, script, speakers)?;
     let shared = Shared::new(hall);
-    let worked = work_all(rt, &shared, script, &mut places, share, gate, speakers);
+    let worked = work_all(rt, &shared, script, seats, gate);
     let mut hall = shared.into_hall();
     let came = match worked {
-        Some((reports, left)) => {
-            came_of(rt.alloc(), text, script, &mut hall, reports, left, speakers)
-        }
+        Some(reports) => came_of(rt.alloc(), text, script, &mut hall, reports, speakers),
         None => Err("a thread for each speaker".into()),
     };
     hall.close(rt);
@@ -149,6 +138,6 @@ pub fn play<R: Threads + Wait + Sync + AllocGlobal, G: Gate + Sync>(
     if count == 0 || count > 256 {
         return Err("1 to 256 speakers".into());
     }
-    let blank = Blank::new(u64::from(count) + 1);
+    let blank = Blank::new(u64::from(count));
     play_script::<Brand, _, _>(rt, History::new(), blank, text, &script, gate, count)
 }
