@@ -38,7 +38,7 @@ pub fn opened<'s, J: Session, R: Wait + AllocGlobal>(
             places,
             share,
         }),
-        Err((cause, writer)) => {
+        Err((cause, writer, _book)) => {
             writer.close(rt);
             Err(cause.into())
         }

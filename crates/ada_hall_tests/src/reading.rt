@@ -63,6 +63,39 @@ fn reader_answers_from_its_mark(rt: HostRuntime) -> Result<(), Fail> {
     Ok(())
 }
 
+/// Three readers that are told of nothing, each of which is asked for one attribute alone: of a server with a call
+/// queued.
+fn each_looks<J: Naming, R: Wait>(
+    rt: &R,
+    kernel: &mut PublishedKernel<J>,
+    places: &mut Readers<J>,
+) -> Result<bool, Fail> {
+    let mut of_callable = places.take()?;
+    let mut of_terminated = places.take()?;
+    let mut of_count = places.take()?;
+    make_clients(rt, kernel)?;
+    step(rt, kernel, timed_call(2, 1, 0, 5))?;
+    let callable = of_callable.callable(SERVER) == Some(true);
+    let lives = of_terminated.terminated(SERVER) == Some(false);
+    Ok(callable && lives && of_count.count(0) == Some(1))
+}
+
+fn each_read<J: Naming, R: Wait + AllocGlobal>(rt: &R, history: History) -> Result<bool, Fail>
+    requires { history ≡ J.book }
+{
+    let (mut kernel, mut places) = opened::<J, R>(rt, history, 3)?;
+    let came = each_looks(rt, &mut kernel, &mut places);
+    kernel.close(rt);
+    came
+}
+
+// A read that didn't look would answer None, since the opening board has no server.
+#[test]
+fn each_read_looks(rt: HostRuntime) -> Result<(), Fail> {
+    assert!(rt; each_read::<Brand, _>(&rt, History::new())?);
+    Ok(())
+}
+
 /// Takes every place, and reads from each.
 fn take_all<J: Naming>(places: &mut Readers<J>) -> Result<bool, Fail> {
     for _ in 0..256 {

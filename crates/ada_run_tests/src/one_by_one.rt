@@ -27,6 +27,13 @@ S: up
 tick 5
 ";
 
+/// A tick to the moment until which the main program is delayed, and a task that is never activated.
+const TICKED: &[u8] = b"main: create S under main E
+main: delay 5
+tick 5
+S: up
+";
+
 /// How many requests of each speaker were accepted and refused, the total, and the answers to two places.
 type Came = ([(u32, u32); 2], u32, Option<Answer>, Option<Answer>);
 
@@ -125,6 +132,17 @@ fn waits_for_good_are_found(rt: HostRuntime) -> Result<(), Fail> {
     assert_eq!(rt; total, 2);
     assert_eq!(rt; third, Some(Answer::Refused(Refusal::NotRunning)));
     assert_eq!(rt; fourth, Some(Answer::Group { first: 2, last: 2 }));
+    Ok(())
+}
+
+// A tick waits for nobody, the delayed main program included; else this thread would wait for the other for good.
+#[test]
+fn a_tick_goes_while_main_is_delayed(rt: HostRuntime) -> Result<(), Fail> {
+    let (counts, total, third, fourth) = came(&rt, TICKED, &Free)?;
+    assert_eq!(rt; counts, [(3, 0), (0, 1)]);
+    assert_eq!(rt; total, 3);
+    assert_eq!(rt; third, Some(Answer::Group { first: 3, last: 4 }));
+    assert_eq!(rt; fourth, Some(Answer::Refused(Refusal::NotRunning)));
     Ok(())
 }
 
