@@ -5,7 +5,7 @@ use crate::halls::{HallCall, try_hall};
 use crate::journals::Reserving;
 use crate::kernels::{Making, Play};
 use crate::saying;
-use crate::scenario::{EVENTS, LINES, REQUESTS};
+use crate::scenario::{EVENTS, LINES, Scene};
 use crate::scripts::{Copying, Printed, Printing, Reading, Spelling};
 use crate::tables::{TableCall, TableTrial};
 use crate::trial::{Reach, Seen, go};
@@ -16,7 +16,7 @@ use std::sync::Wait;
 #[derive(Clone, Copy, Debug, PartialEq, Eq)]
 pub enum Call {
     KernelNew,
-    KernelStep,
+    KernelStep(Scene),
     TablesNew,
     AddTask,
     ReserveCall,
@@ -35,9 +35,12 @@ pub enum Call {
 }
 
 /// All of them.
-pub const CALLS: [Call; 17] = [
+pub const CALLS: [Call; 20] = [
     Call::KernelNew,
-    Call::KernelStep,
+    Call::KernelStep(Scene::EachEvent),
+    Call::KernelStep(Scene::Termination),
+    Call::KernelStep(Scene::SelfAbort),
+    Call::KernelStep(Scene::Abort),
     Call::TablesNew,
     Call::AddTask,
     Call::ReserveCall,
@@ -63,7 +66,10 @@ impl Call {
     pub fn name(self) -> &'static str {
         match self {
             Call::KernelNew => "Kernel::new",
-            Call::KernelStep => "Kernel::step",
+            Call::KernelStep(Scene::EachEvent) => "Kernel::step",
+            Call::KernelStep(Scene::Termination) => "Kernel::step:termination",
+            Call::KernelStep(Scene::SelfAbort) => "Kernel::step:self_abort",
+            Call::KernelStep(Scene::Abort) => "Kernel::step:abort",
             Call::TablesNew => "Tables::new",
             Call::AddTask => "Tables::add_task",
             Call::ReserveCall => "Tables::reserve_call",
@@ -86,7 +92,7 @@ impl Call {
     /// tasks.
     pub fn numbers(self) -> usize {
         match self {
-            Call::KernelStep => REQUESTS,
+            Call::KernelStep(scene) => scene.requests(),
             Call::AddTask | Call::ReserveCall => TASKS,
             Call::Words => LINES,
             Call::WriteEvent => EVENTS,
@@ -106,7 +112,7 @@ impl Call {
         let alloc = rt.alloc();
         match self {
             Call::KernelNew => Ok(go(Making::prepare(alloc), Making::prepare(alloc), reach)),
-            Call::KernelStep => step(alloc, number, reach),
+            Call::KernelStep(scene) => step(alloc, scene, number, reach),
             Call::TablesNew => Ok(table(alloc, TableCall::New, 1, reach)),
             Call::AddTask => Ok(table(alloc, TableCall::AddTask, number, reach)),
             Call::ReserveCall => Ok(table(alloc, TableCall::ReserveCall, number, reach)),
@@ -138,9 +144,9 @@ fn shown(number: usize) -> Printed {
     }
 }
 
-fn step(alloc: Global, number: usize, reach: Reach) -> anyhow::Result<Option<Seen>> {
-    let trial = Play::prepare(alloc, number)?;
-    let twin = Play::prepare(alloc, number)?;
+fn step(alloc: Global, scene: Scene, number: usize, reach: Reach) -> anyhow::Result<Option<Seen>> {
+    let trial = Play::prepare(alloc, scene, number)?;
+    let twin = Play::prepare(alloc, scene, number)?;
     Ok(go(trial, twin, reach))
 }
 

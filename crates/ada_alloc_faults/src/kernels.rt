@@ -1,6 +1,6 @@
 //! Trials of the kernel.
 
-use crate::scenario::{REQUESTS, SCRIPT, are_same_names};
+use crate::scenario::{Scene, are_same_names};
 use crate::trial::{Answer, Trial};
 use ada_events::{Entry, Refusal, Request, TaskNo};
 use ada_kernel::Kernel;
@@ -56,9 +56,10 @@ impl Trial for Making {
 /// From here on a request takes memory for the journal, which doubles what it has.
 const FULL: u32 = 1025;
 
-/// The script's play on a kernel: the call is the next request of it.
+/// A script's play on a kernel: the call is the next request of it.
 #[derive(Drop)]
 pub struct Play {
+    scene: Scene,
     script: Script,
     names: Names,
     kernel: Kernel,
@@ -71,11 +72,12 @@ pub struct Play {
 
 impl Play {
     /// The script on a new kernel.
-    pub fn new(alloc: Global) -> anyhow::Result<Play> {
-        let script = read(alloc, SCRIPT)?;
+    pub fn new(alloc: Global, scene: Scene) -> anyhow::Result<Play> {
+        let script = read(alloc, scene.script())?;
         let names = script.names()?;
         let kernel = Kernel::new(alloc)?;
         Ok(Play {
+            scene,
             script,
             names,
             kernel,
@@ -86,8 +88,8 @@ impl Play {
     }
 
     /// Before the request of this number, from 1, with no room for it in the journal.
-    pub fn prepare(alloc: Global, number: usize) -> anyhow::Result<Play> {
-        let mut play = Play::new(alloc)?;
+    pub fn prepare(alloc: Global, scene: Scene, number: usize) -> anyhow::Result<Play> {
+        let mut play = Play::new(alloc, scene)?;
         play.play_to(number.saturating_sub(1));
         play.fill();
         Ok(play)
@@ -146,7 +148,7 @@ impl Trial for Play {
     }
 
     fn go_on(&mut self) {
-        self.play_to(REQUESTS);
+        self.play_to(self.scene.requests());
     }
 
     fn is_like(&self, other: &Play) -> bool {

@@ -1,4 +1,4 @@
-//! The script that the trials play.
+//! The scripts that the trials play.
 
 use ada_script::{Meaning, Names};
 
@@ -45,10 +45,90 @@ main: show terminated A
 S: show count E
 ";
 
-/// The names that the script declares.
-const NAMES: [&[u8]; 5] = [b"main", b"B", b"S", b"A", b"C"];
+/// Collective termination, which a call from outside holds up.
+const TERMINATION: &[u8] = b"main: create C under main
+main: activate C
+C: up
+main: open B
+main: create X under B E
+main: create Y under B E
+main: activate X Y
+X: create Z under X E
+X: activate Z
+Z: up
+X: up
+Y: up
+X: select 0 accept E or terminate
+Y: select 0 accept E or terminate
+Z: select 0 closed accept E or terminate
+C: call Z E within 5
+main: close
+tick 5
+";
 
-/// Whether all names of the script mean the same.
+/// A server within two rendezvous aborts itself, while a third call is queued.
+const SELF_ABORT: &[u8] = b"main: create S under main E G
+main: create A under main
+main: create B under main
+main: activate S A B
+S: up
+A: up
+B: up
+A: call S E
+B: call S G
+S: accept E
+S: accept G
+main: call S E
+S: abort S
+";
+
+/// A caller is aborted within its rendezvous, which then ends.
+const ABORT: &[u8] = b"main: create S under main E
+main: create A under main
+main: activate S A
+S: up
+A: up
+S: accept E
+A: call S E
+main: abort A
+S: end
+";
+
+/// What the trials of a kernel's step play.
+#[derive(Clone, Copy, Debug, PartialEq, Eq)]
+pub enum Scene {
+    /// The script that leads to each kind of event.
+    EachEvent,
+    Termination,
+    SelfAbort,
+    Abort,
+}
+
+impl Scene {
+    pub fn script(self) -> &'static [u8] {
+        match self {
+            Scene::EachEvent => SCRIPT,
+            Scene::Termination => TERMINATION,
+            Scene::SelfAbort => SELF_ABORT,
+            Scene::Abort => ABORT,
+        }
+    }
+
+    /// How many requests the script begins with.
+    pub fn requests(self) -> usize {
+        match self {
+            Scene::EachEvent => REQUESTS,
+            Scene::Termination => 18,
+            Scene::SelfAbort => 13,
+            Scene::Abort => 9,
+        }
+    }
+}
+
+/// The names that the scripts declare.
+const NAMES: [&[u8]; 8] = [b"main", b"B", b"S", b"A", b"C", b"X", b"Y", b"Z"];
+
+/// Whether all names of a script mean the same.
 pub fn are_same_names(names: &Names, others: &Names) -> bool {
     NAMES
         .iter()
@@ -58,6 +138,7 @@ pub fn are_same_names(names: &Names, others: &Names) -> bool {
 fn is_same(meaning: Option<&Meaning>, other: Option<&Meaning>) -> bool {
     match (meaning, other) {
         (Some(meaning), Some(other)) => meaning == other,
+        (None, None) => true,
         _ => false,
     }
 }

@@ -1,7 +1,7 @@
 //! Trials of scripts: reading one, copying its names, spelling and printing.
 
 use crate::kernels::Play;
-use crate::scenario::{REQUESTS, SCRIPT, are_same_names};
+use crate::scenario::{REQUESTS, SCRIPT, Scene, are_same_names};
 use crate::trial::{Answer, Trial};
 use ada_events::Refusal;
 use ada_script::{
@@ -166,7 +166,7 @@ pub struct Printing {
 impl Printing {
     pub fn prepare(alloc: Global, printed: Printed) -> anyhow::Result<Printing> {
         let out = Vec::from_slice(alloc, b"before\n")?;
-        let mut play = Play::new(alloc)?;
+        let mut play = Play::new(alloc, Scene::EachEvent)?;
         play.play_to(REQUESTS);
         Ok(Printing { printed, play, out })
     }
