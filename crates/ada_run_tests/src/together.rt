@@ -1,5 +1,5 @@
 //! Scripts that are played by a thread for each speaker.
-ghost use Rattle.std.specs.Prelude.{◌≡◌, ◌+◌, ◌<◌, ◌≤◌, OnOk, vec_len};
+ghost use Rattle.std.specs.Prelude.{◌≡◌, ◌+◌, ◌<◌, ◌≤◌, IfOk, OnOk, vec_len};
 
 use crate::crew::work_all;
 use crate::referee::is_legal;
