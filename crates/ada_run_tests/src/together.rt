@@ -1,5 +1,5 @@
 //! Scripts that are played by a thread for each speaker.
-ghost use Rattle.std.specs.Prelude.{◌≡◌, ◌+◌, ◌<◌, ◌≤◌, IfOk, OnOk, vec_len};
+ghost use Rattle.std.specs.Prelude.{◌≡◌, ◌+◌, ◌<◌, ◌≤◌, OnOk, vec_len};
 
 use crate::crew::work_all;
 use crate::referee::is_legal;
@@ -49,28 +49,29 @@ impl Played {
     }
 }
 
-/// What reports say, in their order, and the sum of their shares. Fails where there is none.
+/// Puts the shares of all reports together: what the reports say, in their order.
 fn merge_all<J: Session>(
     alloc: Global,
     mut reports: Vec<Report<J>>,
-) -> Result<(Vec<(u32, u32)>, Share<J>), Fail>
-    ensures { IfOk result (λ merged. merged.1.parts ≡ vec_len reports) }
+    whole: &mut Share<J>,
+) -> Result<Vec<(u32, u32)>, Fail>
+    ensures { OnOk result (whole.new.parts ≡ whole.old.parts + vec_len reports) }
 {
-    let Some(last) = reports.pop() else {
-        return Err("a report".into());
-    };
     let mut counts = Vec::new(alloc);
-    counts.push((last.accepted, last.refused))?;
-    let mut whole = last.share;
     for _ in 0..reports.len() {
         let Some(report) = reports.pop() else {
             break;
         };
-        counts.push((report.accepted, report.refused))?;
-        whole.merge(report.share);
+        let Report {
+            accepted,
+            refused,
+            share,
+        } = report;
+        whole.merge(share);
+        counts.push((accepted, refused))?;
     }
     counts.reverse();
-    Ok((counts, whole))
+    Ok(counts)
 }
 
 /// What came of a script, by the hall and what its threads report. The shares add up to the hall's total.
@@ -79,7 +80,7 @@ fn came_of<J: Session>(
     text: &[u8],
     script: &Script,
     hall: &mut Hall<'_, J>,
-    reports: Vec<Report<J>>,
+    mut reports: Vec<Report<J>>,
     speakers: u32,
 ) -> Result<Played, Fail>
     requires { speakers ≡ J.parts }
@@ -87,7 +88,17 @@ fn came_of<J: Session>(
     if reports.len() != speakers as usize {
         return Err("a report of each speaker".into());
     }
-    let (counts, mut whole) = merge_all(alloc, reports)?;
+    let Some(last) = reports.pop() else {
+        return Err("a report".into());
+    };
+    let Report {
+        accepted,
+        refused,
+        share,
+    } = last;
+    let mut whole = share;
+    let mut counts = merge_all(alloc, reports, &mut whole)?;
+    counts.push((accepted, refused))?;
     hall.audit(&mut whole);
     let mut answers = Vec::new(alloc);
     answers.extend_from_slice(hall.answers())?;
