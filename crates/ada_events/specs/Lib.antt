@@ -13,6 +13,7 @@ pub mod Forced
 pub mod Asks
 pub mod Limits
 pub mod Refusals
+pub mod RefusalNames
 pub mod Outcomes
 pub mod Attributes
 pub mod Slots

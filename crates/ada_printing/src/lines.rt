@@ -2,7 +2,7 @@
 
 ghost use Rattle.std.specs.Prelude.{◌≡◌, ◌++◌, take, IsOk, OnOk, OnErr, IsOkUnless};
 ghost use Rattle.ada_printing.specs.internal.Appending.{KeepsStarts};
-ghost use Rattle.ada_printing.specs.Texts.{event_line, refusal_text, refusal_name, shown_text, value_text};
+ghost use Rattle.ada_printing.specs.Texts.{event_line, refusal_text, shown_text, value_text};
 
 use crate::Value;
 use crate::events::put_event;
@@ -71,39 +71,8 @@ fn put_refusal(out: &mut Vec<u8>, line: u32, refusal: Refusal) -> Result<(), All
     put(out, b"refused line ")?;
     put_number(out, line)?;
     put(out, b": ")?;
-    put(out, name_of(refusal))?;
+    put(out, refusal.name().as_bytes())?;
     put_byte(out, b'\n')
-}
-
-/// The name of a refusal.
-fn name_of(refusal: Refusal) -> &'static [u8]
-    ensures { result.now ≡ refusal_name refusal }
-{
-    match refusal {
-        Refusal::UnknownTask => b"UnknownTask",
-        Refusal::NotRunning => b"NotRunning",
-        Refusal::DuringActivation => b"DuringActivation",
-        Refusal::NotActivating => b"NotActivating",
-        Refusal::NotYourMaster => b"NotYourMaster",
-        Refusal::EmptyList => b"EmptyList",
-        Refusal::NotYourTask => b"NotYourTask",
-        Refusal::NoAccept => b"NoAccept",
-        Refusal::NoSuchFamily => b"NoSuchFamily",
-        Refusal::ConstraintError => b"ConstraintError",
-        Refusal::SameFamilyNested => b"SameFamilyNested",
-        Refusal::TerminateInAccept => b"TerminateInAccept",
-        Refusal::NotInAccept => b"NotInAccept",
-        Refusal::NoBlock => b"NoBlock",
-        Refusal::StillNested => b"StillNested",
-        Refusal::MainTask => b"MainTask",
-        Refusal::MomentBack => b"MomentBack",
-        Refusal::MomentTooLarge => b"MomentTooLarge",
-        Refusal::TooManyTasks => b"TooManyTasks",
-        Refusal::TooManySlots => b"TooManySlots",
-        Refusal::TooDeep => b"TooDeep",
-        Refusal::JournalFull => b"JournalFull",
-        Refusal::OutOfMemory => b"OutOfMemory",
-    }
 }
 
 /// Appends the line that a line of a script prints which shows an attribute. An `Err`, which is
