@@ -1,6 +1,6 @@
 //! Trials of the kernel.
 
-use crate::scenario::{Scene, are_same_names};
+use crate::scenario::Scene;
 use crate::trial::{Answer, Trial};
 use ada_events::{Entry, Refusal, Request, TaskNo};
 use ada_kernel::Kernel;
@@ -154,7 +154,7 @@ impl Trial for Play {
     fn is_like(&self, other: &Play) -> bool {
         self.played == other.played
             && self.at == other.at
-            && are_same_names(&self.names, &other.names)
+            && self.scene.has_same_names(&self.names, &other.names)
             && are_same(&self.kernel, &other.kernel)
     }
 }

@@ -2,7 +2,7 @@
 
 use ada_script::{Meaning, Names};
 
-/// How many of the lines make requests; those behind them show attributes.
+/// How many of the lines make requests; those after them show attributes.
 pub const REQUESTS: usize = 28;
 
 /// How many lines there are.
@@ -123,22 +123,28 @@ impl Scene {
             Scene::Abort => 9,
         }
     }
-}
 
-/// The names that the scripts declare.
-const NAMES: [&[u8]; 8] = [b"main", b"B", b"S", b"A", b"C", b"X", b"Y", b"Z"];
+    /// The names that the script declares, that of the main program first.
+    fn names(self) -> &'static [&'static [u8]] {
+        match self {
+            Scene::EachEvent => &[b"main", b"B", b"S", b"A", b"C"],
+            Scene::Termination => &[b"main", b"C", b"B", b"X", b"Y", b"Z"],
+            Scene::SelfAbort => &[b"main", b"S", b"A", b"B"],
+            Scene::Abort => &[b"main", b"S", b"A"],
+        }
+    }
 
-/// Whether all names of a script mean the same.
-pub fn are_same_names(names: &Names, others: &Names) -> bool {
-    NAMES
-        .iter()
-        .all(|name| is_same(names.meaning(name), others.meaning(name)))
+    /// Whether all names of the script are declared in both, and mean the same.
+    pub fn has_same_names(self, names: &Names, others: &Names) -> bool {
+        self.names()
+            .iter()
+            .all(|name| is_same(names.meaning(name), others.meaning(name)))
+    }
 }
 
 fn is_same(meaning: Option<&Meaning>, other: Option<&Meaning>) -> bool {
     match (meaning, other) {
         (Some(meaning), Some(other)) => meaning == other,
-        (None, None) => true,
         _ => false,
     }
 }

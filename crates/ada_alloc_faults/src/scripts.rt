@@ -1,7 +1,7 @@
 //! Trials of scripts: reading one, copying its names, spelling and printing.
 
 use crate::kernels::Play;
-use crate::scenario::{REQUESTS, SCRIPT, Scene, are_same_names};
+use crate::scenario::{REQUESTS, SCRIPT, Scene};
 use crate::trial::{Answer, Trial};
 use ada_events::Refusal;
 use ada_script::{
@@ -58,7 +58,7 @@ impl Trial for Reading {
 
 fn are_same_scripts(script: &Script, other: &Script) -> bool {
     let same = match (script.names(), other.names()) {
-        (Ok(names), Ok(others)) => are_same_names(&names, &others),
+        (Ok(names), Ok(others)) => Scene::EachEvent.has_same_names(&names, &others),
         _ => false,
     };
     same && script.lines() == other.lines()
@@ -95,7 +95,7 @@ impl Trial for Copying {
 
     fn is_like(&self, other: &Copying) -> bool {
         let same = match (&self.names, &other.names) {
-            (Some(names), Some(others)) => are_same_names(names, others),
+            (Some(names), Some(others)) => Scene::EachEvent.has_same_names(names, others),
             (None, None) => true,
             _ => false,
         };

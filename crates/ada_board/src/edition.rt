@@ -1,5 +1,6 @@
 //! A board with its place in the history.
 ghost use Rattle.std.specs.Prelude.{◌≡◌, ◌++◌, ◌∷◌, [], MatchBool};
+ghost use Rattle.std.specs.List.{Contains};
 ghost use mathlib.Core.List.{IsPrefix};
 ghost use Rattle.ada_events.specs.Boards.{AreTrue};
 ghost use Rattle.ada_board.specs.Answers.{latest};
@@ -88,6 +89,7 @@ impl Edition {
         ensures book { self.new.book ≡ self.old.book }
         ensures own { IsPrefix self.old.boards self.new.boards }
         ensures others { IsPrefix other.now.boards self.new.boards }
+        ensures one { Contains (other.now.boards ∷ self.old.boards ∷ []) self.new.boards }
     {
         let mut both = self.reached.again();
         both.learn(&other.reached);

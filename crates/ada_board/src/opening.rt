@@ -40,7 +40,8 @@ impl<J: Naming> Readers<J> {
     /// Takes a place. Fails with `NoPlace` where every place has been taken, and takes no memory.
     pub fn take(&mut self) -> Result<BoardReader<J>, BoardFault>
         ensures { MatchResult result
-            (λ reader. (self.old ≡ self.new + 1) × (reader ≡ record { seen = []; told = [] }))
+            (λ reader. (self.old ≡ self.new + 1)
+            × (reader ≡ record { seen = []; told = []; met = [] }))
             (λ fault. (fault ≡ BoardFault.NoPlace) × (self.old ≡ 0) × (self.new ≡ 0)) }
     {
         match self.places.pop() {

@@ -1,5 +1,7 @@
 //! A reader of the board.
 ghost use Rattle.std.specs.Prelude.{◌≡◌, [], ◌∷◌, IfSome};
+ghost use Rattle.std.specs.List.{Contains};
+ghost use Rattle.std.specs.Option.{option_map_or};
 ghost use mathlib.Core.List.{IsPrefix};
 ghost use Rattle.left_right.specs.Sides.{view as sight_of};
 ghost use Rattle.ada_events.specs.Boards.{AreTrue};
@@ -16,7 +18,8 @@ use ada_events::{Board, TaskNo};
 use std::marker::Model;
 
 /// A reader: it answers CALLABLE, TERMINATED and COUNT (9.9) with no lock and no wait, and takes no memory.
-/// Contracts see the list of boards that it has seen, and the lists that it was told of since.
+/// Contracts see the list of boards that it has seen, the lists that it was told of since, and the list that
+/// its place has met.
 ///
 /// It answers from the board of a true list which begins with all that it has seen and was told of: so its
 /// answers never go back. It still answers once the writer is closed.
@@ -32,19 +35,25 @@ pub struct BoardReader<J: Naming> {
 }
 
 impl<J: Naming> Model for BoardReader<J> {
-    ghost use Rattle.std.specs.Prelude.{IfSome};
-    ghost use mathlib.Core.List.{IsPrefix};
+    ghost use Rattle.std.specs.Prelude.{[]};
+    ghost use Rattle.std.specs.Option.{option_map_or};
     ghost use Rattle.left_right.specs.Sides.{view as sight_of};
     ghost use Rattle.ada_board.specs.Sights.{Sight};
     ghost use Rattle.ada_board.specs.internal.Readers.{IsReader};
 
     ghost Value = { Sight };
 
-    ghost view = { λ r. record { seen = r.seen.log; told = r.told } };
+    ghost view = { λ r. record {
+      seen = r.seen.log;
+      told = r.told;
+      met = option_map_or (λ place. sight_of place.place) r.place [];
+    } };
 
-    // what its place has seen by the rule, this reader knows
-    ghost invariant = { λ r. IsReader J.book r.known r.seen.log r.told
-        × IfSome r.place (λ place. IsPrefix (sight_of place.place) r.known.boards) };
+    ghost invariant = { λ r. IsReader J.book r.known (record {
+      seen = r.seen.log;
+      told = r.told;
+      met = option_map_or (λ place. sight_of place.place) r.place [];
+    }) };
 }
 
 // Looks once at what is published, and takes it where it is newer.
@@ -54,6 +63,8 @@ fn look<J: Naming>(place: Place<J>, known: &mut Edition) -> Place<J>
     ensures book { known.new.book ≡ J.book }
     ensures later { IsPrefix known.old.boards known.new.boards }
     ensures sight { IsPrefix (sight_of result.place) known.new.boards }
+    ensures met { IsPrefix (sight_of place.place) (sight_of result.place) }
+    ensures one { Contains (sight_of result.place ∷ known.old.boards ∷ []) known.new.boards }
 {
     match place.enter_as::<Sees<J>>() {
         Ok(reading) => {
@@ -67,10 +78,15 @@ fn look<J: Naming>(place: Place<J>, known: &mut Edition) -> Place<J>
 // Takes the place out for one look.
 fn visit<J: Naming>(place: &mut Option<Place<J>>, known: &mut Edition)
     requires book { known.old.book ≡ J.book }
-    requires sight { IfSome place.old (λ at. IsPrefix (sight_of at.place) known.old.boards) }
+    requires sight { IsPrefix (option_map_or (λ at. sight_of at.place) place.old []) known.old.boards }
     ensures book { known.new.book ≡ J.book }
     ensures later { IsPrefix known.old.boards known.new.boards }
-    ensures sight { IfSome place.new (λ at. IsPrefix (sight_of at.place) known.new.boards) }
+    ensures sight { IsPrefix (option_map_or (λ at. sight_of at.place) place.new []) known.new.boards }
+    ensures met { IsPrefix (option_map_or (λ at. sight_of at.place) place.old [])
+        (option_map_or (λ at. sight_of at.place) place.new []) }
+    ensures one { Contains
+        (option_map_or (λ at. sight_of at.place) place.new [] ∷ known.old.boards ∷ [])
+        known.new.boards }
 {
     if let Some(taken) = place.take() {
         *place = Some(look(taken, known));
@@ -82,7 +98,7 @@ impl<J: Naming> BoardReader<J> {
         requires book { seen.book ≡ J.book }
         requires empty { seen.log ≡ [] }
         requires sight { sight_of place.place ≡ [] }
-        ensures { result ≡ record { seen = []; told = [] } }
+        ensures { result ≡ record { seen = []; told = []; met = [] } }
     {
         BoardReader {
             place: Some(place),
@@ -94,7 +110,11 @@ impl<J: Naming> BoardReader<J> {
 
     /// Learns what was published when the mark was made: the next answer is no older.
     pub fn learn(&mut self, mark: Mark<J>)
-        ensures { self.new ≡ record { seen = self.old.seen; told = mark ∷ self.old.told } }
+        ensures { self.new ≡ record {
+          seen = self.old.seen;
+          told = mark ∷ self.old.told;
+          met = self.old.met;
+        } }
     {
         let edition = mark.edition();
         self.known.advance(edition);

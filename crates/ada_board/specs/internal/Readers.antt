@@ -1,14 +1,15 @@
 -- What every reader keeps.
-use Rattle.std.specs.Prelude.{◌≡◌, List, []}
-use Rattle.std.specs.List.{All}
+use Rattle.std.specs.Prelude.{◌≡◌, ◌∷◌}
+use Rattle.std.specs.List.{All, Contains}
 use mathlib.Core.List.{IsPrefix}
 use Rattle.logbook.specs.Pages.{Book}
-use Rattle.ada_events.specs.declared.board.Board.{Board}
 use Rattle.ada_board.specs.Histories.{KnownHistory}
+use Rattle.ada_board.specs.Sights.{Sight}
 
--- what is known begins with all that was seen and told, and is what was seen where nothing was told since
-pub record IsReader (book : Book) (known : KnownHistory) (seen : List Board) (told : List (List Board)) : Type 0 where
+-- what is known begins with all that was seen, told and met, and was seen or told
+pub record IsReader (book : Book) (known : KnownHistory) (sight : Sight) : Type 0 where
   pub book_is : known.book ≡ book
-  pub seen_first : IsPrefix seen known.boards
-  pub told_first : All (λ boards. IsPrefix boards known.boards) told
-  pub fresh : told ≡ [] → known.boards ≡ seen
+  pub seen_first : IsPrefix sight.seen known.boards
+  pub told_first : All (λ boards. IsPrefix boards known.boards) sight.told
+  pub met_first : IsPrefix sight.met known.boards
+  pub one : Contains (sight.seen ∷ sight.told) known.boards
