@@ -35,7 +35,8 @@ pub learnt : (book : Book) (known after : KnownHistory) (mark : List Board) (sig
 learnt book known after mark sight reader named later marked one = record {
   book_is = named;
   seen_first = prefix_trans sight.seen known.boards after.boards reader.seen_first later;
-  told_first = All-cons (λ boards. IsPrefix boards after.boards) mark sight.told marked (all_later known.boards after.boards sight.told later reader.told_first);
+  told_first = All-cons (λ boards. IsPrefix boards after.boards) mark sight.told marked
+      (all_later known.boards after.boards sight.told later reader.told_first);
   met_first = prefix_trans sight.met known.boards after.boards reader.met_first later;
   one = second_first mark sight.seen after.boards sight.told (one_of mark known.boards after.boards (sight.seen ∷ sight.told) one reader.one);
 }

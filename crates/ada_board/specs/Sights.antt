@@ -1,5 +1,6 @@
 -- What the two ends of a board know.
-use Rattle.std.specs.Prelude.{◌≡◌, List, [], ◌∷◌}
+use Rattle.std.specs.Prelude.{◌≡◌, Option, List, [], ◌∷◌}
+use Rattle.std.specs.Option.{option_map_or}
 use Rattle.std.specs.List.{All, Contains}
 use mathlib.Core.List.{IsPrefix}
 use Rattle.ada_events.specs.declared.board.Board.{Board}
@@ -16,6 +17,10 @@ pub record Sight : Type 0 where
   pub seen : List Board
   pub told : List (List Board)
   pub met : List Board
+
+-- what a place has met; one that isn't there has met nothing
+abbrev pub met_by : {P : Type 0} → (P → List Board) → Option P → List Board
+met_by sight place = option_map_or sight place []
 
 -- a read: what is seen afterwards is a true list that begins with all that was seen before, and with each
 -- list that was told; it is one of these, or what the reader's place has met

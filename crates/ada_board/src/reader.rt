@@ -1,12 +1,11 @@
 //! A reader of the board.
 ghost use Rattle.std.specs.Prelude.{◌≡◌, [], ◌∷◌, IfSome};
 ghost use Rattle.std.specs.List.{Contains};
-ghost use Rattle.std.specs.Option.{option_map_or};
 ghost use mathlib.Core.List.{IsPrefix};
 ghost use Rattle.left_right.specs.Sides.{view as sight_of};
 ghost use Rattle.ada_events.specs.Boards.{AreTrue};
 ghost use Rattle.ada_board.specs.Answers.{latest, callable_on, terminated_on, count_on};
-ghost use Rattle.ada_board.specs.Sights.{Sight, Reads};
+ghost use Rattle.ada_board.specs.Sights.{Sight, Reads, met_by};
 
 use crate::answers::{callable_on, count_on, terminated_on};
 use crate::edition::Edition;
@@ -35,10 +34,8 @@ pub struct BoardReader<J: Naming> {
 }
 
 impl<J: Naming> Model for BoardReader<J> {
-    ghost use Rattle.std.specs.Prelude.{[]};
-    ghost use Rattle.std.specs.Option.{option_map_or};
     ghost use Rattle.left_right.specs.Sides.{view as sight_of};
-    ghost use Rattle.ada_board.specs.Sights.{Sight};
+    ghost use Rattle.ada_board.specs.Sights.{Sight, met_by};
     ghost use Rattle.ada_board.specs.internal.Readers.{IsReader};
 
     ghost Value = { Sight };
@@ -46,13 +43,13 @@ impl<J: Naming> Model for BoardReader<J> {
     ghost view = { λ r. record {
       seen = r.seen.log;
       told = r.told;
-      met = option_map_or (λ place. sight_of place.place) r.place [];
+      met = met_by (λ place. sight_of place.place) r.place;
     } };
 
     ghost invariant = { λ r. IsReader J.book r.known (record {
       seen = r.seen.log;
       told = r.told;
-      met = option_map_or (λ place. sight_of place.place) r.place [];
+      met = met_by (λ place. sight_of place.place) r.place;
     }) };
 }
 
@@ -78,14 +75,14 @@ fn look<J: Naming>(place: Place<J>, known: &mut Edition) -> Place<J>
 // Takes the place out for one look.
 fn visit<J: Naming>(place: &mut Option<Place<J>>, known: &mut Edition)
     requires book { known.old.book ≡ J.book }
-    requires sight { IsPrefix (option_map_or (λ at. sight_of at.place) place.old []) known.old.boards }
+    requires sight { IsPrefix (met_by (λ at. sight_of at.place) place.old) known.old.boards }
     ensures book { known.new.book ≡ J.book }
     ensures later { IsPrefix known.old.boards known.new.boards }
-    ensures sight { IsPrefix (option_map_or (λ at. sight_of at.place) place.new []) known.new.boards }
-    ensures met { IsPrefix (option_map_or (λ at. sight_of at.place) place.old [])
-        (option_map_or (λ at. sight_of at.place) place.new []) }
+    ensures sight { IsPrefix (met_by (λ at. sight_of at.place) place.new) known.new.boards }
+    ensures met { IsPrefix (met_by (λ at. sight_of at.place) place.old)
+        (met_by (λ at. sight_of at.place) place.new) }
     ensures one { Contains
-        (option_map_or (λ at. sight_of at.place) place.new [] ∷ known.old.boards ∷ [])
+        (met_by (λ at. sight_of at.place) place.new ∷ known.old.boards ∷ [])
         known.new.boards }
 {
     if let Some(taken) = place.take() {
