@@ -1,0 +1,5 @@
+mod Holding
+mod Reasoning
+mod Settling
+mod Moments
+mod Standing

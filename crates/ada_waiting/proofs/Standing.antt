@@ -1,0 +1,150 @@
+-- A stuck journal stays stuck.
+use Rattle.std.proofs.Common.{◌≡◌, ℕ, zero, suc, ◌<◌, ℤ, Bool, true, false, not, None, Some, List, [], ◌∷◌, ◌++◌, refl, sym, ap, ◌∙◌, subst, arith, inl, inr}
+use Rattle.std.specs.List.{All}
+use Rattle.std.proofs.lemmas.Bool.{cases_Bool, not-true, true≢false}
+use Rattle.std.proofs.lemmas.List.Elements.{All-nil, All-cons}
+use Rattle.std.proofs.lemmas.Option.{none-some}
+use Rattle.ada_events.specs.declared.event.Event.{Event}
+use Rattle.ada_events.specs.declared.event.Event.TheVariants.{Ticked}
+use Rattle.ada_events.specs.declared.request.Request.{Request}
+use Rattle.ada_events.specs.declared.request.Request.TheVariants.{Tick}
+use Rattle.ada_events.specs.Search.{all_below}
+use Rattle.ada_events.specs.Says.{started_in, held_in, released_in, completed_in, gone_in, quit_in, creation_in}
+use Rattle.ada_events.specs.Tasks.{task_count}
+use Rattle.ada_events.specs.Phases.{is_completed, is_terminated, has_ended, is_released, is_suspended, is_started, is_running}
+use Rattle.ada_events.specs.Waits.{is_due, earlier}
+use Rattle.ada_events.specs.Refusals.{refusal}
+use Rattle.ada_events.specs.Asks.{asker, asked_event}
+use Rattle.ada_events.specs.Lawful.{IsLawful, IsSettled}
+use Rattle.ada_laws.specs.Suspension.{IsSuspendedAt}
+use Rattle.ada_laws.proofs.Searching.{event_at-older, all_below-holds}
+use Rattle.ada_laws.proofs.Accepting.{asker_runs, asker_exists}
+use Rattle.ada_laws.proofs.Suspending.{is_suspended-at, is_suspended-from, suspended_before}
+use Rattle.ada_waiting.specs.Standstill.{due_of, first_due_below, first_due, nobody_runs, IsStuck}
+use Rattle.ada_waiting.specs.Laws.{OnlyTicksAreAccepted, IsTick, StuckForEver}
+use Rattle.ada_waiting.proofs.Moments.{due_of_suspended, early_ticks_force_nothing}
+
+-- nobody asks while nobody runs
+no_asker : (journal : List Event) (request : Request) (task : ℕ) → nobody_runs journal ≡ true → refusal journal request ≡ None → asker request ≡ Some task → ⊥
+unfolding nobody_runs
+no_asker journal request task nobody accepted asks =
+    let runs = asker_runs journal request task accepted asks in
+    let idle = all_below-holds (λ t. not (is_running journal t)) (task_count journal) task nobody (asker_exists journal request task accepted asks) in
+    true≢false (sym runs ∙ not-true (is_running journal task) idle)
+
+tick_alone : (request : Request) → ((task : ℕ) → asker request ≡ Some task → ⊥) → (now : ℤ) × (request ≡ Tick now)
+unfolding asker
+tick_alone (Tick now) nobody = (now, refl)
+tick_alone _ nobody = absurd (nobody _ refl)
+
+pub only_ticks_are_accepted : OnlyTicksAreAccepted
+only_ticks_are_accepted journal request nobody accepted = tick_alone request (λ task asks. no_asker journal request task nobody accepted asks)
+
+-- ---- a tick changes nobody's state
+
+both_ways : (a b : Bool) → (a ≡ true → b ≡ true) → (b ≡ true → a ≡ true) → a ≡ b
+both_ways true b to from = sym (to refl)
+both_ways false true to from = from refl
+both_ways false false to from = refl
+
+tick_suspends : (before : List Event) (now : ℤ) (task p : ℕ) → IsSuspendedAt before task p → IsSuspendedAt (Ticked now ∷ before) task p
+unfolding is_released released_in has_ended is_completed completed_in is_terminated gone_in quit_in
+tick_suspends before now task p h = record {
+  event = h.event;
+  stands = event_at-older (Ticked now) before p h.event h.stands;
+  holds = h.holds;
+  unreleased = h.unreleased;
+  live = h.live;
+}
+
+same_suspended : (before : List Event) (now : ℤ) (task : ℕ) → is_suspended (Ticked now ∷ before) task ≡ is_suspended before task
+unfolding held_in
+same_suspended before now task =
+    both_ways (is_suspended (Ticked now ∷ before) task) (is_suspended before task)
+    (λ yes.
+    let (p, h) = is_suspended-at (Ticked now ∷ before) task yes in
+    is_suspended-from before task p (suspended_before (Ticked now) before task p refl h))
+    (λ yes.
+    let (p, h) = is_suspended-at before task yes in
+    is_suspended-from (Ticked now ∷ before) task p (tick_suspends before now task p h))
+
+same_running : (before : List Event) (now : ℤ) (task : ℕ) → is_running (Ticked now ∷ before) task ≡ is_running before task
+unfolding is_running is_started started_in has_ended is_completed completed_in is_terminated gone_in quit_in
+same_running before now task = rw (same_suspended before now task) refl
+
+all_below-same : (f g : ℕ → Bool) (n : ℕ) → ((t : ℕ) → f t ≡ g t) → all_below f n ≡ all_below g n
+unfolding all_below
+all_below-same f g zero same = refl
+all_below-same f g (suc n) same = rw (all_below-same f g n same, same n) refl
+
+same_count : (before : List Event) (now : ℤ) → task_count (Ticked now ∷ before) ≡ task_count before
+unfolding task_count creation_in
+same_count before now = omega arith
+
+same_nobody : (before : List Event) (now : ℤ) → nobody_runs (Ticked now ∷ before) ≡ nobody_runs before
+unfolding nobody_runs
+same_nobody before now =
+    ap (all_below (λ t. not (is_running (Ticked now ∷ before) t))) (same_count before now)
+    ∙ all_below-same (λ t. not (is_running (Ticked now ∷ before) t)) (λ t. not (is_running before t)) (task_count before)
+    (λ t. ap not (same_running before now t))
+
+not_due : (journal : List Event) (task : ℕ) → is_suspended journal task ≡ false → due_of journal task ≡ None
+unfolding due_of
+not_due journal task free = rw free refl
+
+same_due : (before : List Event) (now : ℤ) (task : ℕ) → IsLawful (Ticked now ∷ before) → due_of (Ticked now ∷ before) task ≡ due_of before task
+same_due before now task lawful =
+    elim (cases_Bool (is_suspended before task)) [
+      | inl held ↦
+          let (p, h) = is_suspended-at before task held in
+          due_of_suspended (Ticked now ∷ before) task p h.event lawful (tick_suspends before now task p h)
+              (event_at-older (Ticked now) before p h.event h.stands)
+          ∙ sym (due_of_suspended before task p h.event lawful.0 h h.stands)
+      | inr free ↦ not_due (Ticked now ∷ before) task (same_suspended before now task ∙ free) ∙ sym (not_due before task free)
+    ]
+
+same_first_below : (before : List Event) (now : ℤ) (n : ℕ) → IsLawful (Ticked now ∷ before)
+    → first_due_below (Ticked now ∷ before) n ≡ first_due_below before n
+unfolding first_due_below
+same_first_below before now zero lawful = refl
+same_first_below before now (suc n) lawful = rw (same_first_below before now n lawful, same_due before now n lawful) refl
+
+same_first : (before : List Event) (now : ℤ) → IsLawful (Ticked now ∷ before) → first_due (Ticked now ∷ before) ≡ first_due before
+unfolding first_due
+same_first before now lawful =
+    ap (first_due_below (Ticked now ∷ before)) (same_count before now) ∙ same_first_below before now (task_count before) lawful
+
+-- ---- and so what is stuck stays stuck
+
+record Stays (journal : List Event) : Type 0 where
+  rests : IsSettled journal
+  stuck : IsStuck journal
+
+tick_stays : (before : List Event) (now : ℤ) → IsLawful (Ticked now ∷ before) → Stays before → Stays (Ticked now ∷ before)
+tick_stays before now lawful stays = record {
+  rests = early_ticks_force_nothing before now lawful stays.rests (ap (is_due now) stays.stuck.no_moment);
+  stuck = record {
+    nobody = same_nobody before now ∙ stays.stuck.nobody;
+    no_moment = same_first before now lawful ∙ stays.stuck.no_moment;
+  };
+}
+
+ticks_follow : (journal later : List Event) → IsLawful (later ++ journal) → Stays journal → All IsTick later × Stays (later ++ journal)
+unfolding asked_event
+ticks_follow journal [] lawful stays = (All-nil IsTick, stays)
+ticks_follow journal (event ∷ later) lawful stays =
+    let before = later ++ journal in
+    let sofar = ticks_follow journal later lawful.0 stays in
+    elim lawful.1 [
+      | inl forces ↦ absurd (none-some event (sym sofar.1.rests ∙ forces))
+      | inr asked ↦
+          let (now, tick) = only_ticks_are_accepted before asked.request sofar.1.stuck.nobody asked.accepted in
+          let ticked : event ≡ Ticked now = asked.becomes ∙ ap (asked_event before) tick in (
+            All-cons IsTick event later (now, ticked) sofar.0,
+            subst (λ (e : Event). Stays (e ∷ before)) (sym ticked)
+            (tick_stays before now (subst (λ (e : Event). IsLawful (e ∷ before)) ticked lawful) sofar.1),
+          )
+    ]
+
+pub stuck_for_ever : StuckForEver
+stuck_for_ever journal later lawful settled stuck = (ticks_follow journal later lawful (record { rests = settled; stuck = stuck })).0
