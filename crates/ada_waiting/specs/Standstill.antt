@@ -1,18 +1,28 @@
 -- When nothing but a tick, or nothing at all, can let a journal go on.
-use Rattle.std.specs.Prelude.{◌≡◌, ℕ, zero, suc, ℤ, Bool, true, not, if◌then◌else◌, Option, None, List}
+use Rattle.std.specs.Prelude.{◌≡◌, ℕ, zero, suc, ℤ, Bool, true, not, if◌then◌else◌, Option, Some, None, List}
 use Rattle.std.specs.Option.{option_and_then}
 use Rattle.ada_events.specs.declared.event.Event.{Event}
+use Rattle.ada_events.specs.declared.event.Event.TheVariants.{Called, Waiting, Paused}
 use Rattle.ada_events.specs.Search.{event_at, all_below}
 use Rattle.ada_events.specs.Tasks.{task_count}
 use Rattle.ada_events.specs.Phases.{is_suspended, is_running}
+use Rattle.ada_events.specs.Calls.{is_met}
 use Rattle.ada_events.specs.Waits.{earlier}
-use Rattle.ada_agenda.specs.Kinds.{due_in}
+use Rattle.ada_agenda.specs.Kinds.{tail_due}
 use Rattle.ada_waiting.specs.Reasons.{latest_hold}
 
--- the moment for which a suspended task waits: of its timed call, its delay, or the first of its delay alternatives
+-- the moment at which what stands at a position lets its task go on: a queued timed call (9.7.3), a delay (9.6), or the
+-- first of a wait's delay alternatives (9.7.1)
+unfoldable pub due_at : List Event → ℕ → Event → Option ℤ
+due_at journal position (Called by callee entry patience due) = if is_met journal position then None else due
+due_at journal position (Waiting by pick choices tail) = tail_due tail
+due_at journal position (Paused by due) = Some due
+due_at journal position _ = None
+
+-- the moment for which a suspended task waits
 unfoldable pub due_of : List Event → ℕ → Option ℤ
 due_of journal task =
-    if is_suspended journal task then option_and_then (λ p. option_and_then due_in (event_at journal p)) (latest_hold journal task) else None
+    if is_suspended journal task then option_and_then (λ p. option_and_then (due_at journal p) (event_at journal p)) (latest_hold journal task) else None
 
 -- the first of these moments, over the tasks below a number
 unfoldable pub first_due_below : List Event → ℕ → Option ℤ

@@ -8,7 +8,6 @@ pub fn one_reason_each()
 {}
 
 /// A task is suspended at its latest call, wait, delay, start or close.
-#[tactic(auto, using(crate::proofs::Holding::suspended_at_the_latest_hold))]
 pub fn suspended_at_the_latest_hold()
     ensures { SuspendedAtTheLatestHold }
 {}
@@ -26,7 +25,6 @@ pub fn early_ticks_force_nothing()
 {}
 
 /// A stuck journal stays stuck: nothing but ticks is ever added to it.
-#[tactic(auto, using(crate::proofs::Standing::stuck_for_ever))]
 pub fn stuck_for_ever()
     ensures { StuckForEver }
 {}
