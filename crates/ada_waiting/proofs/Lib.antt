@@ -2,4 +2,5 @@ mod Holding
 mod Reasoning
 mod Settling
 mod Moments
+mod Ticking
 mod Standing

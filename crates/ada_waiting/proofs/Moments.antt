@@ -10,10 +10,11 @@ use Rattle.ada_events.specs.declared.event.Event.TheVariants.{Ticked, Cancelled}
 use Rattle.ada_events.specs.Search.{is_some_and, event_at}
 use Rattle.ada_events.specs.Says.{Call, call_in, meeting_in}
 use Rattle.ada_events.specs.Tasks.{task_count, moment}
+use Rattle.ada_events.specs.Phases.{is_suspended}
 use Rattle.ada_events.specs.Calls.{is_met, is_open_at, is_queued_at}
 use Rattle.ada_events.specs.Waits.{is_due, earlier}
 use Rattle.ada_events.specs.Forced.{is_conditional, is_to_cancel}
-use Rattle.ada_events.specs.Lawful.{IsLawful}
+use Rattle.ada_events.specs.Lawful.{IsLawful, IsSettled}
 use Rattle.ada_laws.specs.Suspension.{IsSuspendedAt}
 use Rattle.ada_laws.proofs.Searching.{then_some-some, option_and_then-some}
 use Rattle.ada_laws.proofs.Suspending.{is_suspended-from, suspended_exists}
@@ -25,7 +26,6 @@ use Rattle.ada_agenda.specs.Kinds.{due_in, due_row, OfTick}
 use Rattle.ada_agenda.specs.Kinds.OfTick.{comes_due}
 use Rattle.ada_agenda.proofs.Adding.{agendas_grow}
 use Rattle.ada_waiting.specs.Standstill.{due_at, due_of, first_due_below, first_due}
-use Rattle.ada_waiting.specs.Laws.{EarlyTicksForceNothing}
 use Rattle.ada_waiting.proofs.Holding.{suspended_at_the_latest_hold}
 use Rattle.ada_waiting.proofs.Settling.{settled_agenda}
 
@@ -34,6 +34,10 @@ pub due_of_suspended : (journal : List Event) (task p : ℕ) (e : Event) → IsL
 unfolding due_of
 due_of_suspended journal task p e lawful h stands =
     rw (is_suspended-from journal task p h, suspended_at_the_latest_hold journal task p lawful h, stands) refl
+
+pub not_due : (journal : List Event) (task : ℕ) → is_suspended journal task ≡ false → due_of journal task ≡ None
+unfolding due_of
+not_due journal task free = rw free refl
 
 lesser : (a b due : ℤ) (less : Bool) → int_lt b a ≡ less → (int_le a due ≡ true) ⊎ (int_le b due ≡ true) → int_le (if less then b else a) due ≡ true
 lesser a b due true is (inl first) = grind (arith, ints)
@@ -93,7 +97,8 @@ nothing_due before now row key step lawful early (comes_due r p due) gives =
     let comes : is_due now (due_of before due.task) ≡ true = ap (is_due now) (waits ∙ there) ∙ due.comes in
     true≢false (sym (first_comes before (task_count before) due.task now (suspended_exists before due.task p lawful due.suspended) comes) ∙ early)
 
-pub early_ticks_force_nothing : EarlyTicksForceNothing
+pub early_ticks_force_nothing : (journal : List Event) (now : ℤ) → IsLawful (Ticked now ∷ journal) → IsSettled journal → is_due now (first_due journal) ≡ false
+    → IsSettled (Ticked now ∷ journal)
 early_ticks_force_nothing journal now lawful settled early =
     let none : Row → ℕ → Bool = λ row key. false in
     forced_nothing (Ticked now ∷ journal) none

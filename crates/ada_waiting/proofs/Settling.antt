@@ -96,6 +96,9 @@ no_row journal QuittingBody none = none_of_all (all_steps journal) 8 none
 no_row journal QuittingBlock none = none_of_all (all_steps journal) 9 none
 no_row journal Leaving none = none_of_all (all_steps journal) 10 none
 
+pub settled_gives_nothing : (journal : List Event) (row : Row) (key : ℕ) (step : Event) → forced journal ≡ None → step_at journal row key ≡ Some step → ⊥
+settled_gives_nothing journal row key step none gives = no_key journal row key step (no_row journal row none) gives
+
 -- the agenda of a settled journal may be empty
 pub settled_agenda : (journal : List Event) → forced journal ≡ None → IsAgenda journal (λ row key. false)
-settled_agenda journal none = record { kept = λ row key step gives. absurd (no_key journal row key step (no_row journal row none) gives) }
+settled_agenda journal none = record { kept = λ row key step gives. absurd (settled_gives_nothing journal row key step none gives) }

@@ -24,7 +24,8 @@ use Rattle.ada_laws.proofs.Accepting.{asker_runs, asker_exists}
 use Rattle.ada_laws.proofs.Suspending.{is_suspended-at, is_suspended-from, suspended_before}
 use Rattle.ada_waiting.specs.Standstill.{due_at, due_of, first_due_below, first_due, nobody_runs, IsStuck}
 use Rattle.ada_waiting.specs.Laws.{OnlyTicksAreAccepted, IsTick, StuckForEver}
-use Rattle.ada_waiting.proofs.Moments.{due_of_suspended, early_ticks_force_nothing}
+use Rattle.ada_waiting.proofs.Moments.{due_of_suspended, not_due, early_ticks_force_nothing}
+use Rattle.ada_waiting.proofs.Ticking.{tick_suspends, same_at}
 
 -- nobody asks while nobody runs
 no_asker : (journal : List Event) (request : Request) (task : ℕ) → nobody_runs journal ≡ true → refusal journal request ≡ None → asker request ≡ Some task → ⊥
@@ -48,16 +49,6 @@ both_ways : (a b : Bool) → (a ≡ true → b ≡ true) → (b ≡ true → a �
 both_ways true b to from = sym (to refl)
 both_ways false true to from = from refl
 both_ways false false to from = refl
-
-tick_suspends : (before : List Event) (now : ℤ) (task p : ℕ) → IsSuspendedAt before task p → IsSuspendedAt (Ticked now ∷ before) task p
-unfolding is_released released_in has_ended is_completed completed_in is_terminated gone_in quit_in
-tick_suspends before now task p h = record {
-  event = h.event;
-  stands = event_at-older (Ticked now) before p h.event h.stands;
-  holds = h.holds;
-  unreleased = h.unreleased;
-  live = h.live;
-}
 
 same_suspended : (before : List Event) (now : ℤ) (task : ℕ) → is_suspended (Ticked now ∷ before) task ≡ is_suspended before task
 unfolding held_in
@@ -89,15 +80,6 @@ same_nobody before now =
     ap (all_below (λ t. not (is_running (Ticked now ∷ before) t))) (same_count before now)
     ∙ all_below-same (λ t. not (is_running (Ticked now ∷ before) t)) (λ t. not (is_running before t)) (task_count before)
     (λ t. ap not (same_running before now t))
-
-not_due : (journal : List Event) (task : ℕ) → is_suspended journal task ≡ false → due_of journal task ≡ None
-unfolding due_of
-not_due journal task free = rw free refl
-
-same_at : (before : List Event) (now : ℤ) (p : ℕ) (e : Event) → due_at (Ticked now ∷ before) p e ≡ due_at before p e
-unfolding due_at is_met meeting_in
-same_at before now p (event.Called by callee entry patience due) = refl
-same_at before now p _ = refl
 
 same_due : (before : List Event) (now : ℤ) (task : ℕ) → IsLawful (Ticked now ∷ before) → due_of (Ticked now ∷ before) task ≡ due_of before task
 same_due before now task lawful =

@@ -31,11 +31,11 @@ OnlyTicksAreAccepted =
     (journal : List Event) (request : Request) → nobody_runs journal ≡ true → refusal journal request ≡ None
     → (now : ℤ) × (request ≡ Tick now)
 
--- a tick before the first moment for which any task waits forces nothing
-abbrev pub EarlyTicksForceNothing : Type 0
-EarlyTicksForceNothing =
+-- a tick forces a step exactly if the first moment for which any task waits has come
+abbrev pub TicksForceFromTheFirstMoment : Type 0
+TicksForceFromTheFirstMoment =
     (journal : List Event) (now : ℤ) → IsLawful (Ticked now ∷ journal) → IsSettled journal
-    → is_due now (first_due journal) ≡ false → IsSettled (Ticked now ∷ journal)
+    → IsSettled (Ticked now ∷ journal) ↔ (is_due now (first_due journal) ≡ false)
 
 -- the event is a tick
 abbrev pub IsTick : Event → Type 0

@@ -1,5 +1,5 @@
 //! Laws of reasons, and of a standstill.
-ghost use Rattle.ada_waiting.specs.Laws.{OneReasonEach, SuspendedAtTheLatestHold, OnlyTicksAreAccepted, EarlyTicksForceNothing, StuckForEver};
+ghost use Rattle.ada_waiting.specs.Laws.{OneReasonEach, SuspendedAtTheLatestHold, OnlyTicksAreAccepted, TicksForceFromTheFirstMoment, StuckForEver};
 
 /// A task has no reason exactly if it runs or is terminated.
 #[tactic(auto, using(crate::proofs::Reasoning::one_reason_each))]
@@ -18,10 +18,10 @@ pub fn only_ticks_are_accepted()
     ensures { OnlyTicksAreAccepted }
 {}
 
-/// A tick before the first moment for which any task waits forces nothing.
-#[tactic(auto, using(crate::proofs::Moments::early_ticks_force_nothing))]
-pub fn early_ticks_force_nothing()
-    ensures { EarlyTicksForceNothing }
+/// A tick forces a step exactly if the first moment for which any task waits has come.
+#[tactic(auto, using(crate::proofs::Ticking::ticks_force_from_the_first_moment))]
+pub fn ticks_force_from_the_first_moment()
+    ensures { TicksForceFromTheFirstMoment }
 {}
 
 /// A stuck journal stays stuck: nothing but ticks is ever added to it.
