@@ -1,5 +1,5 @@
 -- The latest call, wait, delay, start or close of a task.
-use Rattle.std.proofs.Common.{◌≡◌, ℕ, suc, ◌≤◌, true, false, Some, List, [], ◌∷◌, length, refl, sym, ap, ◌∙◌, arith, inl, inr}
+use Rattle.std.proofs.Common.{◌≡◌, ℕ, suc, ◌≤◌, Some, List, [], ◌∷◌, length, sym, ap, ◌∙◌, arith, inl, inr}
 use Rattle.std.proofs.lemmas.Bool.{cases_Bool, false≢true}
 use Rattle.std.proofs.lemmas.Option.{none-some}
 use Rattle.ada_events.specs.declared.event.Event.{Event}
@@ -20,7 +20,8 @@ latest_is [] task p e at holds latest = absurd (none-some e at)
 latest_is (event ∷ before) task p e at holds latest =
     elim (cases_Bool (is_number task (held_in event))) [
       | inl newest ↦
-          let above : suc (length before) ≤ p = latest (suc (length before)) event (event_at-newest event before) (is_number-some task (held_in event) newest) in
+          let above : suc (length before) ≤ p =
+          latest (suc (length before)) event (event_at-newest event before) (is_number-some task (held_in event) newest) in
           let within : p ≤ suc (length before) = event_at-within (event ∷ before) p e at in
           let same : suc (length before) ≡ p = omega (arith, above, within) in
           rw newest (ap Some same)

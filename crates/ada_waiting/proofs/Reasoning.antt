@@ -1,14 +1,11 @@
 -- Each task that neither runs nor is terminated has one reason.
-use Rattle.std.proofs.Common.{◌≡◌, ℕ, ◌<◌, Bool, true, false, not, ◌&&◌, ◌||◌, if◌then◌else◌, Option, Some, None, List, refl, sym, ap, ◌∙◌, ◌⊎◌, inl, inr}
+use Rattle.std.proofs.Common.{◌≡◌, ℕ, Bool, true, false, not, ◌&&◌, ◌||◌, if◌then◌else◌, Option, Some, None, List, refl, sym, ◌∙◌, ◌⊎◌, inl, inr}
 use Rattle.std.specs.Prelude.{◌↔◌}
-use Rattle.std.specs.Option.{option_and_then}
 use Rattle.std.proofs.lemmas.Bool.{true≢false, false≢true}
 use Rattle.std.proofs.lemmas.Option.{none-some}
 use Rattle.ada_events.specs.declared.event.Event.{Event}
 use Rattle.ada_events.specs.declared.event.Event.TheVariants as event
-use Rattle.ada_events.specs.Search.{event_at}
 use Rattle.ada_events.specs.Says.{held_in}
-use Rattle.ada_events.specs.Tasks.{task_count}
 use Rattle.ada_events.specs.Phases.{is_completed, is_terminated, has_ended, is_suspended, is_started, is_running}
 use Rattle.ada_events.specs.Calls.{is_met}
 use Rattle.ada_events.specs.Lawful.{IsLawful}
@@ -17,7 +14,7 @@ use Rattle.ada_laws.proofs.Searching.{three_parts}
 use Rattle.ada_laws.proofs.Suspending.{is_suspended-at}
 use Rattle.ada_waiting.specs.declared.reason.Reason.{Reason}
 use Rattle.ada_waiting.specs.declared.reason.Reason.TheVariants as reason
-use Rattle.ada_waiting.specs.Reasons.{latest_hold, reason_at, held_reason, reason_of}
+use Rattle.ada_waiting.specs.Reasons.{reason_at, held_reason, reason_of}
 use Rattle.ada_waiting.specs.Laws.{OneReasonEach}
 use Rattle.ada_waiting.proofs.Holding.{suspended_at_the_latest_hold}
 

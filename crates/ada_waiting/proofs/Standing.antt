@@ -1,28 +1,25 @@
 -- A stuck journal stays stuck.
-use Rattle.std.proofs.Common.{◌≡◌, ℕ, zero, suc, ◌<◌, ℤ, Bool, true, false, not, None, Some, List, [], ◌∷◌, ◌++◌, refl, sym, ap, ◌∙◌, subst, arith, inl, inr}
+use Rattle.std.proofs.Common.{◌≡◌, ℕ, zero, suc, ℤ, Bool, true, false, not, None, Some, List, [], ◌∷◌, ◌++◌, refl, sym, ap, ◌∙◌, subst, arith, inl, inr}
 use Rattle.std.specs.List.{All}
 use Rattle.std.proofs.lemmas.Bool.{cases_Bool, not-true, true≢false}
 use Rattle.std.proofs.lemmas.List.Elements.{All-nil, All-cons}
 use Rattle.std.proofs.lemmas.Option.{none-some}
 use Rattle.ada_events.specs.declared.event.Event.{Event}
-use Rattle.ada_events.specs.declared.event.Event.TheVariants as event
 use Rattle.ada_events.specs.declared.event.Event.TheVariants.{Ticked}
 use Rattle.ada_events.specs.declared.request.Request.{Request}
 use Rattle.ada_events.specs.declared.request.Request.TheVariants.{Tick}
 use Rattle.ada_events.specs.Search.{all_below}
-use Rattle.ada_events.specs.Says.{started_in, held_in, released_in, completed_in, gone_in, quit_in, creation_in, meeting_in}
+use Rattle.ada_events.specs.Says.{started_in, held_in, completed_in, gone_in, quit_in, creation_in}
 use Rattle.ada_events.specs.Tasks.{task_count}
-use Rattle.ada_events.specs.Phases.{is_completed, is_terminated, has_ended, is_released, is_suspended, is_started, is_running}
-use Rattle.ada_events.specs.Calls.{is_met}
-use Rattle.ada_events.specs.Waits.{is_due, earlier}
+use Rattle.ada_events.specs.Phases.{is_completed, is_terminated, has_ended, is_suspended, is_started, is_running}
+use Rattle.ada_events.specs.Waits.{is_due}
 use Rattle.ada_events.specs.Refusals.{refusal}
 use Rattle.ada_events.specs.Asks.{asker, asked_event}
 use Rattle.ada_events.specs.Lawful.{IsLawful, IsSettled}
-use Rattle.ada_laws.specs.Suspension.{IsSuspendedAt}
 use Rattle.ada_laws.proofs.Searching.{event_at-older, all_below-holds}
 use Rattle.ada_laws.proofs.Accepting.{asker_runs, asker_exists}
 use Rattle.ada_laws.proofs.Suspending.{is_suspended-at, is_suspended-from, suspended_before}
-use Rattle.ada_waiting.specs.Standstill.{due_at, due_of, first_due_below, first_due, nobody_runs, IsStuck}
+use Rattle.ada_waiting.specs.Standstill.{due_of, first_due_below, first_due, nobody_runs, IsStuck}
 use Rattle.ada_waiting.specs.Laws.{OnlyTicksAreAccepted, IsTick, StuckForEver}
 use Rattle.ada_waiting.proofs.Moments.{due_of_suspended, not_due, early_ticks_force_nothing}
 use Rattle.ada_waiting.proofs.Ticking.{tick_suspends, same_at}
@@ -87,7 +84,7 @@ same_due before now task lawful =
       | inl held ↦
           let (p, h) = is_suspended-at before task held in
           due_of_suspended (Ticked now ∷ before) task p h.event lawful (tick_suspends before now task p h)
-              (event_at-older (Ticked now) before p h.event h.stands)
+          (event_at-older (Ticked now) before p h.event h.stands)
           ∙ same_at before now p h.event
           ∙ sym (due_of_suspended before task p h.event lawful.0 h h.stands)
       | inr free ↦ not_due (Ticked now ∷ before) task (same_suspended before now task ∙ free) ∙ sym (not_due before task free)
@@ -132,7 +129,7 @@ ticks_follow journal (event ∷ later) lawful stays =
           let ticked : event ≡ Ticked now = asked.becomes ∙ ap (asked_event before) tick in (
             All-cons IsTick event later (now, ticked) sofar.0,
             subst (λ (e : Event). Stays (e ∷ before)) (sym ticked)
-            (tick_stays before now (subst (λ (e : Event). IsLawful (e ∷ before)) ticked lawful) sofar.1),
+                (tick_stays before now (subst (λ (e : Event). IsLawful (e ∷ before)) ticked lawful) sofar.1),
           )
     ]
 

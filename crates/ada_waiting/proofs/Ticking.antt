@@ -1,9 +1,8 @@
 -- A tick changes nobody's state, and forces a step exactly if the first moment has come.
-use Rattle.std.proofs.Common.{◌%◌, ◌≡◌, ℕ, zero, suc, ◌<◌, ℤ, Bool, true, false, not, ◌&&◌, ◌||◌, ◌⊎◌, Option, None, Some, List, [], ◌∷◌, length, refl, sym, ap, ◌∙◌, subst, arith, inl, inr}
+use Rattle.std.proofs.Common.{◌%◌, ◌≡◌, ℕ, zero, suc, ◌<◌, ℤ, Bool, true, false, not, ◌&&◌, ◌||◌, ◌⊎◌}
+use Rattle.std.proofs.Common.{Option, None, Some, List, [], ◌∷◌, length, refl, sym, ap, ◌∙◌, arith, inl, inr}
 use Rattle.std.specs.Prelude.{int_le, int_lt, if◌then◌else◌, slice_get}
 use Rattle.std.specs.Bool.{then_some}
-use Rattle.std.specs.Option.{option_map, is_some}
-use Rattle.std.specs.List.{list_any}
 use Rattle.std.proofs.lemmas.Bool.{cases_Bool, true≢false, false≢true, and_from, not_from_false}
 use Rattle.std.proofs.lemmas.Int.{ints}
 use Rattle.std.proofs.lemmas.Option.{none-some, same_Some}
@@ -106,6 +105,7 @@ attained (Some m ∷ rest) d least = by_rest (λ x is. attained rest x is) (leas
         → Some (if less then n else m) ≡ Some d → (k : ℕ) × (slice_get (Some m ∷ rest) k ≡ Some (Some d))
     by_less among n true is least = let (k, at) = among d (is ∙ least) in (suc k, at)
     by_less among n false is least = (0, ap (λ (x : ℤ). Some (Some x)) (same_Some m d least))
+
     by_rest : ((x : ℤ) → least_due rest ≡ Some x → (k : ℕ) × (slice_get rest k ≡ Some (Some x))) → (o : Option ℤ) → least_due rest ≡ o
         → earlier (Some m) o ≡ Some d → (k : ℕ) × (slice_get (Some m ∷ rest) k ≡ Some (Some d))
     by_rest among None is least = (0, ap (λ (x : ℤ). Some (Some x)) (same_Some m d least))
@@ -163,7 +163,7 @@ due_step journal task p (event.Called by callee entry patience due) d h stands h
           Cancelling,
           Cancelled p,
           rw stands (gives_up (is_conditional patience) (is_due (moment journal) due) (is_pending journal p by.0) (is_met journal p) p
-          (ap (is_due (moment journal)) moment_is ∙ comes) (pending journal task by.0 p h (same_Some by.0 task holds)) unmet),
+              (ap (is_due (moment journal)) moment_is ∙ comes) (pending journal task by.0 p h (same_Some by.0 task holds)) unmet),
         )
 due_step journal task p (event.Waiting by pick choices tail) d h stands holds waits comes =
     let (w, ends) = passes (moment journal) choices pick tail d waits comes in
@@ -203,7 +203,7 @@ late before now lawful comes settled =
     let p = there.position in
     let e = there.suspended.event in
     let (row, step, gives) = due_step (Ticked now ∷ before) found.task p e there.due (tick_suspends before now found.task p there.suspended)
-        (event_at-older (Ticked now) before p e there.suspended.stands) there.suspended.holds (same_at before now p e ∙ there.waits) there.comes in
+    (event_at-older (Ticked now) before p e there.suspended.stands) there.suspended.holds (same_at before now p e ∙ there.waits) there.comes in
     settled_gives_nothing (Ticked now ∷ before) row p step settled gives
 
 pub ticks_force_from_the_first_moment : TicksForceFromTheFirstMoment

@@ -1,5 +1,5 @@
 -- Why a task that isn't terminated doesn't run.
-use Rattle.std.specs.Prelude.{ℕ, Bool, true, false, not, ◌&&◌, if◌then◌else◌, Option, Some, None, List}
+use Rattle.std.specs.Prelude.{ℕ, if◌then◌else◌, Option, Some, None, List}
 use Rattle.std.specs.Bool.{then_some}
 use Rattle.std.specs.Option.{option_and_then}
 use Rattle.ada_events.specs.declared.event.Event.{Event}
