@@ -29,7 +29,8 @@ static REPLAY: &str = "Replay the script on standard input, line by line (also w
 static RUN: &str =
     "Run the script on standard input with one thread for each task, in the order of its lines";
 
-static FREE: &str = "Let each task go on as soon as it may, whatever the order of the lines";
+static FREE: &str =
+    "Let each task go on as soon as it may, whatever the order of the lines, to try the kernel";
 
 static HELP: &str = "A first script, on standard input:
 
@@ -40,18 +41,46 @@ static HELP: &str = "A first script, on standard input:
   main: call S E
   S: end
 
+Statements, of a task T about a task N, a block B, a master M or an entry family F:
+
+  tick M
+  T: open B
+  T: create N under M [F [low high]] ..
+  T: activate [N ..]
+  T: up
+  T: fail
+  T: call N F [i]
+  T: call N F [i] within d
+  T: try N F [i]
+  T: accept F [i]
+  T: select P [A [or A] ..] [else]
+  T: end
+  T: raise
+  T: close
+  T: delay d
+  T: complete
+  T: abort [N ..]
+  T: show callable N
+  T: show terminated N
+  T: show count F [i]
+
+  An alternative A is accept F [i], delay d or terminate, with closed before it if its
+  guard is false. M of a tick and d are milliseconds.
+
 Exit status:
 
   0  the main program is terminated at the end
   1  the input is no script, or makes too many tasks to run
   2  the command line is refused
   3  the main program isn't terminated at the end
-  4  memory, the input, the output or a thread was refused
+  4  memory, the input, the output or a thread was refused: out of memory, read failed,
+     write failed, thread refused
 
 Limits:
 
-  256 tasks, the main program among them, 1,024 entries and 65,536 events, with all that
-  is gone; a request that would go beyond is refused, and its cause printed
+  A script has 4,096 lines of 200 bytes at most. A request is refused, and its cause
+  printed, beyond 256 tasks, the main program among them, and 1,024 entries, with all that
+  is gone. A journal has room for 65,536 events, which no script reaches.
 ";
 
 // The numbers of the help are those of the kernel.

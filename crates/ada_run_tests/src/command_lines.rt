@@ -79,7 +79,10 @@ fn help_is_shown(rt: HostRuntime) -> Result<(), Fail> {
             let text = format!(in rt.alloc(); "{help}")?;
             assert!(rt; text.contains("print the journal of what happens"));
             assert!(rt; text.contains("main: create S under main E"));
+            assert!(rt; text.contains("T: select P [A [or A] ..] [else]"));
             assert!(rt; text.contains("2  the command line is refused"));
+            assert!(rt; text.contains("write failed, thread refused"));
+            assert!(rt; text.contains("4,096 lines of 200 bytes"));
             assert!(rt; text.contains("256 tasks"));
             assert!(rt; !help.use_stderr());
         }
