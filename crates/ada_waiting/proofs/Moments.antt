@@ -1,5 +1,5 @@
 -- The first moment for which any task waits.
-use Rattle.std.proofs.Common.{◌≡◌, ℕ, zero, suc, ◌<◌, ℤ, Bool, true, false, not, ◌||◌, ◌⊎◌}
+use Rattle.std.proofs.Common.{◌+◌, ◌≡◌, ℕ, zero, suc, ◌<◌, ℤ, Bool, true, false, not, ◌||◌, ◌⊎◌}
 use Rattle.std.proofs.Common.{Option, None, Some, List, ◌∷◌, refl, sym, ap, ◌∙◌, subst, arith, inl, inr}
 use Rattle.std.specs.Prelude.{int_le, int_lt, if◌then◌else◌}
 use Rattle.std.proofs.lemmas.Bool.{cases_eq, true≢false, and_parts, not-true}
@@ -22,23 +22,26 @@ use Rattle.ada_laws.proofs.Suspending.{is_suspended-from, suspended_exists}
 use Rattle.ada_rows.specs.declared.row.Row.{Row}
 use Rattle.ada_rows.specs.declared.row.Row.TheVariants.{Cancelling}
 use Rattle.ada_rows.specs.Rows.{at_event, step_at}
-use Rattle.ada_rows.proofs.Keys.{forced_nothing}
+use Rattle.ada_rows.proofs.Keys.{none_from, forced_nothing}
 use Rattle.ada_agenda.specs.Kinds.{due_in, due_row, OfTick}
 use Rattle.ada_agenda.specs.Kinds.OfTick.{comes_due}
 use Rattle.ada_agenda.proofs.Adding.{agendas_grow}
+use Rattle.ada_waiting.specs.Reasons.{suspended_at}
 use Rattle.ada_waiting.specs.Standstill.{due_at, due_of, first_due_below, first_due}
-use Rattle.ada_waiting.proofs.Holding.{suspended_at_the_latest_hold}
+use Rattle.ada_waiting.proofs.Holding.{suspended_at_is, suspended_at_from}
 use Rattle.ada_waiting.proofs.Settling.{settled_agenda}
 
 pub due_of_suspended : (journal : List Event) (task p : ℕ) (e : Event) → IsLawful journal → IsSuspendedAt journal task p → event_at journal p ≡ Some e
     → due_of journal task ≡ due_at journal p e
 unfolding due_of
 due_of_suspended journal task p e lawful h stands =
-    rw (is_suspended-from journal task p h, suspended_at_the_latest_hold journal task p lawful h, stands) refl
+    rw (suspended_at_is journal task p lawful h, stands) refl
 
 pub not_due : (journal : List Event) (task : ℕ) → is_suspended journal task ≡ false → due_of journal task ≡ None
 unfolding due_of
-not_due journal task free = rw free refl
+not_due journal task free =
+    rw (none_from (suspended_at journal task) (λ p is.
+    true≢false (sym (is_suspended-from journal task p (suspended_at_from journal task p is)) ∙ free))) refl
 
 lesser : (a b due : ℤ) (less : Bool) → int_lt b a ≡ less → (int_le a due ≡ true) ⊎ (int_le b due ≡ true) → int_le (if less then b else a) due ≡ true
 lesser a b due true is (inl first) = grind (arith, ints)
@@ -54,6 +57,10 @@ one_comes None b now (inr second) = second
 one_comes (Some m) None now (inl first) = first
 one_comes (Some m) None now (inr second) = absurd (true≢false (sym second))
 one_comes (Some m) (Some n) now comes = lesser m n now (int_lt n m) refl comes
+
+pub first_due_below_more : (journal : List Event) (n : ℕ) → first_due_below journal (n + 1) ≡ earlier (first_due_below journal n) (due_of journal n)
+unfolding first_due_below
+first_due_below_more journal n = let e : n + 1 ≡ suc n = omega arith in rw e refl
 
 -- the first moment has come where that of a task has
 first_comes : (journal : List Event) (n task : ℕ) (now : ℤ) → task < n → is_due now (due_of journal task) ≡ true

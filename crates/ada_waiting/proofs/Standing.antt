@@ -1,5 +1,6 @@
 -- A stuck journal stays stuck.
-use Rattle.std.proofs.Common.{◌≡◌, ℕ, zero, suc, ℤ, Bool, true, false, not, None, Some, List, [], ◌∷◌, ◌++◌, refl, sym, ap, ◌∙◌, subst, arith, inl, inr}
+use Rattle.std.proofs.Common.{Option, if◌then◌else◌, ◌≡◌, ℕ, zero, suc, ℤ, Bool, true, false, not, None}
+use Rattle.std.proofs.Common.{Some, List, [], ◌∷◌, ◌++◌, refl, sym, ap, ◌∙◌, subst, arith, inl, inr}
 use Rattle.std.specs.List.{All}
 use Rattle.std.proofs.lemmas.Bool.{cases_Bool, not-true, true≢false}
 use Rattle.std.proofs.lemmas.List.Elements.{All-nil, All-cons}
@@ -19,7 +20,8 @@ use Rattle.ada_events.specs.Lawful.{IsLawful, IsSettled}
 use Rattle.ada_laws.proofs.Searching.{event_at-older, all_below-holds}
 use Rattle.ada_laws.proofs.Accepting.{asker_runs, asker_exists}
 use Rattle.ada_laws.proofs.Suspending.{is_suspended-at, is_suspended-from, suspended_before}
-use Rattle.ada_waiting.specs.Standstill.{due_of, first_due_below, first_due, nobody_runs, IsStuck}
+use Rattle.ada_waiting.specs.Standstill.{due_of, first_due_below, first_due, nobody_runs, by_first_due, verdict_of}
+use Rattle.ada_waiting.specs.declared.standstill.Verdict.TheVariants.{Finished, GoesOn, Stuck}
 use Rattle.ada_waiting.specs.Laws.{OnlyTicksAreAccepted, IsTick, StuckForEver}
 use Rattle.ada_waiting.proofs.Moments.{due_of_suspended, not_due, early_ticks_force_nothing}
 use Rattle.ada_waiting.proofs.Ticking.{tick_suspends, same_at}
@@ -105,15 +107,22 @@ same_first before now lawful =
 
 record Stays (journal : List Event) : Type 0 where
   rests : IsSettled journal
-  stuck : IsStuck journal
+  nobody : nobody_runs journal ≡ true
+  no_moment : first_due journal ≡ None
+
+-- nobody runs, and no task waits for a moment
+stuck_parts : (terminated nobody : Bool) (due : Option ℤ) → (if terminated then Finished else (if nobody then by_first_due due else GoesOn)) ≡ Stuck
+    → (nobody ≡ true) × (due ≡ None)
+stuck_parts true nobody due is = absurd (cc is)
+stuck_parts false true None is = (refl, refl)
+stuck_parts false true (Some until) is = absurd (cc is)
+stuck_parts false false due is = absurd (cc is)
 
 tick_stays : (before : List Event) (now : ℤ) → IsLawful (Ticked now ∷ before) → Stays before → Stays (Ticked now ∷ before)
 tick_stays before now lawful stays = record {
-  rests = early_ticks_force_nothing before now lawful stays.rests (ap (is_due now) stays.stuck.no_moment);
-  stuck = record {
-    nobody = same_nobody before now ∙ stays.stuck.nobody;
-    no_moment = same_first before now lawful ∙ stays.stuck.no_moment;
-  };
+  rests = early_ticks_force_nothing before now lawful stays.rests (ap (is_due now) stays.no_moment);
+  nobody = same_nobody before now ∙ stays.nobody;
+  no_moment = same_first before now lawful ∙ stays.no_moment;
 }
 
 ticks_follow : (journal later : List Event) → IsLawful (later ++ journal) → Stays journal → All IsTick later × Stays (later ++ journal)
@@ -125,7 +134,7 @@ ticks_follow journal (event ∷ later) lawful stays =
     elim lawful.1 [
       | inl forces ↦ absurd (none-some event (sym sofar.1.rests ∙ forces))
       | inr asked ↦
-          let (now, tick) = only_ticks_are_accepted before asked.request sofar.1.stuck.nobody asked.accepted in
+          let (now, tick) = only_ticks_are_accepted before asked.request sofar.1.nobody asked.accepted in
           let ticked : event ≡ Ticked now = asked.becomes ∙ ap (asked_event before) tick in (
             All-cons IsTick event later (now, ticked) sofar.0,
             subst (λ (e : Event). Stays (e ∷ before)) (sym ticked)
@@ -134,4 +143,7 @@ ticks_follow journal (event ∷ later) lawful stays =
     ]
 
 pub stuck_for_ever : StuckForEver
-stuck_for_ever journal later lawful settled stuck = (ticks_follow journal later lawful (record { rests = settled; stuck = stuck })).0
+unfolding verdict_of
+stuck_for_ever journal later lawful settled stuck =
+    let parts = stuck_parts (is_terminated journal 0) (nobody_runs journal) (first_due journal) stuck in
+    (ticks_follow journal later lawful (record { rests = settled; nobody = parts.0; no_moment = parts.1 })).0

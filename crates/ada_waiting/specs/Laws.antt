@@ -11,8 +11,9 @@ use Rattle.ada_events.specs.Waits.{is_due}
 use Rattle.ada_events.specs.Refusals.{refusal}
 use Rattle.ada_events.specs.Lawful.{IsLawful, IsSettled}
 use Rattle.ada_laws.specs.Suspension.{IsSuspendedAt}
-use Rattle.ada_waiting.specs.Reasons.{latest_hold, reason_of}
-use Rattle.ada_waiting.specs.Standstill.{nobody_runs, first_due, IsStuck}
+use Rattle.ada_waiting.specs.declared.standstill.Verdict.TheVariants.{Stuck}
+use Rattle.ada_waiting.specs.Reasons.{suspended_at, reason_of}
+use Rattle.ada_waiting.specs.Standstill.{nobody_runs, first_due, verdict_of}
 
 -- a task that exists has no reason exactly if it is running or terminated
 abbrev pub OneReasonEach : Type 0
@@ -20,10 +21,11 @@ OneReasonEach =
     (journal : List Event) (task : ℕ) → IsLawful journal → task < task_count journal
     → (reason_of journal task ≡ None) ↔ ((is_running journal task ≡ true) ⊎ (is_terminated journal task ≡ true))
 
--- a task is suspended at its latest call, wait, delay, start or close
-abbrev pub SuspendedAtTheLatestHold : Type 0
-SuspendedAtTheLatestHold =
-    (journal : List Event) (task position : ℕ) → IsLawful journal → IsSuspendedAt journal task position → latest_hold journal task ≡ Some position
+-- in a lawful journal this is where a task is suspended
+abbrev pub SuspendedThere : Type 0
+SuspendedThere =
+    (journal : List Event) (task position : ℕ) → IsLawful journal
+    → (suspended_at journal task ≡ Some position) ↔ IsSuspendedAt journal task position
 
 -- while nobody runs, every request is refused but a tick
 abbrev pub OnlyTicksAreAccepted : Type 0
@@ -44,5 +46,5 @@ IsTick event = (now : ℤ) × (event ≡ Ticked now)
 -- a stuck journal stays stuck: whatever lawful journal begins with it adds ticks alone
 abbrev pub StuckForEver : Type 0
 StuckForEver =
-    (journal later : List Event) → IsLawful (later ++ journal) → IsSettled journal → IsStuck journal
+    (journal later : List Event) → IsLawful (later ++ journal) → IsSettled journal → verdict_of journal ≡ Stuck
     → All IsTick later

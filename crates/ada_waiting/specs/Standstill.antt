@@ -1,15 +1,17 @@
 -- When nothing but a tick, or nothing at all, can let a journal go on.
-use Rattle.std.specs.Prelude.{◌≡◌, ℕ, zero, suc, ℤ, Bool, true, not, if◌then◌else◌, Option, Some, None, List}
+use Rattle.std.specs.Prelude.{ℕ, zero, suc, ℤ, Bool, not, if◌then◌else◌, Option, Some, None, List}
 use Rattle.std.specs.Option.{option_and_then}
 use Rattle.ada_events.specs.declared.event.Event.{Event}
 use Rattle.ada_events.specs.declared.event.Event.TheVariants.{Called, Waiting, Paused}
 use Rattle.ada_events.specs.Search.{event_at, all_below}
 use Rattle.ada_events.specs.Tasks.{task_count}
-use Rattle.ada_events.specs.Phases.{is_suspended, is_running}
+use Rattle.ada_events.specs.Phases.{is_running, is_terminated}
 use Rattle.ada_events.specs.Calls.{is_met}
 use Rattle.ada_events.specs.Waits.{earlier}
 use Rattle.ada_agenda.specs.Kinds.{tail_due}
-use Rattle.ada_waiting.specs.Reasons.{latest_hold}
+use Rattle.ada_waiting.specs.declared.standstill.Verdict.{Verdict}
+use Rattle.ada_waiting.specs.declared.standstill.Verdict.TheVariants.{Finished, GoesOn, WaitsForTick, Stuck}
+use Rattle.ada_waiting.specs.Reasons.{suspended_at}
 
 -- the moment at which what stands at a position lets its task go on: a queued timed call (9.7.3), a delay (9.6), or the
 -- first of a wait's delay alternatives (9.7.1)
@@ -22,7 +24,7 @@ due_at journal position _ = None
 -- the moment for which a suspended task waits
 unfoldable pub due_of : List Event → ℕ → Option ℤ
 due_of journal task =
-    if is_suspended journal task then option_and_then (λ p. option_and_then (due_at journal p) (event_at journal p)) (latest_hold journal task) else None
+    option_and_then (λ p. option_and_then (due_at journal p) (event_at journal p)) (suspended_at journal task)
 
 -- the first of these moments, over the tasks below a number
 unfoldable pub first_due_below : List Event → ℕ → Option ℤ
@@ -37,7 +39,13 @@ first_due journal = first_due_below journal (task_count journal)
 unfoldable pub nobody_runs : List Event → Bool
 nobody_runs journal = all_below (λ t. not (is_running journal t)) (task_count journal)
 
--- no task is running, and none waits for a moment
-pub record IsStuck (journal : List Event) : Type 0 where
-  pub nobody : nobody_runs journal ≡ true
-  pub no_moment : first_due journal ≡ None
+-- what the first moment for which any task waits can do, where nobody runs
+abbrev pub by_first_due : Option ℤ → Verdict
+by_first_due None = Stuck
+by_first_due (Some until) = WaitsForTick until
+
+-- what can let a journal go on
+unfoldable pub verdict_of : List Event → Verdict
+verdict_of journal =
+    if is_terminated journal 0 then Finished
+    else (if nobody_runs journal then by_first_due (first_due journal) else GoesOn)

@@ -1,5 +1,5 @@
 //! Laws of reasons, and of a standstill.
-ghost use Rattle.ada_waiting.specs.Laws.{OneReasonEach, SuspendedAtTheLatestHold, OnlyTicksAreAccepted, TicksForceFromTheFirstMoment, StuckForEver};
+ghost use Rattle.ada_waiting.specs.Laws.{OneReasonEach, SuspendedThere, OnlyTicksAreAccepted, TicksForceFromTheFirstMoment, StuckForEver};
 
 /// A task has no reason exactly if it runs or is terminated.
 #[tactic(auto, using(crate::proofs::Reasoning::one_reason_each))]
@@ -7,9 +7,9 @@ pub fn one_reason_each()
     ensures { OneReasonEach }
 {}
 
-/// A task is suspended at its latest call, wait, delay, start or close.
-pub fn suspended_at_the_latest_hold()
-    ensures { SuspendedAtTheLatestHold }
+/// A task is suspended at its latest call, wait, delay, start or close, if it is suspended.
+pub fn suspended_there()
+    ensures { SuspendedThere }
 {}
 
 /// While nobody runs, every request is refused but a tick.

@@ -1,8 +1,11 @@
-//! Why a task doesn't go on by itself, and when nothing can let it go on. Each law is the contract of a function that
-//! does nothing.
+//! Why a task doesn't go on by itself, and when nothing can let a journal go on. Each law is the contract of a function
+//! that does nothing.
 #![tactic(auto)]
 
+pub mod holds;
 pub mod laws;
-mod reason;
+pub mod reasons;
+pub mod standstill;
 
-pub use reason::Reason;
+pub use reasons::{Reason, reason_of};
+pub use standstill::{Verdict, verdict_of};
