@@ -4,3 +4,4 @@ mod Settling
 mod Moments
 mod Ticking
 mod Standing
+mod Awaiting

@@ -13,6 +13,7 @@ use Rattle.ada_events.specs.Lawful.{IsLawful, IsSettled}
 use Rattle.ada_laws.specs.Suspension.{IsSuspendedAt}
 use Rattle.ada_waiting.specs.declared.standstill.Verdict.TheVariants.{Stuck}
 use Rattle.ada_waiting.specs.Reasons.{suspended_at, reason_of}
+use Rattle.ada_waiting.specs.Awaited.{waits_for}
 use Rattle.ada_waiting.specs.Standstill.{nobody_runs, first_due, verdict_of}
 
 -- a task that exists has no reason exactly if it is running or terminated
@@ -26,6 +27,11 @@ abbrev pub SuspendedThere : Type 0
 SuspendedThere =
     (journal : List Event) (task position : ℕ) → IsLawful journal
     → (suspended_at journal task ≡ Some position) ↔ IsSuspendedAt journal task position
+
+-- only a task that isn't terminated is waited for
+abbrev pub OnlyLiveTasksAreAwaited : Type 0
+OnlyLiveTasksAreAwaited =
+    (journal : List Event) (task other : ℕ) → IsSettled journal → waits_for journal task other ≡ true → is_terminated journal other ≡ false
 
 -- while nobody runs, every request is refused but a tick
 abbrev pub OnlyTicksAreAccepted : Type 0

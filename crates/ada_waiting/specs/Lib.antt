@@ -1,3 +1,4 @@
 pub mod Reasons
+pub mod Awaited
 pub mod Standstill
 pub mod Laws

@@ -1,5 +1,5 @@
 //! Laws of reasons, and of a standstill.
-ghost use Rattle.ada_waiting.specs.Laws.{OneReasonEach, SuspendedThere, OnlyTicksAreAccepted, TicksForceFromTheFirstMoment, StuckForEver};
+ghost use Rattle.ada_waiting.specs.Laws.{OneReasonEach, SuspendedThere, OnlyLiveTasksAreAwaited, OnlyTicksAreAccepted, TicksForceFromTheFirstMoment, StuckForEver};
 
 /// A task has no reason exactly if it runs or is terminated.
 #[tactic(auto, using(crate::proofs::Reasoning::one_reason_each))]
@@ -10,6 +10,11 @@ pub fn one_reason_each()
 /// A task is suspended at its latest call, wait, delay, start or close, if it is suspended.
 pub fn suspended_there()
     ensures { SuspendedThere }
+{}
+
+/// Only a task that isn't terminated is waited for.
+pub fn only_live_tasks_are_awaited()
+    ensures { OnlyLiveTasksAreAwaited }
 {}
 
 /// While nobody runs, every request is refused but a tick.

@@ -2,10 +2,12 @@
 //! that does nothing.
 #![tactic(auto)]
 
+pub mod awaited;
 pub mod holds;
 pub mod laws;
 pub mod reasons;
 pub mod standstill;
 
+pub use awaited::waits_for;
 pub use reasons::{Reason, reason_of};
 pub use standstill::{Verdict, verdict_of};

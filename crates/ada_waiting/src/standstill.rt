@@ -1,7 +1,6 @@
 //! When nothing but a tick, or nothing at all, can let a journal go on.
-ghost use Rattle.std.specs.Prelude.{◌≡◌, ◌<◌, ◌≤◌, ◌^◌, length, reverse};
-ghost use Rattle.ada_events.specs.Tasks.{task_count as count_of_tasks};
-ghost use Rattle.ada_events.specs.declared.limits.TheConstants.{MOST_TASKS};
+ghost use Rattle.std.specs.Prelude.{◌≡◌, ◌<◌, ◌^◌, length, reverse};
+ghost use Rattle.ada_events.specs.Lawful.{IsLawful};
 ghost use Rattle.ada_agenda.specs.Kinds as kinds;
 ghost use Rattle.ada_waiting.specs.Standstill as standstill;
 
@@ -11,7 +10,7 @@ use ada_events::waits::{earlier, least_due};
 use ada_events::{Event, EventTail, TaskNo};
 use ada_reference::calls::is_met;
 use ada_reference::phases::{is_running, is_terminated};
-use ada_reference::tasks::task_count;
+use ada_reference::tasks_in;
 
 /// What can let a lawful and settled journal go on.
 #[derive(Clone, Copy, Debug, PartialEq, Eq)]
@@ -61,11 +60,11 @@ pub fn due_of(events: &[Event], task: TaskNo) -> Option<i64>
 #[tactic(auto, unfolding(crate::specs::Standstill::first_due, crate::specs::Standstill::first_due_below), using(crate::proofs::Moments::first_due_below_more))]
 pub fn first_due(events: &[Event]) -> Option<i64>
     requires short { length events.now < 2 ^ 32 }
-    requires few { count_of_tasks (reverse events.now) ≤ MOST_TASKS }
+    requires lawful { IsLawful (reverse events.now) }
     ensures { result ≡ standstill.first_due (reverse events.now) }
 {
     let mut first = None;
-    for task in 0..task_count(events) as u16 {
+    for task in 0..tasks_in(events) {
         first = earlier(first, due_of(events, TaskNo(task)));
     }
     first
@@ -75,11 +74,11 @@ pub fn first_due(events: &[Event]) -> Option<i64>
 #[tactic(auto, unfolding(crate::specs::Standstill::nobody_runs, ada_events::specs::Search::all_below), using(ada_reference::proofs::Numbers::all_below_more))]
 pub fn nobody_runs(events: &[Event]) -> bool
     requires short { length events.now < 2 ^ 32 }
-    requires few { count_of_tasks (reverse events.now) ≤ MOST_TASKS }
+    requires lawful { IsLawful (reverse events.now) }
     ensures { result ≡ standstill.nobody_runs (reverse events.now) }
 {
     let mut nobody = true;
-    for task in 0..task_count(events) as u16 {
+    for task in 0..tasks_in(events) {
         nobody = nobody && !is_running(events, TaskNo(task));
     }
     nobody
@@ -89,7 +88,7 @@ pub fn nobody_runs(events: &[Event]) -> bool
 #[tactic(auto, unfolding(crate::specs::Standstill::verdict_of))]
 pub fn verdict_of(events: &[Event]) -> Verdict
     requires short { length events.now < 2 ^ 32 }
-    requires few { count_of_tasks (reverse events.now) ≤ MOST_TASKS }
+    requires lawful { IsLawful (reverse events.now) }
     ensures { result ≡ standstill.verdict_of (reverse events.now) }
 {
     if is_terminated(events, TaskNo(0)) {
