@@ -1,6 +1,6 @@
 //! Tests of the kernel by its calls alone: its limits, long chains of tasks, and what it answers about its tasks and
-//! entries; random requests of it beside the reference; why its tasks wait; and tests of its tables and of its agenda at their
-//! limits.
+//! entries; random requests of it beside the reference; why its tasks wait; and tests of its tables and of its agenda
+//! at their limits.
 #![tactic(auto)]
 
 #[cfg(test)]

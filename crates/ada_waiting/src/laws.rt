@@ -1,5 +1,6 @@
 //! Laws of reasons, and of a standstill.
-ghost use Rattle.ada_waiting.specs.Laws.{OneReasonEach, SuspendedThere, OnlyLiveTasksAreAwaited, OnlyTicksAreAccepted, TicksForceFromTheFirstMoment, StuckForEver};
+ghost use Rattle.ada_waiting.specs.Laws.{OneReasonEach, SuspendedThere, OnlyLiveTasksAreAwaited};
+ghost use Rattle.ada_waiting.specs.Laws.{OnlyTicksAreAccepted, TicksForceFromTheFirstMoment, StuckForEver};
 
 /// A task has no reason exactly if it runs or is terminated.
 #[tactic(auto, using(crate::proofs::Reasoning::one_reason_each))]
