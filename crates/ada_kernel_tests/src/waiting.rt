@@ -35,6 +35,7 @@ fn make_two<R: Abort>(rt: &R, kernel: &mut Kernel) {
     assert_accepted(rt, kernel, create(0, MAIN, &[SINGLE]), 1);
     assert_accepted(rt, kernel, create(0, MAIN, &[SINGLE]), 2);
     assert_reason(rt, kernel, 1, Some(Reason::NotStarted));
+    assert_reason(rt, kernel, 3, None);
     assert_awaited(rt, kernel, 1, [true, false, false, false, false]);
     assert_accepted(rt, kernel, activate(0, 1, 2), 3);
     assert_reason(rt, kernel, 1, None);

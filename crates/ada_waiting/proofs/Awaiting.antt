@@ -1,10 +1,9 @@
 -- Only a task that isn't terminated is waited for.
-use Rattle.std.proofs.Common.{◌≡◌, ℕ, ◌<◌, Bool, true, false, not, ◌&&◌, ◌||◌, ◌⊎◌, Option, None, Some, List, [], ◌∷◌}
-use Rattle.std.proofs.Common.{if◌then◌else◌, refl, sym, ap, ◌∙◌, subst, inl, inr, nat_lt, nat_eq}
+use Rattle.std.proofs.Common.{◌≡◌, ℕ, ◌<◌, Bool, true, false, not, ◌&&◌, ◌||◌, Option, None, Some, List, [], ◌∷◌}
+use Rattle.std.proofs.Common.{if◌then◌else◌, refl, sym, ap, ◌∙◌, subst, nat_eq}
 use Rattle.std.specs.Bool.{then_some}
 use Rattle.std.specs.Option.{option_or, option_and_then}
-use Rattle.std.specs.List.{list_any}
-use Rattle.std.proofs.lemmas.Bool.{and_parts, and_from, or_parts, or_cases, not-true, not_from_false, eqb-true, lt-ltb, cases_Bool, true≢false, false≢true}
+use Rattle.std.proofs.lemmas.Bool.{and_parts, and_from, or_parts, not-true, not_from_false, eqb-true, lt-ltb, true≢false, false≢true}
 use Rattle.std.proofs.lemmas.Bool.{false_from_ne_true}
 use Rattle.std.proofs.lemmas.Option.{none-some, same_Some}
 use Rattle.ada_events.specs.declared.event.Event.{Event}
@@ -12,17 +11,16 @@ use Rattle.ada_events.specs.declared.event.Event.TheVariants as event
 use Rattle.ada_events.specs.declared.event.Event.TheVariants.{Gone}
 use Rattle.ada_events.specs.declared.names.Master.{Master}
 use Rattle.ada_events.specs.declared.names.Master.TheVariants.{Body, Block}
-use Rattle.ada_events.specs.Search.{is_some_and, event_at}
+use Rattle.ada_events.specs.Search.{event_at}
 use Rattle.ada_events.specs.Says.{Creation, Call, Closing, started_in, call_in, closing_in, held_in, call_at}
-use Rattle.ada_events.specs.Tasks.{task_count, creation_of}
+use Rattle.ada_events.specs.Tasks.{task_count, has_task, creation_of}
 use Rattle.ada_events.specs.Masters.{depends_on}
 use Rattle.ada_events.specs.Phases.{lists_task, has_start, is_elaborated, is_completed, is_terminated, has_ended, is_started}
-use Rattle.ada_events.specs.Termination.{all_terminated, is_complete, is_abandoned}
+use Rattle.ada_events.specs.Termination.{is_complete, is_abandoned}
 use Rattle.ada_events.specs.Calls.{is_met}
 use Rattle.ada_events.specs.Forced.{task_no, is_to_go}
-use Rattle.ada_events.specs.Lawful.{IsLawful, IsSettled}
+use Rattle.ada_events.specs.Lawful.{IsSettled}
 use Rattle.ada_laws.specs.Suspension.{IsSuspendedAt}
-use Rattle.ada_laws.specs.Calls.{IsCallAt}
 use Rattle.ada_laws.proofs.Searching.{three_parts, option_map_or-true, option_and_then-some}
 use Rattle.ada_laws.proofs.Saying.{held_in-call}
 use Rattle.ada_laws.proofs.Growing.{has_ended-before}
@@ -33,7 +31,7 @@ use Rattle.ada_rows.specs.Rows.{step_at}
 use Rattle.ada_waiting.specs.declared.reasons.Reason.{Reason}
 use Rattle.ada_waiting.specs.declared.reasons.Reason.TheVariants as reason
 use Rattle.ada_waiting.specs.Reasons.{suspended_at, reason_at, held_reason, reason_of}
-use Rattle.ada_waiting.specs.Awaited.{has_made, is_activating, names, is_called, is_live_dependent, is_left_behind, awaits, waits_for}
+use Rattle.ada_waiting.specs.Awaited.{has_made, is_started_at, is_called, is_live_dependent, awaits, waits_for}
 use Rattle.ada_waiting.specs.Laws.{OnlyLiveTasksAreAwaited}
 use Rattle.ada_waiting.proofs.Holding.{suspended_at_from}
 use Rattle.ada_waiting.proofs.Settling.{settled_gives_nothing}
@@ -62,7 +60,15 @@ comes false false false None r is = from_making (sym (same_Some reason.NotStarte
 comes_from : (journal : List Event) (task : ℕ) (r : Reason) → reason_of journal task ≡ Some r
     → Comes (is_terminated journal task) (is_completed journal task) (is_started journal task) (held_reason journal task) r
 unfolding reason_of
-comes_from journal task r is = comes (is_terminated journal task) (is_completed journal task) (is_started journal task) (held_reason journal task) r is
+comes_from journal task r is = of_known (has_task journal task) is
+  where
+    of_known : (known : Bool)
+        → (if not known || is_terminated journal task then None
+        else (if is_completed journal task then Some reason.Completed
+        else option_or (held_reason journal task) (if is_started journal task then None else Some reason.NotStarted))) ≡ Some r
+        → Comes (is_terminated journal task) (is_completed journal task) (is_started journal task) (held_reason journal task) r
+    of_known true is = comes (is_terminated journal task) (is_completed journal task) (is_started journal task) (held_reason journal task) r is
+    of_known false is = absurd (none-some r is)
 
 -- the position that a reason names
 place : Reason → Option ℕ
@@ -165,7 +171,7 @@ held_awaits : (journal : List Event) (task other : ℕ) (r : Reason) → IsSettl
 unfolding awaits place
 held_awaits journal task other reason.NotStarted settled at waits = absurd (none-some at.position at.named)
 held_awaits journal task other (reason.Activating start) settled at waits =
-    unended journal other (three_parts (names journal start other) (is_elaborated journal other) (has_ended journal other) waits).2
+    unended journal other (three_parts (is_started_at journal start other) (is_elaborated journal other) (has_ended journal other) waits).2
 held_awaits journal task other (reason.Queued call) settled at waits =
     called_live journal task call other settled (subst (IsSuspendedAt journal task) (sym (same_Some call at.position at.named)) at.suspended) waits
 held_awaits journal task other (reason.InRendezvous call) settled at waits =

@@ -1,8 +1,9 @@
 -- Each task that neither runs nor is terminated has one reason.
+use Rattle.ada_events.specs.Tasks.{task_count}
 use Rattle.std.specs.Option.{option_or}
 use Rattle.std.proofs.Common.{◌≡◌, ℕ, Bool, true, false, not, ◌&&◌, ◌||◌, if◌then◌else◌, Option, Some, None, List, refl, sym, ◌∙◌, ◌⊎◌, inl, inr}
 use Rattle.std.specs.Prelude.{◌↔◌}
-use Rattle.std.proofs.lemmas.Bool.{true≢false, false≢true}
+use Rattle.std.proofs.lemmas.Bool.{true≢false, false≢true, lt-ltb}
 use Rattle.std.proofs.lemmas.Option.{none-some}
 use Rattle.ada_events.specs.declared.event.Event.{Event}
 use Rattle.ada_events.specs.declared.event.Event.TheVariants as event
@@ -78,5 +79,6 @@ by_state false false false false held holds frees = (
 pub one_reason_each : OneReasonEach
 unfolding reason_of is_running has_ended
 one_reason_each journal task lawful exists =
-    by_state (is_terminated journal task) (is_completed journal task) (is_suspended journal task) (is_started journal task) (held_reason journal task)
-    (suspended_reason journal task lawful) (free_reason journal task)
+    rw (lt-ltb task (task_count journal) exists)
+    (by_state (is_terminated journal task) (is_completed journal task) (is_suspended journal task) (is_started journal task) (held_reason journal task)
+    (suspended_reason journal task lawful) (free_reason journal task))

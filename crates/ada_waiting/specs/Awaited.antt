@@ -1,5 +1,5 @@
 -- Which tasks a task waits for. One that waits for a call, or for a moment, waits for no task by itself.
-use Rattle.std.specs.Prelude.{ℕ, Bool, false, not, ◌==◌, ◌&&◌, Option, List}
+use Rattle.std.specs.Prelude.{ℕ, Bool, false, not, ◌==◌, ◌&&◌, List}
 use Rattle.std.specs.Option.{option_and_then}
 use Rattle.ada_events.specs.declared.event.Event.{Event}
 use Rattle.ada_events.specs.declared.names.Master.{Master}
@@ -19,12 +19,12 @@ abbrev pub has_made : List Event → ℕ → ℕ → Bool
 has_made journal other task = is_some_and (creation_of journal task) (λ (c : Creation). c.by == other)
 
 -- the start at the position names the task (9.3)
-abbrev pub names : List Event → ℕ → ℕ → Bool
-names journal start other = is_some_and (option_and_then start_in (event_at journal start)) (λ (s : Start). lists_task other s.tasks)
+abbrev pub is_started_at : List Event → ℕ → ℕ → Bool
+is_started_at journal start other = is_some_and (option_and_then start_in (event_at journal start)) (λ (s : Start). lists_task other s.tasks)
 
 -- the start at the position names the task, whose activation hasn't ended (9.3)
 abbrev pub is_activating : List Event → ℕ → ℕ → Bool
-is_activating journal start other = names journal start other && not (is_elaborated journal other) && not (has_ended journal other)
+is_activating journal start other = is_started_at journal start other && not (is_elaborated journal other) && not (has_ended journal other)
 
 -- the call at the position is one of an entry of the task (9.5)
 abbrev pub is_called : List Event → ℕ → ℕ → Bool

@@ -1,11 +1,12 @@
 -- Why a task that isn't terminated doesn't run.
-use Rattle.std.specs.Prelude.{ℕ, if◌then◌else◌, Option, Some, None, List, not}
+use Rattle.std.specs.Prelude.{ℕ, if◌then◌else◌, Option, Some, None, List, not, ◌||◌}
 use Rattle.std.specs.Bool.{then_some}
 use Rattle.std.specs.Option.{option_or, option_and_then}
 use Rattle.ada_events.specs.declared.event.Event.{Event}
 use Rattle.ada_events.specs.declared.event.Event.TheVariants.{Called, Waiting, Paused, Started, Closed}
 use Rattle.ada_events.specs.Search.{is_number, event_at}
 use Rattle.ada_events.specs.Says.{held_in}
+use Rattle.ada_events.specs.Tasks.{has_task}
 use Rattle.ada_events.specs.Phases.{is_completed, is_terminated, has_ended, is_released, is_started}
 use Rattle.ada_events.specs.Calls.{is_met}
 use Rattle.ada_events.specs.Outcomes.{last_given}
@@ -39,6 +40,6 @@ held_reason journal task =
 -- why a task doesn't go on by itself
 unfoldable pub reason_of : List Event → ℕ → Option Reason
 reason_of journal task =
-    if is_terminated journal task then None
+    if not (has_task journal task) || is_terminated journal task then None
     else (if is_completed journal task then Some reason.Completed
     else option_or (held_reason journal task) (if is_started journal task then None else Some reason.NotStarted))

@@ -20,8 +20,8 @@ fn has_made(events: &[Event], other: TaskNo, task: TaskNo) -> bool
 }
 
 #[tactic(auto, unfolding(ada_events::specs::Says::start_in))]
-fn names(events: &[Event], start: u32, other: TaskNo) -> bool
-    ensures { result ≡ awaited.names (reverse events.now) start other.0 }
+fn is_started_at(events: &[Event], start: u32, other: TaskNo) -> bool
+    ensures { result ≡ awaited.is_started_at (reverse events.now) start other.0 }
 {
     match event_in(events, start) {
         Some(Event::Started { tasks, .. }) => other.is_listed(tasks.as_slice()),
@@ -33,7 +33,9 @@ fn is_activating(events: &[Event], start: u32, other: TaskNo) -> bool
     requires { length events.now < 2 ^ 32 }
     ensures { result ≡ awaited.is_activating (reverse events.now) start other.0 }
 {
-    names(events, start, other) && !is_elaborated(events, other) && !has_ended(events, other)
+    is_started_at(events, start, other)
+        && !is_elaborated(events, other)
+        && !has_ended(events, other)
 }
 
 #[tactic(auto, unfolding(ada_events::specs::Says::call_in))]

@@ -7,6 +7,7 @@ use ada_events::journal::event_in;
 use ada_events::{Event, TaskNo};
 use ada_reference::calls::is_met;
 use ada_reference::phases::{is_completed, is_started, is_terminated};
+use ada_reference::tasks::has_task;
 
 /// Why a task that isn't terminated doesn't run: what it waits for, with the position at which it began to.
 #[derive(Clone, Copy, Debug, PartialEq, Eq)]
@@ -55,13 +56,14 @@ fn held_reason(events: &[Event], task: TaskNo) -> Option<Reason>
     reason_at(events, position, event_in(events, position)?)
 }
 
-/// Why a task doesn't go on by itself, by a journal in the order of arrival; none if it runs or is terminated.
+/// Why a task doesn't go on by itself, by a journal in the order of arrival; none if it runs, is terminated, or
+/// doesn't exist.
 #[tactic(auto, unfolding(crate::specs::Reasons::reason_of))]
 pub fn reason_of(events: &[Event], task: TaskNo) -> Option<Reason>
     requires { length events.now < 2 ^ 32 }
     ensures { result ≡ reasons.reason_of (reverse events.now) task.0 }
 {
-    if is_terminated(events, task) {
+    if !has_task(events, task) || is_terminated(events, task) {
         return None;
     }
     if is_completed(events, task) {
