@@ -13,7 +13,7 @@ use Rattle.ada_script.specs.Script.{scope_of}
 use Rattle.ada_statements.specs.Scope.{Scope}
 use Rattle.ada_statements.specs.Binding.{is_show}
 use Rattle.ada_replay.specs.Ends.{state}
-use Rattle.ada_hall.specs.declared.answer.Answer.{Answer}
+use Rattle.ada_replay.specs.declared.answer.Answer.{Answer}
 use Rattle.ada_hall.specs.declared.answer.KeptAnswer.{KeptAnswer}
 use Rattle.ada_hall.specs.Answers.{answer_at}
 use Rattle.ada_hall.specs.Counting.{asked_count}

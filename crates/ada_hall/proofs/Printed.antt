@@ -26,8 +26,8 @@ use Rattle.ada_replay.specs.declared.fault.RunFault.TheVariants.{Write}
 use Rattle.ada_replay.specs.Ends.{IsShortage, IsWritten, IsCutShort}
 use Rattle.ada_replay.proofs.Bytes.{appends_both}
 use Rattle.ada_replay.proofs.Cuts.{appends_nothing}
-use Rattle.ada_hall.specs.declared.answer.Answer.{Answer}
-use Rattle.ada_hall.specs.declared.answer.Answer.TheVariants.{Group, Refused, Shown}
+use Rattle.ada_replay.specs.declared.answer.Answer.{Answer}
+use Rattle.ada_replay.specs.declared.answer.Answer.TheVariants.{Group, Refused, Shown}
 use Rattle.ada_hall.specs.declared.answer.KeptAnswer.{KeptAnswer}
 use Rattle.ada_hall.specs.History.{IsGroupOf, AnswersRequest, AnswersShow, IsAnswerTo, IsGiven, AreGiven}
 use Rattle.ada_hall.specs.History.AreGiven.{no_more, one_more}

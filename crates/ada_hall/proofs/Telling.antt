@@ -23,8 +23,8 @@ use Rattle.ada_statements.specs.declared.statement.Statement.TheVariants.{Raise,
 use Rattle.ada_printing.specs.Texts.{refusal_text, shown_text}
 use Rattle.ada_replay.specs.Play.{PlayState, group_text}
 use Rattle.ada_replay.specs.Replay.{beginning}
-use Rattle.ada_hall.specs.declared.answer.Answer.{Answer}
-use Rattle.ada_hall.specs.declared.answer.Answer.TheVariants.{Group, Refused, Shown}
+use Rattle.ada_replay.specs.declared.answer.Answer.{Answer}
+use Rattle.ada_replay.specs.declared.answer.Answer.TheVariants.{Group, Refused, Shown}
 use Rattle.ada_hall.specs.declared.answer.KeptAnswer.{KeptAnswer}
 use Rattle.ada_hall.specs.History.{IsAnswerTo, AnswersRequest, AnswersShow, GoesOn, IsGiven, AreGiven}
 use Rattle.ada_hall.specs.History.AreGiven.{no_more, one_more}

@@ -1,8 +1,8 @@
 -- The answers that are kept, in the order in which they were given.
 use Rattle.std.specs.Prelude.{◌≡◌, ◌≢◌, ◌<◌, ℕ, ◌==◌, Option, List, [], ◌∷◌, find, option_map, IsSome}
 use Rattle.std.specs.List.{AllPairs}
-use Rattle.ada_hall.specs.declared.answer.Answer.{Answer}
-use Rattle.ada_hall.specs.declared.answer.Answer.TheVariants.{Group}
+use Rattle.ada_replay.specs.declared.answer.Answer.{Answer}
+use Rattle.ada_replay.specs.declared.answer.Answer.TheVariants.{Group}
 use Rattle.ada_hall.specs.declared.answer.KeptAnswer.{KeptAnswer}
 
 -- how many places there are, and the answers to some of them

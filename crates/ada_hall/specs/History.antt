@@ -11,8 +11,8 @@ use Rattle.ada_script.specs.declared.script.Line.{Line}
 use Rattle.ada_statements.specs.Binding.{request_of}
 use Rattle.ada_printing.specs.Texts.{refusal_text, shown_text}
 use Rattle.ada_replay.specs.Play.{PlayState, SaysGroup}
-use Rattle.ada_hall.specs.declared.answer.Answer.{Answer}
-use Rattle.ada_hall.specs.declared.answer.Answer.TheVariants.{Group, Refused, Shown}
+use Rattle.ada_replay.specs.declared.answer.Answer.{Answer}
+use Rattle.ada_replay.specs.declared.answer.Answer.TheVariants.{Group, Refused, Shown}
 use Rattle.ada_hall.specs.declared.answer.KeptAnswer.{KeptAnswer}
 
 -- an accepted request: its answer names exactly the events that it led to

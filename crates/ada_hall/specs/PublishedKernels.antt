@@ -5,8 +5,8 @@ use Rattle.ada_events.specs.declared.board.Board.{Board}
 use Rattle.ada_events.specs.Lawful.{IsSettled}
 use Rattle.ada_events.specs.Boards.{AreTrueOf, board_of}
 use Rattle.ada_board.specs.Answers.{latest}
-use Rattle.ada_hall.specs.declared.answer.Answer.{Answer}
-use Rattle.ada_hall.specs.declared.answer.Answer.TheVariants.{Group}
+use Rattle.ada_replay.specs.declared.answer.Answer.{Answer}
+use Rattle.ada_replay.specs.declared.answer.Answer.TheVariants.{Group}
 
 -- the journal, the published list, and whether that is behind the journal
 pub record Showing : Type 0 where

@@ -2,7 +2,8 @@
 ghost use Rattle.std.specs.Prelude.{◌≡◌, ◌==◌, ◌<◌, None, [], ◌∷◌, ◌++◌, IsTrue, IfOk, length};
 ghost use Rattle.ada_hall.specs.Answers.{answer_at, AreAll, AnswerNoPlaceTwice};
 
-use crate::answer::{Answer, KeptAnswer};
+use crate::answer::KeptAnswer;
+use ada_replay::Answer;
 use std::alloc::{AllocError, Global};
 use std::marker::Model;
 

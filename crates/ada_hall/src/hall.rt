@@ -16,7 +16,7 @@ ghost use Rattle.ada_hall.specs.internal.Halls.{IsOfShow};
 ghost use Rattle.ada_hall.specs.PublishedKernels.{Publishes, IsTied};
 ghost use Rattle.ada_hall.specs.Turns.{left, passed, waited};
 
-use crate::answer::{Answer, KeptAnswer};
+use crate::answer::KeptAnswer;
 use crate::answers::Answers;
 use crate::asking::{Asked, asking_of};
 use crate::published::{PublishedKernel, Told};
@@ -28,7 +28,7 @@ use crate::turns::{Turns, may_play};
 use ada_board::BoardWriter;
 use ada_events::{Journal, Refusal, Request};
 use ada_kernel::Kernel;
-use ada_replay::Ending;
+use ada_replay::{Answer, Ending};
 use ada_replay::replaying::ending_of;
 use ada_script::{Names, Script, Value};
 use std::alloc::Global;

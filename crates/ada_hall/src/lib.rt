@@ -14,7 +14,8 @@ pub mod speakers;
 pub mod tally;
 pub mod turns;
 
-pub use answer::{Answer, KeptAnswer};
+pub use ada_replay::Answer;
+pub use answer::KeptAnswer;
 pub use asking::{Asked, Asking};
 pub use hall::Hall;
 pub use published::Told;

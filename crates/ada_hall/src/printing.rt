@@ -7,11 +7,11 @@ ghost use Rattle.ada_hall.specs.Answers.{AreJoined};
 ghost use Rattle.ada_hall.specs.Printing.{ArePrinted};
 ghost use Rattle.ada_hall.specs.internal.Printing.{EndsWithin, PrintsOne};
 
-use crate::answer::{Answer, KeptAnswer};
+use crate::answer::KeptAnswer;
 use crate::hall::Hall;
 use crate::session::Session;
 use ada_events::{Event, TaskNo};
-use ada_replay::RunFault;
+use ada_replay::{Answer, RunFault};
 use ada_replay::output::{write_output, write_piece};
 use ada_replay::play::{print_events, print_refusal, print_value};
 use ada_script::{Line, Names, Script};

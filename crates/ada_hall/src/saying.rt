@@ -9,11 +9,11 @@ ghost use Rattle.ada_hall.specs.PublishedKernels.{ShowsAnswer};
 ghost use Rattle.ada_hall.specs.Counting.{asked_count};
 ghost use Rattle.ada_hall.specs.Halls.{open_line, gained};
 
-use crate::answer::Answer;
 use crate::answers::Answers;
 use crate::published::PublishedKernel;
 use ada_board::Naming;
 use ada_events::Refusal;
+use ada_replay::Answer;
 use ada_replay::play::next_task;
 use ada_script::{Line, Names, Script, request_of};
 use std::sync::Wait;

@@ -2,7 +2,7 @@
 ghost use Rattle.std.specs.Prelude.{◌≡◌, ◌+◌, ◌<◌, ◌≤◌};
 ghost use Rattle.ada_hall.specs.Halls.{gained};
 
-use crate::answer::Answer;
+use ada_replay::Answer;
 use std::marker::Model;
 use std::sync::ledger::{Book, Ledger, Share};
 

@@ -1,14 +1,15 @@
 //! Playing the lines of a script on a kernel.
-ghost use Rattle.std.specs.Prelude.{◌≡◌, ℕ, ◌<◌, ◌≤◌, ◌^◌, ◌++◌, List, length, reverse, false, Some, IfErr, OnOk};
+ghost use Rattle.std.specs.Prelude.{◌≡◌, ℕ, ◌<◌, ◌≤◌, ◌^◌, ◌++◌, List, length, reverse, false, Some, IfOk, IfErr, OnOk};
 ghost use Rattle.ada_events.specs.Lawful.{IsLawful, IsSettled};
-ghost use Rattle.ada_replay.specs.Play.{group_text, SaysRequest, SaysShown, SaysLine, Plays};
+ghost use Rattle.ada_replay.specs.Play.{group_text, shown as shown_of, SaysRequest, SaysShown, SaysLine, Plays};
+ghost use Rattle.ada_replay.specs.Answers.{answer_to, shown_or_refused};
 ghost use Rattle.ada_replay.specs.Ends.{state, IsShortage, IsWritten, IsCutShort};
 ghost use Rattle.ada_printing.specs.Texts.{refusal_text, shown_text};
 ghost use Rattle.ada_events.specs.Tasks.{task_count};
 ghost use Rattle.ada_events.specs.declared.request.Request.{Request as RequestValue};
 ghost use Rattle.ada_statements.specs.Binding.{is_show, request_of};
 
-use crate::RunFault;
+use crate::{Answer, RunFault};
 use crate::kernel_sink::send_to_kernel;
 use crate::output::{write_output, write_piece};
 use crate::shows::shown;
@@ -74,12 +75,14 @@ fn say_request(
     names: &mut Names,
     line: &Line,
     text: &mut Vec<u8>,
-) -> Result<(), RunFault>
+) -> Result<Answer, RunFault>
     requires { is_show line.now.statement ≡ false }
     ensures ok { OnOk result ((said : List ℕ) × (text.new.items ≡ text.old.items ++ said)
         × (request : RequestValue) × (Some request ≡ request_of names.old line.now.statement)
         × SaysRequest line.now (state kernel.old names.old) said
         (state kernel.new names.new) request) }
+    ensures answer { IfOk result (λ answer. answer
+        ≡ answer_to (state kernel.old names.old) line.now.statement (length kernel.new)) }
     ensures err { IfErr result (λ fault. (fault ≡ RunFault.Memory)
         × (text.new.items ≡ text.old.items)) }
 {
@@ -88,10 +91,15 @@ fn say_request(
     match send_to_kernel(kernel, &line.statement, names) {
         Ok(at) => {
             names.bind(&line.statement, at, made);
-            print_events(kernel.journal().as_slice(), names, from, text)
+            print_events(kernel.journal().as_slice(), names, from, text)?;
+            let last = kernel.journal().len();
+            Ok(Answer::Group { first: at, last })
         }
         Err(Refusal::OutOfMemory) => Err(RunFault::Memory),
-        Err(cause) => print_refusal(line.line, cause, text),
+        Err(cause) => {
+            print_refusal(line.line, cause, text)?;
+            Ok(Answer::Refused(cause))
+        }
     }
 }
 
@@ -101,27 +109,37 @@ fn say_shown(
     names: &Names,
     line: &Line,
     text: &mut Vec<u8>,
-) -> Result<(), RunFault>
+) -> Result<Answer, RunFault>
     ensures ok { OnOk result ((said : List ℕ) × (text.new.items ≡ text.old.items ++ said)
         × SaysShown line.now (state kernel.now names.now) said (state kernel.now names.now)) }
+    ensures answer { IfOk result (λ answer. answer
+        ≡ shown_or_refused (shown_of names.now kernel.now line.now.statement)) }
     ensures err { IfErr result (λ fault. (fault ≡ RunFault.Memory)
         × (text.new.items ≡ text.old.items)) }
 {
     match shown(kernel, names, &line.statement) {
-        Ok(value) => print_value(line.line, value, text),
-        Err(cause) => print_refusal(line.line, cause, text),
+        Ok(value) => {
+            print_value(line.line, value, text)?;
+            Ok(Answer::Shown(value))
+        }
+        Err(cause) => {
+            print_refusal(line.line, cause, text)?;
+            Ok(Answer::Refused(cause))
+        }
     }
 }
 
-// Appends what a line prints: what its request leads to, or the attribute that it shows.
-fn say(
+/// Answers a line, and appends what it prints: what its request leads to, or the attribute that it shows.
+pub fn say(
     kernel: &mut Kernel,
     names: &mut Names,
     line: &Line,
     text: &mut Vec<u8>,
-) -> Result<(), RunFault>
+) -> Result<Answer, RunFault>
     ensures ok { OnOk result ((said : List ℕ) × (text.new.items ≡ text.old.items ++ said)
         × SaysLine line.now (state kernel.old names.old) said (state kernel.new names.new)) }
+    ensures answer { IfOk result (λ answer. answer
+        ≡ answer_to (state kernel.old names.old) line.now.statement (length kernel.new)) }
     ensures err { IfErr result (λ fault. (fault ≡ RunFault.Memory)
         × (text.new.items ≡ text.old.items)) }
     ensures at_rest { IsLawful kernel.old × IsSettled kernel.old }

@@ -8,8 +8,8 @@ use Rattle.ada_replay.specs.declared.fault.RunFault.{RunFault}
 use Rattle.ada_replay.specs.Play.{PlayState}
 use Rattle.ada_replay.specs.Ends.{state, IsShortage, IsWritten, IsCutShort}
 use Rattle.ada_replay.specs.Replay.{beginning}
-use Rattle.ada_hall.specs.declared.answer.Answer.{Answer}
-use Rattle.ada_hall.specs.declared.answer.Answer.TheVariants.{Group, Refused, Shown}
+use Rattle.ada_replay.specs.declared.answer.Answer.{Answer}
+use Rattle.ada_replay.specs.declared.answer.Answer.TheVariants.{Group, Refused, Shown}
 use Rattle.ada_hall.specs.declared.answer.KeptAnswer.{KeptAnswer}
 use Rattle.ada_hall.specs.Answers.{AreJoined, end_of}
 use Rattle.ada_hall.specs.History.{GoesOn, AnswersRequest, AnswersShow, IsGiven, AreGiven}

@@ -9,7 +9,7 @@ use Rattle.ada_script.specs.declared.script.Line.{Line}
 use Rattle.ada_statements.specs.declared.statement.Statement.{Statement}
 use Rattle.ada_statements.specs.Scope.{Scope, MayStand}
 use Rattle.ada_statements.specs.Text.{words_in}
-use Rattle.ada_script.specs.Script.{AddsLine, AddsLines, SpellsStatement, SpellsNothing, IsPlain, IsFault, IsOfWords, Stops, is_skipped, scope_of}
+use Rattle.ada_script.specs.Script.{AddsLine, AddsLines, SpellsStatement, SpellsNothing, IsPlain, IsFault, IsOfWords, IsOfNoWords, Stops, is_skipped, scope_of}
 use Rattle.ada_script.specs.internal.Reading.{statement_of}
 use Rattle.ada_script.specs.internal.Fault.{cause_of}
 use Rattle.ada_script.proofs.TakenStatements.{statement_reads}
@@ -68,6 +68,20 @@ words_fail names before number line fault known plain skipped fails = elim fails
   | inr read ↦ elim (of_words fault) [
     | inl memory ↦ inl (ap cause_of memory)
     | inr words ↦ inr (inr (words, plain, says_nothing names before (words_in line) fault known read skipped))
+  ]
+]
+
+-- words that weren't read, whatever names are declared
+pub nothing_reads : (names : Scope) (words : List (List ℕ)) (fault : Fault) → (fault ≡ OutOfMemory) ⊎ (statement_of names words ≡ Err fault)
+    → (cause_of fault ≡ causes.OutOfMemory) ⊎ (IsOfWords (cause_of fault) × IsOfNoWords names words)
+nothing_reads names words fault fails = elim fails [
+  | inl memory ↦ inl (ap cause_of memory)
+  | inr read ↦ elim (of_words fault) [
+    | inl memory ↦ inl (ap cause_of memory)
+    | inr of ↦ inr (of, λ statement stands spelled.
+        let again : statement_of names words ≡ Ok statement = ap (statement_of names) (sym spelled) ∙ statement_again names statement stands in
+        let both : Err fault ≡ Ok statement = sym read ∙ again in
+        absurd cc)
   ]
 ]
 

@@ -66,6 +66,10 @@ IsOfWords UnknownName = Unit {0}
 IsOfWords DoubleName = Unit {0}
 IsOfWords _ = ⊥
 
+-- the words are those of no statement that may stand where these names are declared
+abbrev pub IsOfNoWords : Scope → List (List ℕ) → Type 0
+IsOfNoWords names words = (statement : Statement) → MayStand names statement → words_of statement ≡ words → ⊥
+
 -- the words are neither skipped nor those of a statement that may stand behind these lines
 abbrev pub SpellsNothing : List Line → List (List ℕ) → Type 0
 SpellsNothing before words = (is_skipped words ≡ false) × ((statement : Statement) → SpellsStatement before words statement → ⊥)

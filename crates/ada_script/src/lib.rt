@@ -5,7 +5,7 @@
 //! back, the words of a statement are spelled.
 #![tactic(auto)]
 
-mod cursor;
+pub mod cursor;
 mod fault;
 pub mod laws;
 mod lists;
@@ -14,8 +14,8 @@ mod parts;
 pub mod script;
 mod select;
 mod spelling;
-mod statements;
-mod text;
+pub mod statements;
+pub mod text;
 mod verb;
 mod word;
 
@@ -26,5 +26,6 @@ pub use ada_statements::{
 };
 pub use script::{Line, Script};
 pub use spelling::words;
-pub use text::read;
+pub use statements::read_words;
+pub use text::{check_line, is_skipped, read};
 pub use word::Word;

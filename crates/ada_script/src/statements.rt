@@ -1,6 +1,9 @@
 //! Reading the statements.
 
-ghost use Rattle.std.specs.Prelude.{◌≡◌, ◌⊎◌, Ok, Err, option_copied, OnOk, IfErr, IsOk};
+ghost use Rattle.std.specs.Prelude.{◌≡◌, ◌⊎◌, Ok, Err, option_copied, OnOk, IfOk, IfErr, IsOk};
+ghost use Rattle.ada_statements.specs.Scope.{MayStand};
+ghost use Rattle.ada_script.specs.Spelling.{words_of};
+ghost use Rattle.ada_script.specs.Script.{IsOfWords, IsOfNoWords};
 ghost use Rattle.ada_script.specs.internal.Reading.{Gives, Writes, verb_at, open_at, create_at, activate_at, abort_at, call_statement_at};
 ghost use Rattle.ada_script.specs.internal.Reading.{try_at, accept_at, delay_at, tick_at};
 ghost use Rattle.ada_script.specs.internal.Reading.{select_at, show_at, act_at, before_colon, speaker_of, speech_at, statement_at, statement_of};
@@ -14,7 +17,7 @@ use crate::parts::{
 };
 use crate::select::read_alternatives;
 use crate::verb::{Verb, verb_of};
-use ada_statements::{Name, Names, Statement};
+use ada_statements::{Cause, Name, Names, Statement};
 use std::alloc::Global;
 
 // Puts what was read into its place.
@@ -312,7 +315,7 @@ fn read_open_statement(
 /// Reads the statement of a line's words, where these names are declared. On an `Err` the place has some
 /// statement.
 #[tactic(auto, unfolding(crate::specs::internal::Reading::statement_of))]
-pub fn read_statement(
+pub(crate) fn read_statement(
     alloc: Global,
     names: &Names,
     words: &mut Words,
@@ -325,4 +328,16 @@ pub fn read_statement(
     read_open_statement(alloc, names, words, statement)?;
     read_end(words)?;
     Ok(())
+}
+
+/// Reads the words of a line as a statement, where these names are declared. On an `Err` the words are left that stand
+/// after the faulty one, which is the last that was taken, or all were taken and one is missing.
+pub fn read_words(alloc: Global, names: &Names, words: &mut Words) -> Result<Statement, Cause>
+    ensures ok { IfOk result (λ s. MayStand names.now s × (words_of s ≡ words.old)) }
+    ensures err { IfErr result (λ cause.
+        (cause ≡ Cause.OutOfMemory) ⊎ (IsOfWords cause × IsOfNoWords names.now words.old)) }
+{
+    let mut statement = Statement::Tick { now: 0 };
+    read_statement(alloc, names, words, &mut statement)?;
+    Ok(statement)
 }

@@ -31,7 +31,7 @@ fn is_printable(line: &[u8]) -> bool
 }
 
 /// Checks the number of a line, its length and its bytes, in this order.
-fn check_line(number: u32, line: &[u8]) -> Result<(), Cause>
+pub fn check_line(number: u32, line: &[u8]) -> Result<(), Cause>
     ensures ok { OnOk result (IsPlain number line.now) }
     ensures err { IfErr result (IsUnplain number line.now) }
 {
@@ -48,7 +48,7 @@ fn check_line(number: u32, line: &[u8]) -> Result<(), Cause>
 }
 
 /// Whether there is no word, or the first one begins with a number sign.
-fn is_skipped(words: &Words) -> bool
+pub fn is_skipped(words: &Words) -> bool
     ensures { result ≡ skipped words.now }
 {
     match words.peek() {

@@ -68,8 +68,9 @@ fn is_left_behind(events: &[Event], close: u32, other: TaskNo) -> bool
     }
 }
 
+/// Whether a task that doesn't go on for a reason waits for another one, by a journal in the order of arrival.
 #[tactic(auto, unfolding(crate::specs::Awaited::awaits))]
-fn awaits(events: &[Event], task: TaskNo, other: TaskNo, reason: Reason) -> bool
+pub fn awaits(events: &[Event], task: TaskNo, other: TaskNo, reason: Reason) -> bool
     requires { length events.now < 2 ^ 32 }
     ensures { result ≡ awaited.awaits (reverse events.now) task.0 other.0 reason }
 {

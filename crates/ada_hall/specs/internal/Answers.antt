@@ -1,6 +1,6 @@
 -- The answer at each place, found without a search.
 use Rattle.std.specs.Prelude.{◌≡◌, ℕ, Option, None, List, get_or}
-use Rattle.ada_hall.specs.declared.answer.Answer.{Answer}
+use Rattle.ada_replay.specs.declared.answer.Answer.{Answer}
 use Rattle.ada_hall.specs.declared.answer.KeptAnswer.{KeptAnswer}
 use Rattle.ada_hall.specs.Answers.{answer_at}
 

@@ -4,8 +4,8 @@ use Rattle.ada_events.specs.declared.event.Event.{Event}
 use Rattle.ada_script.specs.declared.script.Line.{Line}
 use Rattle.ada_statements.specs.Scope.{Scope}
 use Rattle.ada_replay.specs.Play.{PlayState}
-use Rattle.ada_hall.specs.declared.answer.Answer.{Answer}
-use Rattle.ada_hall.specs.declared.answer.Answer.TheVariants.{Group}
+use Rattle.ada_replay.specs.declared.answer.Answer.{Answer}
+use Rattle.ada_replay.specs.declared.answer.Answer.TheVariants.{Group}
 use Rattle.ada_hall.specs.declared.answer.KeptAnswer.{KeptAnswer}
 use Rattle.ada_hall.specs.History.{IsGiven}
 use Rattle.ada_hall.specs.Printing.{Continues}

@@ -2,7 +2,7 @@ use Rattle.std.proofs.Common.{◌+◌, drop, inl, inr, ◌∙◌}
 use Rattle.std.proofs.lemmas.List.{drop_all}
 use Rattle.std.proofs.lemmas.Result.{err_from_is_err_and}
 use Rattle.ada_replay.proofs.Cuts.{some_written}
-use Rattle.ada_hall.specs.declared.answer.Answer.TheVariants.{Group}
+use Rattle.ada_replay.specs.declared.answer.Answer.TheVariants.{Group}
 use Rattle.ada_hall.specs.declared.answer.KeptAnswer.{KeptAnswer}
 use Rattle.ada_hall.proofs.Printed.{next_left, next_place, next_within, left_one, left_piece, left_cut, texts_end, texts_are_cut}
 use Rattle.ada_hall.proofs.printing.write_texts.Goals as goal

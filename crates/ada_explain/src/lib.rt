@@ -1,0 +1,13 @@
+//! Sentences about a play: why a line was refused, who waits for whom at its end, and what would let it go on.
+#![tactic(auto)]
+
+pub mod causes;
+pub mod circles;
+pub mod explanation;
+pub mod reasons;
+pub mod refusals;
+pub mod scene;
+pub mod standstill;
+
+pub use explanation::{Explanation, explain};
+pub use scene::Scene;

@@ -1,0 +1,188 @@
+//! What stands still at the end of a play, and what would let it go on.
+use crate::circles::circles;
+use crate::reasons::write_reason;
+use crate::scene::Scene;
+use ada_account::Account;
+use ada_events::journal::event_in;
+use ada_events::{Event, TaskNo};
+use ada_reference::making_of;
+use ada_reference::phases::{is_running, is_terminated};
+use ada_waiting::{Reason, Verdict, reason_of, verdict_of};
+use std::alloc::{AllocError, Global};
+
+/// What was found at the end of a play.
+#[derive(Clone, Copy, Debug, PartialEq, Eq)]
+pub struct Standstill {
+    pub verdict: Verdict,
+    /// Whether tasks wait for one another in a circle.
+    pub has_circle: bool,
+}
+
+/// Appends what each task waits for that isn't terminated, circles of them, and what can let the journal go on.
+pub fn write_standstill(text: &mut String, account: &Account) -> Result<Standstill, AllocError> {
+    let verdict = verdict_of(account.kernel.journal().as_slice());
+    let scene = Scene::of(account, u32::MAX);
+    let tasks = account.kernel.tasks();
+    if verdict == Verdict::Finished {
+        write!(text, "\nThe main program is terminated.\n")?;
+        return Ok(Standstill {
+            verdict,
+            has_circle: false,
+        });
+    }
+    write!(text, "\nAt the end:\n")?;
+    for task in 0..tasks {
+        write_task(text, scene, TaskNo(task), tasks)?;
+    }
+    let has_circle = write_circles(text, scene, tasks)?;
+    write_verdict(text, scene, verdict, tasks)?;
+    Ok(Standstill {
+        verdict,
+        has_circle,
+    })
+}
+
+// What one task does, if it isn't terminated.
+fn write_task(
+    text: &mut String,
+    scene: Scene<'_>,
+    task: TaskNo,
+    tasks: u16,
+) -> Result<(), AllocError> {
+    match reason_of(scene.events, task) {
+        Some(reason) => {
+            write!(text, "  ")?;
+            write_reason(text, scene, task, reason)?;
+            write_remedy(text, scene, task, reason, tasks)?;
+            write!(text, ".\n")
+        }
+        None if is_running(scene.events, task) => {
+            write!(text, "  {} runs: it may act.\n", scene.task(task))
+        }
+        None => Ok(()),
+    }
+}
+
+// What would let a task go on.
+fn write_remedy(
+    text: &mut String,
+    scene: Scene<'_>,
+    task: TaskNo,
+    reason: Reason,
+    tasks: u16,
+) -> Result<(), AllocError> {
+    match reason {
+        Reason::NotStarted => match making_of(scene.events, task) {
+            Some(making) => {
+                write!(text, "; {} would have to activate it", scene.task(making.by))
+            }
+            None => Ok(()),
+        },
+        Reason::Activating { .. } => write!(text, ", which would have to come up"),
+        Reason::Queued { call } => write_acceptor(text, scene, call),
+        Reason::InRendezvous { .. } => write!(text, ", and would have to end it"),
+        Reason::Waiting { wait } => write_callers(text, scene, task, wait, tasks),
+        Reason::Delayed { .. } => write!(text, ", to which a tick would have to come"),
+        Reason::Leaving { .. } | Reason::Completed => {
+            write!(text, ", which would have to terminate")
+        }
+    }
+}
+
+fn write_acceptor(text: &mut String, scene: Scene<'_>, call: u32) -> Result<(), AllocError> {
+    match event_in(scene.events, call) {
+        Some(Event::Called { callee, .. }) => {
+            write!(text, "; {} would have to accept it", scene.task(*callee))
+        }
+        _ => Ok(()),
+    }
+}
+
+/// The tasks below a number that run, without one of them.
+fn runners(
+    alloc: Global,
+    scene: Scene<'_>,
+    but: TaskNo,
+    tasks: u16,
+) -> Result<Vec<TaskNo>, AllocError> {
+    let mut runners = Vec::new(alloc);
+    for task in 0..tasks {
+        if task != but.0 && is_running(scene.events, TaskNo(task)) {
+            runners.push(TaskNo(task))?;
+        }
+    }
+    Ok(runners)
+}
+
+// Whether a wait has an open accept alternative.
+fn waits_for_calls(scene: Scene<'_>, wait: u32) -> bool {
+    match event_in(scene.events, wait) {
+        Some(Event::Waiting { choices, .. }) => choices.as_slice().iter().any(|c| c.guard),
+        _ => false,
+    }
+}
+
+// Who could call a task that waits for a call.
+fn write_callers(
+    text: &mut String,
+    scene: Scene<'_>,
+    task: TaskNo,
+    wait: u32,
+    tasks: u16,
+) -> Result<(), AllocError> {
+    if !waits_for_calls(scene, wait) {
+        return Ok(());
+    }
+    let runners = runners(*text.allocator(), scene, task, tasks)?;
+    if runners.is_empty() {
+        return write!(text, "; no task runs that could call it");
+    }
+    write!(text, "; ")?;
+    scene.write_tasks(text, &runners)?;
+    write!(text, " could call it")
+}
+
+// The circles of tasks that wait for one another; whether there is one.
+fn write_circles(text: &mut String, scene: Scene<'_>, tasks: u16) -> Result<bool, AllocError> {
+    let circles = circles(*text.allocator(), scene, tasks)?;
+    for circle in &circles {
+        write_circle(text, scene, circle)?;
+    }
+    Ok(!circles.is_empty())
+}
+
+fn write_circle(
+    text: &mut String,
+    scene: Scene<'_>,
+    circle: &[TaskNo],
+) -> Result<(), AllocError> {
+    let Some(first) = circle.first() else {
+        return Ok(());
+    };
+    write!(text, "  A circle: {} waits", scene.task(*first))?;
+    for next in &circle[1..] {
+        write!(text, " for {}, which waits", scene.task(*next))?;
+    }
+    write!(text, " for {}.\n", scene.task(*first))
+}
+
+fn write_verdict(
+    text: &mut String,
+    scene: Scene<'_>,
+    verdict: Verdict,
+    tasks: u16,
+) -> Result<(), AllocError> {
+    match verdict {
+        Verdict::Finished => Ok(()),
+        Verdict::GoesOn => {
+            let runners = runners(*text.allocator(), scene, TaskNo(u16::MAX), tasks)?;
+            write!(text, "Verdict: could go on, by a line of ")?;
+            scene.write_tasks(text, &runners)?;
+            write!(text, ".\n")
+        }
+        Verdict::WaitsForTick { until } => {
+            write!(text, "Verdict: waits for a tick until {until}.\n")
+        }
+        Verdict::Stuck => write!(text, "Verdict: stuck: no task runs, and no tick changes that.\n"),
+    }
+}

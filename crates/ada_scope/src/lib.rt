@@ -1,0 +1,10 @@
+//! The second program: what a command line orders, and how it is obeyed.
+#![tactic(auto)]
+
+pub mod fault;
+pub mod obeying;
+pub mod order;
+
+pub use fault::{Finding, ScopeFault, status_of};
+pub use obeying::obey;
+pub use order::{Order, What, order_of};

@@ -1,0 +1,62 @@
+//! Explains and checks a script of requests to the tasking kernel.
+#![tactic(auto)]
+
+use ada_scope::{Finding, Order, ScopeFault, obey, order_of, status_of};
+use ada_replay::RunFault;
+use clap::Error;
+use clap::error::ErrorKind;
+use std::io::{Eprint, Input, Print};
+use std::process::ExitCode;
+use std::rt::Files;
+use std::{env, io};
+
+fn main(rt: HostRuntime) -> ExitCode {
+    match words_of(&rt) {
+        Ok(words) => try_words(&rt, &words),
+        Err(fault) => refuse_words(&rt, &fault),
+    }
+}
+
+// The words of the command line, the program's name first.
+fn words_of(rt: &HostRuntime) -> io::Result<Vec<String>> {
+    let words = env::args(rt)?.collect(rt.alloc())?;
+    Ok(words)
+}
+
+fn try_words<R: Files + AllocGlobal + Input + Print + Eprint>(rt: &R, words: &[String]) -> ExitCode {
+    match order_of(rt.alloc(), words) {
+        Ok(order) => end(rt, order.file, &obey(rt, &order)),
+        Err(fault) => answer(rt, &fault),
+    }
+}
+
+// Help, or why the words are refused.
+fn answer<R: Print + Eprint>(rt: &R, fault: &Error) -> ExitCode {
+    if fault.kind() == ErrorKind::OutOfMemory {
+        return end(rt, None, &Err(ScopeFault::Run(RunFault::Memory)));
+    }
+    // Where standard error can't be written, the words are refused all the same.
+    if fault.print(rt).is_ok() || fault.use_stderr() {
+        ExitCode::from(fault.exit_code() as u8)
+    } else {
+        end(rt, None, &Err(ScopeFault::Run(RunFault::Write)))
+    }
+}
+
+fn refuse_words<R: Eprint>(rt: &R, fault: &io::Error) -> ExitCode {
+    if fault.kind() == io::ErrorKind::OutOfMemory {
+        return end(rt, None, &Err(ScopeFault::Run(RunFault::Memory)));
+    }
+    let _ = eprintln!(rt; "error: a word of the command line is not UTF-8 text");
+    ExitCode::from(2)
+}
+
+fn end<R: Eprint>(rt: &R, file: Option<&str>, outcome: &Result<Finding, ScopeFault>) -> ExitCode {
+    if let Err(fault) = outcome {
+        let _ = match file {
+            Some(file) => eprintln!(rt; "adascope: {file}: {fault}"),
+            None => eprintln!(rt; "adascope: {fault}"),
+        };
+    }
+    ExitCode::from(status_of(outcome))
+}
