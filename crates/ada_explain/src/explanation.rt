@@ -108,7 +108,7 @@ impl Rows<'_> {
             write!(self.text, "\n")?;
             return self.write_margin();
         }
-        self.write_spaces(self.width - statement.len() + 2)
+        self.write_spaces((self.width - statement.len()).saturating_add(2))
     }
 
     fn write_spaces(&mut self, count: usize) -> Result<(), AllocError> {

@@ -3,6 +3,7 @@
 use crate::{Finding, Order, ScopeFault, What};
 use ada_account::account_of;
 use ada_explain::{Explanation, explain};
+use ada_lint::{print_review, review_of};
 use ada_replay::RunFault;
 use ada_replay::input::read_input;
 use ada_replay::output::write_output;
@@ -28,7 +29,7 @@ pub fn obey<R: Files + Input + Print + AllocGlobal>(
     };
     match order.what {
         What::Explanation => tell_explanation(rt, &text, order.is_strict),
-        What::Faults => tell_explanation(rt, &text, order.is_strict),
+        What::Faults => tell_faults(rt, order.file.unwrap_or("<stdin>"), &text),
     }
 }
 
@@ -59,4 +60,19 @@ fn tell_explanation<R: Print + AllocGlobal>(
     let explanation = explanation_of(rt.alloc(), text)?;
     write_output(&mut io::writer(rt), explanation.text.as_bytes())?;
     Ok(finding(&explanation, is_strict))
+}
+
+fn tell_faults<R: Print + AllocGlobal>(
+    rt: &R,
+    file: &str,
+    text: &[u8],
+) -> Result<Finding, ScopeFault> {
+    let review = review_of(rt.alloc(), text).map_err(|_| RunFault::Memory)?;
+    let printed =
+        print_review(rt.alloc(), file, text, &review).map_err(|_| RunFault::Memory)?;
+    write_output(&mut io::writer(rt), printed.as_bytes())?;
+    Ok(match review.fault {
+        None => Finding::Nothing,
+        Some(_) => Finding::Faulty,
+    })
 }

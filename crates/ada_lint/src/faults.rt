@@ -1,0 +1,380 @@
+//! What is wrong with a word, and what to write instead.
+
+use crate::declared::{Declarations, text_of};
+use crate::expected::{Expected, VERBS, is_number_begun};
+use crate::nearest::nearest_of;
+use crate::words::Word;
+use ada_script::{Cause, Name};
+use std::alloc::{AllocError, Global};
+
+/// What to write in place of a faulty word, for the sake of the lines after it.
+#[derive(Drop)]
+pub enum Repair {
+    /// These words.
+    Words(String),
+    /// Nothing, and nothing of what follows.
+    Cut,
+    /// It isn't known.
+    Unknown,
+}
+
+/// A faulty word of a line: the words, the place among them, what had to stand there, and why it doesn't.
+#[derive(Clone, Copy)]
+pub struct Faulty<'a> {
+    pub words: &'a [Word<'a>],
+    pub place: usize,
+    pub expected: Expected<'a>,
+    pub cause: Cause,
+}
+
+impl<'a> Faulty<'a> {
+    /// The faulty word, empty where the line ends too early.
+    pub fn word(self) -> &'a str {
+        match self.words.get(self.place) {
+            Some(word) => word.text,
+            None => "",
+        }
+    }
+}
+
+/// How what has to stand at a place is called.
+fn write_expected(message: &mut String, expected: Expected<'_>) -> Result<(), AllocError> {
+    match expected {
+        Expected::Speaker => write!(message, "a speaker with a colon, as `main:`"),
+        Expected::Verb => write!(message, "a verb"),
+        Expected::NewName => write!(message, "a new name"),
+        Expected::Under => write!(message, "`under`"),
+        Expected::Master => write!(message, "the task or the block that it depends on"),
+        Expected::Family => write!(message, "the high bound"),
+        Expected::Task => write!(message, "the name of a task"),
+        Expected::Entry(task) => write!(message, "the name of an entry of `{task}`"),
+        Expected::Moment => write!(message, "a moment in milliseconds"),
+        Expected::Duration => write!(message, "a duration in milliseconds"),
+        Expected::Pick => write!(message, "the pick, a number such as 0"),
+        Expected::Index => write!(message, "an index"),
+        Expected::Within => write!(message, "`within` and a duration"),
+        Expected::Alternative => write!(message, "an alternative: `accept`, `delay` or `terminate`"),
+        Expected::Link => write!(message, "`or` or `else`"),
+        Expected::Attribute => write!(message, "`callable`, `terminated` or `count`"),
+        Expected::End => write!(message, "the end of the line"),
+    }
+}
+
+/// Appends what is wrong with a faulty word.
+pub fn write_fault(
+    message: &mut String,
+    faulty: Faulty<'_>,
+    declared: &Declarations,
+) -> Result<Repair, AllocError> {
+    if faulty.place >= faulty.words.len() {
+        write!(message, "the line ends too early: expected ")?;
+        write_expected(message, faulty.expected)?;
+        return Ok(Repair::Unknown);
+    }
+    if let Some(repair) = write_slip(message, faulty)? {
+        return Ok(repair);
+    }
+    match faulty.cause {
+        Cause::BadNumber => write_number(message, faulty),
+        Cause::UnknownName => write_unknown(message, faulty, declared),
+        Cause::DoubleName => write_double(message, faulty, declared),
+        _ => write_statement(message, faulty, declared),
+    }
+}
+
+// The word with some of its characters replaced.
+fn replaced(alloc: Global, word: &str, from: char, to: char) -> Result<String, AllocError> {
+    let mut text = String::new(alloc);
+    for character in word.chars() {
+        text.push(if character == from { to } else { character })?;
+    }
+    Ok(text)
+}
+
+// The word without a character, and with a space in place of another one.
+fn split(alloc: Global, word: &str, at: char, without: char) -> Result<String, AllocError> {
+    let mut text = String::new(alloc);
+    for character in word.chars() {
+        if character == at {
+            text.push(' ')?;
+        } else if character != without {
+            text.push(character)?;
+        }
+    }
+    Ok(text)
+}
+
+// What is wrong with a word whatever has to stand at its place, if it is one of the usual slips.
+fn write_slip(message: &mut String, faulty: Faulty<'_>) -> Result<Option<Repair>, AllocError> {
+    let word = faulty.word();
+    let alloc = *message.allocator();
+    if word.starts_with('#') || word.starts_with("--") {
+        write!(message, "a comment begins with `#`, and stands on a line of its own")?;
+        return Ok(Some(Repair::Cut));
+    }
+    if let Some(rest) = word.strip_suffix(';') {
+        write!(message, "no semicolon ends a statement: leave it out")?;
+        return Ok(Some(Repair::Words(rest.to_string(alloc)?)));
+    }
+    let instead = if word.contains('(') {
+        split(alloc, word, '(', ')')?
+    } else if word.contains(',') {
+        replaced(alloc, word, ',', ' ')?
+    } else if word.contains('.') && !is_number_begun(word) {
+        replaced(alloc, word, '.', ' ')?
+    } else {
+        return Ok(None);
+    };
+    write!(message, "words are separated by spaces alone: write `{}`", instead.trim())?;
+    Ok(Some(Repair::Words(instead)))
+}
+
+// The largest range of numbers at a place.
+fn range_of(expected: Expected<'_>) -> &'static str {
+    match expected {
+        Expected::Pick => "0 to 4294967295",
+        Expected::Moment | Expected::Duration => "-9223372036854775808 to 9223372036854775807",
+        _ => "-2147483648 to 2147483647",
+    }
+}
+
+// A number without what it may not begin with.
+fn plain_number(word: &str) -> &str {
+    let unsigned = word.strip_prefix('+').unwrap_or(word);
+    let digits = unsigned.strip_prefix('-').unwrap_or(unsigned);
+    match digits.trim_start_matches('0') {
+        "" => "0",
+        plain => plain,
+    }
+}
+
+fn write_number(message: &mut String, faulty: Faulty<'_>) -> Result<Repair, AllocError> {
+    let word = faulty.word();
+    let unsigned = word.strip_prefix('+').unwrap_or(word);
+    let digits = unsigned.strip_prefix('-').unwrap_or(unsigned);
+    let is_whole = !digits.is_empty() && digits.bytes().all(|byte| byte.is_ascii_digit());
+    if faulty.expected == Expected::Pick && !is_number_begun(word) {
+        write!(message, "the pick comes first, a number: write `0 {word}`")?;
+    } else if is_whole && (digits.starts_with('0') || word.starts_with('+')) {
+        write!(message, "a number has no sign and no zero in front: write `")?;
+        if word.starts_with('-') && plain_number(word) != "0" {
+            write!(message, "-")?;
+        }
+        write!(message, "{}`", plain_number(word))?;
+    } else if is_whole {
+        write!(message, "`{word}` is out of range: {}", range_of(faulty.expected))?;
+    } else {
+        write!(message, "expected ")?;
+        write_expected(message, faulty.expected)?;
+        write!(message, ", a whole number, not `{word}`")?;
+    }
+    Ok(Repair::Unknown)
+}
+
+// Appends what was meant perhaps.
+fn write_meant(message: &mut String, meant: Option<&str>) -> Result<Repair, AllocError> {
+    match meant {
+        Some(word) => {
+            write!(message, ": did you mean `{word}`?")?;
+            Ok(Repair::Words(word.to_string(*message.allocator())?))
+        }
+        None => Ok(Repair::Unknown),
+    }
+}
+
+// The entries that a task has.
+fn write_entries(message: &mut String, entries: &[Name]) -> Result<(), AllocError> {
+    let mut before = ": it has ";
+    for entry in entries {
+        write!(message, "{before}`{}`", text_of(entry))?;
+        before = ", ";
+    }
+    if entries.is_empty() {
+        write!(message, ": it has none")?;
+    }
+    Ok(())
+}
+
+fn write_unknown(
+    message: &mut String,
+    faulty: Faulty<'_>,
+    declared: &Declarations,
+) -> Result<Repair, AllocError> {
+    let alloc = *message.allocator();
+    let word = faulty.word();
+    if let Expected::Entry(task) = faulty.expected {
+        write!(message, "`{task}` has no entry `{word}`")?;
+        let meant = declared.nearest_entry(alloc, task, word)?;
+        if meant.is_none() {
+            write_entries(message, declared.entries(task))?;
+        }
+        return write_meant(message, meant);
+    }
+    let name = word.strip_suffix(':').unwrap_or(word);
+    let is_task = faulty.expected != Expected::Master;
+    if declared.get(name).is_some() {
+        write!(message, "`{name}` is a block, and a task has to stand here")?;
+        return Ok(Repair::Unknown);
+    }
+    let kind = if is_task { "task" } else { "task and no block" };
+    write!(message, "no {kind} `{name}` is declared above")?;
+    let meant = declared.nearest(alloc, name, is_task)?;
+    let repair = write_meant(message, meant)?;
+    match (faulty.expected, meant) {
+        (Expected::Speaker, Some(meant)) => Ok(Repair::Words(format!(in alloc; "{meant}:")?)),
+        _ => Ok(repair),
+    }
+}
+
+fn write_double(
+    message: &mut String,
+    faulty: Faulty<'_>,
+    declared: &Declarations,
+) -> Result<Repair, AllocError> {
+    let word = faulty.word();
+    match declared.get(word) {
+        _ if faulty.expected == Expected::Family => {
+            write!(message, "the entry `{word}` is declared twice")?;
+        }
+        Some(other) => {
+            write!(message, "`{word}` is declared at line {} already", other.line)?;
+        }
+        None => write!(message, "`{word}` is the main program")?,
+    }
+    Ok(Repair::Unknown)
+}
+
+// What is wrong with a word that can't be what has to stand at its place.
+fn write_statement(
+    message: &mut String,
+    faulty: Faulty<'_>,
+    declared: &Declarations,
+) -> Result<Repair, AllocError> {
+    match faulty.expected {
+        Expected::Speaker => write_speaker(message, faulty),
+        Expected::Verb => write_keyword(message, faulty, VERBS.as_slice()),
+        Expected::Attribute => {
+            write_keyword(message, faulty, ["callable", "terminated", "count"].as_slice())
+        }
+        Expected::Alternative => write_alternative(message, faulty),
+        Expected::Under => write_under(message, faulty, declared),
+        Expected::Within => write_keyword(message, faulty, ["within"].as_slice()),
+        Expected::Link => write_link(message, faulty),
+        Expected::End => {
+            write!(message, "nothing may follow here")?;
+            Ok(Repair::Cut)
+        }
+        _ => write_name(message, faulty),
+    }
+}
+
+fn write_keyword(
+    message: &mut String,
+    faulty: Faulty<'_>,
+    keywords: &[&str],
+) -> Result<Repair, AllocError> {
+    let word = faulty.word();
+    write!(message, "expected ")?;
+    write_expected(message, faulty.expected)?;
+    write!(message, ", not `{word}`")?;
+    let meant = nearest_of(*message.allocator(), word, keywords)?;
+    write_meant(message, meant)
+}
+
+fn write_alternative(message: &mut String, faulty: Faulty<'_>) -> Result<Repair, AllocError> {
+    if faulty.word() == "else" {
+        write!(message, "`else` stands without `or` before it")?;
+        return Ok(Repair::Unknown);
+    }
+    let keywords = ["accept", "delay", "terminate", "closed", "else"];
+    write_keyword(message, faulty, keywords.as_slice())
+}
+
+fn write_link(message: &mut String, faulty: Faulty<'_>) -> Result<Repair, AllocError> {
+    let word = faulty.word();
+    if word == "or" {
+        write!(message, "a select has at most 16 accept and 8 delay alternatives")?;
+        return Ok(Repair::Cut);
+    }
+    write_keyword(message, faulty, ["or", "else"].as_slice())
+}
+
+fn write_under(
+    message: &mut String,
+    faulty: Faulty<'_>,
+    declared: &Declarations,
+) -> Result<Repair, AllocError> {
+    let alloc = *message.allocator();
+    let word = faulty.word();
+    write!(message, "`under` is missing, as in `create S under main`")?;
+    if nearest_of(alloc, word, ["under"].as_slice())?.is_some() {
+        return Ok(Repair::Words("under".to_string(alloc)?));
+    }
+    let master = if word == "main" || declared.get(word).is_some() {
+        format!(in alloc; "under {word}")?
+    } else {
+        format!(in alloc; "under main {word}")?
+    };
+    Ok(Repair::Words(master))
+}
+
+fn write_speaker(message: &mut String, faulty: Faulty<'_>) -> Result<Repair, AllocError> {
+    let alloc = *message.allocator();
+    let word = faulty.word();
+    let follows = match faulty.words.get(1) {
+        Some(next) => next.text == ":",
+        None => false,
+    };
+    if follows {
+        write!(message, "the colon belongs to the name: write `{word}:`")?;
+        return Ok(Repair::Unknown);
+    }
+    if word.ends_with(':') {
+        return write_name(message, faulty);
+    }
+    if let Some((name, rest)) = word.split_once(':') {
+        write!(message, "a space has to follow the colon: write `{name}: {rest}`")?;
+        return Ok(Repair::Words(format!(in alloc; "{name}: {rest}")?));
+    }
+    if VERBS.contains(&word) {
+        write!(message, "the speaker is missing, as in `main: {word}`")?;
+        return Ok(Repair::Words(format!(in alloc; "main: {word}")?));
+    }
+    write!(message, "a line begins with its speaker and a colon: write `{word}:`")?;
+    Ok(Repair::Words(format!(in alloc; "{word}:")?))
+}
+
+fn write_name(message: &mut String, faulty: Faulty<'_>) -> Result<Repair, AllocError> {
+    let alloc = *message.allocator();
+    let word = faulty.word();
+    let name = if faulty.place == 0 {
+        word.strip_suffix(':').unwrap_or(word)
+    } else {
+        word
+    };
+    if faulty.expected == Expected::Family && is_name(name) {
+        write!(message, "a task has at most 16 families of entries")?;
+        return Ok(Repair::Cut);
+    }
+    if name.len() > 16 {
+        write!(message, "a name has at most 16 characters, and this one {}", name.len())?;
+        let short = name.get(..16).unwrap_or(name);
+        return Ok(Repair::Words(short.to_string(alloc)?));
+    }
+    write!(message, "`{name}` can't be a name: that is a letter, and then letters, digits and underscores")?;
+    Ok(Repair::Unknown)
+}
+
+/// Whether a word has the form of a name.
+pub fn is_name(word: &str) -> bool {
+    match word.as_bytes() {
+        [first, others @ ..] => {
+            first.is_ascii_alphabetic()
+                && others.len() < 16
+                && others
+                    .iter()
+                    .all(|byte| byte.is_ascii_alphanumeric() || *byte == b'_')
+        }
+        [] => false,
+    }
+}

@@ -1,0 +1,52 @@
+//! Lines that are refused before their words are read: too many, too long, or with bytes outside of printable ASCII.
+
+use ada_script::Cause;
+use std::alloc::AllocError;
+
+/// The place of the first byte outside of 32 to 126.
+pub fn first_outside(line: &[u8]) -> Option<usize> {
+    line.iter().position(|byte| *byte < 32 || *byte > 126)
+}
+
+// What stands at the beginning of some bytes, and how many bytes it takes.
+fn name_of(bytes: &[u8]) -> (&'static str, usize) {
+    match bytes {
+        [b'\t', ..] => ("a tab: write spaces", 1),
+        [b'\r', ..] => ("a carriage return: lines end with a line feed alone", 1),
+        [0xEF, 0xBB, 0xBF, ..] => ("a byte order mark: leave it out", 3),
+        [0xC2, 0xA0, ..] => ("a no-break space: write a space", 2),
+        [0xE2, 0x80, 0x90..=0x95, ..] => ("a dash: write `-`", 3),
+        [0xE2, 0x88, 0x92, ..] => ("a minus sign: write `-`", 3),
+        [0xE2, 0x80, 0x98..=0x9F, ..] => ("a quotation mark: leave it out", 3),
+        [0x00..=0x1F, ..] => ("a control character: leave it out", 1),
+        [0xC0..=0xDF, _, ..] => ("a character outside of ASCII", 2),
+        [0xE0..=0xEF, _, _, ..] => ("a character outside of ASCII", 3),
+        [0xF0..=0xF7, _, _, _, ..] => ("a character outside of ASCII", 4),
+        _ => ("a byte outside of ASCII", 1),
+    }
+}
+
+/// Appends what is wrong with a line that is refused for this cause before its words are read; the place of it, from
+/// 0, and how many bytes it takes.
+pub fn write_outside(
+    message: &mut String,
+    line: &[u8],
+    cause: Cause,
+) -> Result<(usize, usize), AllocError> {
+    match cause {
+        Cause::TooManyLines => {
+            write!(message, "a script has at most 4096 lines")?;
+            Ok((0, 1))
+        }
+        Cause::LineTooLong => {
+            write!(message, "a line has at most 200 bytes, and this one {}", line.len())?;
+            Ok((200, 1))
+        }
+        _ => {
+            let place = first_outside(line).unwrap_or(0);
+            let (name, length) = name_of(line.get(place..).unwrap_or(&[]));
+            write!(message, "{name}")?;
+            Ok((place, length))
+        }
+    }
+}
