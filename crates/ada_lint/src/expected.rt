@@ -122,10 +122,10 @@ fn expected_in_call<'a>(words: &[Word<'a>], place: usize, then: Expected<'a>) ->
     if place == 2 {
         return Expected::Task;
     }
-    if text_at(words, place - 1) == "within" && place > 4 {
+    if text_at(words, place.saturating_sub(1)) == "within" && place > 4 {
         return Expected::Duration;
     }
-    if place > 4 && text_at(words, place - 2) == "within" {
+    if place > 4 && text_at(words, place.saturating_sub(2)) == "within" {
         return Expected::End;
     }
     expected_entry(words, place, 3, text_at(words, 2), then)
@@ -142,7 +142,7 @@ fn expected_in_show<'a>(words: &[Word<'a>], place: usize) -> Expected<'a> {
 
 // What stands at a place of a select, by the word before it.
 fn expected_in_select<'a>(words: &[Word<'a>], place: usize) -> Expected<'a> {
-    let before = text_at(words, place - 1);
+    let before = text_at(words, place.saturating_sub(1));
     match before {
         _ if place == 3 => Expected::Alternative,
         "or" | "closed" => Expected::Alternative,

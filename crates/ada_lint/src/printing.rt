@@ -19,10 +19,10 @@ pub fn print_review(
     let mut number = 0u32;
     let mut line: &[u8] = &[];
     for finding in &review.findings {
-        while number < finding.line {
+        for _ in number..finding.line {
             line = rest.next().unwrap_or(&[]);
-            number += 1;
         }
+        number = number.max(finding.line);
         print_finding(&mut printed, file, line, finding)?;
     }
     Ok(printed)
