@@ -2,6 +2,7 @@
 
 use crate::{Finding, Order, ScopeFault, What};
 use ada_account::account_of;
+use ada_draw::{write_graph, write_picture, write_sequence};
 use ada_explain::{Explanation, explain};
 use ada_lint::{print_review, review_of};
 use ada_replay::RunFault;
@@ -29,6 +30,7 @@ pub fn obey<R: Files + Input + Print + AllocGlobal>(
     };
     match order.what {
         What::Explanation => tell_explanation(rt, &text, order.is_strict),
+        What::Picture | What::Sequence | What::Graph => draw(rt, &text, order.what),
         What::Faults => tell_faults(rt, order.file.unwrap_or("<stdin>"), &text),
     }
 }
@@ -60,6 +62,23 @@ fn tell_explanation<R: Print + AllocGlobal>(
     let explanation = explanation_of(rt.alloc(), text)?;
     write_output(&mut io::writer(rt), explanation.text.as_bytes())?;
     Ok(finding(&explanation, is_strict))
+}
+
+fn drawn(alloc: Global, text: &[u8], what: What) -> Result<String, RunFault> {
+    let script = read_script(alloc, text)?;
+    let account = account_of(alloc, script)?;
+    let drawn = match what {
+        What::Sequence => write_sequence(alloc, &account),
+        What::Graph => write_graph(alloc, &account),
+        _ => write_picture(alloc, text, &account),
+    };
+    drawn.map_err(|_| RunFault::Memory)
+}
+
+fn draw<R: Print + AllocGlobal>(rt: &R, text: &[u8], what: What) -> Result<Finding, ScopeFault> {
+    let drawn = drawn(rt.alloc(), text, what)?;
+    write_output(&mut io::writer(rt), drawn.as_bytes())?;
+    Ok(Finding::Nothing)
 }
 
 fn tell_faults<R: Print + AllocGlobal>(

@@ -11,6 +11,12 @@ pub enum What {
     Explanation,
     /// Its faulty lines.
     Faults,
+    /// A picture of its play.
+    Picture,
+    /// Its calls as a sequence diagram.
+    Sequence,
+    /// Who waits for whom at the end, as a graph.
+    Graph,
 }
 
 /// What the program is to do.
@@ -44,9 +50,23 @@ static LINT_HELP: &str = "Examples:
   adascope lint < design.tasks
 ";
 
+static DRAW: &str = "Draw the play: tasks and events as SVG, or another format";
+
+static DRAW_HELP: &str = "Examples:
+
+  adascope draw design.tasks > design.svg
+  adascope draw --format mermaid design.tasks
+  adascope draw --format dot design.tasks | dot -Tsvg > waits.svg
+";
+
+static FORMAT: &str =
+    "svg: tasks and events; mermaid: the calls as a sequence; dot: who waits for whom at the end";
+
 static FILE: &str = "The file that has the script, or - for the standard input, as without it";
 
 static STRICT: &str = "End with status 3 where a line was refused or something is stuck at the end";
+
+static FORMATS: [&str; 3] = ["svg", "mermaid", "dot"];
 
 static HELP: &str = "Exit status:
 
@@ -84,13 +104,25 @@ fn program<'a>(alloc: Global) -> Result<Command<'a>, AllocError> {
         .about(LINT)
         .after_help(LINT_HELP)
         .arg(file(alloc))?;
+    let format = Arg::new(alloc, "format")
+        .long("format")
+        .action(ArgAction::Set)
+        .value_parser(FORMATS.as_slice())
+        .default_value("svg")
+        .help(FORMAT);
+    let draw = Command::new(alloc, "draw")
+        .about(DRAW)
+        .after_help(DRAW_HELP)
+        .arg(file(alloc))?
+        .arg(format)?;
     Command::new(alloc, "adascope")
         .about(ABOUT)
         .version(VERSION)
         .after_help(HELP)
         .subcommand_required(true)
         .subcommand(explain)?
-        .subcommand(lint)
+        .subcommand(lint)?
+        .subcommand(draw)
 }
 
 // What the subcommand that was met orders.
@@ -98,6 +130,11 @@ fn ordered<'a>(matches: &ArgMatches<'a>) -> Order<'a> {
     match matches.subcommand() {
         Some(("lint", found)) => Order {
             what: What::Faults,
+            file: file_in(found),
+            is_strict: false,
+        },
+        Some(("draw", found)) => Order {
+            what: picture_in(found),
             file: file_in(found),
             is_strict: false,
         },
@@ -111,6 +148,15 @@ fn ordered<'a>(matches: &ArgMatches<'a>) -> Order<'a> {
             file: None,
             is_strict: false,
         },
+    }
+}
+
+// The format of a picture.
+fn picture_in(matches: &ArgMatches<'_>) -> What {
+    match matches.get_str("format") {
+        Some("mermaid") => What::Sequence,
+        Some("dot") => What::Graph,
+        _ => What::Picture,
     }
 }
 

@@ -1,0 +1,13 @@
+//! Pictures of a play: its tasks and events in time, its calls as a sequence, and who waits for whom at its end.
+#![tactic(auto)]
+
+pub mod graph;
+pub mod lives;
+pub mod markup;
+pub mod picture;
+pub mod rows;
+pub mod sequence;
+
+pub use graph::write_graph;
+pub use picture::write_picture;
+pub use sequence::write_sequence;
