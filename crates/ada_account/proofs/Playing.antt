@@ -17,7 +17,7 @@ accounts-push lines line old mid new answers text said no_more says =
 accounts-push lines line old mid new answers text said
     (one_more {line = first} {others = others} {answers = given} {between = next} {rest = b} a first_says accounts) says =
     subst (λ t. Accounts (first ∷ (others ++ line ∷ [])) old
-        (answer_to old first.statement (length next.journal) ∷ (given ++ answer_to mid line.statement (length new.journal) ∷ [])) t new)
+    (answer_to old first.statement (length next.journal) ∷ (given ++ answer_to mid line.statement (length new.journal) ∷ [])) t new)
     (sym (append_assoc a b said))
     (one_more a first_says (accounts-push others line next mid new given b said accounts says))
 

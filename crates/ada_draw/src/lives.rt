@@ -196,7 +196,11 @@ impl Lives {
         if !self.is_alive(task) || self.stage(task) == Stage::Abnormal {
             return Ok(());
         }
-        let stage = if is_up { Stage::Running } else { Stage::Activating };
+        let stage = if is_up {
+            Stage::Running
+        } else {
+            Stage::Activating
+        };
         self.change(position, task, stage)
     }
 

@@ -11,8 +11,11 @@ use std::alloc::{AllocError, Global};
 
 /// The height of a row, the width of a column, and what stands left of the columns and above the rows.
 const ROW: usize = 20;
+
 const COLUMN: usize = 90;
+
 const LEFT: usize = 48;
+
 const TOP: usize = 56;
 
 /// The colours, on a light and on a dark page.
@@ -140,14 +143,23 @@ impl Page<'_> {
 
     // Where the column of the printed lines begins.
     fn right(&self) -> usize {
-        self.lives.tasks().saturating_mul(COLUMN).saturating_add(LEFT + 8)
+        self.lives
+            .tasks()
+            .saturating_mul(COLUMN)
+            .saturating_add(LEFT + 8)
     }
 
     fn write_head(&self, out: &mut String) -> Result<(), AllocError> {
         let width = self.right().saturating_add(640);
         let height = self.height().saturating_add(150);
-        write!(out, "<svg xmlns=\"http://www.w3.org/2000/svg\" viewBox=\"0 0 {width} {height}\" role=\"img\">\n")?;
-        write!(out, "<title>A play of task scripts: a column for each task, time from above</title>\n{STYLE}")
+        write!(
+            out,
+            "<svg xmlns=\"http://www.w3.org/2000/svg\" viewBox=\"0 0 {width} {height}\" role=\"img\">\n"
+        )?;
+        write!(
+            out,
+            "<title>A play of task scripts: a column for each task, time from above</title>\n{STYLE}"
+        )
     }
 
     fn write_columns(&self, out: &mut String) -> Result<(), AllocError> {
@@ -156,8 +168,14 @@ impl Page<'_> {
             let task = TaskNo(task as u16);
             let x = x_of(task);
             let name = self.scene.task(task);
-            write!(out, "<g><title>{name}</title><line class=\"grid\" x1=\"{x}\" y1=\"{TOP}\" x2=\"{x}\" y2=\"{bottom}\"/>")?;
-            write!(out, "<text class=\"head\" x=\"{x}\" y=\"28\">{name}</text></g>\n")?;
+            write!(
+                out,
+                "<g><title>{name}</title><line class=\"grid\" x1=\"{x}\" y1=\"{TOP}\" x2=\"{x}\" y2=\"{bottom}\"/>"
+            )?;
+            write!(
+                out,
+                "<text class=\"head\" x=\"{x}\" y=\"28\">{name}</text></g>\n"
+            )?;
         }
         Ok(())
     }
@@ -187,8 +205,14 @@ impl Page<'_> {
             let y = top.saturating_add((i / 3).saturating_mul(24));
             let text_y = y.saturating_add(11);
             let text_x = x + 22;
-            write!(out, "<g><title>{name}</title><rect class=\"{class}\" x=\"{x}\" y=\"{y}\" width=\"14\" height=\"14\"/>")?;
-            write!(out, "<text x=\"{text_x}\" y=\"{text_y}\">{name}</text></g>\n")?;
+            write!(
+                out,
+                "<g><title>{name}</title><rect class=\"{class}\" x=\"{x}\" y=\"{y}\" width=\"14\" height=\"14\"/>"
+            )?;
+            write!(
+                out,
+                "<text x=\"{text_x}\" y=\"{text_y}\">{name}</text></g>\n"
+            )?;
         }
         Ok(())
     }
@@ -214,7 +238,10 @@ fn write_span(
     let task = scene.task(span.task);
     let x = x_of(span.task).saturating_sub(6);
     let height = bottom - top;
-    write!(out, "<rect class=\"{class}\" x=\"{x}\" y=\"{top}\" width=\"12\" height=\"{height}\" rx=\"3\">")?;
+    write!(
+        out,
+        "<rect class=\"{class}\" x=\"{x}\" y=\"{top}\" width=\"12\" height=\"{height}\" rx=\"3\">"
+    )?;
     write!(out, "<title>{task}: {name}</title></rect>\n")
 }
 
@@ -228,14 +255,22 @@ fn write_row(out: &mut String, row: &Row<'_>, right: usize, y: usize) -> Result<
         Shows::Answer => "asked",
     };
     if let Shows::Asked(position) | Shows::Forced(position) = row.shows {
-        write!(out, "<text class=\"position\" x=\"{}\" y=\"{base}\">{position}</text>", LEFT - 10)?;
+        write!(
+            out,
+            "<text class=\"position\" x=\"{}\" y=\"{base}\">{position}</text>",
+            LEFT - 10
+        )?;
     }
     write!(out, "<text class=\"{class}\" x=\"{right}\" y=\"{base}\">")?;
     write_escaped(out, without_position(row))?;
     write!(out, "</text>")?;
     if !row.statement.is_empty() {
         let beyond = right.saturating_add(330);
-        write!(out, "<text class=\"line\" x=\"{beyond}\" y=\"{base}\">{}  ", row.line)?;
+        write!(
+            out,
+            "<text class=\"line\" x=\"{beyond}\" y=\"{base}\">{}  ",
+            row.line
+        )?;
         write_escaped(out, row.statement)?;
         write!(out, "</text>")?;
     }
@@ -283,7 +318,10 @@ fn write_event(
             }
         }
         Event::Ticked { .. } => {
-            write!(out, "<line class=\"tick\" x1=\"{LEFT}\" y1=\"{y}\" x2=\"{right}\" y2=\"{y}\"><title>a tick</title></line>\n")
+            write!(
+                out,
+                "<line class=\"tick\" x1=\"{LEFT}\" y1=\"{y}\" x2=\"{right}\" y2=\"{y}\"><title>a tick</title></line>\n"
+            )
         }
         Event::Left { close } => write_bracket(out, scene, rows, *close, y),
         _ => match doer(scene, event) {
@@ -312,7 +350,8 @@ fn doer(scene: Scene<'_>, event: &Event) -> Option<(TaskNo, bool)> {
         | Event::Passed { wait: position, .. }
         | Event::Woken { pause: position }
         | Event::Activated {
-            start: position, ..
+            start: position,
+            ..
         } => match holder(scene.events, *position) {
             Some(task) => Some((task, false)),
             None => None,
@@ -322,24 +361,50 @@ fn doer(scene: Scene<'_>, event: &Event) -> Option<(TaskNo, bool)> {
 }
 
 fn write_mark(out: &mut String, x: usize, y: usize) -> Result<(), AllocError> {
-    write!(out, "<circle class=\"mark\" cx=\"{x}\" cy=\"{y}\" r=\"3\"><title>asked for</title></circle>\n")
+    write!(
+        out,
+        "<circle class=\"mark\" cx=\"{x}\" cy=\"{y}\" r=\"3\"><title>asked for</title></circle>\n"
+    )
 }
 
 fn write_step(out: &mut String, x: usize, y: usize) -> Result<(), AllocError> {
-    write!(out, "<circle class=\"step\" cx=\"{x}\" cy=\"{y}\" r=\"4\"><title>forced</title></circle>\n")
+    write!(
+        out,
+        "<circle class=\"step\" cx=\"{x}\" cy=\"{y}\" r=\"4\"><title>forced</title></circle>\n"
+    )
 }
 
 // An arrow from one column to another one; a loop to the same.
-fn write_arrow(out: &mut String, class: &str, from: usize, to: usize, y: usize) -> Result<(), AllocError> {
-    let name = if class == "call" { "a call" } else { "a rendezvous" };
+fn write_arrow(
+    out: &mut String,
+    class: &str,
+    from: usize,
+    to: usize,
+    y: usize,
+) -> Result<(), AllocError> {
+    let name = if class == "call" {
+        "a call"
+    } else {
+        "a rendezvous"
+    };
     let high = y.saturating_sub(4);
     let low = y.saturating_add(4);
     if from == to {
         let beside = from.saturating_add(24);
-        return write!(out, "<path class=\"{class}\" d=\"M {from} {high} H {beside} V {low} H {from}\"><title>{name}</title></path>\n");
+        return write!(
+            out,
+            "<path class=\"{class}\" d=\"M {from} {high} H {beside} V {low} H {from}\"><title>{name}</title></path>\n"
+        );
     }
-    let head = if from < to { to.saturating_sub(8) } else { to.saturating_add(8) };
-    write!(out, "<path class=\"{class}\" d=\"M {from} {y} H {to} M {head} {high} L {to} {y} L {head} {low}\">")?;
+    let head = if from < to {
+        to.saturating_sub(8)
+    } else {
+        to.saturating_add(8)
+    };
+    write!(
+        out,
+        "<path class=\"{class}\" d=\"M {from} {y} H {to} M {head} {high} L {to} {y} L {head} {low}\">"
+    )?;
     write!(out, "<title>{name}</title></path>\n")
 }
 
@@ -358,6 +423,9 @@ fn write_bracket(
     let inner = x_of(*by).saturating_sub(12);
     let outer = inner.saturating_sub(8);
     let name = scene.block(*block);
-    write!(out, "<path class=\"block\" d=\"M {inner} {top} H {outer} V {bottom} H {inner}\">")?;
+    write!(
+        out,
+        "<path class=\"block\" d=\"M {inner} {top} H {outer} V {bottom} H {inner}\">"
+    )?;
     write!(out, "<title>block {name}</title></path>\n")
 }

@@ -24,10 +24,17 @@ pub fn write_sequence(alloc: Global, account: &Account) -> Result<String, AllocE
 fn write_step(out: &mut String, scene: Scene<'_>, event: &Event) -> Result<(), AllocError> {
     match event {
         Event::Called {
-            by, callee, entry, ..
+            by,
+            callee,
+            entry,
+            ..
         } => {
             let (from, to) = (scene.task(*by), scene.task(*callee));
-            write!(out, "  {from}->>{to}: call {}\n", scene.entry(*callee, *entry))
+            write!(
+                out,
+                "  {from}->>{to}: call {}\n",
+                scene.entry(*callee, *entry)
+            )
         }
         Event::Met { call, wait } => write_between(out, scene, *call, *wait),
         Event::Ended { by, call, raised } => match holder(scene.events, *call) {
@@ -38,8 +45,18 @@ fn write_step(out: &mut String, scene: Scene<'_>, event: &Event) -> Result<(), A
             }
             None => Ok(()),
         },
-        Event::Failed { call } => write_note(out, scene, holder(scene.events, *call), "TASKING_ERROR"),
-        Event::Cancelled { call } => write_note(out, scene, holder(scene.events, *call), "cancelled"),
+        Event::Failed { call } => write_note(
+            out,
+            scene,
+            holder(scene.events, *call),
+            "TASKING_ERROR",
+        ),
+        Event::Cancelled { call } => write_note(
+            out,
+            scene,
+            holder(scene.events, *call),
+            "cancelled",
+        ),
         Event::Ticked { now } => write!(out, "  Note over main: moment {now}\n"),
         Event::Gone { task } => write_note(out, scene, Some(*task), "terminated"),
         _ => Ok(()),

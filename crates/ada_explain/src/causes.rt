@@ -3,11 +3,13 @@
 use crate::reasons::write_reason;
 use crate::scene::Scene;
 use ada_events::journal::event_in;
-use ada_events::limits::{LAST_MOMENT, MOST_APPENDED, MOST_EVENTS, MOST_MEMBERS, MOST_SLOTS, MOST_TASKS};
+use ada_events::limits::{
+    LAST_MOMENT, MOST_APPENDED, MOST_EVENTS, MOST_MEMBERS, MOST_SLOTS, MOST_TASKS,
+};
 use ada_events::{Choice, Entry, Event, Master, Member, Refusal, Request, TaskNo};
 use ada_reference::limits::slot_count;
 use ada_reference::nests::is_in_rendezvous_for;
-use ada_reference::phases::{has_start, is_completed, is_terminated};
+use ada_reference::phases::has_start;
 use ada_reference::refusals::{asker, is_outside};
 use ada_reference::{families, frame, innermost, making_of, moment};
 use ada_waiting::reason_of;
@@ -31,7 +33,10 @@ fn write_moment(text: &mut String, scene: Scene<'_>, cause: Refusal) -> Result<(
     match cause {
         Refusal::MomentBack => {
             let now = moment(scene.events);
-            write!(text, "the moment is {now} already, and a tick names a moment, not a duration")
+            write!(
+                text,
+                "the moment is {now} already, and a tick names a moment, not a duration"
+            )
         }
         Refusal::JournalFull => write_full(text, scene),
         _ => write!(text, "the last moment is {LAST_MOMENT}"),
@@ -50,7 +55,10 @@ fn write_own_cause(
     match cause {
         Refusal::NotRunning => write_not_running(text, scene, by),
         Refusal::DuringActivation => {
-            write!(text, "{name} is still being activated: it has to come up first")
+            write!(
+                text,
+                "{name} is still being activated: it has to come up first"
+            )
         }
         Refusal::NotActivating if by.0 == 0 => {
             write!(text, "{name} is the main program, which nobody activates")
@@ -72,11 +80,17 @@ fn write_own_cause(
             write!(text, "it would end after the last moment, {LAST_MOMENT}")
         }
         Refusal::TooManyTasks => {
-            write!(text, "there are {MOST_TASKS} tasks, those that are gone included")
+            write!(
+                text,
+                "there are {MOST_TASKS} tasks, those that are gone included"
+            )
         }
         Refusal::TooManySlots => write_slots(text, scene),
         Refusal::TooDeep => {
-            write!(text, "{name} is within {MOST_MEMBERS} blocks and rendezvous already")
+            write!(
+                text,
+                "{name} is within {MOST_MEMBERS} blocks and rendezvous already"
+            )
         }
         Refusal::JournalFull => write_full(text, scene),
         Refusal::UnknownTask => write!(text, "a task doesn't exist"),
@@ -106,12 +120,28 @@ fn write_not_your_master(
         return Ok(());
     };
     let name = scene.task(by);
-    let within = scene.master(frame(scene.events, by));
     if let Master::Block(0) = master {
-        return write!(text, "the block isn't open: the line that was to open it was refused");
+        return write!(
+            text,
+            "the block isn't open: the line that was to open it was refused"
+        );
     }
     let master = scene.master(*master);
-    write!(text, "{name} is in {within}, which doesn't depend on {master}")
+    match frame(scene.events, by) {
+        Master::Body(_) => {
+            write!(
+                text,
+                "{name} is in its own body, which doesn't depend on {master}"
+            )
+        }
+        Master::Block(opened) => {
+            let block = scene.block(opened);
+            write!(
+                text,
+                "{name} is in block {block}, which doesn't depend on {master}"
+            )
+        }
+    }
 }
 
 // Why a task may not be activated by another one; none if it may.
@@ -128,7 +158,10 @@ fn write_not_activated(
     };
     if making.by.0 != by.0 {
         let maker = scene.task(making.by);
-        write!(text, "{name} was made by {maker}, who alone may activate it")?;
+        write!(
+            text,
+            "{name} was made by {maker}, who alone may activate it"
+        )?;
         return Ok(true);
     }
     if has_start(scene.events, task) {
@@ -171,7 +204,10 @@ pub fn write_outside(
         Some(family) => {
             let low = family.low;
             let high = family.high;
-            write!(text, "index {index}: that family of {name} has the entries {low} to {high}")
+            write!(
+                text,
+                "index {index}: that family of {name} has the entries {low} to {high}"
+            )
         }
         None => write!(text, "{name} has no such entry"),
     }
@@ -223,7 +259,11 @@ fn write_same_family(
 }
 
 fn write_in_accept(text: &mut String, scene: Scene<'_>, by: TaskNo) -> Result<(), AllocError> {
-    write!(text, "{} is within an accept statement, where no terminate may stand", scene.task(by))
+    write!(
+        text,
+        "{} is within an accept statement, where no terminate may stand",
+        scene.task(by)
+    )
 }
 
 // What a task is innermost within.
@@ -232,7 +272,11 @@ fn write_nest(text: &mut String, scene: Scene<'_>, by: TaskNo) -> Result<(), All
     match innermost(scene.events, by) {
         None => write!(text, "{name} is within no block and serves no call"),
         Some(Member::Block(opened)) => {
-            write!(text, "{name} is in block {} since event {opened}", scene.block(opened))
+            write!(
+                text,
+                "{name} is in block {} since event {opened}",
+                scene.block(opened)
+            )
         }
         Some(Member::Rendezvous(call)) => write_serving(text, scene, by, call),
     }
@@ -246,12 +290,19 @@ fn write_serving(
 ) -> Result<(), AllocError> {
     let name = scene.task(by);
     match event_in(scene.events, call) {
-        Some(Event::Called {
-            by: caller, entry, ..
-        }) => {
+        Some(
+            Event::Called {
+                by: caller,
+                entry,
+                ..
+            },
+        ) => {
             let caller = scene.task(*caller);
             let entry = scene.entry(by, *entry);
-            write!(text, "{name} serves the call of {entry} by {caller}, event {call}")
+            write!(
+                text,
+                "{name} serves the call of {entry} by {caller}, event {call}"
+            )
         }
         _ => Ok(()),
     }
@@ -259,10 +310,16 @@ fn write_serving(
 
 fn write_slots(text: &mut String, scene: Scene<'_>) -> Result<(), AllocError> {
     let count = slot_count(scene.events);
-    write!(text, "the tasks have {count} entries already, of at most {MOST_SLOTS}")
+    write!(
+        text,
+        "the tasks have {count} entries already, of at most {MOST_SLOTS}"
+    )
 }
 
 fn write_full(text: &mut String, scene: Scene<'_>) -> Result<(), AllocError> {
     let count = scene.events.len();
-    write!(text, "the journal has {count} events, and needs room for {MOST_APPENDED} of at most {MOST_EVENTS}")
+    write!(
+        text,
+        "the journal has {count} events, and needs room for {MOST_APPENDED} of at most {MOST_EVENTS}"
+    )
 }

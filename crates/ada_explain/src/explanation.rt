@@ -24,11 +24,7 @@ pub struct Explanation {
 }
 
 /// Explains the play of a script, of which this is the source.
-pub fn explain(
-    alloc: Global,
-    source: &[u8],
-    account: &Account,
-) -> Result<Explanation, AllocError> {
+pub fn explain(alloc: Global, source: &[u8], account: &Account) -> Result<Explanation, AllocError> {
     let sources = lines_of(alloc, source)?;
     let mut rows = Rows {
         text: String::new(alloc),
@@ -147,7 +143,13 @@ impl Rows<'_> {
         self.write_margin()?;
         write!(self.text, "  ")?;
         let scene = Scene::of(account, before);
-        write_refused(&mut self.text, scene, &account.lines, &line.statement, cause)?;
+        write_refused(
+            &mut self.text,
+            scene,
+            &account.lines,
+            &line.statement,
+            cause,
+        )?;
         write!(self.text, "\n")
     }
 }

@@ -4,9 +4,9 @@ use crate::scene::Scene;
 use ada_events::journal::event_in;
 use ada_events::{Choice, Entry, Event, EventTail, TaskNo};
 use ada_reference::calls::{is_call_of, is_met, is_queued_at};
+use ada_waiting::Reason;
 use ada_waiting::awaited::awaits;
 use ada_waiting::holds::latest_hold;
-use ada_waiting::Reason;
 use std::alloc::{AllocError, Global};
 
 /// Appends why a task doesn't go on: what it waits for, and since which event.
@@ -23,7 +23,10 @@ pub fn write_reason(
             write!(text, "{name} was made at event {made}, and never activated")
         }
         Reason::Activating { start } => {
-            write!(text, "{name} waits since event {start} for the activation of ")?;
+            write!(
+                text,
+                "{name} waits since event {start} for the activation of "
+            )?;
             write_awaited(text, scene, task, reason)
         }
         Reason::Queued { call } => write_queued(text, scene, task, call),
@@ -89,18 +92,23 @@ fn write_queued(
     task: TaskNo,
     call: u32,
 ) -> Result<(), AllocError> {
-    let Some(Event::Called {
-        callee,
-        entry,
-        due,
-        ..
-    }) = event_in(scene.events, call)
+    let Some(
+        Event::Called {
+            callee,
+            entry,
+            due,
+            ..
+        },
+    ) = event_in(scene.events, call)
     else {
         return Ok(());
     };
     let name = scene.task(task);
     let entry_name = scene.entry(*callee, *entry);
-    write!(text, "{name} waits in its call of {entry_name} since event {call}")?;
+    write!(
+        text,
+        "{name} waits in its call of {entry_name} since event {call}"
+    )?;
     if let Some(due) = due {
         write!(text, ", at most until moment {due}")?;
     }
@@ -169,7 +177,10 @@ fn write_served(
     let server = scene.task(*callee);
     let entry_name = scene.entry(*callee, *entry);
     let met = meeting_of(scene, call).unwrap_or(call);
-    write!(text, "{name} is in a rendezvous since event {met}: {server} serves its call of {entry_name}")
+    write!(
+        text,
+        "{name} is in a rendezvous since event {met}: {server} serves its call of {entry_name}"
+    )
 }
 
 fn write_choice(
@@ -233,7 +244,11 @@ fn write_delay(
     let Some(Event::Paused { due, .. }) = event_in(scene.events, pause) else {
         return Ok(());
     };
-    write!(text, "{} is delayed since event {pause} until moment {due}", scene.task(task))
+    write!(
+        text,
+        "{} is delayed since event {pause} until moment {due}",
+        scene.task(task)
+    )
 }
 
 fn write_closed(text: &mut String, scene: Scene<'_>, close: u32) -> Result<(), AllocError> {

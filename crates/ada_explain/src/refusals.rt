@@ -98,7 +98,10 @@ fn write_unknown_task(
     };
     let name_shown = name_text(name);
     match creating_line(lines, name) {
-        Some(line) => write!(text, "{name_shown} doesn't exist: line {line}, which was to make it, was refused"),
+        Some(line) => write!(
+            text,
+            "{name_shown} doesn't exist: line {line}, which was to make it, was refused"
+        ),
         None => write!(text, "{name_shown} doesn't exist"),
     }
 }

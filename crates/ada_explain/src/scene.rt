@@ -6,8 +6,7 @@ use ada_events::{Entry, Event, Family, Master, TaskNo};
 use ada_reference::families;
 use ada_statements::{Bound, Name, Names};
 use std::alloc::AllocError;
-use std::fmt;
-use std::str;
+use std::{fmt, str};
 
 /// The events of a journal, or of its beginning, in the order in which they came, and the names of its script.
 #[derive(Clone, Copy)]
@@ -81,9 +80,7 @@ impl<'a> Scene<'a> {
 
 /// The family at a place of a task's declaration, if the task has a name.
 fn family_name<'a>(names: &'a Names, task: TaskNo, family: u8) -> Option<&'a Name> {
-    names
-        .families(Bound::Task(task))
-        .get(usize::from(family))
+    names.families(Bound::Task(task)).get(usize::from(family))
 }
 
 /// The characters of a name.

@@ -74,7 +74,11 @@ fn write_remedy(
     match reason {
         Reason::NotStarted => match making_of(scene.events, task) {
             Some(making) => {
-                write!(text, "; {} would have to activate it", scene.task(making.by))
+                write!(
+                    text,
+                    "; {} would have to activate it",
+                    scene.task(making.by)
+                )
             }
             None => Ok(()),
         },
@@ -151,11 +155,7 @@ fn write_circles(text: &mut String, scene: Scene<'_>, tasks: u16) -> Result<bool
     Ok(!circles.is_empty())
 }
 
-fn write_circle(
-    text: &mut String,
-    scene: Scene<'_>,
-    circle: &[TaskNo],
-) -> Result<(), AllocError> {
+fn write_circle(text: &mut String, scene: Scene<'_>, circle: &[TaskNo]) -> Result<(), AllocError> {
     let Some(first) = circle.first() else {
         return Ok(());
     };
@@ -183,6 +183,9 @@ fn write_verdict(
         Verdict::WaitsForTick { until } => {
             write!(text, "Verdict: waits for a tick until {until}.\n")
         }
-        Verdict::Stuck => write!(text, "Verdict: stuck: no task runs, and no tick changes that.\n"),
+        Verdict::Stuck => write!(
+            text,
+            "Verdict: stuck: no task runs, and no tick changes that.\n"
+        ),
     }
 }

@@ -139,12 +139,7 @@ impl Checker {
 
     // The place of the word at which reading a line's words fails. With a further word that can stand nowhere it fails
     // at that one where the line ends too early, and it is the last that was taken.
-    fn faulty_place(
-        &self,
-        line: &[u8],
-        words: &[Word<'_>],
-        cause: Cause,
-    ) -> Result<usize, Cause> {
+    fn faulty_place(&self, line: &[u8], words: &[Word<'_>], cause: Cause) -> Result<usize, Cause> {
         let mut longer = Vec::new(self.alloc);
         longer.extend_from_slice(line)?;
         longer.extend_from_slice(b" ?")?;
@@ -240,7 +235,10 @@ fn extent_of(words: &[Word<'_>], place: usize) -> (usize, usize) {
     match words.get(place) {
         Some(word) => (word.place, word.text.len()),
         None => match words.last() {
-            Some(word) => (word.place.saturating_add(word.text.len()).saturating_add(1), 1),
+            Some(word) => (
+                word.place.saturating_add(word.text.len()).saturating_add(1),
+                1,
+            ),
             None => (0, 1),
         },
     }

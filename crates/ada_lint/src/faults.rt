@@ -53,7 +53,10 @@ fn write_expected(message: &mut String, expected: Expected<'_>) -> Result<(), Al
         Expected::Pick => write!(message, "the pick, a number such as 0"),
         Expected::Index => write!(message, "an index"),
         Expected::Within => write!(message, "`within` and a duration"),
-        Expected::Alternative => write!(message, "an alternative: `accept`, `delay` or `terminate`"),
+        Expected::Alternative => write!(
+            message,
+            "an alternative: `accept`, `delay` or `terminate`"
+        ),
         Expected::Link => write!(message, "`or` or `else`"),
         Expected::Attribute => write!(message, "`callable`, `terminated` or `count`"),
         Expected::End => write!(message, "the end of the line"),
@@ -109,7 +112,10 @@ fn write_slip(message: &mut String, faulty: Faulty<'_>) -> Result<Option<Repair>
     let word = faulty.word();
     let alloc = *message.allocator();
     if word.starts_with('#') || word.starts_with("--") {
-        write!(message, "a comment begins with `#`, and stands on a line of its own")?;
+        write!(
+            message,
+            "a comment begins with `#`, and stands on a line of its own"
+        )?;
         return Ok(Some(Repair::Cut));
     }
     if let Some(rest) = word.strip_suffix(';') {
@@ -125,7 +131,11 @@ fn write_slip(message: &mut String, faulty: Faulty<'_>) -> Result<Option<Repair>
     } else {
         return Ok(None);
     };
-    write!(message, "words are separated by spaces alone: write `{}`", instead.trim())?;
+    write!(
+        message,
+        "words are separated by spaces alone: write `{}`",
+        instead.trim()
+    )?;
     Ok(Some(Repair::Words(instead)))
 }
 
@@ -156,13 +166,20 @@ fn write_number(message: &mut String, faulty: Faulty<'_>) -> Result<Repair, Allo
     if faulty.expected == Expected::Pick && !is_number_begun(word) {
         write!(message, "the pick comes first, a number: write `0 {word}`")?;
     } else if is_whole && (digits.starts_with('0') || word.starts_with('+')) {
-        write!(message, "a number has no sign and no zero in front: write `")?;
+        write!(
+            message,
+            "a number has no sign and no zero in front: write `"
+        )?;
         if word.starts_with('-') && plain_number(word) != "0" {
             write!(message, "-")?;
         }
         write!(message, "{}`", plain_number(word))?;
     } else if is_whole {
-        write!(message, "`{word}` is out of range: {}", range_of(faulty.expected))?;
+        write!(
+            message,
+            "`{word}` is out of range: {}",
+            range_of(faulty.expected)
+        )?;
     } else {
         write!(message, "expected ")?;
         write_expected(message, faulty.expected)?;
@@ -237,7 +254,11 @@ fn write_double(
             write!(message, "the entry `{word}` is declared twice")?;
         }
         Some(other) => {
-            write!(message, "`{word}` is declared at line {} already", other.line)?;
+            write!(
+                message,
+                "`{word}` is declared at line {} already",
+                other.line
+            )?;
         }
         None => write!(message, "`{word}` is the main program")?,
     }
@@ -254,7 +275,11 @@ fn write_statement(
         Expected::Speaker => write_speaker(message, faulty),
         Expected::Verb => write_keyword(message, faulty, VERBS.as_slice()),
         Expected::Attribute => {
-            write_keyword(message, faulty, ["callable", "terminated", "count"].as_slice())
+            write_keyword(
+                message,
+                faulty,
+                ["callable", "terminated", "count"].as_slice(),
+            )
         }
         Expected::Alternative => write_alternative(message, faulty),
         Expected::Under => write_under(message, faulty, declared),
@@ -293,7 +318,10 @@ fn write_alternative(message: &mut String, faulty: Faulty<'_>) -> Result<Repair,
 fn write_link(message: &mut String, faulty: Faulty<'_>) -> Result<Repair, AllocError> {
     let word = faulty.word();
     if word == "or" {
-        write!(message, "a select has at most 16 accept and 8 delay alternatives")?;
+        write!(
+            message,
+            "a select has at most 16 accept and 8 delay alternatives"
+        )?;
         return Ok(Repair::Cut);
     }
     write_keyword(message, faulty, ["or", "else"].as_slice())
@@ -333,14 +361,20 @@ fn write_speaker(message: &mut String, faulty: Faulty<'_>) -> Result<Repair, All
         return write_name(message, faulty);
     }
     if let Some((name, rest)) = word.split_once(':') {
-        write!(message, "a space has to follow the colon: write `{name}: {rest}`")?;
+        write!(
+            message,
+            "a space has to follow the colon: write `{name}: {rest}`"
+        )?;
         return Ok(Repair::Words(format!(in alloc; "{name}: {rest}")?));
     }
     if VERBS.contains(&word) {
         write!(message, "the speaker is missing, as in `main: {word}`")?;
         return Ok(Repair::Words(format!(in alloc; "main: {word}")?));
     }
-    write!(message, "a line begins with its speaker and a colon: write `{word}:`")?;
+    write!(
+        message,
+        "a line begins with its speaker and a colon: write `{word}:`"
+    )?;
     Ok(Repair::Words(format!(in alloc; "{word}:")?))
 }
 
@@ -357,11 +391,18 @@ fn write_name(message: &mut String, faulty: Faulty<'_>) -> Result<Repair, AllocE
         return Ok(Repair::Cut);
     }
     if name.len() > 16 {
-        write!(message, "a name has at most 16 characters, and this one {}", name.len())?;
+        write!(
+            message,
+            "a name has at most 16 characters, and this one {}",
+            name.len()
+        )?;
         let short = name.get(..16).unwrap_or(name);
         return Ok(Repair::Words(short.to_string(alloc)?));
     }
-    write!(message, "`{name}` can't be a name: that is a letter, and then letters, digits and underscores")?;
+    write!(
+        message,
+        "`{name}` can't be a name: that is a letter, and then letters, digits and underscores"
+    )?;
     Ok(Repair::Unknown)
 }
 

@@ -39,7 +39,11 @@ pub fn write_outside(
             Ok((0, 1))
         }
         Cause::LineTooLong => {
-            write!(message, "a line has at most 200 bytes, and this one {}", line.len())?;
+            write!(
+                message,
+                "a line has at most 200 bytes, and this one {}",
+                line.len()
+            )?;
             Ok((200, 1))
         }
         _ => {

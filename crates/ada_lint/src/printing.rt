@@ -38,7 +38,10 @@ fn print_finding(
     let column = finding.place.saturating_add(1);
     let message = &finding.message;
     match finding.kind {
-        Kind::Fault(cause) => write!(printed, "{file}:{number}:{column}: error: {message} [{cause}]\n")?,
+        Kind::Fault(cause) => write!(
+            printed,
+            "{file}:{number}:{column}: error: {message} [{cause}]\n"
+        )?,
         Kind::Warning => write!(printed, "{file}:{number}:{column}: warning: {message}\n")?,
     }
     print_place(printed, line, finding)

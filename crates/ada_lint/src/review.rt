@@ -27,10 +27,12 @@ pub fn review_of(alloc: Global, text: &[u8]) -> Result<Review, Cause>
             fault: None,
             findings: warnings_of(alloc, script.lines())?,
         }),
-        Err(ScriptFault {
-            cause: Cause::OutOfMemory,
-            ..
-        }) => Err(Cause::OutOfMemory),
+        Err(
+            ScriptFault {
+                cause: Cause::OutOfMemory,
+                ..
+            },
+        ) => Err(Cause::OutOfMemory),
         Err(fault) => Ok(Review {
             fault: Some(fault),
             findings: faults_of(alloc, text)?,

@@ -16,7 +16,11 @@ pub fn warnings_of(alloc: Global, lines: &[Line]) -> Result<Vec<Finding>, AllocE
     if let Some(last) = lines.last()
         && !lines.iter().any(|line| completes_main(&line.statement))
     {
-        push(&mut findings, last.line, format!(in alloc; "`main` is never completed")?)?;
+        push(
+            &mut findings,
+            last.line,
+            format!(in alloc; "`main` is never completed")?,
+        )?;
     }
     Ok(findings)
 }
@@ -59,7 +63,9 @@ fn warn_of_line(
             tail,
             ..
         } if *pick > 0 && !may_pick(choices.as_slice(), tail.get()) => {
-            let message = format!(in alloc; "the pick {pick} never matters: at most one alternative is open")?;
+            let message = format!(in alloc;
+                "the pick {pick} never matters: at most one alternative is open"
+            )?;
             push(findings, line.line, message)
         }
         _ => Ok(()),
@@ -87,7 +93,9 @@ fn warn_of_entries(
     for family in families {
         let entry = &family.name;
         let is_called = lines.iter().any(|line| calls(&line.statement, task, entry));
-        let is_accepted = lines.iter().any(|line| accepts(&line.statement, task, entry));
+        let is_accepted = lines
+            .iter()
+            .any(|line| accepts(&line.statement, task, entry));
         let how = match (is_called, is_accepted) {
             (true, true) => continue,
             (false, true) => "called",
@@ -95,7 +103,11 @@ fn warn_of_entries(
             (false, false) => "called or accepted",
         };
         let (task, entry) = (text_of(task), text_of(entry));
-        push(findings, number, format!(in alloc; "the entry `{entry}` of `{task}` is never {how}")?)?;
+        push(
+            findings,
+            number,
+            format!(in alloc; "the entry `{entry}` of `{task}` is never {how}")?,
+        )?;
     }
     Ok(())
 }

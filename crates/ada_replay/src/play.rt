@@ -9,10 +9,10 @@ ghost use Rattle.ada_events.specs.Tasks.{task_count};
 ghost use Rattle.ada_events.specs.declared.request.Request.{Request as RequestValue};
 ghost use Rattle.ada_statements.specs.Binding.{is_show, request_of};
 
-use crate::{Answer, RunFault};
 use crate::kernel_sink::send_to_kernel;
 use crate::output::{write_output, write_piece};
 use crate::shows::shown;
+use crate::{Answer, RunFault};
 use ada_events::{Event, Refusal, TaskNo};
 use ada_kernel::Kernel;
 use ada_script::{Line, Names, Value, write_event, write_refusal, write_shown};

@@ -11,10 +11,9 @@ use ada_replay::output::write_output;
 use ada_replay::replaying::read_script;
 use ada_waiting::Verdict;
 use std::alloc::Global;
-use std::fs;
-use std::io;
 use std::io::{Input, Print, Read};
 use std::rt::Files;
+use std::{fs, io};
 
 /// Does what was ordered, and says what was found.
 pub fn obey<R: Files + Input + Print + AllocGlobal>(
@@ -87,8 +86,7 @@ fn tell_faults<R: Print + AllocGlobal>(
     text: &[u8],
 ) -> Result<Finding, ScopeFault> {
     let review = review_of(rt.alloc(), text).map_err(|_| RunFault::Memory)?;
-    let printed =
-        print_review(rt.alloc(), file, text, &review).map_err(|_| RunFault::Memory)?;
+    let printed = print_review(rt.alloc(), file, text, &review).map_err(|_| RunFault::Memory)?;
     write_output(&mut io::writer(rt), printed.as_bytes())?;
     Ok(match review.fault {
         None => Finding::Nothing,

@@ -78,10 +78,13 @@ nothing_reads names words fault fails = elim fails [
   | inl memory ↦ inl (ap cause_of memory)
   | inr read ↦ elim (of_words fault) [
     | inl memory ↦ inl (ap cause_of memory)
-    | inr of ↦ inr (of, λ statement stands spelled.
-        let again : statement_of names words ≡ Ok statement = ap (statement_of names) (sym spelled) ∙ statement_again names statement stands in
-        let both : Err fault ≡ Ok statement = sym read ∙ again in
-        absurd cc)
+    | inr of ↦ inr (
+      of,
+      λ statement stands spelled.
+          let again : statement_of names words ≡ Ok statement = ap (statement_of names) (sym spelled) ∙ statement_again names statement stands in
+          let both : Err fault ≡ Ok statement = sym read ∙ again in
+          absurd cc,
+    )
   ]
 ]
 

@@ -1,8 +1,8 @@
 //! Explains and checks a script of requests to the tasking kernel.
 #![tactic(auto)]
 
-use ada_scope::{Finding, Order, ScopeFault, obey, order_of, status_of};
 use ada_replay::RunFault;
+use ada_scope::{Finding, Order, ScopeFault, obey, order_of, status_of};
 use clap::Error;
 use clap::error::ErrorKind;
 use std::io::{Eprint, Input, Print};
@@ -23,7 +23,10 @@ fn words_of(rt: &HostRuntime) -> io::Result<Vec<String>> {
     Ok(words)
 }
 
-fn try_words<R: Files + AllocGlobal + Input + Print + Eprint>(rt: &R, words: &[String]) -> ExitCode {
+fn try_words<R: Files + AllocGlobal + Input + Print + Eprint>(
+    rt: &R,
+    words: &[String],
+) -> ExitCode {
     match order_of(rt.alloc(), words) {
         Ok(order) => end(rt, order.file, &obey(rt, &order)),
         Err(fault) => answer(rt, &fault),
