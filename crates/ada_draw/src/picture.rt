@@ -18,6 +18,10 @@ const LEFT: usize = 48;
 
 const TOP: usize = 56;
 
+static NAMESPACE: &str = "http://www.w3.org/2000/svg";
+
+static TITLE: &str = "A play of a task script: a column for each task, time from above";
+
 /// The colours, on a light and on a dark page.
 static STYLE: &str = "<style>
 svg { background: #ffffff; color: #1f2328; }
@@ -91,6 +95,11 @@ fn x_of(task: TaskNo) -> usize {
     LEFT + COLUMN / 2 + COLUMN * usize::from(task.0)
 }
 
+// How wide a text of so many characters is, with some space after it.
+fn text_width(characters: usize) -> usize {
+    characters.saturating_mul(22) / 3 + 16
+}
+
 // The middle of a row, from 1; the beginning at 0.
 fn y_of(row: usize) -> usize {
     row.saturating_mul(ROW).saturating_add(TOP)
@@ -141,6 +150,13 @@ impl Page<'_> {
         y_of(self.rows.rows.len().saturating_add(1))
     }
 
+    // Where the column of the script's lines begins.
+    fn beyond(&self) -> usize {
+        let longest = self.rows.rows.iter().map(|row| row.printed.len()).max();
+        self.right()
+            .saturating_add(text_width(longest.unwrap_or(0)))
+    }
+
     // Where the column of the printed lines begins.
     fn right(&self) -> usize {
         self.lives
@@ -150,16 +166,16 @@ impl Page<'_> {
     }
 
     fn write_head(&self, out: &mut String) -> Result<(), AllocError> {
-        let width = self.right().saturating_add(640);
+        let longest = self.rows.rows.iter().map(|row| row.statement.len()).max();
+        let width = self
+            .beyond()
+            .saturating_add(text_width(longest.unwrap_or(0).saturating_add(6)));
         let height = self.height().saturating_add(150);
         write!(
             out,
-            "<svg xmlns=\"http://www.w3.org/2000/svg\" viewBox=\"0 0 {width} {height}\" role=\"img\">\n"
+            "<svg xmlns=\"{NAMESPACE}\" viewBox=\"0 0 {width} {height}\" role=\"img\">\n"
         )?;
-        write!(
-            out,
-            "<title>A play of task scripts: a column for each task, time from above</title>\n{STYLE}"
-        )
+        write!(out, "<title>{TITLE}</title>\n{STYLE}")
     }
 
     fn write_columns(&self, out: &mut String) -> Result<(), AllocError> {
@@ -170,7 +186,7 @@ impl Page<'_> {
             let name = self.scene.task(task);
             write!(
                 out,
-                "<g><title>{name}</title><line class=\"grid\" x1=\"{x}\" y1=\"{TOP}\" x2=\"{x}\" y2=\"{bottom}\"/>"
+                "<g><title>{name}</title><path class=\"grid\" d=\"M {x} {TOP} V {bottom}\"/>"
             )?;
             write!(
                 out,
@@ -189,8 +205,9 @@ impl Page<'_> {
 
     fn write_rows(&self, out: &mut String) -> Result<(), AllocError> {
         let right = self.right();
+        let beyond = self.beyond();
         for (i, row) in self.rows.rows.iter().enumerate() {
-            write_row(out, row, right, y_of(i.saturating_add(1)))?;
+            write_row(out, row, right, beyond, y_of(i.saturating_add(1)))?;
             if let Shows::Asked(position) | Shows::Forced(position) = row.shows {
                 write_event(out, self.scene, &self.rows, position, right)?;
             }
@@ -207,8 +224,9 @@ impl Page<'_> {
             let text_x = x + 22;
             write!(
                 out,
-                "<g><title>{name}</title><rect class=\"{class}\" x=\"{x}\" y=\"{y}\" width=\"14\" height=\"14\"/>"
+                "<g><title>{name}</title><rect class=\"{class}\" x=\"{x}\" y=\"{y}\""
             )?;
+            write!(out, " width=\"14\" height=\"14\"/>")?;
             write!(
                 out,
                 "<text x=\"{text_x}\" y=\"{text_y}\">{name}</text></g>\n"
@@ -246,7 +264,13 @@ fn write_span(
 }
 
 // The position, the printed line and the script's line of a row.
-fn write_row(out: &mut String, row: &Row<'_>, right: usize, y: usize) -> Result<(), AllocError> {
+fn write_row(
+    out: &mut String,
+    row: &Row<'_>,
+    right: usize,
+    beyond: usize,
+    y: usize,
+) -> Result<(), AllocError> {
     let base = y.saturating_add(4);
     let class = match row.shows {
         Shows::Asked(_) => "asked",
@@ -265,7 +289,6 @@ fn write_row(out: &mut String, row: &Row<'_>, right: usize, y: usize) -> Result<
     write_escaped(out, without_position(row))?;
     write!(out, "</text>")?;
     if !row.statement.is_empty() {
-        let beyond = right.saturating_add(330);
         write!(
             out,
             "<text class=\"line\" x=\"{beyond}\" y=\"{base}\">{}  ",
@@ -320,7 +343,7 @@ fn write_event(
         Event::Ticked { .. } => {
             write!(
                 out,
-                "<line class=\"tick\" x1=\"{LEFT}\" y1=\"{y}\" x2=\"{right}\" y2=\"{y}\"><title>a tick</title></line>\n"
+                "<path class=\"tick\" d=\"M {LEFT} {y} H {right}\"><title>a tick</title></path>\n"
             )
         }
         Event::Left { close } => write_bracket(out, scene, rows, *close, y),
@@ -391,10 +414,11 @@ fn write_arrow(
     let low = y.saturating_add(4);
     if from == to {
         let beside = from.saturating_add(24);
-        return write!(
+        write!(
             out,
-            "<path class=\"{class}\" d=\"M {from} {high} H {beside} V {low} H {from}\"><title>{name}</title></path>\n"
-        );
+            "<path class=\"{class}\" d=\"M {from} {high} H {beside} V {low} H {from}\">"
+        )?;
+        return write!(out, "<title>{name}</title></path>\n");
     }
     let head = if from < to {
         to.saturating_sub(8)
@@ -403,9 +427,12 @@ fn write_arrow(
     };
     write!(
         out,
-        "<path class=\"{class}\" d=\"M {from} {y} H {to} M {head} {high} L {to} {y} L {head} {low}\">"
+        "<g><title>{name}</title><path class=\"{class}\" d=\"M {from} {y} H {to}\"/>"
     )?;
-    write!(out, "<title>{name}</title></path>\n")
+    write!(
+        out,
+        "<path class=\"met\" d=\"M {head} {high} L {to} {y} L {head} {low}\"/></g>\n"
+    )
 }
 
 // A bracket from the opening of a block to its end, where the close at a position was left.

@@ -320,6 +320,6 @@ fn write_full(text: &mut String, scene: Scene<'_>) -> Result<(), AllocError> {
     let count = scene.events.len();
     write!(
         text,
-        "the journal has {count} events, and needs room for {MOST_APPENDED} of at most {MOST_EVENTS}"
+        "the journal has {count} of {MOST_EVENTS} events, and needs room for {MOST_APPENDED}"
     )
 }

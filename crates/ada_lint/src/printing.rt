@@ -6,8 +6,8 @@ use ada_script::cursor::Lines;
 use std::alloc::{AllocError, Global};
 use unicode_width::UnicodeWidthStr;
 
-/// The findings of a text, each as `FILE:LINE:COLUMN: error: ..` with its line and a caret beneath. Columns count bytes,
-/// from 1.
+/// The findings of a text, each as `FILE:LINE:COLUMN: error: ..` with its line and a caret beneath. Columns count
+/// bytes, from 1.
 pub fn print_review(
     alloc: Global,
     file: &str,

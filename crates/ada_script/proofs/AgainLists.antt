@@ -7,7 +7,7 @@ use Rattle.std.proofs.lemmas.List.Concat.{flat_map-cons}
 use Rattle.ada_statements.specs.declared.statement.Declaration.{Declaration}
 use Rattle.ada_script.specs.Spelling.{family_words, bounds_words}
 use Rattle.ada_statements.specs.Scope.{Scope, IsTaskName, AreTaskNames, IsFamily, AreFamilies, AreApart}
-use Rattle.ada_script.specs.internal.Cursor.{is_over}
+use Rattle.ada_script.specs.Cursor.{is_over}
 use Rattle.ada_script.specs.internal.Reading.{Read, repeat_at, task_name_at, tasks_at, family_at, families_at, number_is_next}
 use Rattle.ada_script.proofs.AgainParts.{task_again, name_again, bounds_again, name_begins}
 use Rattle.ada_script.proofs.TakenLists.{Chain, flat_map-single, list_any-names, map-push}

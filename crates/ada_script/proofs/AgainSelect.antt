@@ -14,7 +14,7 @@ use Rattle.ada_statements.specs.declared.statement.Alternative.{Alternative}
 use Rattle.ada_script.specs.Spelling.{entry_words, guard_words, choice_words, pause_words, tail_alternatives, else_words, joined_by_or, select_words}
 use Rattle.ada_statements.specs.Scope.{Scope, IsEntryName, IsMoment, IsTail, AreChoices}
 use Rattle.ada_script.specs.internal.Reading.{number_is_next, kind_of, branch_at, tail_of, link_at, pause_at, next_pause_at, pauses_at, choice_at, tail_from}
-use Rattle.ada_script.specs.internal.Cursor.{is_over}
+use Rattle.ada_script.specs.Cursor.{is_over}
 use Rattle.ada_script.specs.internal.Reading.{choices_at, alternatives_at, passed_over}
 use Rattle.ada_script.proofs.AgainParts.{keyword_again, moment_again, entry_again}
 use Rattle.ada_script.proofs.AgainLists.{repeat_again, chain_of_each}

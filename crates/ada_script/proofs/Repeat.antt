@@ -3,7 +3,7 @@ use Rattle.std.proofs.Common.{◌≡◌, ℕ, suc, ◌-◌, ◌<◌, ◌≤◌, 
 use Rattle.std.proofs.lemmas.Bool.{true≢false, false≢true, cases_lt, eqb-false}
 use Rattle.ada_script.specs.declared.fault.Fault.{Fault}
 use Rattle.ada_script.specs.declared.fault.Fault.TheVariants.{BadStatement}
-use Rattle.ada_script.specs.internal.Cursor.{is_over}
+use Rattle.ada_script.specs.Cursor.{is_over}
 use Rattle.ada_script.specs.internal.Reading.{Read, repeat_at}
 
 module _ {X : Type 0} (step : List X → List (List ℕ) → Read X) where

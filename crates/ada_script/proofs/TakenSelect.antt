@@ -16,7 +16,7 @@ use Rattle.ada_script.specs.declared.select.Branch.TheVariants as branches
 use Rattle.ada_statements.specs.declared.statement.Alternative.{Alternative}
 use Rattle.ada_script.specs.Spelling.{entry_words, guard_words, choice_words, pause_words, tail_alternatives, else_words, joined_by_or, select_words}
 use Rattle.ada_statements.specs.Scope.{Scope, IsEntryName, IsMoment, IsTail, AreChoices}
-use Rattle.ada_script.specs.internal.Cursor.{is_over}
+use Rattle.ada_script.specs.Cursor.{is_over}
 use Rattle.ada_script.specs.internal.Reading.{word_at, keyword_at, moment_at, entry_name_at, passed_over, kind_of, branch_at, tail_of, link_at, pause_at}
 use Rattle.ada_script.specs.internal.Reading.{pause_from, next_pause_at, pauses_at, choice_at, tail_from, is_accept}
 use Rattle.ada_script.specs.internal.Reading.{with_tail, ended_by, choices_at, alternatives_at}

@@ -18,7 +18,7 @@ use Rattle.ada_script.specs.Spelling.{speaker, entry_words, family_words, words_
 use Rattle.ada_statements.specs.Scope.{Scope, is_task, IsTaskName, MayStand}
 use Rattle.ada_script.specs.internal.Reading.{word_at, end_at, keyword_at, moment_at, pick_at, task_name_at, new_name_at}
 use Rattle.ada_script.specs.internal.Reading.{master_at, entry_name_at, tasks_at, families_at}
-use Rattle.ada_script.specs.internal.Cursor.{is_over}
+use Rattle.ada_script.specs.Cursor.{is_over}
 use Rattle.ada_script.specs.internal.Reading.{alternatives_at, verb_from, verb_at, tick_at, open_at, create_at, activate_at, abort_at, call_statement_at}
 use Rattle.ada_script.specs.internal.Reading.{try_at}
 use Rattle.ada_script.specs.internal.Reading.{accept_at, delay_at, select_at, show_at, act_at, before_colon, speaker_from, speaker_of, speech_at, statement_at}

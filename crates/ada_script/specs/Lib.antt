@@ -1,3 +1,4 @@
+pub mod Cursor
 pub mod Script
 pub mod Spelling
 pub mod internal

@@ -1,5 +1,4 @@
 -- What only private contracts and invariants cite: no caller meets it.
-pub mod Cursor
 pub mod Fault
 pub mod Number
 pub mod Printable

@@ -86,7 +86,7 @@ pub struct Words<'a> {
 
 impl<'a> Model for Words<'a> {
     ghost use Rattle.std.specs.Prelude.{List, ℕ};
-    ghost use Rattle.ada_script.specs.internal.Cursor.{words_ahead};
+    ghost use Rattle.ada_script.specs.Cursor.{words_ahead};
 
     ghost Value = { List (List ℕ) };
 
@@ -95,7 +95,7 @@ impl<'a> Model for Words<'a> {
 
 impl<'a> Words<'a> {
     ghost use Rattle.ada_statements.specs.Text.{words_in};
-    ghost use Rattle.ada_script.specs.internal.Cursor.{is_over};
+    ghost use Rattle.ada_script.specs.Cursor.{is_over};
 
     /// The words of the line.
     pub fn new(line: &'a [u8]) -> Self

@@ -26,7 +26,7 @@ use Rattle.ada_statements.specs.declared.statement.Alternative.{Alternative}
 use Rattle.ada_statements.specs.Text.{is_name, is_digit}
 use Rattle.ada_script.specs.internal.Number.{natural_of, integer_of}
 use Rattle.ada_statements.specs.Scope.{Scope, is_task, is_declared, has_entry}
-use Rattle.ada_script.specs.internal.Cursor.{is_over}
+use Rattle.ada_script.specs.Cursor.{is_over}
 
 infixl 10 ◌>>=◌
 abbrev pub ◌>>=◌ : {A B : Type 0} → Result A Fault → (A → Result B Fault) → Result B Fault
