@@ -1,10 +1,7 @@
 //! What each task does from event to event.
-ghost use Rattle.std.specs.Prelude.{◌<◌, ◌^◌, length};
-
 use ada_events::journal::event_in;
 use ada_events::{Event, Master, TaskNo};
-use ada_reference::masters::depends_on;
-use ada_reference::phases::is_abnormal;
+use ada_reference::masters::same_master;
 use std::alloc::{AllocError, Global};
 
 /// What a task does.
@@ -51,7 +48,12 @@ struct Life {
     stage: Stage,
     since: u32,
     is_up: bool,
+    /// What the task depends on; the main program on nothing.
+    master: Option<Master>,
 }
+
+/// The longest way from a master outwards: each task and each block once.
+const MOST_MASTERS: u32 = 65_536;
 
 /// What all tasks do now, and what they did.
 #[derive(Drop)]
@@ -68,6 +70,7 @@ impl Lives {
             stage: Stage::Running,
             since: 0,
             is_up: true,
+            master: None,
         })?;
         Ok(Lives {
             now,
@@ -94,11 +97,14 @@ impl Lives {
     }
 
     /// Takes the event at a position, after all events before it.
-    pub fn take(&mut self, events: &[Event], position: u32, event: &Event) -> Result<(), AllocError>
-        requires { length events.now < 2 ^ 32 }
-    {
+    pub fn take(
+        &mut self,
+        events: &[Event],
+        position: u32,
+        event: &Event,
+    ) -> Result<(), AllocError> {
         match event {
-            Event::Created { .. } => self.make(position),
+            Event::Created { master, .. } => self.make(position, *master),
             Event::Started { by, tasks } => self.start(position, *by, tasks.as_slice()),
             Event::Elaborated { by, ok } => self.come_up(position, *by, *ok),
             Event::Called { by, .. } => self.change(position, *by, Stage::Calling),
@@ -118,7 +124,7 @@ impl Lives {
             Event::Woken { pause } => self.release(position, holder(events, *pause)),
             Event::Activated { start, .. } => self.release(position, holder(events, *start)),
             Event::Left { close } => self.release(position, holder(events, *close)),
-            Event::Aborted { .. } => self.abort(events, position),
+            Event::Aborted { tasks, .. } => self.abort(events, position, tasks.as_slice()),
             Event::Quit { master } => self.quit(events, position, *master),
             Event::Opened { .. } | Event::Ticked { .. } => Ok(()),
         }
@@ -135,11 +141,12 @@ impl Lives {
         Ok(())
     }
 
-    fn make(&mut self, position: u32) -> Result<(), AllocError> {
+    fn make(&mut self, position: u32, master: Master) -> Result<(), AllocError> {
         self.now.push(Life {
             stage: Stage::NotStarted,
             since: position,
             is_up: false,
+            master: Some(master),
         })?;
         Ok(())
     }
@@ -216,28 +223,61 @@ impl Lives {
         self.release(position, acceptor)
     }
 
-    // Those that the abort at a position made abnormal.
-    fn abort(&mut self, events: &[Event], position: u32) -> Result<(), AllocError>
-        requires { length events.now < 2 ^ 32 }
-    {
-        let with_it = &events[..events.len().min(position as usize)];
+    // The master around one (9.4): around a task's body what the task depends on, and around a block what its task was
+    // in when it opened it.
+    fn around(&self, events: &[Event], master: Master) -> Option<Master> {
+        match master {
+            Master::Body(task) => match self.now.get(usize::from(task.0)) {
+                Some(life) => life.master,
+                None => None,
+            },
+            Master::Block(opened) => match event_in(events, opened) {
+                Some(Event::Opened { under, .. }) => Some(*under),
+                _ => None,
+            },
+        }
+    }
+
+    // Whether a task depends on a master, directly or through others (9.4).
+    fn depends_on(&self, events: &[Event], task: TaskNo, master: Master) -> bool {
+        let mut next = self.around(events, Master::Body(task));
+        for _ in 0..MOST_MASTERS {
+            match next {
+                Some(around) if same_master(around, master) => return true,
+                Some(around) => next = self.around(events, around),
+                None => return false,
+            }
+        }
+        false
+    }
+
+    // Whether the abort of some tasks reaches a task (9.10).
+    fn is_aborted(&self, events: &[Event], tasks: &[TaskNo], task: TaskNo) -> bool {
+        tasks.iter().any(|other| other.0 == task.0
+            || self.depends_on(events, task, Master::Body(*other)))
+    }
+
+    // Those that an abort reaches, and that aren't completed yet, are abnormal from there on.
+    fn abort(
+        &mut self,
+        events: &[Event],
+        position: u32,
+        tasks: &[TaskNo],
+    ) -> Result<(), AllocError> {
         for task in 0..256u16 {
             let task = TaskNo(task);
-            if self.is_alive(task) && is_abnormal(with_it, task) {
+            if self.is_alive(task) && self.is_aborted(events, tasks, task) {
                 self.change(position, task, Stage::Abnormal)?;
             }
         }
         Ok(())
     }
 
-    // Those that depend on a master, and aren't terminated yet.
-    fn quit(&mut self, events: &[Event], position: u32, master: Master) -> Result<(), AllocError>
-        requires { length events.now < 2 ^ 32 }
-    {
-        let before = &events[..events.len().min((position as usize).saturating_sub(1))];
+    // Those that depend on a master, and aren't terminated yet, terminate.
+    fn quit(&mut self, events: &[Event], position: u32, master: Master) -> Result<(), AllocError> {
         for task in 0..256u16 {
             let task = TaskNo(task);
-            if self.stage(task) != Stage::Terminated && depends_on(before, task, master) {
+            if self.stage(task) != Stage::Terminated && self.depends_on(events, task, master) {
                 self.change(position, task, Stage::Terminated)?;
             }
         }

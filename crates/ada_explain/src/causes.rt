@@ -1,5 +1,6 @@
 //! The sentence of each cause for which a request is refused.
 
+use crate::nesting::innermost_of;
 use crate::reasons::write_reason;
 use crate::scene::Scene;
 use ada_events::journal::event_in;
@@ -11,7 +12,7 @@ use ada_reference::limits::slot_count;
 use ada_reference::nests::is_in_rendezvous_for;
 use ada_reference::phases::has_start;
 use ada_reference::refusals::{asker, is_outside};
-use ada_reference::{families, frame, innermost, making_of, moment};
+use ada_reference::{families, frame, making_of, moment};
 use ada_waiting::reason_of;
 use std::alloc::AllocError;
 
@@ -269,7 +270,7 @@ fn write_in_accept(text: &mut String, scene: Scene<'_>, by: TaskNo) -> Result<()
 // What a task is innermost within.
 fn write_nest(text: &mut String, scene: Scene<'_>, by: TaskNo) -> Result<(), AllocError> {
     let name = scene.task(by);
-    match innermost(scene.events, by) {
+    match innermost_of(scene.events, by) {
         None => write!(text, "{name} is within no block and serves no call"),
         Some(Member::Block(opened)) => {
             write!(

@@ -4,6 +4,7 @@
 pub mod causes;
 pub mod circles;
 pub mod explanation;
+pub mod nesting;
 pub mod reasons;
 pub mod refusals;
 pub mod scene;
