@@ -1,9 +1,10 @@
 //! Plays a script, given on standard input, on the kernel and on the plain one, which searches its journal, and
-//! compares what both answer. Prints how many lines the script has and how many events they came to; the exit status is
-//! 1 where the input is no script, or the two differ.
+//! compares what both answer, and what a picture shows of each task. Prints how many lines the script has and how many
+//! events they came to; the exit status is 1 where the input is no script, or something differs.
 #![tactic(auto)]
 
 mod playing;
+mod stages;
 mod twins;
 
 use ada_replay::input::read_input;

@@ -1,25 +1,33 @@
-//! A kernel and the plain one, of one journal.
+//! A kernel and the plain one, of one journal, and what a picture shows of it.
 
+use crate::stages::agree_on_stages;
+use ada_draw::lives::Lives;
 use ada_events::{Refusal, Request, TaskNo};
 use ada_kernel::Kernel;
 use ada_reference::{
     PlainKernel, board, is_finished, known_callable, known_outcome, known_terminated,
 };
-use std::alloc::Global;
+use std::alloc::{AllocError, Global};
 
 /// Both kernels.
 #[derive(Drop)]
 pub struct Twins {
     plain: PlainKernel,
     kernel: Kernel,
+    lives: Lives,
 }
 
 impl Twins {
     /// Both with an empty journal.
     pub fn new(alloc: Global) -> Result<Self, Refusal> {
+        let lives = Lives::new(alloc)?;
         let plain = PlainKernel::new(alloc)?;
         let kernel = Kernel::new(alloc)?;
-        Ok(Twins { plain, kernel })
+        Ok(Twins {
+            plain,
+            kernel,
+            lives,
+        })
     }
 
     /// How many tasks there are.
@@ -38,7 +46,19 @@ impl Twins {
         let before = self.events() as usize;
         let answer = self.kernel.step(request);
         let agree = self.plain.step(again) == answer && self.agree_behind(before);
+        if self.follow(before).is_err() {
+            return None;
+        }
         agree.then_some(answer)
+    }
+
+    /// Lets the picture follow the events behind so many.
+    fn follow(&mut self, before: usize) -> Result<(), AllocError> {
+        let events = self.kernel.journal().as_slice();
+        for (i, event) in events.iter().enumerate().skip(before) {
+            self.lives.take(events, i as u32 + 1, event)?;
+        }
+        Ok(())
     }
 
     /// Whether both have the same events behind so many.
@@ -53,6 +73,7 @@ impl Twins {
         self.kernel.journal().as_slice() == events
             && self.kernel.finished() == is_finished(events)
             && self.kernel.board() == board(events)
+            && agree_on_stages(&self.lives, events, self.tasks())
             && (0..self.tasks()).all(|number| self.agree_on(TaskNo(number)))
     }
 

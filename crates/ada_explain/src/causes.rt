@@ -1,6 +1,6 @@
 //! The sentence of each cause for which a request is refused.
 
-use crate::nesting::innermost_of;
+use crate::nesting::nest_of;
 use crate::reasons::write_reason;
 use crate::scene::Scene;
 use ada_events::journal::event_in;
@@ -9,7 +9,6 @@ use ada_events::limits::{
 };
 use ada_events::{Choice, Entry, Event, Master, Member, Refusal, Request, TaskNo};
 use ada_reference::limits::slot_count;
-use ada_reference::nests::is_in_rendezvous_for;
 use ada_reference::phases::has_start;
 use ada_reference::refusals::{asker, is_outside};
 use ada_reference::{families, frame, making_of, moment};
@@ -240,6 +239,19 @@ fn write_constraint(
     }
 }
 
+// The entry of a family that a task serves.
+fn served_entry(scene: Scene<'_>, nest: &[Member], family: u8) -> Option<Entry> {
+    for member in nest {
+        if let Member::Rendezvous(call) = member
+            && let Some(Event::Called { entry, .. }) = event_in(scene.events, *call)
+            && entry.family == family
+        {
+            return Some(*entry);
+        }
+    }
+    None
+}
+
 fn write_same_family(
     text: &mut String,
     scene: Scene<'_>,
@@ -249,10 +261,11 @@ fn write_same_family(
     let Request::Wait { choices, .. } = request else {
         return Ok(());
     };
+    let nest = nest_of(*text.allocator(), scene.events, by)?;
     let name = scene.task(by);
     for choice in choices.as_slice() {
-        if is_in_rendezvous_for(scene.events, by, choice.entry.family) {
-            let entry = scene.entry(by, choice.entry);
+        if let Some(served) = served_entry(scene, &nest, choice.entry.family) {
+            let entry = scene.entry(by, served);
             return write!(text, "{name} serves a call of the same family: {entry}");
         }
     }
@@ -270,7 +283,8 @@ fn write_in_accept(text: &mut String, scene: Scene<'_>, by: TaskNo) -> Result<()
 // What a task is innermost within.
 fn write_nest(text: &mut String, scene: Scene<'_>, by: TaskNo) -> Result<(), AllocError> {
     let name = scene.task(by);
-    match innermost_of(scene.events, by) {
+    let nest = nest_of(*text.allocator(), scene.events, by)?;
+    match nest.first().copied() {
         None => write!(text, "{name} is within no block and serves no call"),
         Some(Member::Block(opened)) => {
             write!(

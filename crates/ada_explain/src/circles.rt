@@ -4,12 +4,14 @@ use crate::reasons::awaited;
 use crate::scene::Scene;
 use ada_events::TaskNo;
 use ada_waiting::reason_of;
+use ada_waiting::standstill::due_of;
 use std::alloc::{AllocError, Global};
 
 /// For whom each task waits, and which tasks can be let go on by others alone that can't go on themselves.
 #[derive(Drop)]
 struct Waits {
-    /// The tasks for which each task waits, each of which has to go on before it does.
+    /// The tasks for which each task waits, each of which has to go on before it does. One whose time is limited waits
+    /// for none of them, since a tick lets it go on.
     awaited: Vec<Vec<TaskNo>>,
     /// Whether each task waits for one that is held too.
     held: Vec<bool>,
@@ -21,8 +23,10 @@ impl Waits {
         let mut held = Vec::new(alloc);
         for task in 0..tasks {
             let others = match reason_of(scene.events, TaskNo(task)) {
-                Some(reason) => awaited(alloc, scene, TaskNo(task), reason)?,
-                None => Vec::new(alloc),
+                Some(reason) if due_of(scene.events, TaskNo(task)).is_none() => {
+                    awaited(alloc, scene, TaskNo(task), reason)?
+                }
+                _ => Vec::new(alloc),
             };
             all.push(others)?;
             held.push(true)?;

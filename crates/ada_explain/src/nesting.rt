@@ -3,6 +3,7 @@ ghost use Rattle.std.specs.Prelude.{◌<◌, ◌^◌, length};
 
 use ada_events::journal::event_in;
 use ada_events::{Event, Member, TaskNo};
+use std::alloc::{AllocError, Global};
 
 /// The task of the wait at a position.
 fn acceptor(events: &[Event], wait: u32) -> Option<TaskNo> {
@@ -40,21 +41,22 @@ fn leaves(events: &[Event], task: TaskNo, event: &Event) -> bool {
     }
 }
 
-/// The innermost block that a task hasn't left, or rendezvous that it hasn't ended, of a task that isn't terminated: the
-/// last that it entered and hasn't left since.
-pub fn innermost_of(events: &[Event], task: TaskNo) -> Option<Member>
+/// What a task is within that isn't terminated, the innermost first: each block that it hasn't left, and each call
+/// whose rendezvous it hasn't ended.
+pub fn nest_of(alloc: Global, events: &[Event], task: TaskNo) -> Result<Vec<Member>, AllocError>
     requires { length events.now < 2 ^ 32 }
 {
+    let mut nest = Vec::new(alloc);
     let mut left = 0u32;
     for (i, event) in events.iter().enumerate().rev() {
-        let member = entered(events, task, i as u32 + 1, event);
         if leaves(events, task, event) {
             left = left.saturating_add(1);
-        } else if member.is_some() && left == 0 {
-            return member;
-        } else if member.is_some() {
+        } else if let Some(member) = entered(events, task, i as u32 + 1, event) {
+            if left == 0 {
+                nest.push(member)?;
+            }
             left = left.saturating_sub(1);
         }
     }
-    None
+    Ok(nest)
 }

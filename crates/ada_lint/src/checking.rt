@@ -195,17 +195,39 @@ impl Checker {
         if !is_name(name.text) || self.names.is_declared(name.text.as_bytes()) {
             return Ok(());
         }
-        let line = match verb.text {
+        let mut line = match verb.text {
             "create" => format!(in self.alloc; "main: create {} under main", name.text)?,
             "open" => format!(in self.alloc; "main: open {}", name.text)?,
             _ => return Ok(()),
         };
+        if verb.text == "create" {
+            write_families(&mut line, words)?;
+        }
         match read_words(self.alloc, &self.names, &mut Words::new(line.as_bytes())) {
             Ok(statement) => self.take(number, statement),
             Err(Cause::OutOfMemory) => Err(Cause::OutOfMemory),
             Err(_) => Ok(()),
         }
     }
+}
+
+// Appends the words of a create that may be its families, each once and 16 at most: all names but those of the task and
+// of what it depends on.
+fn write_families(line: &mut String, words: &[Word<'_>]) -> Result<(), AllocError> {
+    let mut count = 0u32;
+    for (i, word) in words.iter().enumerate().skip(3) {
+        let is_master = i == 4 || word.text == "under";
+        let is_double = words
+            .iter()
+            .take(i)
+            .skip(3)
+            .any(|other| other.text == word.text);
+        if is_name(word.text) && !is_master && !is_double && count < 16 {
+            write!(line, " {}", word.text)?;
+            count += 1;
+        }
+    }
+    Ok(())
 }
 
 // How many words are left.
@@ -217,15 +239,27 @@ fn count_of(words: &mut Words<'_>) -> usize {
     count
 }
 
+// How many families a create has up to a place.
+fn families_to(words: &[Word<'_>], place: usize) -> usize {
+    words
+        .iter()
+        .take(place.saturating_add(1))
+        .skip(5)
+        .filter(|word| is_name(word.text))
+        .count()
+}
+
 // Whether the word at a place is as it has to be, and the list that it ends may have no further element.
 fn is_full(words: &[Word<'_>], place: usize, cause: Cause) -> bool {
     let Some(word) = words.get(place) else {
         return false;
     };
+    let is_number = is_number_begun(word.text);
     cause == Cause::BadStatement
         && match expected_at(words, place) {
-            Expected::Family => is_name(word.text) || is_number_begun(word.text),
-            Expected::Duration => is_number_begun(word.text),
+            Expected::Family => is_name(word.text),
+            Expected::HighBound => is_number && families_to(words, place) == 16,
+            Expected::Duration => is_number,
             _ => false,
         }
 }
@@ -256,6 +290,10 @@ fn repaired(
         match repair {
             Repair::Cut if i >= place => break,
             Repair::Words(instead) if i == place => line.extend_from_slice(instead.as_bytes())?,
+            Repair::Joined if i == place => {
+                line.extend_from_slice(word.text.as_bytes())?;
+                continue;
+            }
             _ => line.extend_from_slice(word.text.as_bytes())?,
         }
         line.push(b' ')?;

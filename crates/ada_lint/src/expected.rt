@@ -20,8 +20,11 @@ pub enum Expected<'a> {
     Under,
     /// The name of a task or a block.
     Master,
-    /// The name of a family, or the bounds of the one before.
+    /// The name of a family of entries.
     Family,
+    /// The bounds of a family.
+    LowBound,
+    HighBound,
     /// The name of a task.
     Task,
     /// The name of an entry of this task.
@@ -35,6 +38,8 @@ pub enum Expected<'a> {
     Within,
     /// An alternative of a select.
     Alternative,
+    /// A delay alternative, which follows another one.
+    DelayAlternative,
     /// `or` or `else`, or the end of the line.
     Link,
     /// `callable`, `terminated` or `count`.
@@ -79,7 +84,7 @@ pub fn expected_at<'a>(words: &[Word<'a>], place: usize) -> Expected<'a> {
 fn expected_after<'a>(words: &[Word<'a>], place: usize) -> Expected<'a> {
     match text_at(words, 1) {
         "open" if place == 2 => Expected::NewName,
-        "create" => expected_in_create(place),
+        "create" => expected_in_create(words, place),
         "activate" | "abort" => Expected::Task,
         "call" => expected_in_call(words, place, Expected::Within),
         "try" => expected_in_call(words, place, Expected::End),
@@ -92,12 +97,27 @@ fn expected_after<'a>(words: &[Word<'a>], place: usize) -> Expected<'a> {
     }
 }
 
-fn expected_in_create<'a>(place: usize) -> Expected<'a> {
+fn expected_in_create<'a>(words: &[Word<'a>], place: usize) -> Expected<'a> {
     match place {
         2 => Expected::NewName,
         3 => Expected::Under,
         4 => Expected::Master,
-        _ => Expected::Family,
+        5 => Expected::Family,
+        _ => expected_of_family(words, place),
+    }
+}
+
+// A family's name, or a bound, by the two words before it.
+fn expected_of_family<'a>(words: &[Word<'a>], place: usize) -> Expected<'a> {
+    let is_bound = is_number_begun(text_at(words, place));
+    let is_after_bound = is_number_begun(text_at(words, place.saturating_sub(1)));
+    let is_after_two = place > 6 && is_number_begun(text_at(words, place.saturating_sub(2)));
+    if is_after_bound && !is_after_two {
+        Expected::HighBound
+    } else if is_bound && !is_after_bound {
+        Expected::LowBound
+    } else {
+        Expected::Family
     }
 }
 
@@ -140,16 +160,30 @@ fn expected_in_show<'a>(words: &[Word<'a>], place: usize) -> Expected<'a> {
     }
 }
 
+// Whether a delay alternative stands before a place.
+fn is_after_delay(words: &[Word<'_>], place: usize) -> bool {
+    words
+        .iter()
+        .take(place)
+        .skip(3)
+        .any(|word| word.text == "delay")
+}
+
 // What stands at a place of a select, by the word before it.
 fn expected_in_select<'a>(words: &[Word<'a>], place: usize) -> Expected<'a> {
     let before = text_at(words, place.saturating_sub(1));
+    let is_number = is_number_begun(text_at(words, place));
     match before {
         _ if place == 3 => Expected::Alternative,
+        "or" | "closed" if is_after_delay(words, place) => Expected::DelayAlternative,
         "or" | "closed" => Expected::Alternative,
         "accept" => Expected::Entry(speaker_of(words)),
         "delay" => Expected::Duration,
         "else" | "terminate" => Expected::End,
-        _ if is_number_begun(text_at(words, place)) && !is_number_begun(before) => Expected::Index,
+        _ if is_number && !is_number_begun(before) => Expected::Index,
+        _ if text_at(words, place) == "else" && is_after_delay(words, place) => {
+            Expected::DelayAlternative
+        }
         _ => Expected::Link,
     }
 }

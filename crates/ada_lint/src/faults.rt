@@ -14,6 +14,8 @@ pub enum Repair {
     Words(String),
     /// Nothing, and nothing of what follows.
     Cut,
+    /// The word and the next one, as one word.
+    Joined,
     /// It isn't known.
     Unknown,
 }
@@ -45,7 +47,9 @@ fn write_expected(message: &mut String, expected: Expected<'_>) -> Result<(), Al
         Expected::NewName => write!(message, "a new name"),
         Expected::Under => write!(message, "`under`"),
         Expected::Master => write!(message, "the task or the block that it depends on"),
-        Expected::Family => write!(message, "the high bound"),
+        Expected::Family => write!(message, "the name of an entry"),
+        Expected::LowBound => write!(message, "the low bound"),
+        Expected::HighBound => write!(message, "the high bound"),
         Expected::Task => write!(message, "the name of a task"),
         Expected::Entry(task) => write!(message, "the name of an entry of `{task}`"),
         Expected::Moment => write!(message, "a moment in milliseconds"),
@@ -57,6 +61,7 @@ fn write_expected(message: &mut String, expected: Expected<'_>) -> Result<(), Al
             message,
             "an alternative: `accept`, `delay` or `terminate`"
         ),
+        Expected::DelayAlternative => write!(message, "`delay`"),
         Expected::Link => write!(message, "`or` or `else`"),
         Expected::Attribute => write!(message, "`callable`, `terminated` or `count`"),
         Expected::End => write!(message, "the end of the line"),
@@ -85,23 +90,14 @@ pub fn write_fault(
     }
 }
 
-// The word with some of its characters replaced.
-fn replaced(alloc: Global, word: &str, from: char, to: char) -> Result<String, AllocError> {
+// The word with spaces in place of what separates elsewhere.
+fn separated(alloc: Global, word: &str) -> Result<String, AllocError> {
     let mut text = String::new(alloc);
     for character in word.chars() {
-        text.push(if character == from { to } else { character })?;
-    }
-    Ok(text)
-}
-
-// The word without a character, and with a space in place of another one.
-fn split(alloc: Global, word: &str, at: char, without: char) -> Result<String, AllocError> {
-    let mut text = String::new(alloc);
-    for character in word.chars() {
-        if character == at {
-            text.push(' ')?;
-        } else if character != without {
+        if !matches!(character, '(' | ')' | ',' | '.') {
             text.push(character)?;
+        } else if !text.ends_with(' ') {
+            text.push(' ')?;
         }
     }
     Ok(text)
@@ -111,7 +107,8 @@ fn split(alloc: Global, word: &str, at: char, without: char) -> Result<String, A
 fn write_slip(message: &mut String, faulty: Faulty<'_>) -> Result<Option<Repair>, AllocError> {
     let word = faulty.word();
     let alloc = *message.allocator();
-    if word.starts_with('#') || word.starts_with("--") {
+    let is_comment = word.starts_with('#') || word.starts_with("--");
+    if is_comment && faulty.cause == Cause::BadStatement {
         write!(
             message,
             "a comment begins with `#`, and stands on a line of its own"
@@ -122,15 +119,11 @@ fn write_slip(message: &mut String, faulty: Faulty<'_>) -> Result<Option<Repair>
         write!(message, "no semicolon ends a statement: leave it out")?;
         return Ok(Some(Repair::Words(rest.to_string(alloc)?)));
     }
-    let instead = if word.contains('(') {
-        split(alloc, word, '(', ')')?
-    } else if word.contains(',') {
-        replaced(alloc, word, ',', ' ')?
-    } else if word.contains('.') && !is_number_begun(word) {
-        replaced(alloc, word, '.', ' ')?
-    } else {
+    let is_joined = word.contains('(') || word.contains(',') || word.contains('.');
+    if is_number_begun(word) || !is_joined {
         return Ok(None);
-    };
+    }
+    let instead = separated(alloc, word)?;
     write!(
         message,
         "words are separated by spaces alone: write `{}`",
@@ -163,12 +156,12 @@ fn write_number(message: &mut String, faulty: Faulty<'_>) -> Result<Repair, Allo
     let unsigned = word.strip_prefix('+').unwrap_or(word);
     let digits = unsigned.strip_prefix('-').unwrap_or(unsigned);
     let is_whole = !digits.is_empty() && digits.bytes().all(|byte| byte.is_ascii_digit());
-    if faulty.expected == Expected::Pick && !is_number_begun(word) {
+    if faulty.expected == Expected::Pick && is_name(word) {
         write!(message, "the pick comes first, a number: write `0 {word}`")?;
     } else if is_whole && (digits.starts_with('0') || word.starts_with('+')) {
         write!(
             message,
-            "a number has no sign and no zero in front: write `"
+            "a number has no plus sign and no zero in front: write `"
         )?;
         if word.starts_with('-') && plain_number(word) != "0" {
             write!(message, "-")?;
@@ -228,6 +221,13 @@ fn write_unknown(
         return write_meant(message, meant);
     }
     let name = word.strip_suffix(':').unwrap_or(word);
+    if word == "tick:" {
+        write!(
+            message,
+            "a tick has no speaker: write `tick` without a colon"
+        )?;
+        return Ok(Repair::Words("tick".to_string(alloc)?));
+    }
     let is_task = faulty.expected != Expected::Master;
     if declared.get(name).is_some() {
         write!(message, "`{name}` is a block, and a task has to stand here")?;
@@ -235,11 +235,12 @@ fn write_unknown(
     }
     let kind = if is_task { "task" } else { "task and no block" };
     write!(message, "no {kind} `{name}` is declared above")?;
-    let meant = declared.nearest(alloc, name, is_task)?;
-    let repair = write_meant(message, meant)?;
-    match (faulty.expected, meant) {
-        (Expected::Speaker, Some(meant)) => Ok(Repair::Words(format!(in alloc; "{meant}:")?)),
-        _ => Ok(repair),
+    match declared.nearest(alloc, name, is_task)? {
+        Some(meant) if faulty.expected == Expected::Speaker => {
+            let speaker = format!(in alloc; "{meant}:")?;
+            write_meant(message, Some(speaker.as_str()))
+        }
+        meant => write_meant(message, meant),
     }
 }
 
@@ -282,6 +283,13 @@ fn write_statement(
             )
         }
         Expected::Alternative => write_alternative(message, faulty),
+        Expected::DelayAlternative => {
+            write!(
+                message,
+                "after a delay alternative only delay alternatives may follow"
+            )?;
+            Ok(Repair::Cut)
+        }
         Expected::Under => write_under(message, faulty, declared),
         Expected::Within => write_keyword(message, faulty, ["within"].as_slice()),
         Expected::Link => write_link(message, faulty),
@@ -307,7 +315,11 @@ fn write_keyword(
 }
 
 fn write_alternative(message: &mut String, faulty: Faulty<'_>) -> Result<Repair, AllocError> {
-    if faulty.word() == "else" {
+    let is_after_or = match faulty.words.get(faulty.place.saturating_sub(1)) {
+        Some(before) => before.text == "or",
+        None => false,
+    };
+    if faulty.word() == "else" && is_after_or {
         write!(message, "`else` stands without `or` before it")?;
         return Ok(Repair::Unknown);
     }
@@ -355,27 +367,53 @@ fn write_speaker(message: &mut String, faulty: Faulty<'_>) -> Result<Repair, All
     };
     if follows {
         write!(message, "the colon belongs to the name: write `{word}:`")?;
-        return Ok(Repair::Unknown);
+        return Ok(Repair::Joined);
     }
     if word.ends_with(':') {
         return write_name(message, faulty);
     }
-    if let Some((name, rest)) = word.split_once(':') {
-        write!(
-            message,
-            "a space has to follow the colon: write `{name}: {rest}`"
-        )?;
-        return Ok(Repair::Words(format!(in alloc; "{name}: {rest}")?));
+    match word.split_once(':') {
+        Some((name, rest)) => write_split(message, name, rest),
+        None => write_without_colon(message, word),
     }
-    if VERBS.contains(&word) {
-        write!(message, "the speaker is missing, as in `main: {word}`")?;
-        return Ok(Repair::Words(format!(in alloc; "main: {word}")?));
+}
+
+// A speaker and what follows it, in one word.
+fn write_split(message: &mut String, name: &str, rest: &str) -> Result<Repair, AllocError> {
+    let alloc = *message.allocator();
+    if name == "tick" {
+        write!(message, "a tick has no speaker: write `tick {rest}`")?;
+        return Ok(Repair::Words(format!(in alloc; "tick {rest}")?));
     }
     write!(
         message,
-        "a line begins with its speaker and a colon: write `{word}:`"
+        "a space has to follow the colon: write `{name}: {rest}`"
     )?;
-    Ok(Repair::Words(format!(in alloc; "{word}:")?))
+    Ok(Repair::Words(format!(in alloc; "{name}: {rest}")?))
+}
+
+// What is wrong with a word that begins a line without a colon.
+fn write_without_colon(message: &mut String, word: &str) -> Result<Repair, AllocError> {
+    let alloc = *message.allocator();
+    if word.eq_ignore_ascii_case("tick") {
+        write!(message, "case counts: write `tick`")?;
+        Ok(Repair::Words("tick".to_string(alloc)?))
+    } else if VERBS.contains(&word) {
+        write!(message, "the speaker is missing, as in `main: {word}`")?;
+        Ok(Repair::Words(format!(in alloc; "main: {word}")?))
+    } else if is_name(word) {
+        write!(
+            message,
+            "a line begins with its speaker and a colon: write `{word}:`"
+        )?;
+        Ok(Repair::Words(format!(in alloc; "{word}:")?))
+    } else {
+        write!(
+            message,
+            "a line begins with its speaker and a colon, as `main:`"
+        )?;
+        Ok(Repair::Unknown)
+    }
 }
 
 fn write_name(message: &mut String, faulty: Faulty<'_>) -> Result<Repair, AllocError> {
@@ -389,6 +427,10 @@ fn write_name(message: &mut String, faulty: Faulty<'_>) -> Result<Repair, AllocE
     if faulty.expected == Expected::Family && is_name(name) {
         write!(message, "a task has at most 16 families of entries")?;
         return Ok(Repair::Cut);
+    }
+    if name.is_empty() {
+        write!(message, "the speaker's name is missing before the colon")?;
+        return Ok(Repair::Unknown);
     }
     if name.len() > 16 {
         write!(

@@ -19,9 +19,12 @@ fn name_of(bytes: &[u8]) -> (&'static str, usize) {
         [0xE2, 0x88, 0x92, ..] => ("a minus sign: write `-`", 3),
         [0xE2, 0x80, 0x98..=0x9F, ..] => ("a quotation mark: leave it out", 3),
         [0x00..=0x1F, ..] => ("a control character: leave it out", 1),
-        [0xC0..=0xDF, _, ..] => ("a character outside of ASCII", 2),
-        [0xE0..=0xEF, _, _, ..] => ("a character outside of ASCII", 3),
-        [0xF0..=0xF7, _, _, _, ..] => ("a character outside of ASCII", 4),
+        [0x7F, ..] => ("a control character: leave it out", 1),
+        [0xC2..=0xDF, 0x80..=0xBF, ..] => ("a character outside of ASCII", 2),
+        [0xE0..=0xEF, 0x80..=0xBF, 0x80..=0xBF, ..] => ("a character outside of ASCII", 3),
+        [0xF0..=0xF4, 0x80..=0xBF, 0x80..=0xBF, 0x80..=0xBF, ..] => {
+            ("a character outside of ASCII", 4)
+        }
         _ => ("a byte outside of ASCII", 1),
     }
 }

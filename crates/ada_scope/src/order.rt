@@ -64,7 +64,8 @@ static FORMAT: &str =
 
 static FILE: &str = "The file that has the script, or - for the standard input, as without it";
 
-static STRICT: &str = "End with status 3 where a line was refused or something is stuck at the end";
+static STRICT: &str =
+    "End with status 3 where a line was refused, or the end is stuck, or has a circle of tasks";
 
 static FORMATS: [&str; 3] = ["svg", "mermaid", "dot"];
 
