@@ -5,7 +5,8 @@ use crate::markup::write_escaped;
 use crate::rows::{Row, Rows, Shows};
 use ada_account::Account;
 use ada_events::journal::event_in;
-use ada_events::{Event, TaskNo};
+use ada_events::limits::MOST_MEMBERS;
+use ada_events::{Event, Master, TaskNo};
 use ada_explain::Scene;
 use std::alloc::{AllocError, Global};
 
@@ -435,6 +436,25 @@ fn write_arrow(
     )
 }
 
+// How many blocks are around one.
+fn depth_of(scene: Scene<'_>, block: u32) -> usize {
+    let mut depth = 0usize;
+    let mut next = block;
+    for _ in 0..MOST_MEMBERS {
+        match event_in(scene.events, next) {
+            Some(
+                Event::Opened {
+                    under: Master::Block(around),
+                    ..
+                },
+            ) => next = *around,
+            _ => return depth,
+        }
+        depth = depth.saturating_add(1);
+    }
+    depth
+}
+
 // A bracket from the opening of a block to its end, where the close at a position was left.
 fn write_bracket(
     out: &mut String,
@@ -448,7 +468,8 @@ fn write_bracket(
     };
     let top = y_of(rows.place(*block));
     let inner = x_of(*by).saturating_sub(12);
-    let outer = inner.saturating_sub(8);
+    let depth = depth_of(scene, *block);
+    let outer = inner.saturating_sub(26usize.saturating_sub(depth.saturating_mul(4)).max(6));
     let name = scene.block(*block);
     write!(
         out,

@@ -1,10 +1,7 @@
 //! Circles of tasks that wait for one another.
 
-use crate::reasons::awaited;
-use crate::scene::Scene;
+use crate::end::End;
 use ada_events::TaskNo;
-use ada_waiting::reason_of;
-use ada_waiting::standstill::due_of;
 use std::alloc::{AllocError, Global};
 
 /// For whom each task waits, and which tasks can be let go on by others alone that can't go on themselves.
@@ -18,17 +15,11 @@ struct Waits {
 }
 
 impl Waits {
-    fn of(alloc: Global, scene: Scene<'_>, tasks: u16) -> Result<Self, AllocError> {
+    fn of(alloc: Global, end: &End<'_>) -> Result<Self, AllocError> {
         let mut all = Vec::new(alloc);
         let mut held = Vec::new(alloc);
-        for task in 0..tasks {
-            let others = match reason_of(scene.events, TaskNo(task)) {
-                Some(reason) if due_of(scene.events, TaskNo(task)).is_none() => {
-                    awaited(alloc, scene, TaskNo(task), reason)?
-                }
-                _ => Vec::new(alloc),
-            };
-            all.push(others)?;
+        for task in 0..end.tasks() {
+            all.push(end.awaited(alloc, TaskNo(task))?)?;
             held.push(true)?;
         }
         Ok(Waits { awaited: all, held })
@@ -112,17 +103,13 @@ fn circle_in(alloc: Global, path: &[TaskNo], back: TaskNo) -> Result<Vec<TaskNo>
 }
 
 /// Circles of tasks, of which each waits for the next, and the last for the first; none of them can go on. Each task
-/// below the number that can't go on for that cause leads to one of them.
-pub fn circles(
-    alloc: Global,
-    scene: Scene<'_>,
-    tasks: u16,
-) -> Result<Vec<Vec<TaskNo>>, AllocError> {
-    let mut waits = Waits::of(alloc, scene, tasks)?;
-    waits.release_all(tasks);
+/// that can't go on for that cause leads to one of them.
+pub fn circles(alloc: Global, end: &End<'_>) -> Result<Vec<Vec<TaskNo>>, AllocError> {
+    let mut waits = Waits::of(alloc, end)?;
+    waits.release_all(end.tasks());
     let mut seen = [false; 256];
     let mut all = Vec::new(alloc);
-    for task in 0..tasks {
+    for task in 0..end.tasks() {
         if waits.is_held(TaskNo(task)) {
             let (path, back) = waits.path(alloc, TaskNo(task), &mut seen)?;
             let circle = circle_in(alloc, &path, back)?;

@@ -3,6 +3,7 @@
 
 pub mod causes;
 pub mod circles;
+pub mod end;
 pub mod explanation;
 pub mod nesting;
 pub mod reasons;

@@ -1,14 +1,14 @@
 //! What stands still at the end of a play, and what would let it go on.
 use crate::circles::circles;
+use crate::end::End;
 use crate::reasons::write_reason;
 use crate::scene::Scene;
 use ada_account::Account;
 use ada_events::journal::event_in;
 use ada_events::{Event, TaskNo};
 use ada_reference::making_of;
-use ada_reference::phases::{is_running, is_terminated};
-use ada_waiting::{Reason, Verdict, reason_of, verdict_of};
-use std::alloc::{AllocError, Global};
+use ada_waiting::{Reason, Verdict, verdict_of};
+use std::alloc::AllocError;
 
 /// What was found at the end of a play.
 #[derive(Clone, Copy, Debug, PartialEq, Eq)]
@@ -21,8 +21,6 @@ pub struct Standstill {
 /// Appends what each task waits for that isn't terminated, circles of them, and what can let the journal go on.
 pub fn write_standstill(text: &mut String, account: &Account) -> Result<Standstill, AllocError> {
     let verdict = verdict_of(account.kernel.journal().as_slice());
-    let scene = Scene::of(account, u32::MAX);
-    let tasks = account.kernel.tasks();
     if verdict == Verdict::Finished {
         write!(text, "\nThe main program is terminated.\n")?;
         return Ok(Standstill {
@@ -30,12 +28,13 @@ pub fn write_standstill(text: &mut String, account: &Account) -> Result<Standsti
             has_circle: false,
         });
     }
+    let end = End::of(*text.allocator(), account)?;
     write!(text, "\nAt the end:\n")?;
-    for task in 0..tasks {
-        write_task(text, scene, TaskNo(task), tasks)?;
+    for task in 0..end.tasks() {
+        write_task(text, &end, TaskNo(task))?;
     }
-    let has_circle = write_circles(text, scene, tasks)?;
-    write_verdict(text, scene, verdict, tasks)?;
+    let has_circle = write_circles(text, &end)?;
+    write_verdict(text, &end, verdict)?;
     Ok(Standstill {
         verdict,
         has_circle,
@@ -43,22 +42,15 @@ pub fn write_standstill(text: &mut String, account: &Account) -> Result<Standsti
 }
 
 // What one task does, if it isn't terminated.
-fn write_task(
-    text: &mut String,
-    scene: Scene<'_>,
-    task: TaskNo,
-    tasks: u16,
-) -> Result<(), AllocError> {
-    match reason_of(scene.events, task) {
+fn write_task(text: &mut String, end: &End<'_>, task: TaskNo) -> Result<(), AllocError> {
+    match end.reason(task) {
         Some(reason) => {
             write!(text, "  ")?;
-            write_reason(text, scene, task, reason)?;
-            write_remedy(text, scene, task, reason, tasks)?;
+            write_reason(text, end.scene, task, reason)?;
+            write_remedy(text, end, task, reason)?;
             write!(text, ".\n")
         }
-        None if is_running(scene.events, task) => {
-            write!(text, "  {} runs: it may act.\n", scene.task(task))
-        }
+        None if end.runs(task) => write!(text, "  {} runs: it may act.\n", end.scene.task(task)),
         None => Ok(()),
     }
 }
@@ -66,11 +58,11 @@ fn write_task(
 // What would let a task go on.
 fn write_remedy(
     text: &mut String,
-    scene: Scene<'_>,
+    end: &End<'_>,
     task: TaskNo,
     reason: Reason,
-    tasks: u16,
 ) -> Result<(), AllocError> {
+    let scene = end.scene;
     match reason {
         Reason::NotStarted => match making_of(scene.events, task) {
             Some(making) => {
@@ -85,7 +77,7 @@ fn write_remedy(
         Reason::Activating { .. } => write!(text, ", which would have to come up"),
         Reason::Queued { call } => write_acceptor(text, scene, call),
         Reason::InRendezvous { .. } => write!(text, ", and would have to end it"),
-        Reason::Waiting { wait } => write_callers(text, scene, task, wait, tasks),
+        Reason::Waiting { wait } => write_callers(text, end, task, wait),
         Reason::Delayed { .. } => write!(text, ", to which a tick would have to come"),
         Reason::Leaving { .. } | Reason::Completed => {
             write!(text, ", which would have to terminate")
@@ -102,22 +94,6 @@ fn write_acceptor(text: &mut String, scene: Scene<'_>, call: u32) -> Result<(), 
     }
 }
 
-/// The tasks below a number that run, without one of them.
-fn runners(
-    alloc: Global,
-    scene: Scene<'_>,
-    but: TaskNo,
-    tasks: u16,
-) -> Result<Vec<TaskNo>, AllocError> {
-    let mut runners = Vec::new(alloc);
-    for task in 0..tasks {
-        if task != but.0 && is_running(scene.events, TaskNo(task)) {
-            runners.push(TaskNo(task))?;
-        }
-    }
-    Ok(runners)
-}
-
 // Whether a wait has an open accept alternative.
 fn waits_for_calls(scene: Scene<'_>, wait: u32) -> bool {
     match event_in(scene.events, wait) {
@@ -129,28 +105,27 @@ fn waits_for_calls(scene: Scene<'_>, wait: u32) -> bool {
 // Who could call a task that waits for a call.
 fn write_callers(
     text: &mut String,
-    scene: Scene<'_>,
+    end: &End<'_>,
     task: TaskNo,
     wait: u32,
-    tasks: u16,
 ) -> Result<(), AllocError> {
-    if !waits_for_calls(scene, wait) {
+    if !waits_for_calls(end.scene, wait) {
         return Ok(());
     }
-    let runners = runners(*text.allocator(), scene, task, tasks)?;
+    let runners = end.runners(*text.allocator(), task)?;
     if runners.is_empty() {
         return write!(text, "; no task runs that could call it");
     }
     write!(text, "; ")?;
-    scene.write_tasks(text, &runners)?;
+    end.scene.write_tasks(text, &runners)?;
     write!(text, " could call it")
 }
 
 // The circles of tasks that wait for one another; whether there is one.
-fn write_circles(text: &mut String, scene: Scene<'_>, tasks: u16) -> Result<bool, AllocError> {
-    let circles = circles(*text.allocator(), scene, tasks)?;
+fn write_circles(text: &mut String, end: &End<'_>) -> Result<bool, AllocError> {
+    let circles = circles(*text.allocator(), end)?;
     for circle in &circles {
-        write_circle(text, scene, circle)?;
+        write_circle(text, end.scene, circle)?;
     }
     Ok(!circles.is_empty())
 }
@@ -166,18 +141,13 @@ fn write_circle(text: &mut String, scene: Scene<'_>, circle: &[TaskNo]) -> Resul
     write!(text, " for {}.\n", scene.task(*first))
 }
 
-fn write_verdict(
-    text: &mut String,
-    scene: Scene<'_>,
-    verdict: Verdict,
-    tasks: u16,
-) -> Result<(), AllocError> {
+fn write_verdict(text: &mut String, end: &End<'_>, verdict: Verdict) -> Result<(), AllocError> {
     match verdict {
         Verdict::Finished => Ok(()),
         Verdict::GoesOn => {
-            let runners = runners(*text.allocator(), scene, TaskNo(u16::MAX), tasks)?;
+            let runners = end.runners(*text.allocator(), TaskNo(u16::MAX))?;
             write!(text, "Verdict: could go on, by a line of ")?;
-            scene.write_tasks(text, &runners)?;
+            end.scene.write_tasks(text, &runners)?;
             write!(text, ".\n")
         }
         Verdict::WaitsForTick { until } => {
