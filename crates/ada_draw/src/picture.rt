@@ -327,19 +327,12 @@ fn write_event(
             write_arrow(out, "call", x_of(*by), x_of(*callee), y)
         }
         Event::Met { call, wait } => {
-            match (holder(scene.events, *call), holder(scene.events, *wait)) {
-                (Some(caller), Some(acceptor)) => {
-                    write_arrow(out, "met", x_of(caller), x_of(acceptor), y)
-                }
-                _ => Ok(()),
-            }
+            let (caller, acceptor) = (holder(scene.events, *call), holder(scene.events, *wait));
+            write_meeting(out, caller, acceptor, y)
         }
         Event::Ended { by, call, .. } => {
             write_mark(out, x_of(*by), y)?;
-            match holder(scene.events, *call) {
-                Some(caller) => write_arrow(out, "met", x_of(*by), x_of(caller), y),
-                None => Ok(()),
-            }
+            write_meeting(out, Some(*by), holder(scene.events, *call), y)
         }
         Event::Ticked { .. } => {
             write!(
@@ -353,6 +346,19 @@ fn write_event(
             Some((task, false)) => write_step(out, x_of(task), y),
             None => Ok(()),
         },
+    }
+}
+
+// The arrow of a rendezvous from one task to another one.
+fn write_meeting(
+    out: &mut String,
+    from: Option<TaskNo>,
+    to: Option<TaskNo>,
+    y: usize,
+) -> Result<(), AllocError> {
+    match (from, to) {
+        (Some(from), Some(to)) => write_arrow(out, "met", x_of(from), x_of(to), y),
+        _ => Ok(()),
     }
 }
 

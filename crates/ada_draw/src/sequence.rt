@@ -11,13 +11,19 @@ pub fn write_sequence(alloc: Global, account: &Account) -> Result<String, AllocE
     let scene = Scene::of(account, u32::MAX);
     let mut out = String::new(alloc);
     write!(out, "sequenceDiagram\n")?;
-    for task in 0..account.kernel.tasks() {
-        write!(out, "  participant {}\n", scene.task(TaskNo(task)))?;
-    }
+    write_participants(&mut out, scene, account.kernel.tasks())?;
     for event in scene.events {
         write_step(&mut out, scene, event)?;
     }
     Ok(out)
+}
+
+// Each task, in order of creation.
+fn write_participants(out: &mut String, scene: Scene<'_>, tasks: u16) -> Result<(), AllocError> {
+    for task in 0..tasks {
+        write!(out, "  participant {}\n", scene.task(TaskNo(task)))?;
+    }
+    Ok(())
 }
 
 // What an event adds to the diagram, if anything.
@@ -37,14 +43,7 @@ fn write_step(out: &mut String, scene: Scene<'_>, event: &Event) -> Result<(), A
             )
         }
         Event::Met { call, wait } => write_between(out, scene, *call, *wait),
-        Event::Ended { by, call, raised } => match holder(scene.events, *call) {
-            Some(caller) => {
-                let (from, to) = (scene.task(*by), scene.task(caller));
-                let how = if *raised { "exception" } else { "end" };
-                write!(out, "  {from}-->>{to}: {how}\n")
-            }
-            None => Ok(()),
-        },
+        Event::Ended { by, call, raised } => write_end(out, scene, *by, *call, *raised),
         Event::Failed { call } => write_note(
             out,
             scene,
@@ -61,6 +60,22 @@ fn write_step(out: &mut String, scene: Scene<'_>, event: &Event) -> Result<(), A
         Event::Gone { task } => write_note(out, scene, Some(*task), "terminated"),
         _ => Ok(()),
     }
+}
+
+// The end of a rendezvous, by an exception or not.
+fn write_end(
+    out: &mut String,
+    scene: Scene<'_>,
+    by: TaskNo,
+    call: u32,
+    raised: bool,
+) -> Result<(), AllocError> {
+    let Some(caller) = holder(scene.events, call) else {
+        return Ok(());
+    };
+    let (from, to) = (scene.task(by), scene.task(caller));
+    let how = if raised { "exception" } else { "end" };
+    write!(out, "  {from}-->>{to}: {how}\n")
 }
 
 fn write_between(

@@ -7,7 +7,7 @@ use ada_events::journal::event_in;
 use ada_events::limits::{
     LAST_MOMENT, MOST_APPENDED, MOST_EVENTS, MOST_MEMBERS, MOST_SLOTS, MOST_TASKS,
 };
-use ada_events::{Choice, Entry, Event, Master, Member, Refusal, Request, TaskNo};
+use ada_events::{Choice, Entry, Event, Family, Master, Member, Refusal, Request, TaskNo};
 use ada_reference::limits::slot_count;
 use ada_reference::phases::has_start;
 use ada_reference::refusals::{asker, is_outside};
@@ -51,24 +51,15 @@ fn write_own_cause(
     request: &Request,
     cause: Refusal,
 ) -> Result<(), AllocError> {
-    let name = scene.task(by);
     match cause {
         Refusal::NotRunning => write_not_running(text, scene, by),
-        Refusal::DuringActivation => {
-            write!(
-                text,
-                "{name} is still being activated: it has to come up first"
-            )
+        Refusal::DuringActivation | Refusal::NotActivating => {
+            write_activation(text, scene, by, cause)
         }
-        Refusal::NotActivating if by.0 == 0 => {
-            write!(text, "{name} is the main program, which nobody activates")
-        }
-        Refusal::NotActivating => write!(text, "{name} has come up already"),
         Refusal::NotYourMaster => write_not_your_master(text, scene, by, request),
         Refusal::EmptyList => write!(text, "the list of tasks is empty"),
         Refusal::NotYourTask => write_not_your_task(text, scene, by, request),
         Refusal::NoAccept => write!(text, "a select has to have an accept alternative"),
-        Refusal::NoSuchFamily => write!(text, "the task has no such entry"),
         Refusal::ConstraintError => write_constraint(text, scene, by, request),
         Refusal::SameFamilyNested => write_same_family(text, scene, by, request),
         Refusal::TerminateInAccept => write_in_accept(text, scene, by),
@@ -76,6 +67,40 @@ fn write_own_cause(
             write_nest(text, scene, by)
         }
         Refusal::MainTask => write!(text, "the main program can't be aborted"),
+        _ => write_limit(text, scene, by, request, cause),
+    }
+}
+
+// Why a task may not end its activation, or may not do yet what follows it.
+fn write_activation(
+    text: &mut String,
+    scene: Scene<'_>,
+    by: TaskNo,
+    cause: Refusal,
+) -> Result<(), AllocError> {
+    let name = scene.task(by);
+    match cause {
+        Refusal::NotActivating if by.0 == 0 => {
+            write!(text, "{name} is the main program, which nobody activates")
+        }
+        Refusal::NotActivating => write!(text, "{name} has come up already"),
+        _ => write!(
+            text,
+            "{name} is still being activated: it has to come up first"
+        ),
+    }
+}
+
+// Which limit a request would go beyond.
+fn write_limit(
+    text: &mut String,
+    scene: Scene<'_>,
+    by: TaskNo,
+    request: &Request,
+    cause: Refusal,
+) -> Result<(), AllocError> {
+    let name = scene.task(by);
+    match cause {
         Refusal::MomentBack | Refusal::MomentTooLarge => {
             write!(text, "it would end after the last moment, {LAST_MOMENT}")
         }
@@ -85,7 +110,7 @@ fn write_own_cause(
                 "there are {MOST_TASKS} tasks, those that are gone included"
             )
         }
-        Refusal::TooManySlots => write_slots(text, scene),
+        Refusal::TooManySlots => write_slots(text, scene, request),
         Refusal::TooDeep => {
             write!(
                 text,
@@ -93,8 +118,8 @@ fn write_own_cause(
             )
         }
         Refusal::JournalFull => write_full(text, scene),
-        Refusal::UnknownTask => write!(text, "a task doesn't exist"),
         Refusal::OutOfMemory => write!(text, "memory was refused"),
+        _ => write!(text, "the task or its entry doesn't exist"),
     }
 }
 
@@ -196,20 +221,26 @@ pub fn write_outside(
     entry: Entry,
 ) -> Result<(), AllocError> {
     let index = entry.index;
-    let name = scene.task(task);
+    let name = scene.family(task, entry.family);
     match families(scene.events, task).get(usize::from(entry.family)) {
+        Some(Family { low: 0, high: 0 }) => {
+            write!(
+                text,
+                "index {index}: {name} is a single entry, which has none"
+            )
+        }
         Some(family) if family.high < family.low => {
-            write!(text, "index {index}: that family of {name} has no entry")
+            write!(text, "index {index}: {name} has no entry")
         }
         Some(family) => {
             let low = family.low;
             let high = family.high;
             write!(
                 text,
-                "index {index}: that family of {name} has the entries {low} to {high}"
+                "index {index}: {name} has the entries {low} to {high}"
             )
         }
-        None => write!(text, "{name} has no such entry"),
+        None => write!(text, "{name} doesn't exist"),
     }
 }
 
@@ -323,11 +354,15 @@ fn write_serving(
     }
 }
 
-fn write_slots(text: &mut String, scene: Scene<'_>) -> Result<(), AllocError> {
+fn write_slots(text: &mut String, scene: Scene<'_>, request: &Request) -> Result<(), AllocError> {
+    let Request::Create { families, .. } = request else {
+        return Ok(());
+    };
     let count = slot_count(scene.events);
+    let more = Family::entries_in(families.as_slice());
     write!(
         text,
-        "the tasks have {count} entries already, of at most {MOST_SLOTS}"
+        "the tasks have {count} entries, and {more} more would pass {MOST_SLOTS}"
     )
 }
 

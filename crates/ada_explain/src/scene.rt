@@ -56,6 +56,15 @@ impl<'a> Scene<'a> {
         }
     }
 
+    /// The name of a family of a task's entries, with its task's.
+    pub fn family(self, task: TaskNo, family: u8) -> EntryText<'a> {
+        EntryText {
+            task: self.task(task),
+            family: family_name(self.names, task, family),
+            index: None,
+        }
+    }
+
     /// The name of a master: a task, or a block.
     pub fn master(self, master: Master) -> MasterText<'a> {
         match master {

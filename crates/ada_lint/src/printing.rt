@@ -54,27 +54,23 @@ fn print_place(printed: &mut String, line: &[u8], finding: &Finding) -> Result<(
     write!(printed, "  {}\n  ", shown.trim_end())?;
     let before = line.get(..finding.place.min(line.len())).unwrap_or(&[]);
     let before = String::from_utf8_lossy(alloc, before)?;
-    print_margin(printed, &before)?;
-    for _ in before.len()..finding.place {
-        printed.push(' ')?;
-    }
+    let tabs = before
+        .chars()
+        .filter(|character| *character == '\t')
+        .count();
+    print_many(printed, '\t', tabs)?;
+    print_many(printed, ' ', before.width())?;
+    print_many(printed, ' ', finding.place.saturating_sub(before.len()))?;
     printed.push('^')?;
-    for _ in 1..finding.length {
-        printed.push('~')?;
-    }
+    print_many(printed, '~', finding.length.saturating_sub(1))?;
     printed.push('\n')?;
     Ok(())
 }
 
-// As much space as a text takes.
-fn print_margin(printed: &mut String, before: &str) -> Result<(), AllocError> {
-    for character in before.chars() {
-        if character == '\t' {
-            printed.push('\t')?;
-        }
-    }
-    for _ in 0..before.width() {
-        printed.push(' ')?;
+// A character again and again.
+fn print_many(printed: &mut String, character: char, count: usize) -> Result<(), AllocError> {
+    for _ in 0..count {
+        printed.push(character)?;
     }
     Ok(())
 }
