@@ -1,8 +1,7 @@
 //! Who waits for whom at the end of a play, as a graph of Graphviz.
 
-use ada_account::Account;
+use ada_account::{Account, Scene};
 use ada_events::TaskNo;
-use ada_explain::Scene;
 use ada_explain::reasons::{awaited, write_reason};
 use ada_waiting::reason_of;
 use std::alloc::{AllocError, Global};

@@ -2,10 +2,8 @@
 #![tactic(auto)]
 
 pub mod graph;
-pub mod lives;
 pub mod markup;
 pub mod picture;
-pub mod rows;
 pub mod sequence;
 
 pub use graph::write_graph;

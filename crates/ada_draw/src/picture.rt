@@ -1,13 +1,12 @@
 //! A play as SVG: a column for each task, time from above, and what each task does as a bar.
 
-use crate::lives::{Lives, Span, Stage, holder};
 use crate::markup::write_escaped;
-use crate::rows::{Row, Rows, Shows};
-use ada_account::Account;
+use ada_account::lives::{Lives, Span, Stage, holder};
+use ada_account::rows::{Row, Rows, Shows};
+use ada_account::{Account, Scene};
 use ada_events::journal::event_in;
 use ada_events::limits::MOST_MEMBERS;
 use ada_events::{Event, Master, TaskNo};
-use ada_explain::Scene;
 use std::alloc::{AllocError, Global};
 
 /// The height of a row, the width of a column, and what stands left of the columns and above the rows.

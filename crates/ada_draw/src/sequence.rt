@@ -1,9 +1,8 @@
 //! The calls of a play as a sequence diagram of Mermaid.
 
-use crate::lives::holder;
-use ada_account::Account;
+use ada_account::lives::holder;
+use ada_account::{Account, Scene};
 use ada_events::{Event, TaskNo};
-use ada_explain::Scene;
 use std::alloc::{AllocError, Global};
 
 /// A sequence diagram: each call, its rendezvous, and what became of it.

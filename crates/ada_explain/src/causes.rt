@@ -2,7 +2,7 @@
 
 use crate::nesting::nest_of;
 use crate::reasons::write_reason;
-use crate::scene::Scene;
+use ada_account::Scene;
 use ada_events::journal::event_in;
 use ada_events::limits::{
     LAST_MOMENT, MOST_APPENDED, MOST_EVENTS, MOST_MEMBERS, MOST_SLOTS, MOST_TASKS,

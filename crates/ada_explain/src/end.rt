@@ -1,8 +1,7 @@
 //! What all tasks do at the end of a play.
 
 use crate::reasons::awaited;
-use crate::scene::Scene;
-use ada_account::Account;
+use ada_account::{Account, Scene};
 use ada_events::TaskNo;
 use ada_kernel::Kernel;
 use ada_waiting::standstill::due_of;

@@ -1,9 +1,8 @@
 //! A journal beside its script, with the reason under each refused line.
 
 use crate::refusals::write_refused;
-use crate::scene::Scene;
 use crate::standstill::{Standstill, write_standstill};
-use ada_account::Account;
+use ada_account::{Account, Scene, Source};
 use ada_events::Refusal;
 use ada_replay::Answer;
 use ada_script::Line;
@@ -25,16 +24,16 @@ pub struct Explanation {
 
 /// Explains the play of a script, of which this is the source.
 pub fn explain(alloc: Global, source: &[u8], account: &Account) -> Result<Explanation, AllocError> {
-    let sources = lines_of(alloc, source)?;
+    let source = Source::of(alloc, source)?;
     let mut rows = Rows {
         text: String::new(alloc),
-        width: width_of(&sources, &account.lines),
+        width: width_of(&source, &account.lines),
         printed: Lines::new(&account.text),
     };
     let mut before = 0u32;
     let mut refused = 0u32;
     for (line, answer) in account.lines.iter().zip(account.answers.iter()) {
-        rows.write_line(line.line, source_of(&sources, line.line))?;
+        rows.write_line(line.line, source.line(line.line))?;
         match answer {
             Answer::Group { first, last } => {
                 rows.write_printed(last.saturating_sub(*first).saturating_add(1))?;
@@ -57,29 +56,11 @@ pub fn explain(alloc: Global, source: &[u8], account: &Account) -> Result<Explan
     })
 }
 
-/// The lines of a text.
-pub fn lines_of(alloc: Global, text: &[u8]) -> Result<Vec<&[u8]>, AllocError> {
-    let mut lines = Vec::new(alloc);
-    let mut rest = Lines::new(text);
-    while let Some(line) = rest.next() {
-        lines.push(line)?;
-    }
-    Ok(lines)
-}
-
-/// The characters of the line of a number, without the spaces around them; none where it isn't ASCII.
-pub fn source_of<'a>(sources: &[&'a [u8]], number: u32) -> &'a str {
-    match sources.get((number as usize).saturating_sub(1)) {
-        Some(line) => str::from_utf8(line).unwrap_or("").trim(),
-        None => "",
-    }
-}
-
 // The width of the column of the script.
-fn width_of(sources: &[&[u8]], lines: &[Line]) -> usize {
+fn width_of(source: &Source<'_>, lines: &[Line]) -> usize {
     let mut width = 0;
     for line in lines {
-        let length = source_of(sources, line.line).len();
+        let length = source.line(line.line).len();
         if length <= MOST_COLUMNS {
             width = length.max(width);
         }

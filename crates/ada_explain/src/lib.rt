@@ -8,8 +8,6 @@ pub mod explanation;
 pub mod nesting;
 pub mod reasons;
 pub mod refusals;
-pub mod scene;
 pub mod standstill;
 
 pub use explanation::{Explanation, explain};
-pub use scene::Scene;

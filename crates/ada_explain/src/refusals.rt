@@ -1,7 +1,7 @@
 //! Why a line was refused, in a sentence with the facts.
 
 use crate::causes::{write_cause, write_not_running, write_outside};
-use crate::scene::{Scene, name_text};
+use ada_account::Scene;
 use ada_events::Refusal;
 use ada_script::{Line, Name, Statement, request};
 use std::alloc::AllocError;
@@ -96,7 +96,7 @@ fn write_unknown_task(
     let Some(name) = unmade(scene, statement) else {
         return Ok(());
     };
-    let name_shown = name_text(name);
+    let name_shown = name.as_str();
     match creating_line(lines, name) {
         Some(line) => write!(
             text,

@@ -2,8 +2,7 @@
 use crate::circles::circles;
 use crate::end::End;
 use crate::reasons::write_reason;
-use crate::scene::Scene;
-use ada_account::Account;
+use ada_account::{Account, Scene};
 use ada_events::journal::event_in;
 use ada_events::{Event, TaskNo};
 use ada_reference::making_of;

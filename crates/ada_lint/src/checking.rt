@@ -2,12 +2,12 @@
 
 use crate::declared::Declarations;
 use crate::expected::{Expected, expected_at, is_number_begun};
-use crate::faults::{Faulty, Repair, is_name, write_fault};
+use crate::faults::{Faulty, Repair, write_fault};
 use crate::finding::{Finding, Kind};
 use crate::outside::write_outside;
 use crate::words::{Word, words_of};
 use ada_script::cursor::{Lines, Words};
-use ada_script::{Cause, Names, Statement, check_line, is_skipped, read_words};
+use ada_script::{Cause, Names, Statement, check_line, is_name, is_skipped, read_words};
 use std::alloc::{AllocError, Global};
 
 /// How often a line is repaired before it is given up.
@@ -192,7 +192,7 @@ impl Checker {
         let [_, verb, name, ..] = words else {
             return Ok(());
         };
-        if !is_name(name.text) || self.names.is_declared(name.text.as_bytes()) {
+        if !is_name(name.text.as_bytes()) || self.names.is_declared(name.text.as_bytes()) {
             return Ok(());
         }
         let mut line = match verb.text {
@@ -222,7 +222,7 @@ fn write_families(line: &mut String, words: &[Word<'_>]) -> Result<(), AllocErro
             .take(i)
             .skip(3)
             .any(|other| other.text == word.text);
-        if is_name(word.text) && !is_master && !is_double && count < 16 {
+        if is_name(word.text.as_bytes()) && !is_master && !is_double && count < 16 {
             write!(line, " {}", word.text)?;
             count += 1;
         }
@@ -245,7 +245,7 @@ fn families_to(words: &[Word<'_>], place: usize) -> usize {
         .iter()
         .take(place.saturating_add(1))
         .skip(5)
-        .filter(|word| is_name(word.text))
+        .filter(|word| is_name(word.text.as_bytes()))
         .count()
 }
 
@@ -257,7 +257,7 @@ fn is_full(words: &[Word<'_>], place: usize, cause: Cause) -> bool {
     let is_number = is_number_begun(word.text);
     cause == Cause::BadStatement
         && match expected_at(words, place) {
-            Expected::Family => is_name(word.text),
+            Expected::Family => is_name(word.text.as_bytes()),
             Expected::HighBound => is_number && families_to(words, place) == 16,
             Expected::Duration => is_number,
             _ => false,

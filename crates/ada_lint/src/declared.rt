@@ -3,7 +3,6 @@
 use crate::nearest::Nearest;
 use ada_script::{Declaration, Name, Statement};
 use std::alloc::{AllocError, Global};
-use std::str;
 
 /// A name that a line declares.
 #[derive(Drop)]
@@ -18,11 +17,6 @@ pub struct Declared {
 #[derive(Drop)]
 pub struct Declarations {
     all: Vec<Declared>,
-}
-
-/// The characters of a name.
-pub fn text_of(name: &Name) -> &str {
-    str::from_utf8(name.as_bytes()).unwrap_or("?")
 }
 
 // The names of some families.
@@ -80,7 +74,7 @@ impl Declarations {
     pub fn get(&self, name: &str) -> Option<&Declared> {
         self.all
             .iter()
-            .find(|declared| text_of(&declared.name) == name)
+            .find(|declared| declared.name.as_str() == name)
     }
 
     /// The nearest name of a task, or of a task or a block.
@@ -94,7 +88,7 @@ impl Declarations {
         nearest.try_word(alloc, sought, "main")?;
         for declared in &self.all {
             if declared.entries.is_some() || !is_task {
-                nearest.try_word(alloc, sought, text_of(&declared.name))?;
+                nearest.try_word(alloc, sought, declared.name.as_str())?;
             }
         }
         Ok(nearest.word)
@@ -122,7 +116,7 @@ impl Declarations {
     ) -> Result<Option<&str>, AllocError> {
         let mut nearest = Nearest::to(sought);
         for entry in self.entries(task) {
-            nearest.try_word(alloc, sought, text_of(entry))?;
+            nearest.try_word(alloc, sought, entry.as_str())?;
         }
         Ok(nearest.word)
     }

@@ -1,10 +1,10 @@
 //! What is wrong with a word, and what to write instead.
 
-use crate::declared::{Declarations, text_of};
+use crate::declared::Declarations;
 use crate::expected::{Expected, VERBS, is_number_begun};
 use crate::nearest::nearest_of;
 use crate::words::Word;
-use ada_script::{Cause, Name};
+use ada_script::{Cause, Name, is_name};
 use std::alloc::{AllocError, Global};
 
 /// What to write in place of a faulty word, for the sake of the lines after it.
@@ -156,7 +156,7 @@ fn write_number(message: &mut String, faulty: Faulty<'_>) -> Result<Repair, Allo
     let unsigned = word.strip_prefix('+').unwrap_or(word);
     let digits = unsigned.strip_prefix('-').unwrap_or(unsigned);
     let is_whole = !digits.is_empty() && digits.bytes().all(|byte| byte.is_ascii_digit());
-    if faulty.expected == Expected::Pick && is_name(word) {
+    if faulty.expected == Expected::Pick && is_name(word.as_bytes()) {
         write!(message, "the pick comes first, a number: write `0 {word}`")?;
     } else if is_whole && (digits.starts_with('0') || word.starts_with('+')) {
         write!(
@@ -196,7 +196,7 @@ fn write_meant(message: &mut String, meant: Option<&str>) -> Result<Repair, Allo
 fn write_entries(message: &mut String, entries: &[Name]) -> Result<(), AllocError> {
     let mut before = ": it has ";
     for entry in entries {
-        write!(message, "{before}`{}`", text_of(entry))?;
+        write!(message, "{before}`{}`", entry.as_str())?;
         before = ", ";
     }
     if entries.is_empty() {
@@ -401,7 +401,7 @@ fn write_without_colon(message: &mut String, word: &str) -> Result<Repair, Alloc
     } else if VERBS.contains(&word) {
         write!(message, "the speaker is missing, as in `main: {word}`")?;
         Ok(Repair::Words(format!(in alloc; "main: {word}")?))
-    } else if is_name(word) {
+    } else if is_name(word.as_bytes()) {
         write!(
             message,
             "a line begins with its speaker and a colon: write `{word}:`"
@@ -424,7 +424,7 @@ fn write_name(message: &mut String, faulty: Faulty<'_>) -> Result<Repair, AllocE
     } else {
         word
     };
-    if faulty.expected == Expected::Family && is_name(name) {
+    if faulty.expected == Expected::Family && is_name(name.as_bytes()) {
         write!(message, "a task has at most 16 families of entries")?;
         return Ok(Repair::Cut);
     }
@@ -446,18 +446,4 @@ fn write_name(message: &mut String, faulty: Faulty<'_>) -> Result<Repair, AllocE
         "`{name}` can't be a name: that is a letter, and then letters, digits and underscores"
     )?;
     Ok(Repair::Unknown)
-}
-
-/// Whether a word has the form of a name.
-pub fn is_name(word: &str) -> bool {
-    match word.as_bytes() {
-        [first, others @ ..] => {
-            first.is_ascii_alphabetic()
-                && others.len() < 16
-                && others
-                    .iter()
-                    .all(|byte| byte.is_ascii_alphanumeric() || *byte == b'_')
-        }
-        [] => false,
-    }
 }

@@ -1,6 +1,5 @@
 //! What a script surely doesn't mean.
 
-use crate::declared::text_of;
 use crate::finding::{Finding, Kind};
 use ada_events::Tail;
 use ada_script::{Alternative, Declaration, EntryName, Line, Name, Statement};
@@ -52,7 +51,7 @@ fn warn_of_line(
     match &line.statement {
         Statement::Create { task, families, .. } => {
             if !lines.iter().any(|line| activates(&line.statement, task)) {
-                let message = format!(in alloc; "`{}` is never activated", text_of(task))?;
+                let message = format!(in alloc; "`{}` is never activated", task.as_str())?;
                 push(findings, line.line, message)?;
             }
             warn_of_entries(alloc, lines, line.line, task, families.as_slice(), findings)
@@ -102,7 +101,7 @@ fn warn_of_entries(
             (true, false) => "accepted",
             (false, false) => "called or accepted",
         };
-        let (task, entry) = (text_of(task), text_of(entry));
+        let (task, entry) = (task.as_str(), entry.as_str());
         push(
             findings,
             number,

@@ -24,6 +24,7 @@ pub use ada_statements::{
     Alternative, Cause, Declaration, EntryName, EntryNames, Made, Meaning, Name, Names,
     RequestSink, ScriptFault, Statement, request, request_of, send,
 };
+pub use parts::is_name;
 pub use script::{Line, Script};
 pub use spelling::words;
 pub use statements::read_words;

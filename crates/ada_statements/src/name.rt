@@ -9,9 +9,9 @@ ghost use Rattle.std.specs.Str.{bytes_eq};
 ghost use Rattle.std.proofs.Common.{ap, rules};
 
 use indexmap::Equivalent;
-use std::fmt;
 use std::hash::{Hash, Hasher};
 use std::marker::Model;
+use std::{fmt, str};
 
 /// The name of a task, a block or an entry: at most 16 bytes. Contracts see it as its bytes.
 // Plain bytes, so that a name is copied as one piece, by no loop over what it has.
@@ -54,6 +54,11 @@ impl Name {
         ensures fits { length result.now ≤ 16 }
     {
         &self.bytes[..usize::from(self.length)]
+    }
+
+    /// The characters of the name; `?` if its bytes aren't UTF-8, which no name of a script is.
+    pub fn as_str(&self) -> &str {
+        str::from_utf8(self.as_bytes()).unwrap_or("?")
     }
 
     /// Another name of the same bytes.

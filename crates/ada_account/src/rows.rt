@@ -1,7 +1,6 @@
 //! The rows of a picture: one for each printed line, from above in the order of the play.
 
-use ada_account::Account;
-use ada_explain::explanation::{lines_of, source_of};
+use crate::{Account, Source};
 use ada_replay::Answer;
 use ada_script::cursor::Lines;
 use std::alloc::{AllocError, Global};
@@ -37,14 +36,14 @@ pub struct Rows<'a> {
 impl<'a> Rows<'a> {
     /// The rows of a play, of whose script this is the source.
     pub fn of(alloc: Global, source: &'a [u8], account: &'a Account) -> Result<Self, AllocError> {
-        let sources = lines_of(alloc, source)?;
+        let source = Source::of(alloc, source)?;
         let mut printed = Lines::new(&account.text);
         let mut rows = Rows {
             rows: Vec::new(alloc),
             places: Vec::new(alloc),
         };
         for (line, answer) in account.lines.iter().zip(account.answers.iter()) {
-            let statement = source_of(&sources, line.line);
+            let statement = source.line(line.line);
             rows.push_answer(line.line, statement, *answer, &mut printed)?;
         }
         Ok(rows)

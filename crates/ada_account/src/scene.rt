@@ -1,12 +1,12 @@
 //! A journal as its reader sees it.
 ghost use Rattle.std.specs.Prelude.{◌<◌, ◌^◌, length};
 
-use ada_account::Account;
+use crate::Account;
 use ada_events::{Entry, Event, Family, Master, TaskNo};
 use ada_reference::families;
 use ada_statements::{Bound, Name, Names};
 use std::alloc::AllocError;
-use std::{fmt, str};
+use std::fmt;
 
 /// The events of a journal, or of its beginning, in the order in which they came, and the names of its script.
 #[derive(Clone, Copy)]
@@ -92,11 +92,6 @@ fn family_name<'a>(names: &'a Names, task: TaskNo, family: u8) -> Option<&'a Nam
     names.families(Bound::Task(task)).get(usize::from(family))
 }
 
-/// The characters of a name.
-pub fn name_text(name: &Name) -> &str {
-    str::from_utf8(name.as_bytes()).unwrap_or("?")
-}
-
 /// A task, printed as its name.
 #[derive(Clone, Copy, Drop)]
 pub struct TaskText<'a> {
@@ -107,7 +102,7 @@ pub struct TaskText<'a> {
 impl fmt::Display for TaskText<'_> {
     fn fmt<W: fmt::Write>(&self, f: &mut fmt::Formatter<W>) -> fmt::Result {
         match self.names.bound_to(Bound::Task(self.task)) {
-            Some((name, _)) => f.write_str(name_text(name)),
+            Some((name, _)) => f.write_str(name.as_str()),
             None => write!(f, "task#{}", self.task.0),
         }
     }
@@ -123,7 +118,7 @@ pub struct BlockText<'a> {
 impl fmt::Display for BlockText<'_> {
     fn fmt<W: fmt::Write>(&self, f: &mut fmt::Formatter<W>) -> fmt::Result {
         match self.names.bound_to(Bound::Opened(self.opened)) {
-            Some((name, _)) => f.write_str(name_text(name)),
+            Some((name, _)) => f.write_str(name.as_str()),
             None => write!(f, "block#{}", self.opened),
         }
     }
@@ -156,7 +151,7 @@ pub struct EntryText<'a> {
 impl fmt::Display for EntryText<'_> {
     fn fmt<W: fmt::Write>(&self, f: &mut fmt::Formatter<W>) -> fmt::Result {
         let family = match self.family {
-            Some(family) => name_text(family),
+            Some(family) => family.as_str(),
             None => "?",
         };
         write!(f, "{}.{family}", self.task)?;
