@@ -1,10 +1,13 @@
-//! The rows of a picture: one for each printed line, from above in the order of the play.
+//! The rows of a play: one for each printed line, beside the line of the script that led to it.
 
 use crate::{Account, Source};
 use ada_replay::Answer;
 use ada_script::cursor::Lines;
 use std::alloc::{AllocError, Global};
 use std::str;
+
+/// The most columns in which a line of the script stands beside what it printed; a longer one stands above it.
+const MOST_COLUMNS: usize = 40;
 
 /// What a row shows.
 #[derive(Clone, Copy, Debug, PartialEq, Eq)]
@@ -17,13 +20,64 @@ pub enum Shows {
     Answer,
 }
 
-/// A row: what it shows, the line of the script if it is the first of its answer, and what was printed.
+/// A row: what it shows, the line of the script with its statement, and what was printed.
 #[derive(Clone, Copy, Debug)]
 pub struct Row<'a> {
     pub shows: Shows,
     pub line: u32,
     pub statement: &'a str,
     pub printed: &'a str,
+}
+
+impl<'a> Row<'a> {
+    /// Whether the row is the first of its line.
+    pub fn is_first(&self) -> bool {
+        !matches!(self.shows, Shows::Forced(_))
+    }
+
+    /// What is printed, without the position in front of an event.
+    pub fn without_position(&self) -> &'a str {
+        match (self.shows, self.printed.split_once(' ')) {
+            (Shows::Answer, _) | (_, None) => self.printed,
+            (_, Some((_, text))) => text,
+        }
+    }
+
+    /// Appends the row: the line of the script at the left, in so many columns, and what it printed at the right.
+    pub fn write(&self, text: &mut String, width: usize) -> Result<(), AllocError> {
+        if self.is_first() {
+            write_statement(text, self.line, self.statement, width)?;
+        } else {
+            write_margin(text, width)?;
+        }
+        write!(text, "{}\n", self.printed)
+    }
+}
+
+fn write_statement(
+    text: &mut String,
+    line: u32,
+    statement: &str,
+    width: usize,
+) -> Result<(), AllocError> {
+    write!(text, "{line:>4}  {statement}")?;
+    if statement.len() > width {
+        write!(text, "\n")?;
+        return write_margin(text, width);
+    }
+    write_spaces(text, (width - statement.len()).saturating_add(2))
+}
+
+fn write_spaces(text: &mut String, count: usize) -> Result<(), AllocError> {
+    for _ in 0..count {
+        text.push(' ')?;
+    }
+    Ok(())
+}
+
+/// Begins a row without a line of the script.
+pub fn write_margin(text: &mut String, width: usize) -> Result<(), AllocError> {
+    write_spaces(text, width.saturating_add(8))
 }
 
 /// The rows of a play, and the row of each event by its position.
@@ -58,6 +112,18 @@ impl<'a> Rows<'a> {
         }
     }
 
+    /// How many columns the statements take that stand beside what they printed.
+    pub fn width(&self) -> usize {
+        let mut width = 0;
+        for row in &self.rows {
+            let length = row.statement.len();
+            if length <= MOST_COLUMNS {
+                width = length.max(width);
+            }
+        }
+        width
+    }
+
     fn push_answer(
         &mut self,
         line: u32,
@@ -85,7 +151,7 @@ impl<'a> Rows<'a> {
                     Shows::Forced(position)
                 },
                 line,
-                statement: if position == first { statement } else { "" },
+                statement,
                 printed: next_of(printed),
             })?;
         }

@@ -4,7 +4,7 @@ ghost use Rattle.std.specs.Prelude.{◌<◌, ◌^◌, length};
 use crate::Account;
 use ada_events::{Entry, Event, Family, Master, TaskNo};
 use ada_reference::families;
-use ada_statements::{Bound, Name, Names};
+use ada_statements::{Bound, Names};
 use std::alloc::AllocError;
 use std::fmt;
 
@@ -27,22 +27,33 @@ impl<'a> Scene<'a> {
     }
 
     /// The name of a task.
-    pub fn task(self, task: TaskNo) -> TaskText<'a> {
-        TaskText {
-            names: self.names,
-            task,
-        }
+    pub fn task(self, task: TaskNo) -> &'a str {
+        name_of(self.names, Bound::Task(task))
     }
 
     /// The name of the block that was opened at a position.
-    pub fn block(self, opened: u32) -> BlockText<'a> {
-        BlockText {
-            names: self.names,
-            opened,
+    pub fn block(self, opened: u32) -> &'a str {
+        name_of(self.names, Bound::Opened(opened))
+    }
+
+    /// The name of a master: that of a task, or of a block.
+    pub fn master(self, master: Master) -> &'a str {
+        match master {
+            Master::Body(task) => self.task(task),
+            Master::Block(opened) => self.block(opened),
         }
     }
 
-    /// The name of a task's entry, with its task's; an index only where its family has several.
+    /// The name of a family of a task's entries.
+    pub fn family_name(self, task: TaskNo, family: u8) -> &'a str {
+        let families = self.names.families(Bound::Task(task));
+        match families.get(usize::from(family)) {
+            Some(name) => name.as_str(),
+            None => "?",
+        }
+    }
+
+    /// A task's entry; with an index only where its family has several.
     pub fn entry(self, task: TaskNo, entry: Entry) -> EntryText<'a> {
         let families = families(self.events, task);
         let index = match families.get(usize::from(entry.family)) {
@@ -51,25 +62,17 @@ impl<'a> Scene<'a> {
         };
         EntryText {
             task: self.task(task),
-            family: family_name(self.names, task, entry.family),
+            family: self.family_name(task, entry.family),
             index,
         }
     }
 
-    /// The name of a family of a task's entries, with its task's.
+    /// A family of a task's entries.
     pub fn family(self, task: TaskNo, family: u8) -> EntryText<'a> {
         EntryText {
             task: self.task(task),
-            family: family_name(self.names, task, family),
+            family: self.family_name(task, family),
             index: None,
-        }
-    }
-
-    /// The name of a master: a task, or a block.
-    pub fn master(self, master: Master) -> MasterText<'a> {
-        match master {
-            Master::Body(task) => MasterText::Task(self.task(task)),
-            Master::Block(opened) => MasterText::Block(self.block(opened)),
         }
     }
 
@@ -87,74 +90,25 @@ impl<'a> Scene<'a> {
     }
 }
 
-/// The family at a place of a task's declaration, if the task has a name.
-fn family_name<'a>(names: &'a Names, task: TaskNo, family: u8) -> Option<&'a Name> {
-    names.families(Bound::Task(task)).get(usize::from(family))
-}
-
-/// A task, printed as its name.
-#[derive(Clone, Copy, Drop)]
-pub struct TaskText<'a> {
-    names: &'a Names,
-    task: TaskNo,
-}
-
-impl fmt::Display for TaskText<'_> {
-    fn fmt<W: fmt::Write>(&self, f: &mut fmt::Formatter<W>) -> fmt::Result {
-        match self.names.bound_to(Bound::Task(self.task)) {
-            Some((name, _)) => f.write_str(name.as_str()),
-            None => write!(f, "task#{}", self.task.0),
-        }
-    }
-}
-
-/// A block, printed as its name.
-#[derive(Clone, Copy, Drop)]
-pub struct BlockText<'a> {
-    names: &'a Names,
-    opened: u32,
-}
-
-impl fmt::Display for BlockText<'_> {
-    fn fmt<W: fmt::Write>(&self, f: &mut fmt::Formatter<W>) -> fmt::Result {
-        match self.names.bound_to(Bound::Opened(self.opened)) {
-            Some((name, _)) => f.write_str(name.as_str()),
-            None => write!(f, "block#{}", self.opened),
-        }
-    }
-}
-
-/// A master, printed as its name.
-#[derive(Clone, Copy, Drop)]
-pub enum MasterText<'a> {
-    Task(TaskText<'a>),
-    Block(BlockText<'a>),
-}
-
-impl fmt::Display for MasterText<'_> {
-    fn fmt<W: fmt::Write>(&self, f: &mut fmt::Formatter<W>) -> fmt::Result {
-        match self {
-            MasterText::Task(task) => write!(f, "{task}"),
-            MasterText::Block(block) => write!(f, "block {block}"),
-        }
+// The name that is bound so. Whatever an event of a script's play names was declared by it.
+fn name_of(names: &Names, bound: Bound) -> &str {
+    match names.bound_to(bound) {
+        Some((name, _)) => name.as_str(),
+        None => "?",
     }
 }
 
 /// An entry of a task, printed as `S.E`, or as `S.J(2)` where its family has several.
 #[derive(Clone, Copy, Drop)]
 pub struct EntryText<'a> {
-    task: TaskText<'a>,
-    family: Option<&'a Name>,
+    task: &'a str,
+    family: &'a str,
     index: Option<i32>,
 }
 
 impl fmt::Display for EntryText<'_> {
     fn fmt<W: fmt::Write>(&self, f: &mut fmt::Formatter<W>) -> fmt::Result {
-        let family = match self.family {
-            Some(family) => family.as_str(),
-            None => "?",
-        };
-        write!(f, "{}.{family}", self.task)?;
+        write!(f, "{}.{}", self.task, self.family)?;
         match self.index {
             Some(index) => write!(f, "({index})"),
             None => Ok(()),

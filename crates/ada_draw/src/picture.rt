@@ -286,9 +286,9 @@ fn write_row(
         )?;
     }
     write!(out, "<text class=\"{class}\" x=\"{right}\" y=\"{base}\">")?;
-    write_escaped(out, without_position(row))?;
+    write_escaped(out, row.without_position())?;
     write!(out, "</text>")?;
-    if !row.statement.is_empty() {
+    if row.is_first() {
         write!(
             out,
             "<text class=\"line\" x=\"{beyond}\" y=\"{base}\">{}  ",
@@ -298,14 +298,6 @@ fn write_row(
         write!(out, "</text>")?;
     }
     write!(out, "\n")
-}
-
-// What a row prints, without the position in front of an event.
-fn without_position<'a>(row: &Row<'a>) -> &'a str {
-    match (row.shows, row.printed.split_once(' ')) {
-        (Shows::Answer, _) | (_, None) => row.printed,
-        (_, Some((_, text))) => text,
-    }
 }
 
 // The mark of an event on its task's bar, and the arrow of a call or a rendezvous.

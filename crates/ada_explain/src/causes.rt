@@ -151,19 +151,23 @@ fn write_not_your_master(
             "the block isn't open: the line that was to open it was refused"
         );
     }
+    let kind = match master {
+        Master::Body(_) => "",
+        Master::Block(_) => "block ",
+    };
     let master = scene.master(*master);
     match frame(scene.events, by) {
         Master::Body(_) => {
             write!(
                 text,
-                "{name} is in its own body, which doesn't depend on {master}"
+                "{name} is in its own body, which doesn't depend on {kind}{master}"
             )
         }
         Master::Block(opened) => {
             let block = scene.block(opened);
             write!(
                 text,
-                "{name} is in block {block}, which doesn't depend on {master}"
+                "{name} is in block {block}, which doesn't depend on {kind}{master}"
             )
         }
     }

@@ -3,13 +3,15 @@
 use ada_replay::RunFault;
 use thiserror::Error;
 
-/// What was found in a script.
+/// What was found.
 #[derive(Clone, Copy, Debug, PartialEq, Eq)]
 pub enum Finding {
     /// Nothing that was looked for.
     Nothing,
     /// A line is faulty.
     Faulty,
+    /// Two plays differ.
+    Difference,
     /// A line was refused, or something is stuck at the end, and this was looked for.
     Standstill,
 }
@@ -23,6 +25,9 @@ pub enum ScopeFault {
     /// The input is no script, or it, the output or memory was refused.
     #[error(transparent)]
     Run(RunFault),
+    /// The input is no script, and was to be compared.
+    #[error(transparent)]
+    Compared(RunFault),
 }
 
 impl From<RunFault> for ScopeFault {
@@ -31,13 +36,24 @@ impl From<RunFault> for ScopeFault {
     }
 }
 
-/// The exit status: 0 if nothing was found, 1 for a faulty line, 3 for a standstill that was looked for, and 4 where
-/// a file, memory, the input or the output was refused.
-pub fn status_of(outcome: &Result<Finding, ScopeFault>) -> u8 {
+/// Why nothing was told, or not all, and of which file; of none where it is the standard input, or the output.
+#[derive(Debug, Drop)]
+pub struct Failure<'a> {
+    pub file: Option<&'a str>,
+    pub fault: ScopeFault,
+}
+
+/// The exit status: 0 if nothing was found, 1 for a faulty line or a difference, 2 for a faulty line of what was to be
+/// compared, 3 for a standstill that was looked for, and 4 where a file, memory, the input or the output was refused.
+pub fn status_of(outcome: &Result<Finding, Failure<'_>>) -> u8 {
     match outcome {
         Ok(Finding::Nothing) => 0,
-        Ok(Finding::Faulty) | Err(ScopeFault::Run(RunFault::Script(_))) => 1,
+        Ok(Finding::Faulty | Finding::Difference) => 1,
         Ok(Finding::Standstill) => 3,
-        Err(_) => 4,
+        Err(failure) => match failure.fault {
+            ScopeFault::Run(RunFault::Script(_)) => 1,
+            ScopeFault::Compared(_) => 2,
+            ScopeFault::Open | ScopeFault::Run(_) => 4,
+        },
     }
 }

@@ -5,6 +5,6 @@ pub mod fault;
 pub mod obeying;
 pub mod order;
 
-pub use fault::{Finding, ScopeFault, status_of};
+pub use fault::{Failure, Finding, ScopeFault, status_of};
 pub use obeying::obey;
 pub use order::{Order, What, order_of};

@@ -1,9 +1,12 @@
 //! How an order is obeyed.
 
-use crate::{Finding, Order, ScopeFault, What};
-use ada_account::account_of;
+use crate::{Failure, Finding, Order, ScopeFault, What};
+use ada_account::{Account, account_of};
+use ada_compare::compare;
+use ada_compare::comparison::Played;
 use ada_draw::{write_graph, write_picture, write_sequence};
 use ada_explain::{Explanation, explain};
+use ada_json::write_events;
 use ada_lint::{print_review, review_of};
 use ada_replay::RunFault;
 use ada_replay::input::read_input;
@@ -15,22 +18,53 @@ use std::io::{Input, Print, Read};
 use std::rt::Files;
 use std::{fs, io};
 
+/// How the standard input is called where a file's name would stand.
+static STANDARD_INPUT: &str = "<stdin>";
+
 /// Does what was ordered, and says what was found.
-pub fn obey<R: Files + Input + Print + AllocGlobal>(
+pub fn obey<'a, R: Files + Input + Print + AllocGlobal>(
     rt: &R,
-    order: &Order<'_>,
-) -> Result<Finding, ScopeFault> {
-    let text = match order.file {
+    order: &Order<'a>,
+) -> Result<Finding, Failure<'a>> {
+    match order {
+        Order::Tell {
+            what,
+            file,
+            is_strict,
+        } => tell(rt, *what, *file, *is_strict).map_err(|fault| Failure { file: *file, fault }),
+        Order::Compare { first, second } => tell_difference(rt, *first, *second),
+    }
+}
+
+// The text of a file, or of the standard input.
+fn text_of<R: Files + Input + AllocGlobal>(
+    rt: &R,
+    file: Option<&str>,
+) -> Result<Vec<u8>, ScopeFault> {
+    match file {
         Some(file) => {
             let mut reader = fs::open(rt, file).map_err(|_| ScopeFault::Open)?;
-            read_input(rt.alloc(), &mut reader)?
+            let text = read_input(rt.alloc(), &mut reader)?;
+            Ok(text)
         }
-        None => read_input(rt.alloc(), &mut rt.reader())?,
-    };
-    match order.what {
-        What::Explanation => tell_explanation(rt, &text, order.is_strict),
-        What::Picture | What::Sequence | What::Graph => draw(rt, &text, order.what),
-        What::Faults => tell_faults(rt, order.file.unwrap_or("<stdin>"), &text),
+        None => {
+            let text = read_input(rt.alloc(), &mut rt.reader())?;
+            Ok(text)
+        }
+    }
+}
+
+fn tell<R: Files + Input + Print + AllocGlobal>(
+    rt: &R,
+    what: What,
+    file: Option<&str>,
+    is_strict: bool,
+) -> Result<Finding, ScopeFault> {
+    let text = text_of(rt, file)?;
+    match what {
+        What::Explanation => tell_explanation(rt, &text, is_strict),
+        What::Faults => tell_faults(rt, file.unwrap_or(STANDARD_INPUT), &text),
+        What::Picture | What::Sequence | What::Graph | What::Events => draw(rt, &text, what),
     }
 }
 
@@ -69,6 +103,7 @@ fn drawn(alloc: Global, text: &[u8], what: What) -> Result<String, RunFault> {
     let drawn = match what {
         What::Sequence => write_sequence(alloc, &account),
         What::Graph => write_graph(alloc, &account),
+        What::Events => write_events(alloc, text, &account),
         _ => write_picture(alloc, text, &account),
     };
     drawn.map_err(|_| RunFault::Memory)
@@ -91,5 +126,60 @@ fn tell_faults<R: Print + AllocGlobal>(
     Ok(match review.fault {
         None => Finding::Nothing,
         Some(_) => Finding::Faulty,
+    })
+}
+
+// The text of a script that is to be compared, and its play.
+fn play<R: Files + Input + AllocGlobal>(
+    rt: &R,
+    file: Option<&str>,
+) -> Result<(Vec<u8>, Account), ScopeFault> {
+    let text = text_of(rt, file)?;
+    let script = match read_script(rt.alloc(), &text) {
+        Ok(script) => script,
+        Err(RunFault::Memory) => return Err(ScopeFault::Run(RunFault::Memory)),
+        Err(fault) => return Err(ScopeFault::Compared(fault)),
+    };
+    let account = account_of(rt.alloc(), script)?;
+    Ok((text, account))
+}
+
+fn tell_difference<'a, R: Files + Input + Print + AllocGlobal>(
+    rt: &R,
+    first: Option<&'a str>,
+    second: Option<&'a str>,
+) -> Result<Finding, Failure<'a>> {
+    let (text, account) = play(rt, first).map_err(|fault| Failure { file: first, fault })?;
+    let (with, other) = play(rt, second).map_err(|fault| Failure {
+        file: second,
+        fault,
+    })?;
+    let one = Played {
+        name: first.unwrap_or(STANDARD_INPUT),
+        source: &text,
+        account: &account,
+    };
+    let two = Played {
+        name: second.unwrap_or(STANDARD_INPUT),
+        source: &with,
+        account: &other,
+    };
+    write_difference(rt, one, two).map_err(|fault| Failure {
+        file: None,
+        fault: ScopeFault::Run(fault),
+    })
+}
+
+fn write_difference<R: Print + AllocGlobal>(
+    rt: &R,
+    first: Played<'_>,
+    second: Played<'_>,
+) -> Result<Finding, RunFault> {
+    let comparison = compare(rt.alloc(), first, second).map_err(|_| RunFault::Memory)?;
+    write_output(&mut io::writer(rt), comparison.text.as_bytes())?;
+    Ok(if comparison.differs {
+        Finding::Difference
+    } else {
+        Finding::Nothing
     })
 }

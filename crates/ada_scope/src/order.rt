@@ -17,16 +17,25 @@ pub enum What {
     Sequence,
     /// Who waits for whom at the end, as a graph.
     Graph,
+    /// Its events, refusals and shown attributes as JSON.
+    Events,
 }
 
-/// What the program is to do.
+/// What the program is to do. A file is none where it is the standard input.
 #[derive(Clone, Copy, Debug, PartialEq, Eq)]
-pub struct Order<'a> {
-    pub what: What,
-    /// The file that has the script; none for the standard input.
-    pub file: Option<&'a str>,
-    /// Whether a refused line or a standstill has a status of its own.
-    pub is_strict: bool,
+pub enum Order<'a> {
+    /// To tell something of a script.
+    Tell {
+        what: What,
+        file: Option<&'a str>,
+        /// Whether a refused line or a standstill has a status of its own.
+        is_strict: bool,
+    },
+    /// To compare the plays of two scripts.
+    Compare {
+        first: Option<&'a str>,
+        second: Option<&'a str>,
+    },
 }
 
 static ABOUT: &str = "Explain and check scripts of requests to a kernel of Ada tasks";
@@ -59,6 +68,23 @@ static DRAW_HELP: &str = "Examples:
   adascope draw --format dot design.tasks | dot -Tsvg > waits.svg
 ";
 
+static EVENTS: &str = "Write each event, refusal and shown attribute as a line of JSON";
+
+static EVENTS_HELP: &str = "Examples:
+
+  adascope events design.tasks
+  adascope events design.tasks | jq 'select(.kind == \"refused\")'
+";
+
+static COMPARE: &str = "Show where two plays part, and what differs at their ends";
+
+static COMPARE_HELP: &str = "Example:
+
+  adascope compare design.tasks changed.tasks
+
+The status is 0 if they don't differ, 1 if they do, and 2 if one is no script.
+";
+
 static FORMAT: &str =
     "svg: tasks and events; mermaid: the calls as a sequence; dot: who waits for whom at the end";
 
@@ -72,8 +98,8 @@ static FORMATS: [&str; 3] = ["svg", "mermaid", "dot"];
 static HELP: &str = "Exit status:
 
   0  done, and nothing was found
-  1  the input is no script: a line is faulty
-  2  the command line is refused
+  1  the input is no script: a line is faulty; of compare: the plays differ
+  2  the command line is refused; of compare: an input is no script
   3  with --strict: a line was refused, or something is stuck at the end
   4  a file, memory, the input or the output was refused
 ";
@@ -87,68 +113,89 @@ pub fn order_of<'a, S: AsStr>(alloc: Global, words: &'a [S]) -> Result<Order<'a>
     Ok(ordered(&matches))
 }
 
-fn file<'a>(alloc: Global) -> Arg<'a> {
-    Arg::new(alloc, "FILE").action(ArgAction::Set).help(FILE)
+fn file<'a>(alloc: Global, name: &'a str) -> Arg<'a> {
+    Arg::new(alloc, name).action(ArgAction::Set).help(FILE)
 }
 
-fn program<'a>(alloc: Global) -> Result<Command<'a>, AllocError> {
+fn explain<'a>(alloc: Global) -> Result<Command<'a>, AllocError> {
     let strict = Arg::new(alloc, "strict")
         .long("strict")
         .action(ArgAction::SetTrue)
         .help(STRICT);
-    let explain = Command::new(alloc, "explain")
+    Command::new(alloc, "explain")
         .about(EXPLAIN)
         .after_help(EXPLAIN_HELP)
-        .arg(file(alloc))?
-        .arg(strict)?;
-    let lint = Command::new(alloc, "lint")
-        .about(LINT)
-        .after_help(LINT_HELP)
-        .arg(file(alloc))?;
+        .arg(file(alloc, "FILE"))?
+        .arg(strict)
+}
+
+fn draw<'a>(alloc: Global) -> Result<Command<'a>, AllocError> {
     let format = Arg::new(alloc, "format")
         .long("format")
         .action(ArgAction::Set)
         .value_parser(FORMATS.as_slice())
         .default_value("svg")
         .help(FORMAT);
-    let draw = Command::new(alloc, "draw")
+    Command::new(alloc, "draw")
         .about(DRAW)
         .after_help(DRAW_HELP)
-        .arg(file(alloc))?
-        .arg(format)?;
+        .arg(file(alloc, "FILE"))?
+        .arg(format)
+}
+
+fn compare<'a>(alloc: Global) -> Result<Command<'a>, AllocError> {
+    Command::new(alloc, "compare")
+        .about(COMPARE)
+        .after_help(COMPARE_HELP)
+        .arg(file(alloc, "FIRST").required(true))?
+        .arg(file(alloc, "SECOND").required(true))
+}
+
+fn program<'a>(alloc: Global) -> Result<Command<'a>, AllocError> {
+    let lint = Command::new(alloc, "lint")
+        .about(LINT)
+        .after_help(LINT_HELP)
+        .arg(file(alloc, "FILE"))?;
+    let events = Command::new(alloc, "events")
+        .about(EVENTS)
+        .after_help(EVENTS_HELP)
+        .arg(file(alloc, "FILE"))?;
     Command::new(alloc, "adascope")
         .about(ABOUT)
         .version(VERSION)
         .after_help(HELP)
         .subcommand_required(true)
-        .subcommand(explain)?
+        .subcommand(explain(alloc)?)?
         .subcommand(lint)?
-        .subcommand(draw)
+        .subcommand(draw(alloc)?)?
+        .subcommand(events)?
+        .subcommand(compare(alloc)?)
 }
 
 // What the subcommand that was met orders.
 fn ordered<'a>(matches: &ArgMatches<'a>) -> Order<'a> {
     match matches.subcommand() {
-        Some(("lint", found)) => Order {
-            what: What::Faults,
-            file: file_in(found),
-            is_strict: false,
+        Some(("lint", found)) => tell(What::Faults, found, false),
+        Some(("draw", found)) => tell(picture_in(found), found, false),
+        Some(("events", found)) => tell(What::Events, found, false),
+        Some(("compare", found)) => Order::Compare {
+            first: file_in(found, "FIRST"),
+            second: file_in(found, "SECOND"),
         },
-        Some(("draw", found)) => Order {
-            what: picture_in(found),
-            file: file_in(found),
-            is_strict: false,
-        },
-        Some((_, found)) => Order {
-            what: What::Explanation,
-            file: file_in(found),
-            is_strict: found.get_flag("strict"),
-        },
-        None => Order {
+        Some((_, found)) => tell(What::Explanation, found, found.get_flag("strict")),
+        None => Order::Tell {
             what: What::Explanation,
             file: None,
             is_strict: false,
         },
+    }
+}
+
+fn tell<'a>(what: What, matches: &ArgMatches<'a>, is_strict: bool) -> Order<'a> {
+    Order::Tell {
+        what,
+        file: file_in(matches, "FILE"),
+        is_strict,
     }
 }
 
@@ -161,8 +208,8 @@ fn picture_in(matches: &ArgMatches<'_>) -> What {
     }
 }
 
-fn file_in<'a>(matches: &ArgMatches<'a>) -> Option<&'a str> {
-    match matches.get_str("FILE") {
+fn file_in<'a>(matches: &ArgMatches<'a>, name: &str) -> Option<&'a str> {
+    match matches.get_str(name) {
         Some("-") => None,
         file => file,
     }

@@ -2,7 +2,7 @@
 #![tactic(auto)]
 
 use ada_replay::RunFault;
-use ada_scope::{Finding, Order, ScopeFault, obey, order_of, status_of};
+use ada_scope::{Failure, Finding, ScopeFault, obey, order_of, status_of};
 use clap::Error;
 use clap::error::ErrorKind;
 use std::io::{Eprint, Input, Print};
@@ -28,7 +28,7 @@ fn try_words<R: Files + AllocGlobal + Input + Print + Eprint>(
     words: &[String],
 ) -> ExitCode {
     match order_of(rt.alloc(), words) {
-        Ok(order) => end(rt, order.file, &obey(rt, &order)),
+        Ok(order) => end(rt, &obey(rt, &order)),
         Err(fault) => answer(rt, &fault),
     }
 }
@@ -36,27 +36,35 @@ fn try_words<R: Files + AllocGlobal + Input + Print + Eprint>(
 // Help, or why the words are refused.
 fn answer<R: Print + Eprint>(rt: &R, fault: &Error) -> ExitCode {
     if fault.kind() == ErrorKind::OutOfMemory {
-        return end(rt, None, &Err(ScopeFault::Run(RunFault::Memory)));
+        return end(rt, &failed(RunFault::Memory));
     }
     // Where standard error can't be written, the words are refused all the same.
     if fault.print(rt).is_ok() || fault.use_stderr() {
         ExitCode::from(fault.exit_code() as u8)
     } else {
-        end(rt, None, &Err(ScopeFault::Run(RunFault::Write)))
+        end(rt, &failed(RunFault::Write))
     }
 }
 
 fn refuse_words<R: Eprint>(rt: &R, fault: &io::Error) -> ExitCode {
     if fault.kind() == io::ErrorKind::OutOfMemory {
-        return end(rt, None, &Err(ScopeFault::Run(RunFault::Memory)));
+        return end(rt, &failed(RunFault::Memory));
     }
     let _ = eprintln!(rt; "error: a word of the command line is not UTF-8 text");
     ExitCode::from(2)
 }
 
-fn end<R: Eprint>(rt: &R, file: Option<&str>, outcome: &Result<Finding, ScopeFault>) -> ExitCode {
-    if let Err(fault) = outcome {
-        let _ = match file {
+fn failed<'a>(fault: RunFault) -> Result<Finding, Failure<'a>> {
+    Err(Failure {
+        file: None,
+        fault: ScopeFault::Run(fault),
+    })
+}
+
+fn end<R: Eprint>(rt: &R, outcome: &Result<Finding, Failure<'_>>) -> ExitCode {
+    if let Err(failure) = outcome {
+        let fault = &failure.fault;
+        let _ = match failure.file {
             Some(file) => eprintln!(rt; "adascope: {file}: {fault}"),
             None => eprintln!(rt; "adascope: {fault}"),
         };
