@@ -43,29 +43,23 @@ impl<'a> Row<'a> {
         }
     }
 
-    /// Appends the row: the line of the script at the left, in so many columns, and what it printed at the right.
-    pub fn write(&self, text: &mut String, width: usize) -> Result<(), AllocError> {
-        if self.is_first() {
-            write_statement(text, self.line, self.statement, width)?;
-        } else {
+    /// Appends the row: the line of the script at the left, in so many columns, and what it printed at the right, after
+    /// a sign.
+    pub fn write(&self, text: &mut String, sign: &str, width: usize) -> Result<(), AllocError> {
+        text.push_str(sign)?;
+        if !self.is_first() {
             write_margin(text, width)?;
+            return text.push_str(self.printed);
         }
-        write!(text, "{}\n", self.printed)
+        write!(text, "{:>4}  {}", self.line, self.statement)?;
+        if self.statement.len() > width {
+            write!(text, "\n{sign}")?;
+            write_margin(text, width)?;
+        } else {
+            write_spaces(text, (width - self.statement.len()).saturating_add(2))?;
+        }
+        text.push_str(self.printed)
     }
-}
-
-fn write_statement(
-    text: &mut String,
-    line: u32,
-    statement: &str,
-    width: usize,
-) -> Result<(), AllocError> {
-    write!(text, "{line:>4}  {statement}")?;
-    if statement.len() > width {
-        write!(text, "\n")?;
-        return write_margin(text, width);
-    }
-    write_spaces(text, (width - statement.len()).saturating_add(2))
 }
 
 fn write_spaces(text: &mut String, count: usize) -> Result<(), AllocError> {

@@ -2,9 +2,9 @@
 
 use crate::alignment::{Place, align};
 use crate::ends::write_ends;
-use crate::steps::{Step, steps_of};
-use ada_account::Account;
+use crate::steps::{Step, partner, steps_of};
 use ada_account::rows::Rows;
+use ada_account::{Account, Scene};
 use std::alloc::{AllocError, Global};
 
 /// A script, how it is called, and its play.
@@ -49,6 +49,7 @@ pub fn compare(
 #[derive(Drop)]
 struct Side<'a> {
     name: &'a str,
+    scene: Scene<'a>,
     rows: Rows<'a>,
     steps: Vec<Step>,
 }
@@ -59,6 +60,7 @@ impl<'a> Side<'a> {
         let steps = steps_of(alloc, played.account, &rows)?;
         Ok(Side {
             name: played.name,
+            scene: Scene::of(played.account, u32::MAX),
             rows,
             steps,
         })
@@ -84,8 +86,11 @@ impl<'a> Side<'a> {
             return Ok(());
         };
         for row in self.rows.rows.iter().skip(step.first).take(step.count) {
-            text.push_str(sign)?;
-            row.write(text, width)?;
+            row.write(text, sign, width)?;
+            match partner(self.scene, row) {
+                Some(task) => write!(text, " ({task})\n")?,
+                None => text.push('\n')?,
+            }
         }
         Ok(())
     }

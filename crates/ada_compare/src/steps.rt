@@ -57,18 +57,31 @@ fn plain(alloc: Global, statement: &str) -> Result<String, AllocError> {
     Ok(words)
 }
 
-// Appends what a row shows.
+// Appends what a row shows. An event that names others by their positions names a task instead, which has done nothing
+// else since.
 fn write_effect(text: &mut String, scene: Scene<'_>, row: &Row<'_>) -> Result<(), AllocError> {
-    match row.shows {
-        Shows::Answer => write_answer(text, row.printed)?,
-        Shows::Asked(position) | Shows::Forced(position) => {
-            match event_in(scene.events, position) {
-                Some(event) => write_event(text, scene, event, row.without_position())?,
-                None => {}
-            }
+    match partner(scene, row) {
+        Some(task) => {
+            write_plain(text, row.without_position())?;
+            text.push_str(task)?;
         }
+        None if row.shows == Shows::Answer => write_answer(text, row.printed)?,
+        None => text.push_str(row.without_position())?,
     }
     text.push('\n')
+}
+
+// Appends the words that aren't positions. Only the number of a delay alternative isn't one either.
+fn write_plain(text: &mut String, printed: &str) -> Result<(), AllocError> {
+    let mut is_number = false;
+    for word in printed.split(' ') {
+        if is_number || !word.starts_with(|c: char| c.is_ascii_digit()) {
+            text.push_str(word)?;
+            text.push(' ')?;
+        }
+        is_number = word == "delay";
+    }
+    Ok(())
 }
 
 // A refusal or a value, without the number of its line.
@@ -79,35 +92,21 @@ fn write_answer(text: &mut String, printed: &str) -> Result<(), AllocError> {
     }
 }
 
-// An event. One that names others by their positions names their tasks instead: each has done nothing else since.
-fn write_event(
-    text: &mut String,
-    scene: Scene<'_>,
-    event: &Event,
-    printed: &str,
-) -> Result<(), AllocError> {
-    let (position, what) = match event {
-        Event::Ended { call, raised, .. } => (*call, if *raised { "raised" } else { "ended" }),
-        Event::Failed { call } => (*call, "failed"),
-        Event::Met { call, .. } => (*call, "met"),
-        Event::Cancelled { call } => (*call, "cancelled"),
-        Event::Woken { pause } => (*pause, "woken"),
-        Event::Activated { start, ok } => (*start, if *ok { "activated" } else { "not activated" }),
-        Event::Left { close } => (*close, "left"),
-        Event::Passed { wait, .. } => (*wait, way_of(printed)),
-        _ => return text.push_str(printed),
+/// The task of the event that a row's event names first by its position, if it names one.
+pub fn partner<'a>(scene: Scene<'a>, row: &Row<'_>) -> Option<&'a str> {
+    let (Shows::Asked(position) | Shows::Forced(position)) = row.shows else {
+        return None;
     };
-    let task = match holder(scene.events, position) {
-        Some(task) => scene.task(task),
-        None => "?",
+    let named = match event_in(scene.events, position)? {
+        Event::Ended { call, .. }
+        | Event::Failed { call }
+        | Event::Met { call, .. }
+        | Event::Cancelled { call } => *call,
+        Event::Woken { pause } => *pause,
+        Event::Activated { start, .. } => *start,
+        Event::Left { close } => *close,
+        Event::Passed { wait, .. } => *wait,
+        _ => return None,
     };
-    write!(text, "{what} {task}")
-}
-
-// The way in which a wait ended, as it is printed after `passed` and the position of the wait.
-fn way_of(printed: &str) -> &str {
-    match printed.splitn(3, ' ').last() {
-        Some(way) => way,
-        None => printed,
-    }
+    Some(scene.task(holder(scene.events, named)?))
 }

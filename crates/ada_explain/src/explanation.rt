@@ -27,7 +27,8 @@ pub fn explain(alloc: Global, source: &[u8], account: &Account) -> Result<Explan
     let mut before = 0u32;
     let mut refused = 0u32;
     for row in &rows.rows {
-        row.write(&mut text, width)?;
+        row.write(&mut text, "", width)?;
+        text.push('\n')?;
         if !row.is_first() {
             continue;
         }

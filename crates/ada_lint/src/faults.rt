@@ -274,7 +274,7 @@ fn write_statement(
 ) -> Result<Repair, AllocError> {
     match faulty.expected {
         Expected::Speaker => write_speaker(message, faulty),
-        Expected::Verb => write_keyword(message, faulty, VERBS.as_slice()),
+        Expected::Verb => write_verb(message, faulty, declared),
         Expected::Attribute => {
             write_keyword(
                 message,
@@ -298,6 +298,42 @@ fn write_statement(
             Ok(Repair::Cut)
         }
         _ => write_name(message, faulty),
+    }
+}
+
+// A verb and what follows it, if they stand in one word: a verb that declares or accepts with any name, another one with a
+// name that is declared.
+fn grown<'a>(word: &'a str, declared: &Declarations) -> Option<(&'static str, &'a str)> {
+    for verb in VERBS {
+        if let Some(name) = word.strip_prefix(verb)
+            && is_name(name.as_bytes())
+            && (matches!(verb, "create" | "open" | "accept") || declared.get(name).is_some())
+        {
+            return Some((verb, name));
+        }
+    }
+    None
+}
+
+fn write_verb(
+    message: &mut String,
+    faulty: Faulty<'_>,
+    declared: &Declarations,
+) -> Result<Repair, AllocError> {
+    let alloc = *message.allocator();
+    let word = faulty.word();
+    let follows = match faulty.words.get(faulty.place.saturating_add(1)) {
+        Some(next) => next.text,
+        None => "",
+    };
+    if let Some((verb, name)) = grown(word, declared) {
+        write!(message, "a space is missing: write `{verb} {name}`")?;
+        Ok(Repair::Words(format!(in alloc; "{verb} {name}")?))
+    } else if follows == "under" && is_name(word.as_bytes()) {
+        write!(message, "the verb is missing: write `create {word}`")?;
+        Ok(Repair::Words(format!(in alloc; "create {word}")?))
+    } else {
+        write_keyword(message, faulty, VERBS.as_slice())
     }
 }
 
@@ -346,6 +382,12 @@ fn write_under(
 ) -> Result<Repair, AllocError> {
     let alloc = *message.allocator();
     let word = faulty.word();
+    if let Some(master) = word.strip_prefix("under")
+        && (master == "main" || declared.get(master).is_some())
+    {
+        write!(message, "a space is missing: write `under {master}`")?;
+        return Ok(Repair::Words(format!(in alloc; "under {master}")?));
+    }
     write!(message, "`under` is missing, as in `create S under main`")?;
     if nearest_of(alloc, word, ["under"].as_slice())?.is_some() {
         return Ok(Repair::Words("under".to_string(alloc)?));
@@ -369,11 +411,16 @@ fn write_speaker(message: &mut String, faulty: Faulty<'_>) -> Result<Repair, All
         write!(message, "the colon belongs to the name: write `{word}:`")?;
         return Ok(Repair::Joined);
     }
+    if word.ends_with("::") {
+        let name = word.trim_end_matches(':');
+        write!(message, "one colon is enough: write `{name}:`")?;
+        return Ok(Repair::Words(format!(in alloc; "{name}:")?));
+    }
     if word.ends_with(':') {
         return write_name(message, faulty);
     }
     match word.split_once(':') {
-        Some((name, rest)) => write_split(message, name, rest),
+        Some((name, rest)) => write_split(message, name, rest.trim_start_matches(':')),
         None => write_without_colon(message, word),
     }
 }

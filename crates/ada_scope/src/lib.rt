@@ -4,7 +4,8 @@
 pub mod fault;
 pub mod obeying;
 pub mod order;
+pub mod painting;
 
 pub use fault::{Failure, Finding, ScopeFault, status_of};
 pub use obeying::obey;
-pub use order::{Order, What, order_of};
+pub use order::{Color, Job, Order, What, order_of};

@@ -1,6 +1,7 @@
 //! How an order is obeyed.
 
-use crate::{Failure, Finding, Order, ScopeFault, What};
+use crate::painting::{Kind, painted};
+use crate::{Failure, Finding, Job, ScopeFault, What};
 use ada_account::{Account, account_of};
 use ada_compare::compare;
 use ada_compare::comparison::Played;
@@ -21,19 +22,37 @@ use std::{fs, io};
 /// How the standard input is called where a file's name would stand.
 static STANDARD_INPUT: &str = "<stdin>";
 
-/// Does what was ordered, and says what was found.
+/// Does what was ordered, with colours or without, and says what was found.
 pub fn obey<'a, R: Files + Input + Print + AllocGlobal>(
     rt: &R,
-    order: &Order<'a>,
+    job: Job<'a>,
+    is_colored: bool,
 ) -> Result<Finding, Failure<'a>> {
-    match order {
-        Order::Tell {
+    match job {
+        Job::Tell {
             what,
             file,
             is_strict,
-        } => tell(rt, *what, *file, *is_strict).map_err(|fault| Failure { file: *file, fault }),
-        Order::Compare { first, second } => tell_difference(rt, *first, *second),
+        } => {
+            let told = tell(rt, what, file, is_strict, is_colored);
+            told.map_err(|fault| Failure { file, fault })
+        }
+        Job::Compare { first, second } => tell_difference(rt, first, second, is_colored),
     }
+}
+
+// Writes a text, with colours if it has some.
+fn print<R: Print + AllocGlobal>(
+    rt: &R,
+    text: &str,
+    kind: Kind,
+    is_colored: bool,
+) -> Result<(), RunFault> {
+    if !is_colored {
+        return write_output(&mut io::writer(rt), text.as_bytes());
+    }
+    let text = painted(rt.alloc(), text, kind).map_err(|_| RunFault::Memory)?;
+    write_output(&mut io::writer(rt), text.as_bytes())
 }
 
 // The text of a file, or of the standard input.
@@ -59,11 +78,12 @@ fn tell<R: Files + Input + Print + AllocGlobal>(
     what: What,
     file: Option<&str>,
     is_strict: bool,
+    is_colored: bool,
 ) -> Result<Finding, ScopeFault> {
     let text = text_of(rt, file)?;
     match what {
-        What::Explanation => tell_explanation(rt, &text, is_strict),
-        What::Faults => tell_faults(rt, file.unwrap_or(STANDARD_INPUT), &text),
+        What::Explanation => tell_explanation(rt, &text, is_strict, is_colored),
+        What::Faults => tell_faults(rt, file.unwrap_or(STANDARD_INPUT), &text, is_colored),
         What::Picture | What::Sequence | What::Graph | What::Events => draw(rt, &text, what),
     }
 }
@@ -91,9 +111,10 @@ fn tell_explanation<R: Print + AllocGlobal>(
     rt: &R,
     text: &[u8],
     is_strict: bool,
+    is_colored: bool,
 ) -> Result<Finding, ScopeFault> {
     let explanation = explanation_of(rt.alloc(), text)?;
-    write_output(&mut io::writer(rt), explanation.text.as_bytes())?;
+    print(rt, &explanation.text, Kind::Explanation, is_colored)?;
     Ok(finding(&explanation, is_strict))
 }
 
@@ -119,10 +140,11 @@ fn tell_faults<R: Print + AllocGlobal>(
     rt: &R,
     file: &str,
     text: &[u8],
+    is_colored: bool,
 ) -> Result<Finding, ScopeFault> {
     let review = review_of(rt.alloc(), text).map_err(|_| RunFault::Memory)?;
     let printed = print_review(rt.alloc(), file, text, &review).map_err(|_| RunFault::Memory)?;
-    write_output(&mut io::writer(rt), printed.as_bytes())?;
+    print(rt, &printed, Kind::Findings, is_colored)?;
     Ok(match review.fault {
         None => Finding::Nothing,
         Some(_) => Finding::Faulty,
@@ -148,6 +170,7 @@ fn tell_difference<'a, R: Files + Input + Print + AllocGlobal>(
     rt: &R,
     first: Option<&'a str>,
     second: Option<&'a str>,
+    is_colored: bool,
 ) -> Result<Finding, Failure<'a>> {
     let (text, account) = play(rt, first).map_err(|fault| Failure { file: first, fault })?;
     let (with, other) = play(rt, second).map_err(|fault| Failure {
@@ -164,7 +187,7 @@ fn tell_difference<'a, R: Files + Input + Print + AllocGlobal>(
         source: &with,
         account: &other,
     };
-    write_difference(rt, one, two).map_err(|fault| Failure {
+    write_difference(rt, one, two, is_colored).map_err(|fault| Failure {
         file: None,
         fault: ScopeFault::Run(fault),
     })
@@ -174,9 +197,10 @@ fn write_difference<R: Print + AllocGlobal>(
     rt: &R,
     first: Played<'_>,
     second: Played<'_>,
+    is_colored: bool,
 ) -> Result<Finding, RunFault> {
     let comparison = compare(rt.alloc(), first, second).map_err(|_| RunFault::Memory)?;
-    write_output(&mut io::writer(rt), comparison.text.as_bytes())?;
+    print(rt, &comparison.text, Kind::Difference, is_colored)?;
     Ok(if comparison.differs {
         Finding::Difference
     } else {

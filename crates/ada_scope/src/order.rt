@@ -23,7 +23,7 @@ pub enum What {
 
 /// What the program is to do. A file is none where it is the standard input.
 #[derive(Clone, Copy, Debug, PartialEq, Eq)]
-pub enum Order<'a> {
+pub enum Job<'a> {
     /// To tell something of a script.
     Tell {
         what: What,
@@ -36,6 +36,33 @@ pub enum Order<'a> {
         first: Option<&'a str>,
         second: Option<&'a str>,
     },
+}
+
+/// When a text has colours.
+#[derive(Clone, Copy, Debug, PartialEq, Eq)]
+pub enum Color {
+    /// On a terminal, if the environment doesn't say otherwise.
+    Auto,
+    Always,
+    Never,
+}
+
+/// What the words of a command line order.
+#[derive(Clone, Copy, Debug, PartialEq, Eq)]
+pub struct Order<'a> {
+    pub job: Job<'a>,
+    pub color: Color,
+}
+
+impl Order<'_> {
+    /// Whether the text has colours, by whether it may have some unless it is said.
+    pub fn is_colored(&self, may_be: bool) -> bool {
+        match self.color {
+            Color::Auto => may_be,
+            Color::Always => true,
+            Color::Never => false,
+        }
+    }
 }
 
 static ABOUT: &str = "Explain and check scripts of requests to a kernel of Ada tasks";
@@ -93,6 +120,11 @@ static FILE: &str = "The file that has the script, or - for the standard input, 
 static STRICT: &str =
     "End with status 3 where a line was refused, or the end is stuck, or has a circle of tasks";
 
+static COLOR: &str =
+    "Whether the text has colours: on a terminal alone, if NO_COLOR isn't set, or as is said";
+
+static COLORS: [&str; 3] = ["auto", "always", "never"];
+
 static FORMATS: [&str; 3] = ["svg", "mermaid", "dot"];
 
 static HELP: &str = "Exit status:
@@ -117,6 +149,16 @@ fn file<'a>(alloc: Global, name: &'a str) -> Arg<'a> {
     Arg::new(alloc, name).action(ArgAction::Set).help(FILE)
 }
 
+fn color_option<'a>(alloc: Global) -> Arg<'a> {
+    Arg::new(alloc, "color")
+        .long("color")
+        .value_name("WHEN")
+        .action(ArgAction::Set)
+        .value_parser(COLORS.as_slice())
+        .default_value("auto")
+        .help(COLOR)
+}
+
 fn explain<'a>(alloc: Global) -> Result<Command<'a>, AllocError> {
     let strict = Arg::new(alloc, "strict")
         .long("strict")
@@ -126,7 +168,8 @@ fn explain<'a>(alloc: Global) -> Result<Command<'a>, AllocError> {
         .about(EXPLAIN)
         .after_help(EXPLAIN_HELP)
         .arg(file(alloc, "FILE"))?
-        .arg(strict)
+        .arg(strict)?
+        .arg(color_option(alloc))
 }
 
 fn draw<'a>(alloc: Global) -> Result<Command<'a>, AllocError> {
@@ -148,14 +191,16 @@ fn compare<'a>(alloc: Global) -> Result<Command<'a>, AllocError> {
         .about(COMPARE)
         .after_help(COMPARE_HELP)
         .arg(file(alloc, "FIRST").required(true))?
-        .arg(file(alloc, "SECOND").required(true))
+        .arg(file(alloc, "SECOND").required(true))?
+        .arg(color_option(alloc))
 }
 
 fn program<'a>(alloc: Global) -> Result<Command<'a>, AllocError> {
     let lint = Command::new(alloc, "lint")
         .about(LINT)
         .after_help(LINT_HELP)
-        .arg(file(alloc, "FILE"))?;
+        .arg(file(alloc, "FILE"))?
+        .arg(color_option(alloc))?;
     let events = Command::new(alloc, "events")
         .about(EVENTS)
         .after_help(EVENTS_HELP)
@@ -175,27 +220,51 @@ fn program<'a>(alloc: Global) -> Result<Command<'a>, AllocError> {
 // What the subcommand that was met orders.
 fn ordered<'a>(matches: &ArgMatches<'a>) -> Order<'a> {
     match matches.subcommand() {
-        Some(("lint", found)) => tell(What::Faults, found, false),
-        Some(("draw", found)) => tell(picture_in(found), found, false),
-        Some(("events", found)) => tell(What::Events, found, false),
-        Some(("compare", found)) => Order::Compare {
-            first: file_in(found, "FIRST"),
-            second: file_in(found, "SECOND"),
+        Some(("lint", found)) => Order {
+            job: tell(What::Faults, found, false),
+            color: color_in(found),
         },
-        Some((_, found)) => tell(What::Explanation, found, found.get_flag("strict")),
-        None => Order::Tell {
+        Some(("draw", found)) => plain(tell(picture_in(found), found, false)),
+        Some(("events", found)) => plain(tell(What::Events, found, false)),
+        Some(("compare", found)) => Order {
+            job: Job::Compare {
+                first: file_in(found, "FIRST"),
+                second: file_in(found, "SECOND"),
+            },
+            color: color_in(found),
+        },
+        Some((_, found)) => Order {
+            job: tell(What::Explanation, found, found.get_flag("strict")),
+            color: color_in(found),
+        },
+        None => plain(Job::Tell {
             what: What::Explanation,
             file: None,
             is_strict: false,
-        },
+        }),
     }
 }
 
-fn tell<'a>(what: What, matches: &ArgMatches<'a>, is_strict: bool) -> Order<'a> {
-    Order::Tell {
+fn plain<'a>(job: Job<'a>) -> Order<'a> {
+    Order {
+        job,
+        color: Color::Never,
+    }
+}
+
+fn tell<'a>(what: What, matches: &ArgMatches<'a>, is_strict: bool) -> Job<'a> {
+    Job::Tell {
         what,
         file: file_in(matches, "FILE"),
         is_strict,
+    }
+}
+
+fn color_in(matches: &ArgMatches<'_>) -> Color {
+    match matches.get_str("color") {
+        Some("always") => Color::Always,
+        Some("never") => Color::Never,
+        _ => Color::Auto,
     }
 }
 

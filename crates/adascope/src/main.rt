@@ -5,9 +5,9 @@ use ada_replay::RunFault;
 use ada_scope::{Failure, Finding, ScopeFault, obey, order_of, status_of};
 use clap::Error;
 use clap::error::ErrorKind;
-use std::io::{Eprint, Input, Print};
+use std::env::VarError;
+use std::io::{Eprint, IsTerminal, Print};
 use std::process::ExitCode;
-use std::rt::Files;
 use std::{env, io};
 
 fn main(rt: HostRuntime) -> ExitCode {
@@ -23,14 +23,24 @@ fn words_of(rt: &HostRuntime) -> io::Result<Vec<String>> {
     Ok(words)
 }
 
-fn try_words<R: Files + AllocGlobal + Input + Print + Eprint>(
-    rt: &R,
-    words: &[String],
-) -> ExitCode {
+fn try_words(rt: &HostRuntime, words: &[String]) -> ExitCode {
     match order_of(rt.alloc(), words) {
-        Ok(order) => end(rt, &obey(rt, &order)),
+        Ok(order) => {
+            let is_colored = order.is_colored(may_be_colored(rt));
+            end(rt, &obey(rt, order.job, is_colored))
+        }
         Err(fault) => answer(rt, &fault),
     }
+}
+
+// Whether the standard output is a terminal, and nobody asks that nothing has colours.
+fn may_be_colored(rt: &HostRuntime) -> bool {
+    let asks = match env::var(rt, "NO_COLOR") {
+        Ok(text) => !text.is_empty(),
+        Err(VarError::NotPresent) => false,
+        Err(_) => true,
+    };
+    !asks && rt.stdout().is_terminal()
 }
 
 // Help, or why the words are refused.
