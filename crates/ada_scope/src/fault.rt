@@ -1,4 +1,6 @@
 //! How the program ends.
+ghost use Rattle.std.specs.Prelude.{◌≡◌};
+ghost use Rattle.ada_scope.specs.Statuses.{fault_status as status_in, status};
 
 use ada_replay::RunFault;
 use thiserror::Error;
@@ -45,15 +47,23 @@ pub struct Failure<'a> {
 
 /// The exit status: 0 if nothing was found, 1 for a faulty line or a difference, 2 for a faulty line of what was to be
 /// compared, 3 for a standstill that was looked for, and 4 where a file, memory, the input or the output was refused.
-pub fn status_of(outcome: &Result<Finding, Failure<'_>>) -> u8 {
+pub fn status_of(outcome: &Result<Finding, Failure<'_>>) -> u8
+    ensures { result ≡ status outcome.now }
+{
     match outcome {
         Ok(Finding::Nothing) => 0,
         Ok(Finding::Faulty | Finding::Difference) => 1,
         Ok(Finding::Standstill) => 3,
-        Err(failure) => match failure.fault {
-            ScopeFault::Run(RunFault::Script(_)) => 1,
-            ScopeFault::Compared(_) => 2,
-            ScopeFault::Open | ScopeFault::Run(_) => 4,
-        },
+        Err(failure) => fault_status(&failure.fault),
+    }
+}
+
+fn fault_status(fault: &ScopeFault) -> u8
+    ensures { result ≡ status_in fault.now }
+{
+    match fault {
+        ScopeFault::Run(RunFault::Script(_)) => 1,
+        ScopeFault::Compared(_) => 2,
+        ScopeFault::Open | ScopeFault::Run(_) => 4,
     }
 }

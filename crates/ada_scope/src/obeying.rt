@@ -1,4 +1,6 @@
 //! How an order is obeyed.
+ghost use Rattle.std.specs.Prelude.{IfOk};
+ghost use Rattle.ada_scope.specs.Findings.{IsFoundIn};
 
 use crate::painting::{Kind, painted};
 use crate::{Failure, Finding, Job, ScopeFault, What};
@@ -136,19 +138,28 @@ fn draw<R: Print + AllocGlobal>(rt: &R, text: &[u8], what: What) -> Result<Findi
     Ok(Finding::Nothing)
 }
 
+/// Checks a text: what is printed of the file that has it, and what was found. An `Err` is `Memory`.
+pub fn check(alloc: Global, file: &str, text: &[u8]) -> Result<(String, Finding), RunFault>
+    ensures { IfOk result (λ checked. IsFoundIn text.now checked.1) }
+{
+    let review = review_of(alloc, text).map_err(|_| RunFault::Memory)?;
+    let printed = print_review(alloc, file, text, &review).map_err(|_| RunFault::Memory)?;
+    let finding = match review.fault {
+        None => Finding::Nothing,
+        Some(_) => Finding::Faulty,
+    };
+    Ok((printed, finding))
+}
+
 fn tell_faults<R: Print + AllocGlobal>(
     rt: &R,
     file: &str,
     text: &[u8],
     is_colored: bool,
 ) -> Result<Finding, ScopeFault> {
-    let review = review_of(rt.alloc(), text).map_err(|_| RunFault::Memory)?;
-    let printed = print_review(rt.alloc(), file, text, &review).map_err(|_| RunFault::Memory)?;
+    let (printed, finding) = check(rt.alloc(), file, text)?;
     print(rt, &printed, Kind::Findings, is_colored)?;
-    Ok(match review.fault {
-        None => Finding::Nothing,
-        Some(_) => Finding::Faulty,
-    })
+    Ok(finding)
 }
 
 // The text of a script that is to be compared, and its play.
