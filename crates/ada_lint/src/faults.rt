@@ -301,8 +301,8 @@ fn write_statement(
     }
 }
 
-// A verb and what follows it, if they stand in one word: a verb that declares or accepts with any name, another one with
-// a name that is declared.
+// A verb and what follows it, if they stand in one word: a verb that declares or accepts with any name, another one
+// with a name that is declared.
 fn grown<'a>(word: &'a str, declared: &Declarations) -> Option<(&'static str, &'a str)> {
     for verb in VERBS {
         if let Some(name) = word.strip_prefix(verb)
