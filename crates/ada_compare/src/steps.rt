@@ -38,7 +38,7 @@ pub fn steps_of(
             })?;
         }
         if let Some(step) = steps.last_mut() {
-            step.count += 1;
+            step.count = step.count.saturating_add(1);
             write_effect(&mut step.effect, scene, row)?;
         }
     }
