@@ -5,6 +5,7 @@ use ada_account::Scene;
 use ada_account::lives::holder;
 use ada_events::journal::event_in;
 use ada_events::{Choice, Entry, Event, EventTail, Family, Master, Patience, TaskNo, Way};
+use ada_statements::Bound;
 use std::alloc::{AllocError, Global};
 
 // The call at a position.
@@ -69,10 +70,11 @@ fn families_of<'a>(
     task: TaskNo,
     families: &[Family],
 ) -> Result<Vec<FamilyRecord<'a>>, AllocError> {
+    let names = scene.names.families(Bound::Task(task));
     let mut records = Vec::new(alloc);
-    for (place, family) in families.iter().enumerate() {
+    for (name, family) in names.iter().zip(families.iter()) {
         records.push(FamilyRecord {
-            entry: scene.family_name(task, place as u8),
+            entry: name.as_str(),
             low: family.low,
             high: family.high,
         })?;
