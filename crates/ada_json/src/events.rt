@@ -1,9 +1,10 @@
-//! All records of a play.
+//! All objects of a play.
 
-use crate::record::{Record, Told, ValueRecord};
-use crate::telling::{names_of, told_of};
+use crate::members::{begin_object, end_object, put_number, put_position, put_text, put_truth};
+use crate::telling::{kind_of, put_told};
 use ada_account::lives::Lives;
 use ada_account::{Account, Scene, Source};
+use ada_events::journal::event_in;
 use ada_events::{Event, Refusal, TaskNo};
 use ada_replay::Answer;
 use ada_script::{EntryName, Name, Statement, Value};
@@ -23,14 +24,17 @@ pub fn write_events(alloc: Global, source: &[u8], account: &Account) -> Result<S
         match answer {
             Answer::Group { first, last } => writer.write_group(line.line, *first, *last)?,
             Answer::Refused(cause) => {
-                writer.write_refused(line.line, source.line(line.line), *cause)?;
+                write_refused(&mut writer.out, line.line, source.line(line.line), *cause)?;
             }
-            Answer::Shown(value) => writer.write_shown(line.line, &line.statement, *value)?,
+            Answer::Shown(value) => {
+                write_shown(&mut writer.out, line.line, &line.statement, *value)?;
+            }
         }
     }
     Ok(writer.out)
 }
 
+/// What is written, and what all tasks do after the events that were written.
 #[derive(Drop)]
 struct Writer<'a> {
     alloc: Global,
@@ -39,102 +43,92 @@ struct Writer<'a> {
     out: String,
 }
 
-impl<'a> Writer<'a> {
-    fn write(&mut self, record: &Record<'_>) -> Result<(), AllocError> {
-        // only memory can be refused
-        let text = serde_json::to_string(self.alloc, record).map_err(|_| AllocError)?;
-        self.out.push_str(&text)?;
-        self.out.push('\n')
-    }
-
+impl Writer<'_> {
     // The event that a line asked for, and those that it forced.
     fn write_group(&mut self, line: u32, first: u32, last: u32) -> Result<(), AllocError> {
         for position in first..=last {
-            let told = self.told(position)?;
-            let forced_by = if position == first { None } else { Some(first) };
-            self.write(&Record {
-                line,
-                position: Some(position),
-                forced_by,
-                told,
-            })?;
+            begin_object(&mut self.out, line)?;
+            put_position(&mut self.out, "position", position)?;
+            if position > first {
+                put_position(&mut self.out, "forced_by", first)?;
+            }
+            self.write_told(position)?;
+            end_object(&mut self.out)?;
         }
         Ok(())
     }
 
     // What happened by the event at a position, after those before it.
-    fn told(&mut self, position: u32) -> Result<Told<'a>, AllocError> {
+    fn write_told(&mut self, position: u32) -> Result<(), AllocError> {
         let scene = self.scene;
-        let event = &scene.events[position as usize - 1];
-        let made = TaskNo(self.lives.tasks() as u16);
+        let Some(event) = event_in(scene.events, position) else {
+            return Ok(());
+        };
+        put_text(&mut self.out, "kind", kind_of(event))?;
+        let made = TaskNo((self.lives.tasks() % 65_536) as u16);
+        let quit = self.quit(position, event)?;
+        put_told(&mut self.out, scene, position, event, made, &quit)
+    }
+
+    // The tasks that an event terminates together.
+    fn quit(&mut self, position: u32, event: &Event) -> Result<Vec<TaskNo>, AllocError> {
         let before = self.lives.spans().len();
-        self.lives.take(scene.events, position, event)?;
+        self.lives.take(self.scene.events, position, event)?;
         let mut quit = Vec::new(self.alloc);
         if let Event::Quit { .. } = event {
-            for span in &self.lives.spans()[before..] {
-                quit.push(scene.task(span.task))?;
+            for span in self.lives.spans().iter().skip(before) {
+                quit.push(span.task)?;
             }
         }
-        told_of(self.alloc, scene, position, event, made, quit)
-    }
-
-    fn write_refused(
-        &mut self,
-        line: u32,
-        statement: &str,
-        cause: Refusal,
-    ) -> Result<(), AllocError> {
-        let by = statement.split_once(':').map(|(by, _)| by);
-        self.write(&Record {
-            line,
-            position: None,
-            forced_by: None,
-            told: Told::Refused {
-                by,
-                statement,
-                cause: cause.name(),
-            },
-        })
-    }
-
-    fn write_shown(
-        &mut self,
-        line: u32,
-        statement: &Statement,
-        value: Value,
-    ) -> Result<(), AllocError> {
-        let value = match value {
-            Value::Truth(truth) => ValueRecord::Truth(truth),
-            Value::Number(number) => ValueRecord::Number(number),
-        };
-        let told = match statement {
-            Statement::ShowCallable { by, task } => shown(by, "callable", task, None, value),
-            Statement::ShowTerminated { by, task } => shown(by, "terminated", task, None, value),
-            Statement::ShowCount { by, entry } => shown(by, "count", by, Some(entry), value),
-            _ => return Ok(()),
-        };
-        self.write(&Record {
-            line,
-            position: None,
-            forced_by: None,
-            told,
-        })
+        Ok(quit)
     }
 }
 
-fn shown<'a>(
-    by: &'a Name,
-    attribute: &'static str,
-    task: &'a Name,
-    entry: Option<&'a EntryName>,
-    value: ValueRecord,
-) -> Told<'a> {
-    Told::Shown {
-        by: by.as_str(),
-        attribute,
-        task: task.as_str(),
-        entry: entry.map(|entry| entry.family.as_str()),
-        index: entry.map(|entry| entry.index.unwrap_or(0)),
-        value,
+fn write_refused(
+    out: &mut String,
+    line: u32,
+    statement: &str,
+    cause: Refusal,
+) -> Result<(), AllocError> {
+    begin_object(out, line)?;
+    put_text(out, "kind", "refused")?;
+    if let Some((by, _)) = statement.split_once(':') {
+        put_text(out, "by", by)?;
     }
+    put_text(out, "statement", statement)?;
+    put_text(out, "cause", cause.name())?;
+    end_object(out)
+}
+
+fn write_shown(
+    out: &mut String,
+    line: u32,
+    statement: &Statement,
+    value: Value,
+) -> Result<(), AllocError> {
+    begin_object(out, line)?;
+    put_text(out, "kind", "shown")?;
+    match statement {
+        Statement::ShowCallable { by, task } => put_shown(out, by, "callable", task)?,
+        Statement::ShowTerminated { by, task } => put_shown(out, by, "terminated", task)?,
+        Statement::ShowCount { by, entry } => put_count(out, by, entry)?,
+        _ => {}
+    }
+    match value {
+        Value::Truth(truth) => put_truth(out, "value", truth)?,
+        Value::Number(number) => put_number(out, "value", i64::from(number))?,
+    }
+    end_object(out)
+}
+
+fn put_shown(out: &mut String, by: &Name, attribute: &str, task: &Name) -> Result<(), AllocError> {
+    put_text(out, "by", by.as_str())?;
+    put_text(out, "attribute", attribute)?;
+    put_text(out, "task", task.as_str())
+}
+
+fn put_count(out: &mut String, by: &Name, entry: &EntryName) -> Result<(), AllocError> {
+    put_shown(out, by, "count", by)?;
+    put_text(out, "entry", entry.family.as_str())?;
+    put_number(out, "index", i64::from(entry.index.unwrap_or(0)))
 }

@@ -1,9 +1,8 @@
-//! A play as JSON: a record for each event, refusal and shown attribute, each on a line of its own.
+//! A play as JSON: an object for each event, refusal and shown attribute, each on a line of its own.
 #![tactic(auto)]
 
 pub mod events;
-pub mod record;
+pub mod members;
 pub mod telling;
 
 pub use events::write_events;
-pub use record::{Record, Told};

@@ -39,32 +39,37 @@ impl<'a> Faulty<'a> {
     }
 }
 
-/// How what has to stand at a place is called.
-fn write_expected(message: &mut String, expected: Expected<'_>) -> Result<(), AllocError> {
+// How what has to stand at a place is called.
+fn expected_text(expected: Expected<'_>) -> &'static str {
     match expected {
-        Expected::Speaker => write!(message, "a speaker with a colon, as `main:`"),
-        Expected::Verb => write!(message, "a verb"),
-        Expected::NewName => write!(message, "a new name"),
-        Expected::Under => write!(message, "`under`"),
-        Expected::Master => write!(message, "the task or the block that it depends on"),
-        Expected::Family => write!(message, "the name of an entry"),
-        Expected::LowBound => write!(message, "the low bound"),
-        Expected::HighBound => write!(message, "the high bound"),
-        Expected::Task => write!(message, "the name of a task"),
-        Expected::Entry(task) => write!(message, "the name of an entry of `{task}`"),
-        Expected::Moment => write!(message, "a moment in milliseconds"),
-        Expected::Duration => write!(message, "a duration in milliseconds"),
-        Expected::Pick => write!(message, "the pick, a number such as 0"),
-        Expected::Index => write!(message, "an index"),
-        Expected::Within => write!(message, "`within` and a duration"),
-        Expected::Alternative => write!(
-            message,
-            "an alternative: `accept`, `delay` or `terminate`"
-        ),
-        Expected::DelayAlternative => write!(message, "`delay`"),
-        Expected::Link => write!(message, "`or` or `else`"),
-        Expected::Attribute => write!(message, "`callable`, `terminated` or `count`"),
-        Expected::End => write!(message, "the end of the line"),
+        Expected::Speaker => "a speaker with a colon, as `main:`",
+        Expected::Verb => "a verb",
+        Expected::NewName => "a new name",
+        Expected::Under => "`under`",
+        Expected::Master => "the task or the block that it depends on",
+        Expected::Family | Expected::Entry(_) => "the name of an entry",
+        Expected::LowBound => "the low bound",
+        Expected::HighBound => "the high bound",
+        Expected::Task => "the name of a task",
+        Expected::Moment => "a moment in milliseconds",
+        Expected::Duration => "a duration in milliseconds",
+        Expected::Pick => "the pick, a number such as 0",
+        Expected::Index => "an index",
+        Expected::Within => "`within` and a duration",
+        Expected::Alternative => "an alternative: `accept`, `delay` or `terminate`",
+        Expected::DelayAlternative => "`delay`",
+        Expected::Link => "`or` or `else`",
+        Expected::Attribute => "`callable`, `terminated` or `count`",
+        Expected::End => "the end of the line",
+    }
+}
+
+/// Appends how what has to stand at a place is called.
+fn write_expected(message: &mut String, expected: Expected<'_>) -> Result<(), AllocError> {
+    message.push_str(expected_text(expected))?;
+    match expected {
+        Expected::Entry(task) => write!(message, " of `{task}`"),
+        _ => Ok(()),
     }
 }
 
