@@ -1,5 +1,5 @@
 -- What is found in a text that is checked.
-use Rattle.std.specs.Prelude.{ℕ, List, ⊥}
+use Rattle.std.specs.Prelude.{ℕ, List}
 use Rattle.ada_statements.specs.declared.fault.ScriptFault.{ScriptFault}
 use Rattle.ada_script.specs.declared.script.Line.{Line}
 use Rattle.ada_script.specs.Script.{IsScript, IsFirstFault}
