@@ -57,18 +57,36 @@ fn plain(alloc: Global, statement: &str) -> Result<String, AllocError> {
     Ok(words)
 }
 
-// Appends what a row shows. An event that names others by their positions names a task instead, which has done nothing
-// else since.
+// Appends what a row shows. An event that names others by their positions names the task of the first instead, which has
+// done nothing else since, and the entry of a call.
 fn write_effect(text: &mut String, scene: Scene<'_>, row: &Row<'_>) -> Result<(), AllocError> {
-    match partner(scene, row) {
-        Some(task) => {
+    match named(scene, row) {
+        Some(position) => {
             write_plain(text, row.without_position())?;
-            text.push_str(task)?;
+            text.push_str(task_at(scene, position))?;
+            write_entry(text, scene, position)?;
         }
         None if row.shows == Shows::Answer => write_answer(text, row.printed)?,
         None => text.push_str(row.without_position())?,
     }
     text.push('\n')
+}
+
+// Appends the entry of the call at a position.
+fn write_entry(text: &mut String, scene: Scene<'_>, position: u32) -> Result<(), AllocError> {
+    match event_in(scene.events, position) {
+        Some(Event::Called { callee, entry, .. }) => {
+            write!(text, " {}", scene.entry(*callee, *entry))
+        }
+        _ => Ok(()),
+    }
+}
+
+fn task_at(scene: Scene<'_>, position: u32) -> &str {
+    match holder(scene.events, position) {
+        Some(task) => scene.task(task),
+        None => "?",
+    }
 }
 
 // Appends the words that aren't positions. Only the number of a delay alternative isn't one either.
@@ -94,19 +112,24 @@ fn write_answer(text: &mut String, printed: &str) -> Result<(), AllocError> {
 
 /// The task of the event that a row's event names first by its position, if it names one.
 pub fn partner<'a>(scene: Scene<'a>, row: &Row<'_>) -> Option<&'a str> {
+    let position = named(scene, row)?;
+    Some(task_at(scene, position))
+}
+
+// The position that a row's event names first, if it names one.
+fn named(scene: Scene<'_>, row: &Row<'_>) -> Option<u32> {
     let (Shows::Asked(position) | Shows::Forced(position)) = row.shows else {
         return None;
     };
-    let named = match event_in(scene.events, position)? {
+    match event_in(scene.events, position)? {
         Event::Ended { call, .. }
         | Event::Failed { call }
         | Event::Met { call, .. }
-        | Event::Cancelled { call } => *call,
-        Event::Woken { pause } => *pause,
-        Event::Activated { start, .. } => *start,
-        Event::Left { close } => *close,
-        Event::Passed { wait, .. } => *wait,
-        _ => return None,
-    };
-    Some(scene.task(holder(scene.events, named)?))
+        | Event::Cancelled { call } => Some(*call),
+        Event::Woken { pause } => Some(*pause),
+        Event::Activated { start, .. } => Some(*start),
+        Event::Left { close } => Some(*close),
+        Event::Passed { wait, .. } => Some(*wait),
+        _ => None,
+    }
 }
