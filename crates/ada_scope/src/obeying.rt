@@ -184,19 +184,29 @@ fn tell_difference<'a, R: Files + Input + Print + AllocGlobal>(
     is_colored: bool,
 ) -> Result<Finding, Failure<'a>> {
     let (text, account) = play(rt, first).map_err(|fault| Failure { file: first, fault })?;
-    let (with, other) = play(rt, second).map_err(|fault| Failure {
-        file: second,
-        fault,
-    })?;
     let one = Played {
         name: first.unwrap_or(STANDARD_INPUT),
         source: &text,
         account: &account,
     };
+    compare_with(rt, one, second, is_colored)
+}
+
+// Compares a play with that of a second script.
+fn compare_with<'a, R: Files + Input + Print + AllocGlobal>(
+    rt: &R,
+    one: Played<'_>,
+    second: Option<&'a str>,
+    is_colored: bool,
+) -> Result<Finding, Failure<'a>> {
+    let (text, account) = play(rt, second).map_err(|fault| Failure {
+        file: second,
+        fault,
+    })?;
     let two = Played {
         name: second.unwrap_or(STANDARD_INPUT),
-        source: &with,
-        account: &other,
+        source: &text,
+        account: &account,
     };
     write_difference(rt, one, two, is_colored).map_err(|fault| Failure {
         file: None,

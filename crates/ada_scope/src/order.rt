@@ -195,25 +195,38 @@ fn compare<'a>(alloc: Global) -> Result<Command<'a>, AllocError> {
         .arg(color_option(alloc))
 }
 
-fn program<'a>(alloc: Global) -> Result<Command<'a>, AllocError> {
-    let lint = Command::new(alloc, "lint")
+fn lint<'a>(alloc: Global) -> Result<Command<'a>, AllocError> {
+    Command::new(alloc, "lint")
         .about(LINT)
         .after_help(LINT_HELP)
         .arg(file(alloc, "FILE"))?
-        .arg(color_option(alloc))?;
-    let events = Command::new(alloc, "events")
+        .arg(color_option(alloc))
+}
+
+fn events<'a>(alloc: Global) -> Result<Command<'a>, AllocError> {
+    Command::new(alloc, "events")
         .about(EVENTS)
         .after_help(EVENTS_HELP)
-        .arg(file(alloc, "FILE"))?;
-    Command::new(alloc, "adascope")
+        .arg(file(alloc, "FILE"))
+}
+
+fn program<'a>(alloc: Global) -> Result<Command<'a>, AllocError> {
+    let program = Command::new(alloc, "adascope")
         .about(ABOUT)
         .version(VERSION)
         .after_help(HELP)
-        .subcommand_required(true)
+        .subcommand_required(true);
+    let program = program
         .subcommand(explain(alloc)?)?
-        .subcommand(lint)?
+        .subcommand(lint(alloc)?)?;
+    others(alloc, program)
+}
+
+// Adds the commands that look at a play otherwise.
+fn others<'a>(alloc: Global, program: Command<'a>) -> Result<Command<'a>, AllocError> {
+    program
         .subcommand(draw(alloc)?)?
-        .subcommand(events)?
+        .subcommand(events(alloc)?)?
         .subcommand(compare(alloc)?)
 }
 
