@@ -57,8 +57,8 @@ fn plain(alloc: Global, statement: &str) -> Result<String, AllocError> {
     Ok(words)
 }
 
-// Appends what a row shows. An event that names others by their positions names the task of the first instead, which has
-// done nothing else since, and the entry of a call.
+// Appends what a row shows. An event that names others by their positions names the task of the first instead, which
+// has done nothing else since, and the entry of a call.
 fn write_effect(text: &mut String, scene: Scene<'_>, row: &Row<'_>) -> Result<(), AllocError> {
     match named(scene, row) {
         Some(position) => {
