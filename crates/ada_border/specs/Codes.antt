@@ -1,0 +1,55 @@
+-- The codes of answers.
+use Rattle.std.specs.Prelude.{◌≡◌, ℕ, ◌+◌, ℤ, pos, Option, Some, List, [], ◌∷◌, slice_get}
+use Rattle.ada_events.specs.declared.refusal.Refusal.{Refusal}
+use Rattle.ada_events.specs.declared.refusal.Refusal.TheVariants.{UnknownTask, NotRunning, DuringActivation, NotActivating, NotYourMaster, EmptyList}
+use Rattle.ada_events.specs.declared.refusal.Refusal.TheVariants.{NotYourTask, NoAccept, NoSuchFamily, ConstraintError, SameFamilyNested, TerminateInAccept}
+use Rattle.ada_events.specs.declared.refusal.Refusal.TheVariants.{NotInAccept, NoBlock, StillNested, MainTask, MomentBack}
+use Rattle.ada_events.specs.declared.refusal.Refusal.TheVariants.{MomentTooLarge, TooManyTasks, TooManySlots, TooDeep, JournalFull, OutOfMemory}
+use Rattle.ada_border.specs.declared.bad.Bad.{Bad}
+use Rattle.ada_border.specs.declared.bad.Bad.TheVariants.{TooLong, NoSuchKind, OutOfRange, NoSuchEvent, NoSuchItem, NoSuchTask, NoSuchEntry}
+
+-- the causes of a refusal, in the order in which they are checked
+abbrev pub causes : List Refusal
+causes = UnknownTask ∷ NotRunning ∷ DuringActivation ∷ NotActivating ∷ NotYourMaster ∷ EmptyList ∷ NotYourTask ∷ NoAccept ∷ NoSuchFamily ∷ ConstraintError ∷
+    SameFamilyNested ∷ TerminateInAccept
+    ∷ NotInAccept ∷ NoBlock ∷ StillNested ∷ MainTask ∷ MomentBack ∷ MomentTooLarge ∷ TooManyTasks ∷ TooManySlots ∷ TooDeep ∷ JournalFull ∷ OutOfMemory ∷ []
+
+-- their codes, from 1
+abbrev pub refusal_code : Refusal → ℤ
+refusal_code UnknownTask = pos 1
+refusal_code NotRunning = pos 2
+refusal_code DuringActivation = pos 3
+refusal_code NotActivating = pos 4
+refusal_code NotYourMaster = pos 5
+refusal_code EmptyList = pos 6
+refusal_code NotYourTask = pos 7
+refusal_code NoAccept = pos 8
+refusal_code NoSuchFamily = pos 9
+refusal_code ConstraintError = pos 10
+refusal_code SameFamilyNested = pos 11
+refusal_code TerminateInAccept = pos 12
+refusal_code NotInAccept = pos 13
+refusal_code NoBlock = pos 14
+refusal_code StillNested = pos 15
+refusal_code MainTask = pos 16
+refusal_code MomentBack = pos 17
+refusal_code MomentTooLarge = pos 18
+refusal_code TooManyTasks = pos 19
+refusal_code TooManySlots = pos 20
+refusal_code TooDeep = pos 21
+refusal_code JournalFull = pos 22
+refusal_code OutOfMemory = pos 23
+
+-- what is wrong with numbers
+abbrev pub bad_code : Bad → ℤ
+bad_code TooLong = pos 100
+bad_code NoSuchKind = pos 101
+bad_code OutOfRange = pos 102
+bad_code NoSuchEvent = pos 103
+bad_code NoSuchItem = pos 104
+bad_code NoSuchTask = pos 105
+bad_code NoSuchEntry = pos 106
+
+-- the code of a cause is its place among the causes
+abbrev pub AreNumbered : Type 0
+AreNumbered = (cause : Refusal) → (place : ℕ) × (refusal_code cause ≡ pos (place + 1)) × (slice_get causes place ≡ Some cause)

@@ -1,0 +1,5 @@
+pub mod Answers
+pub mod Codes
+pub mod Events
+pub mod Outcomes
+pub mod Requests

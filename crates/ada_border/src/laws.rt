@@ -1,0 +1,19 @@
+//! Laws of the border: what goes over it can be read back. Each law is the contract of a function that does nothing.
+ghost use Rattle.ada_border.specs.Codes.{AreNumbered};
+ghost use Rattle.ada_border.specs.Events.{AreReadBack};
+ghost use Rattle.ada_border.specs.Outcomes.{AreOutcomesReadBack};
+
+/// An event is told whole by its numbers and its lists.
+pub fn events_are_read_back()
+    ensures { AreReadBack }
+{}
+
+/// The code of a cause is its place, from 1, among the causes in the order in which they are checked.
+pub fn causes_are_numbered()
+    ensures { AreNumbered }
+{}
+
+/// An outcome is told whole by its numbers.
+pub fn outcomes_are_read_back()
+    ensures { AreOutcomesReadBack }
+{}

@@ -1,0 +1,67 @@
+-- Questions over the border, and their answers in numbers.
+use Rattle.std.specs.Prelude.{ℕ, ℤ, Result, Ok, List, option_map, slice_get}
+use Rattle.std.specs.Bool.{then_some}
+use Rattle.ada_events.specs.Attributes.{is_callable, own_count}
+use Rattle.ada_events.specs.Outcomes.{outcome_of}
+use Rattle.ada_events.specs.Phases.{is_running, is_terminated}
+use Rattle.ada_events.specs.Search.{event_at}
+use Rattle.ada_events.specs.Slots.{slot_of}
+use Rattle.ada_events.specs.Tasks.{has_task}
+use Rattle.ada_events.specs.declared.event.Event.{Event}
+use Rattle.ada_events.specs.declared.refusal.Refusal.{Refusal}
+use Rattle.ada_border.specs.Answers.{or_bad}
+use Rattle.ada_border.specs.Events.{flag, plain_of, lengths_of}
+use Rattle.ada_border.specs.Outcomes.{plain_outcome}
+use Rattle.ada_border.specs.Requests.{with_read, task_in, position_in, entry_in}
+use Rattle.ada_border.specs.declared.bad.Bad.{Bad}
+use Rattle.ada_border.specs.declared.bad.Bad.TheVariants.{NoSuchEvent, NoSuchItem, NoSuchTask, NoSuchEntry}
+use Rattle.ada_border.specs.declared.events.PlainEvent.{PlainEvent}
+use Rattle.ada_border.specs.declared.lists.PlainLengths.{PlainLengths}
+use Rattle.ada_border.specs.declared.outcomes.PlainOutcome.{PlainOutcome}
+
+-- ---- of a task
+
+-- what is asked of the task of a number, if there is such a task
+abbrev pub of_task : {A : Type 0} → List Event → ℕ → (ℕ → A) → Result A Bad
+of_task journal number asked = with_read (task_in number) (λ task. or_bad (then_some (has_task journal task.0) (asked task.0)) NoSuchTask)
+
+abbrev pub running_of : List Event → ℕ → Result ℕ Bad
+running_of journal number = of_task journal number (λ task. flag (is_running journal task))
+
+abbrev pub callable_of : List Event → ℕ → Result ℕ Bad
+callable_of journal number = of_task journal number (λ task. flag (is_callable journal task))
+
+abbrev pub terminated_of : List Event → ℕ → Result ℕ Bad
+terminated_of journal number = of_task journal number (λ task. flag (is_terminated journal task))
+
+abbrev pub outcome_of_task : List Event → ℕ → Result PlainOutcome Bad
+outcome_of_task journal number = of_task journal number (λ task. plain_outcome (outcome_of journal task))
+
+-- ---- of an entry
+
+abbrev pub slot_of_entry : List Event → ℕ → ℕ → ℤ → Result ℕ Bad
+slot_of_entry journal number family index = with_read (task_in number) (λ task. with_read (entry_in family index) (λ entry.
+    or_bad (slot_of journal task.0 entry) NoSuchEntry))
+
+-- ---- of an event
+
+abbrev pub of_event : {A : Type 0} → List Event → ℕ → (Event → A) → Result A Bad
+of_event journal number asked = with_read (position_in number) (λ position. or_bad (option_map asked (event_at journal position)) NoSuchEvent)
+
+abbrev pub event_told : List Event → ℕ → Result PlainEvent Bad
+event_told journal number = of_event journal number plain_of
+
+abbrev pub lengths_told : List Event → ℕ → Result PlainLengths Bad
+lengths_told journal number = of_event journal number lengths_of
+
+-- the item at a place, from 0, of a list of an event
+abbrev pub item_told : {I A : Type 0} → List Event → ℕ → ℕ → (Event → List I) → (I → A) → Result A Bad
+item_told journal number place list plain = with_read (of_event journal number list) (λ items.
+    or_bad (option_map plain (slice_get items place)) NoSuchItem)
+
+-- ---- of a queue
+
+-- COUNT of an entry of the asking task's own
+abbrev pub count_told : List Event → ℕ → ℕ → ℤ → Result (Result ℕ Refusal) Bad
+count_told journal number family index = with_read (task_in number) (λ task. with_read (entry_in family index) (λ entry.
+    Ok (own_count journal task.0 entry)))

@@ -1,0 +1,403 @@
+/* SPDX-License-Identifier: MIT */
+/*
+ * The run-time kernel beneath Ada tasks, for C99, C11 and C++17. docs/EMBEDDING.md says how to use it.
+ *
+ * Each function that may fail answers 0, or a code: 1 to 23 for the causes for which a request is refused, in the order
+ * in which they are checked, and 100 and more for what is wrong with the numbers that were passed. It writes through its
+ * pointers only where it answers 0, and changes the kernel only by an accepted request.
+ *
+ * A kernel may move between threads, and is used by one thread at a time; order the calls by a lock. There is no global
+ * state: a process may have many kernels. An `ada_kernel` is owned by whoever made it, and is dropped once; copies of
+ * the struct name the same kernel.
+ */
+#ifndef ADATASK_H
+#define ADATASK_H
+
+#include <stddef.h>
+#include <stdint.h>
+
+#ifdef __cplusplus
+extern "C" {
+#endif
+
+/* A kernel; one without a kernel has the null pointer. */
+typedef struct {
+  void *kernel;
+} ada_kernel;
+
+/* ---- Codes ---- */
+
+enum {
+  ADA_ACCEPTED = 0,
+  ADA_UNKNOWN_TASK = 1,          /* a task that is named doesn't exist */
+  ADA_NOT_RUNNING = 2,           /* the task that asks isn't running */
+  ADA_DURING_ACTIVATION = 3,     /* it has to end its activation first */
+  ADA_NOT_ACTIVATING = 4,        /* it has ended its activation, or is the main program */
+  ADA_NOT_YOUR_MASTER = 5,       /* it isn't within this master */
+  ADA_EMPTY_LIST = 6,            /* a list of tasks or of delay alternatives is empty */
+  ADA_NOT_YOUR_TASK = 7,         /* a task isn't its to activate, or is named twice */
+  ADA_NO_ACCEPT = 8,             /* a wait has no accept alternative */
+  ADA_NO_SUCH_FAMILY = 9,        /* a family of entries isn't declared */
+  ADA_CONSTRAINT_ERROR = 10,     /* an index is outside of its family's range */
+  ADA_SAME_FAMILY_NESTED = 11,   /* an accept within a rendezvous of the same family */
+  ADA_TERMINATE_IN_ACCEPT = 12,  /* a terminate alternative within a rendezvous */
+  ADA_NOT_IN_ACCEPT = 13,        /* the innermost construct isn't a rendezvous */
+  ADA_NO_BLOCK = 14,             /* the innermost construct isn't a block */
+  ADA_STILL_NESTED = 15,         /* an end of an activation or a body within a construct */
+  ADA_MAIN_TASK = 16,            /* an abort of the main program */
+  ADA_MOMENT_BACK = 17,          /* the moment would move back */
+  ADA_MOMENT_TOO_LARGE = 18,     /* a moment above 9,000,000,000,000 milliseconds */
+  ADA_TOO_MANY_TASKS = 19,       /* there are 256 tasks */
+  ADA_TOO_MANY_SLOTS = 20,       /* there would be more than 1,024 entries */
+  ADA_TOO_DEEP = 21,             /* the task is within 32 constructs */
+  ADA_JOURNAL_FULL = 22,         /* the journal hasn't room for another request */
+  ADA_OUT_OF_MEMORY = 23,        /* memory was refused */
+  ADA_TOO_LONG = 100,            /* a list is longer than the kernel takes */
+  ADA_NO_SUCH_KIND = 101,        /* a kind that is none */
+  ADA_OUT_OF_RANGE = 102,        /* a number that is too large for a task, a position or a family */
+  ADA_NO_SUCH_EVENT = 103,       /* there is no event at this position */
+  ADA_NO_SUCH_ITEM = 104,        /* the list of the event has no such item */
+  ADA_NO_SUCH_TASK = 105,        /* there is no such task */
+  ADA_NO_SUCH_ENTRY = 106,       /* the task has no such entry */
+  ADA_NULL = 107                 /* a pointer is null, or there is no kernel */
+};
+
+/* ---- Kinds ---- */
+
+/* Masters: a task's body by its number, or a block by the position of its opening (9.4). */
+enum { ADA_BODY = 0, ADA_BLOCK = 1 };
+
+/* Calls (9.5, 9.7.2, 9.7.3). */
+enum { ADA_SIMPLE = 0, ADA_CONDITIONAL = 1, ADA_TIMED = 2 };
+
+/* The last part of a wait (9.7.1). */
+enum { ADA_NOTHING = 0, ADA_ELSE = 1, ADA_DELAYS = 2, ADA_TERMINATE = 3, ADA_CLOSED_TERMINATE = 4 };
+
+/* The way in which a wait ended without a rendezvous (9.7.1). */
+enum { ADA_BY_ELSE = 0, ADA_BY_DELAY = 1, ADA_BY_PROGRAM_ERROR = 2 };
+
+/* Events: 1 to 12 are what tasks ask for, 13 to 22 what is forced. */
+enum {
+  ADA_OPENED = 1,
+  ADA_CREATED = 2,
+  ADA_STARTED = 3,
+  ADA_ELABORATED = 4,
+  ADA_CALLED = 5,
+  ADA_WAITING = 6,
+  ADA_PAUSED = 7,
+  ADA_ENDED = 8,
+  ADA_CLOSED = 9,
+  ADA_COMPLETED = 10,
+  ADA_ABORTED = 11,
+  ADA_TICKED = 12,
+  ADA_HALTED = 13,
+  ADA_FAILED = 14,
+  ADA_MET = 15,
+  ADA_CANCELLED = 16,
+  ADA_PASSED = 17,
+  ADA_WOKEN = 18,
+  ADA_ACTIVATED = 19,
+  ADA_GONE = 20,
+  ADA_QUIT = 21,
+  ADA_LEFT = 22
+};
+
+/* What became of a task's latest call, wait, delay, activation or close. */
+enum {
+  ADA_DID_NOTHING = 0,
+  ADA_IS_DEAD = 1,
+  ADA_IS_DONE = 2,
+  ADA_IS_HELD = 3,
+  ADA_WAS_SERVED = 4,
+  ADA_GOT_TASKING_ERROR = 5,
+  ADA_WAS_CANCELLED = 6,
+  ADA_HAS_ACCEPTED = 7,
+  ADA_TOOK_ELSE = 8,
+  ADA_TOOK_DELAY = 9,
+  ADA_GOT_PROGRAM_ERROR = 10,
+  ADA_IS_AWAKE = 11,
+  ADA_ACTIVATION_OK = 12,
+  ADA_ACTIVATION_FAILED = 13,
+  ADA_LEFT_BLOCK = 14,
+  ADA_GOT_EXCEPTION = 15
+};
+
+/* ---- Values ---- */
+
+/* A family of entries with the index range low to high; a single entry is 0 and 0 (9.5). */
+typedef struct {
+  int32_t low, high;
+} ada_family;
+
+/* An accept alternative: an entry, and whether it is open, 0 or 1 (9.7.1). */
+typedef struct {
+  uint32_t family;
+  int32_t index;
+  uint32_t is_open;
+} ada_choice;
+
+/* A delay alternative: its duration in milliseconds, and whether it is open, 0 or 1 (9.7.1). */
+typedef struct {
+  int64_t duration;
+  uint32_t is_open;
+} ada_pause;
+
+/* An event. What its kind has no use for is 0. */
+typedef struct {
+  uint32_t kind;        /* ADA_OPENED .. ADA_LEFT */
+  uint32_t form;        /* ok or raised, 0 or 1; or the kind of a call, of a last part, of a way */
+  uint64_t task;        /* the task that asked for it, or to which it happened */
+  uint64_t callee;      /* the task whose entry was called */
+  uint32_t family;      /* the family of the entry */
+  int32_t index;        /* the index of the entry */
+  uint32_t under_kind;  /* ADA_BODY or ADA_BLOCK, in which the task was */
+  uint32_t master_kind; /* ADA_BODY or ADA_BLOCK, on which the new task depends, or that quit */
+  uint64_t under;       /* the task of that body, or the position of that block */
+  uint64_t master;      /* the same of the master */
+  uint64_t call;        /* the position of the call */
+  uint64_t position;    /* the position of the wait, delay, start, close or block */
+  uint32_t number;      /* the pick of a wait, or the number of a delay alternative, from 0 */
+  uint32_t is_timed;    /* whether a call has a moment at which it ends, 0 or 1 */
+  int64_t moment;       /* the moment at which it is due, or to which the moment moved */
+  int64_t duration;     /* the duration of a timed call */
+} ada_event;
+
+/* How many items the lists of an event have. */
+typedef struct {
+  uint64_t tasks;    /* those that an activation or an abort named */
+  uint64_t families; /* those that a task declared */
+  uint64_t choices;  /* the accept alternatives of a wait */
+  uint64_t delays;   /* the delay alternatives of a wait */
+} ada_lengths;
+
+/* A delay alternative of a wait: the moment at which it is due, and whether it is open, 0 or 1. */
+typedef struct {
+  int64_t moment;
+  uint32_t is_open;
+} ada_due;
+
+/* What became of a task: the number of the alternative taken, from 0, and the position of the call accepted. */
+typedef struct {
+  uint32_t kind; /* ADA_DID_NOTHING .. ADA_GOT_EXCEPTION */
+  uint32_t number;
+  uint64_t call;
+} ada_outcome;
+
+/*
+ * ---- What the library exports ----
+ *
+ * A kernel, what is written to, and lists that have items have to be there; the functions of the next part answer
+ * ADA_NULL if they aren't.
+ */
+
+int32_t adatask_kernel_new(void **out);
+void adatask_kernel_drop(ada_kernel k);
+int32_t adatask_open(ada_kernel *k, uint64_t by, uint64_t *at);
+int32_t adatask_create(ada_kernel *k, uint64_t by, uint32_t master_kind, uint64_t master, const ada_family *families,
+                       size_t count, uint64_t *at);
+int32_t adatask_activate(ada_kernel *k, uint64_t by, const uint64_t *tasks, size_t count, uint64_t *at);
+int32_t adatask_elaborated(ada_kernel *k, uint64_t by, uint32_t ok, uint64_t *at);
+int32_t adatask_call(ada_kernel *k, uint64_t by, uint64_t callee, uint32_t family, int32_t index, uint32_t patience,
+                     int64_t duration, uint64_t *at);
+int32_t adatask_wait(ada_kernel *k, uint64_t by, const ada_choice *choices, size_t count, uint32_t tail,
+                     const ada_pause *delays, size_t delay_count, uint32_t pick, uint64_t *at);
+int32_t adatask_delay(ada_kernel *k, uint64_t by, int64_t duration, uint64_t *at);
+int32_t adatask_end(ada_kernel *k, uint64_t by, uint32_t raised, uint64_t *at);
+int32_t adatask_close(ada_kernel *k, uint64_t by, uint64_t *at);
+int32_t adatask_complete(ada_kernel *k, uint64_t by, uint64_t *at);
+int32_t adatask_abort(ada_kernel *k, uint64_t by, const uint64_t *tasks, size_t count, uint64_t *at);
+int32_t adatask_tick(ada_kernel *k, int64_t now, uint64_t *at);
+uint64_t adatask_tasks(ada_kernel *k);
+uint64_t adatask_events(ada_kernel *k);
+uint32_t adatask_finished(ada_kernel *k);
+int32_t adatask_running(ada_kernel *k, uint64_t task, uint32_t *out);
+int32_t adatask_callable(ada_kernel *k, uint64_t task, uint32_t *out);
+int32_t adatask_terminated(ada_kernel *k, uint64_t task, uint32_t *out);
+int32_t adatask_outcome(ada_kernel *k, uint64_t task, ada_outcome *out);
+int32_t adatask_slot(ada_kernel *k, uint64_t task, uint32_t family, int32_t index, uint32_t *out);
+int32_t adatask_event(ada_kernel *k, uint64_t position, ada_event *out);
+int32_t adatask_count(ada_kernel *k, uint64_t by, uint32_t family, int32_t index, uint32_t *out);
+int32_t adatask_lengths(ada_kernel *k, uint64_t position, ada_lengths *out);
+int32_t adatask_event_task(ada_kernel *k, uint64_t position, uint64_t place, uint64_t *out);
+int32_t adatask_event_family(ada_kernel *k, uint64_t position, uint64_t place, ada_family *out);
+int32_t adatask_event_choice(ada_kernel *k, uint64_t position, uint64_t place, ada_choice *out);
+int32_t adatask_event_delay(ada_kernel *k, uint64_t position, uint64_t place, ada_due *out);
+
+/* ---- A kernel ---- */
+
+/* Makes a kernel, whose journal is empty and in which the main program, task 0, runs. */
+static inline int32_t ada_kernel_new(ada_kernel *k) {
+  return k ? adatask_kernel_new(&k->kernel) : ADA_NULL;
+}
+
+/* Gives up a kernel, if there is one. */
+static inline void ada_kernel_drop(ada_kernel *k) {
+  if (k && k->kernel) {
+    adatask_kernel_drop(*k);
+    k->kernel = NULL;
+  }
+}
+
+/* Whether there is a kernel, and something to write to. */
+static inline int ada_has(const ada_kernel *k, const void *out) { return k && k->kernel && out; }
+
+/* ---- Requests: `by` is the task that asks, and `at` is written the position of its event ---- */
+
+/* Opens a block within what the task is in (5.6, 9.4). */
+static inline int32_t ada_open(ada_kernel *k, uint64_t by, uint64_t *at) {
+  return ada_has(k, at) ? adatask_open(k, by, at) : ADA_NULL;
+}
+
+/* Makes a task that depends on a master (9.1, 9.4), with families of entries. Its number is ada_tasks() - 1 then. */
+static inline int32_t ada_create(ada_kernel *k, uint64_t by, uint32_t master_kind, uint64_t master,
+                                 const ada_family *families, size_t count, uint64_t *at) {
+  ada_family none = {0, 0};
+  if (!ada_has(k, at) || (count && !families)) return ADA_NULL;
+  return adatask_create(k, by, master_kind, master, count ? families : &none, count, at);
+}
+
+/* Starts the activation of tasks, and waits for its end (9.3). */
+static inline int32_t ada_activate(ada_kernel *k, uint64_t by, const uint64_t *tasks, size_t count, uint64_t *at) {
+  uint64_t none = 0;
+  if (!ada_has(k, at) || (count && !tasks)) return ADA_NULL;
+  return adatask_activate(k, by, count ? tasks : &none, count, at);
+}
+
+/* Ends the task's own activation, by an exception if `ok` is 0 (9.3). */
+static inline int32_t ada_elaborated(ada_kernel *k, uint64_t by, uint32_t ok, uint64_t *at) {
+  return ada_has(k, at) ? adatask_elaborated(k, by, ok, at) : ADA_NULL;
+}
+
+/* Calls an entry (9.5, 9.7.2, 9.7.3). The duration, in milliseconds, is that of a timed call. */
+static inline int32_t ada_call(ada_kernel *k, uint64_t by, uint64_t callee, uint32_t family, int32_t index,
+                               uint32_t patience, int64_t duration, uint64_t *at) {
+  return ada_has(k, at) ? adatask_call(k, by, callee, family, index, patience, duration, at) : ADA_NULL;
+}
+
+/* Waits selectively (9.7.1). Of k alternatives that may be taken number `pick` modulo k is. */
+static inline int32_t ada_wait(ada_kernel *k, uint64_t by, const ada_choice *choices, size_t count, uint32_t tail,
+                               const ada_pause *delays, size_t delay_count, uint32_t pick, uint64_t *at) {
+  ada_choice no_choice = {0, 0, 0};
+  ada_pause no_delay = {0, 0};
+  if (!ada_has(k, at) || (count && !choices) || (delay_count && !delays)) return ADA_NULL;
+  return adatask_wait(k, by, count ? choices : &no_choice, count, tail, delay_count ? delays : &no_delay, delay_count,
+                      pick, at);
+}
+
+/* Accepts a call of one entry: a wait with one open alternative (9.5). */
+static inline int32_t ada_accept(ada_kernel *k, uint64_t by, uint32_t family, int32_t index, uint64_t *at) {
+  ada_choice choice;
+  choice.family = family;
+  choice.index = index;
+  choice.is_open = 1;
+  return ada_wait(k, by, &choice, 1, ADA_NOTHING, NULL, 0, 0, at);
+}
+
+/* Delays the task by a duration in milliseconds; a negative one counts as 0 (9.6). */
+static inline int32_t ada_delay(ada_kernel *k, uint64_t by, int64_t duration, uint64_t *at) {
+  return ada_has(k, at) ? adatask_delay(k, by, duration, at) : ADA_NULL;
+}
+
+/* Ends the innermost accept statement, by an exception if `raised` is 1 (9.5, 11.5). */
+static inline int32_t ada_end(ada_kernel *k, uint64_t by, uint32_t raised, uint64_t *at) {
+  return ada_has(k, at) ? adatask_end(k, by, raised, at) : ADA_NULL;
+}
+
+/* Leaves the innermost block, once its dependents are terminated (9.4). */
+static inline int32_t ada_close(ada_kernel *k, uint64_t by, uint64_t *at) {
+  return ada_has(k, at) ? adatask_close(k, by, at) : ADA_NULL;
+}
+
+/* Completes the task's body (9.4). */
+static inline int32_t ada_complete(ada_kernel *k, uint64_t by, uint64_t *at) {
+  return ada_has(k, at) ? adatask_complete(k, by, at) : ADA_NULL;
+}
+
+/* Aborts tasks and their dependents (9.10). */
+static inline int32_t ada_abort(ada_kernel *k, uint64_t by, const uint64_t *tasks, size_t count, uint64_t *at) {
+  uint64_t none = 0;
+  if (!ada_has(k, at) || (count && !tasks)) return ADA_NULL;
+  return adatask_abort(k, by, count ? tasks : &none, count, at);
+}
+
+/* Moves the moment, in milliseconds from the beginning. */
+static inline int32_t ada_tick(ada_kernel *k, int64_t now, uint64_t *at) {
+  return ada_has(k, at) ? adatask_tick(k, now, at) : ADA_NULL;
+}
+
+/* ---- Questions, which change nothing ---- */
+
+/* How many tasks there are, the main program counted; 0 without a kernel. */
+static inline uint64_t ada_tasks(ada_kernel *k) { return k && k->kernel ? adatask_tasks(k) : 0; }
+
+/* How many events there are; 0 without a kernel. */
+static inline uint64_t ada_events(ada_kernel *k) { return k && k->kernel ? adatask_events(k) : 0; }
+
+/* Whether the main program is terminated, 0 or 1; 0 without a kernel. */
+static inline uint32_t ada_finished(ada_kernel *k) { return k && k->kernel ? adatask_finished(k) : 0; }
+
+/* Whether a task is running, 0 or 1: it is activated or being so, hasn't ended, and isn't held up. */
+static inline int32_t ada_running(ada_kernel *k, uint64_t task, uint32_t *out) {
+  return ada_has(k, out) ? adatask_running(k, task, out) : ADA_NULL;
+}
+
+/* The attribute CALLABLE of a task, 0 or 1 (9.9). */
+static inline int32_t ada_callable(ada_kernel *k, uint64_t task, uint32_t *out) {
+  return ada_has(k, out) ? adatask_callable(k, task, out) : ADA_NULL;
+}
+
+/* The attribute TERMINATED of a task, 0 or 1 (9.9). */
+static inline int32_t ada_terminated(ada_kernel *k, uint64_t task, uint32_t *out) {
+  return ada_has(k, out) ? adatask_terminated(k, task, out) : ADA_NULL;
+}
+
+/* What became of a task's latest call, wait, delay, activation or close. */
+static inline int32_t ada_outcome_of(ada_kernel *k, uint64_t task, ada_outcome *out) {
+  return ada_has(k, out) ? adatask_outcome(k, task, out) : ADA_NULL;
+}
+
+/* The slot of an entry, below 1,024: all entries are numbered in order of task, family and index. */
+static inline int32_t ada_slot(ada_kernel *k, uint64_t task, uint32_t family, int32_t index, uint32_t *out) {
+  return ada_has(k, out) ? adatask_slot(k, task, family, index, out) : ADA_NULL;
+}
+
+/* The event at a position, from 1. */
+static inline int32_t ada_event_at(ada_kernel *k, uint64_t position, ada_event *out) {
+  return ada_has(k, out) ? adatask_event(k, position, out) : ADA_NULL;
+}
+
+/* COUNT of an entry of the asking task's own (9.9). A refusal has the code of its cause. */
+static inline int32_t ada_count(ada_kernel *k, uint64_t by, uint32_t family, int32_t index, uint32_t *out) {
+  return ada_has(k, out) ? adatask_count(k, by, family, index, out) : ADA_NULL;
+}
+
+/* How many items the lists of the event at a position have. */
+static inline int32_t ada_lengths_of(ada_kernel *k, uint64_t position, ada_lengths *out) {
+  return ada_has(k, out) ? adatask_lengths(k, position, out) : ADA_NULL;
+}
+
+/* A task that an activation or an abort named, by its place from 0. */
+static inline int32_t ada_event_task(ada_kernel *k, uint64_t position, uint64_t place, uint64_t *out) {
+  return ada_has(k, out) ? adatask_event_task(k, position, place, out) : ADA_NULL;
+}
+
+/* A family that a task declared, by its place from 0. */
+static inline int32_t ada_event_family(ada_kernel *k, uint64_t position, uint64_t place, ada_family *out) {
+  return ada_has(k, out) ? adatask_event_family(k, position, place, out) : ADA_NULL;
+}
+
+/* An accept alternative of a wait, by its place from 0. */
+static inline int32_t ada_event_choice(ada_kernel *k, uint64_t position, uint64_t place, ada_choice *out) {
+  return ada_has(k, out) ? adatask_event_choice(k, position, place, out) : ADA_NULL;
+}
+
+/* A delay alternative of a wait, by its place from 0. */
+static inline int32_t ada_event_delay(ada_kernel *k, uint64_t position, uint64_t place, ada_due *out) {
+  return ada_has(k, out) ? adatask_event_delay(k, position, place, out) : ADA_NULL;
+}
+
+#ifdef __cplusplus
+}
+#endif
+
+#endif
