@@ -10,9 +10,11 @@ ghost use Rattle.ada_events.specs.Attributes.{is_callable, own_count, is_finishe
 ghost use Rattle.ada_events.specs.Slots.{slot_of};
 ghost use Rattle.ada_events.specs.Boards.{board_of};
 ghost use Rattle.ada_laws.specs.Laws.{KeepsTheLaws};
+ghost use Rattle.ada_view.specs.Views.{IsRecordIfAny};
 
 use crate::index::Index;
 use ada_events::{Board, Entry, Journal, Outcome, Refusal, Request, TaskNo};
+use ada_records::Record;
 use ada_steps::step;
 use ada_view::boards::board;
 use ada_view::counts::count;
@@ -121,6 +123,14 @@ impl Kernel {
         ensures { result ≡ then_some (has_task self.now task.0) (is_running self.now task.0) }
     {
         queries::running(&self.view(), task)
+    }
+
+    /// What is kept of a task: how far it has come, and where it is suspended (9.3 to 9.7, 9.10); none
+    /// where there is no such task.
+    pub fn record(&self, task: TaskNo) -> Option<Record>
+        ensures { IsRecordIfAny self.now task.0 result }
+    {
+        queries::known(&self.view(), task)
     }
 
     /// The attribute COUNT of an entry of the asking task's own (9.9), at most 256. Refused for the first

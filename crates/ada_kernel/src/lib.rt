@@ -16,4 +16,5 @@ mod rendezvous;
 mod stepping;
 mod waits;
 
+pub use ada_records::Record;
 pub use kernel::Kernel;

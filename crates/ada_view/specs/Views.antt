@@ -1,10 +1,10 @@
 -- What is kept of a journal.
-use Rattle.std.specs.Prelude.{◌≡◌, ℤ, List}
+use Rattle.std.specs.Prelude.{◌≡◌, ℕ, ℤ, true, false, Option, Some, None, List}
 use Rattle.ada_events.specs.declared.event.Event.{Event}
-use Rattle.ada_events.specs.Tasks.{moment}
+use Rattle.ada_events.specs.Tasks.{has_task, moment}
 use Rattle.ada_events.specs.Lawful.{IsLawful}
 use Rattle.ada_records.specs.declared.record.Record.{Record}
-use Rattle.ada_records.specs.Records.{AreRecords}
+use Rattle.ada_records.specs.Records.{AreRecords, IsRecordOf}
 use Rattle.ada_tables.specs.Tables.{TableState}
 use Rattle.ada_tables.specs.Standing.{StandFor}
 
@@ -14,3 +14,8 @@ pub record IsKept (journal : List Event) (records : List Record) (tables : Table
   pub recorded : AreRecords records journal
   pub tabled : StandFor tables journal
   pub timed : now ≡ moment journal
+
+-- a right record of the task, or none where there is no such task
+abbrev pub IsRecordIfAny : List Event → ℕ → Option Record → Type 0
+IsRecordIfAny journal task None = has_task journal task ≡ false
+IsRecordIfAny journal task (Some kept) = (has_task journal task ≡ true) × IsRecordOf journal task kept

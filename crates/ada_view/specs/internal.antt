@@ -1,6 +1,5 @@
 -- What only private contracts and invariants cite: no caller meets it.
 pub mod Hitting
-pub mod Knowing
 pub mod Choosing
 pub mod Deciding
 pub mod Ending

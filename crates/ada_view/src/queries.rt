@@ -6,7 +6,7 @@ ghost use Rattle.ada_events.specs.Attributes.{is_callable, is_finished};
 ghost use Rattle.ada_events.specs.Outcomes.{outcome_of};
 ghost use Rattle.ada_events.specs.Phases.{is_running, is_terminated};
 ghost use Rattle.ada_events.specs.Tasks.{has_task, task_count};
-ghost use Rattle.ada_view.specs.internal.Knowing.{IsRecordIfAny};
+ghost use Rattle.ada_view.specs.Views.{IsRecordIfAny};
 
 use crate::View;
 use ada_events::{Outcome, TaskNo};
@@ -19,8 +19,8 @@ pub fn tasks(view: &View<'_>) -> u16
     view.tables().tasks()
 }
 
-// What is kept of a task that is there.
-pub(crate) fn known(view: &View<'_>, task: TaskNo) -> Option<Record>
+/// What is kept of a task: how far it has come, and where it is suspended; none where there is no such task.
+pub fn known(view: &View<'_>, task: TaskNo) -> Option<Record>
     ensures { IsRecordIfAny view.now task.0 result }
 {
     if task.0 < view.tables().tasks() {
