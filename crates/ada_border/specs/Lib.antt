@@ -1,4 +1,5 @@
 pub mod Answers
+pub mod Boards
 pub mod Codes
 pub mod Events
 pub mod Outcomes

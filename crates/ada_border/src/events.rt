@@ -66,7 +66,8 @@ fn blank(kind: u32) -> PlainEvent
     }
 }
 
-fn flag(holds: bool) -> u32
+/// What holds as a number: 1 if it does, else 0.
+pub fn flag(holds: bool) -> u32
     ensures { result ≡ spec.flag holds }
 {
     if holds { 1 } else { 0 }

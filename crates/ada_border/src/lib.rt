@@ -2,6 +2,7 @@
 #![tactic(auto)]
 
 pub mod bad;
+pub mod boards;
 pub mod codes;
 pub mod events;
 pub mod laws;

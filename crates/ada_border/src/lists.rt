@@ -2,6 +2,7 @@
 ghost use Rattle.std.specs.Prelude.{◌≡◌};
 ghost use Rattle.ada_border.specs.Events as spec;
 
+use crate::events::flag;
 use crate::parts::{PlainChoice, PlainFamily};
 use ada_events::{Choice, Event, EventTail, Family, TaskNo};
 
@@ -88,12 +89,6 @@ pub fn plain_family(family: Family) -> PlainFamily
         low: family.low,
         high: family.high,
     }
-}
-
-fn flag(holds: bool) -> u32
-    ensures { result ≡ spec.flag holds }
-{
-    if holds { 1 } else { 0 }
 }
 
 /// An accept alternative in plain numbers.

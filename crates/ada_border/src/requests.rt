@@ -1,4 +1,4 @@
-//! The twelve requests, read from numbers.
+//! The twelve requests, read from numbers. Each is inlined, so that a request isn't copied on its way to the kernel.
 ghost use Rattle.std.specs.Prelude.{◌≡◌};
 ghost use Rattle.ada_border.specs.Requests as spec;
 
@@ -10,6 +10,7 @@ use crate::parts::{
 use ada_events::{Request, Tail};
 
 /// Opens a block.
+#[inline(always)]
 pub fn open_in(by: u64) -> Result<Request, Bad>
     ensures { result ≡ spec.open_in by }
 {
@@ -18,6 +19,7 @@ pub fn open_in(by: u64) -> Result<Request, Bad>
 }
 
 /// Makes a task under a master, with families of entries.
+#[inline(always)]
 pub fn create_in(by: u64, kind: u32, master: u64, families: &[PlainFamily]) -> Result<Request, Bad>
     ensures { result ≡ spec.create_in by kind master families.now }
 {
@@ -32,6 +34,7 @@ pub fn create_in(by: u64, kind: u32, master: u64, families: &[PlainFamily]) -> R
 }
 
 /// Starts the activation of tasks.
+#[inline(always)]
 pub fn activate_in(by: u64, tasks: &[u64]) -> Result<Request, Bad>
     ensures { result ≡ spec.activate_in by tasks.now }
 {
@@ -41,6 +44,7 @@ pub fn activate_in(by: u64, tasks: &[u64]) -> Result<Request, Bad>
 }
 
 /// Ends the task's own activation.
+#[inline(always)]
 pub fn elaborated_in(by: u64, ok: u32) -> Result<Request, Bad>
     ensures { result ≡ spec.elaborated_in by ok }
 {
@@ -50,6 +54,7 @@ pub fn elaborated_in(by: u64, ok: u32) -> Result<Request, Bad>
 }
 
 /// Calls an entry.
+#[inline(always)]
 pub fn call_in(
     by: u64,
     callee: u64,
@@ -73,6 +78,7 @@ pub fn call_in(
 }
 
 /// The last part of a selective wait, by its kind.
+#[inline(always)]
 fn tail_in(kind: u32, delays: &[PlainPause]) -> Result<Tail, Bad>
     ensures { result ≡ spec.tail_in kind delays.now }
 {
@@ -95,6 +101,7 @@ fn tail_in(kind: u32, delays: &[PlainPause]) -> Result<Tail, Bad>
 }
 
 /// Waits selectively.
+#[inline(always)]
 pub fn wait_in(
     by: u64,
     choices: &[PlainChoice],
@@ -116,6 +123,7 @@ pub fn wait_in(
 }
 
 /// Delays the task.
+#[inline(always)]
 pub fn delay_in(by: u64, duration: i64) -> Result<Request, Bad>
     ensures { result ≡ spec.delay_in by duration }
 {
@@ -124,6 +132,7 @@ pub fn delay_in(by: u64, duration: i64) -> Result<Request, Bad>
 }
 
 /// Ends the innermost accept statement.
+#[inline(always)]
 pub fn end_in(by: u64, raised: u32) -> Result<Request, Bad>
     ensures { result ≡ spec.end_in by raised }
 {
@@ -133,6 +142,7 @@ pub fn end_in(by: u64, raised: u32) -> Result<Request, Bad>
 }
 
 /// Leaves the innermost block.
+#[inline(always)]
 pub fn close_in(by: u64) -> Result<Request, Bad>
     ensures { result ≡ spec.close_in by }
 {
@@ -141,6 +151,7 @@ pub fn close_in(by: u64) -> Result<Request, Bad>
 }
 
 /// Completes the task's body.
+#[inline(always)]
 pub fn complete_in(by: u64) -> Result<Request, Bad>
     ensures { result ≡ spec.complete_in by }
 {
@@ -149,6 +160,7 @@ pub fn complete_in(by: u64) -> Result<Request, Bad>
 }
 
 /// Aborts tasks.
+#[inline(always)]
 pub fn abort_in(by: u64, tasks: &[u64]) -> Result<Request, Bad>
     ensures { result ≡ spec.abort_in by tasks.now }
 {

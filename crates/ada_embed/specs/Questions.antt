@@ -1,5 +1,5 @@
 -- Questions over the border, and their answers in numbers.
-use Rattle.std.specs.Prelude.{ℕ, ℤ, Result, Ok, List, option_map, slice_get}
+use Rattle.std.specs.Prelude.{ℕ, ℤ, if◌then◌else◌, Result, Ok, Err, List, option_map, slice_get}
 use Rattle.std.specs.Bool.{then_some}
 use Rattle.ada_events.specs.Attributes.{is_callable, own_count}
 use Rattle.ada_events.specs.Outcomes.{outcome_of}
@@ -8,7 +8,12 @@ use Rattle.ada_events.specs.Search.{event_at}
 use Rattle.ada_events.specs.Slots.{slot_of}
 use Rattle.ada_events.specs.Tasks.{has_task}
 use Rattle.ada_events.specs.declared.event.Event.{Event}
+use Rattle.ada_events.specs.declared.names.TaskNo.{TaskNo}
 use Rattle.ada_events.specs.declared.refusal.Refusal.{Refusal}
+use Rattle.ada_waiting.specs.Awaited.{first_awaited}
+use Rattle.ada_waiting.specs.Reasons.{reason_of}
+use Rattle.ada_waiting.specs.Runnable.{first_runnable}
+use Rattle.ada_waiting.specs.Standstill.{first_due}
 use Rattle.ada_border.specs.Answers.{or_bad}
 use Rattle.ada_border.specs.Events.{flag, plain_of, lengths_of}
 use Rattle.ada_border.specs.Outcomes.{plain_outcome}
@@ -18,12 +23,18 @@ use Rattle.ada_border.specs.declared.bad.Bad.TheVariants.{NoSuchEvent, NoSuchIte
 use Rattle.ada_border.specs.declared.events.PlainEvent.{PlainEvent}
 use Rattle.ada_border.specs.declared.lists.PlainLengths.{PlainLengths}
 use Rattle.ada_border.specs.declared.outcomes.PlainOutcome.{PlainOutcome}
+use Rattle.ada_embed.specs.declared.reasons.PlainReason.{PlainReason}
+use Rattle.ada_embed.specs.Reasons.{plain_reason}
 
 -- ---- of a task
 
 -- what is asked of the task of a number, if there is such a task
 abbrev pub of_task : {A : Type 0} → List Event → ℕ → (ℕ → A) → Result A Bad
 of_task journal number asked = with_read (task_in number) (λ task. or_bad (then_some (has_task journal task.0) (asked task.0)) NoSuchTask)
+
+-- the task of a number, if there is such a task
+abbrev pub known : List Event → ℕ → Result TaskNo Bad
+known journal number = with_read (task_in number) (λ task. if has_task journal task.0 then Ok task else Err NoSuchTask)
 
 abbrev pub running_of : List Event → ℕ → Result ℕ Bad
 running_of journal number = of_task journal number (λ task. flag (is_running journal task))
@@ -36,6 +47,24 @@ terminated_of journal number = of_task journal number (λ task. flag (is_termina
 
 abbrev pub outcome_of_task : List Event → ℕ → Result PlainOutcome Bad
 outcome_of_task journal number = of_task journal number (λ task. plain_outcome (outcome_of journal task))
+
+abbrev pub reason_told : List Event → ℕ → Result PlainReason Bad
+reason_told journal number = with_read (known journal number) (λ task. Ok (plain_reason (reason_of journal task.0)))
+
+-- the first task, of a number or more, for which a task waits
+abbrev pub awaited_told : List Event → ℕ → ℕ → Result ℕ Bad
+awaited_told journal number from = with_read (task_in from) (λ from. with_read (known journal number) (λ task.
+    or_bad (first_awaited journal task.0 from.0) NoSuchItem))
+
+-- ---- of all tasks
+
+-- the first task, of a number or more, that runs and didn't before the last request
+abbrev pub runnable_told : List Event → ℕ → Result ℕ Bad
+runnable_told journal from = with_read (task_in from) (λ from. or_bad (first_runnable journal from.0) NoSuchItem)
+
+-- the first moment for which any task waits
+abbrev pub due_told : List Event → Result ℤ Bad
+due_told journal = or_bad (first_due journal) NoSuchItem
 
 -- ---- of an entry
 

@@ -1,4 +1,4 @@
-//! The kernel for programs in C and Ada: each function is the kernel's own, in numbers.
+//! The kernel for programs in C and Ada: its requests and questions in numbers.
 //!
 //! A function that may fail answers 0, or a code: 1 to 23 for the causes of refusals, in the order in which they are
 //! checked, and 100 and more for bad numbers. It writes only where it answers 0.
@@ -12,15 +12,19 @@ ghost use Rattle.ada_events.specs.declared.request.Request.TheVariants.{Tick};
 ghost use Rattle.std.specs.Prelude.{Ok};
 ghost use Rattle.ada_border.specs.Answers.{IsAnswered, IsCounted, IsTold};
 ghost use Rattle.ada_border.specs.Events as events;
-ghost use Rattle.ada_border.specs.Events.{flag};
+ghost use Rattle.ada_border.specs.Events.{flag as flag_of};
+ghost use Rattle.ada_border.specs.Boards as boards;
+ghost use Rattle.ada_events.specs.Boards.{board_of};
 ghost use Rattle.ada_border.specs.Requests as spec;
 ghost use Rattle.ada_embed.specs.Questions as asked;
 
 pub mod answering;
 pub mod questions;
+pub mod reasons;
 
+use ada_border::boards::{PlainBoard, plain_board};
 use ada_border::codes::{ACCEPTED, refusal_code};
-use ada_border::events::PlainEvent;
+use ada_border::events::{PlainEvent, flag};
 use ada_border::lists::{PlainDue, PlainLengths};
 use ada_border::outcomes::PlainOutcome;
 use ada_border::parts::{PlainChoice, PlainFamily, PlainPause};
@@ -29,6 +33,7 @@ use ada_events::{Refusal, Request};
 use ada_handle::Handle;
 use ada_kernel::Kernel;
 use answering::{answer, tell, tell_count};
+use reasons::PlainReason;
 use std::alloc::Global;
 
 // Puts a kernel where C keeps it.
@@ -260,11 +265,11 @@ pub extern "C" fn adatask_events(h: &mut Handle) -> u64
 /// Whether the main program is terminated.
 #[unsafe(no_mangle)]
 pub extern "C" fn adatask_finished(h: &mut Handle) -> u32
-    ensures told { result ≡ flag (is_finished h.old.home) }
+    ensures told { result ≡ flag_of (is_finished h.old.home) }
     ensures same { h.new.home ≡ h.old.home }
 {
     let is_finished = h.kernel().finished();
-    if is_finished { 1 } else { 0 }
+    flag(is_finished)
 }
 
 /// Whether a task is running.
@@ -297,7 +302,7 @@ pub extern "C" fn adatask_terminated(h: &mut Handle, task: u64, out: &mut u32) -
     tell(told, out)
 }
 
-/// What became of a task's latest doing.
+/// What became of a task's latest call, wait, delay, activation or close.
 #[unsafe(no_mangle)]
 pub extern "C" fn adatask_outcome(h: &mut Handle, task: u64, out: &mut PlainOutcome) -> i32
     ensures told { IsTold (asked.outcome_of_task h.old.home task) result out.old out.new }
@@ -305,6 +310,56 @@ pub extern "C" fn adatask_outcome(h: &mut Handle, task: u64, out: &mut PlainOutc
 {
     let told = questions::outcome(h.kernel(), task);
     tell(told, out)
+}
+
+/// Why a task doesn't go on by itself.
+#[unsafe(no_mangle)]
+pub extern "C" fn adatask_reason(h: &mut Handle, task: u64, out: &mut PlainReason) -> i32
+    ensures told { IsTold (asked.reason_told h.old.home task) result out.old out.new }
+    ensures same { h.new.home ≡ h.old.home }
+{
+    let told = questions::reason(h.kernel(), task);
+    tell(told, out)
+}
+
+/// The first task, of a number or more, for which a task waits.
+#[unsafe(no_mangle)]
+pub extern "C" fn adatask_awaited(h: &mut Handle, task: u64, from: u64, out: &mut u64) -> i32
+    ensures told { IsTold (asked.awaited_told h.old.home task from) result out.old out.new }
+    ensures same { h.new.home ≡ h.old.home }
+{
+    let told = questions::awaited(h.kernel(), task, from);
+    tell(told, out)
+}
+
+/// The first task, of a number or more, that runs and didn't before the last request.
+#[unsafe(no_mangle)]
+pub extern "C" fn adatask_runnable(h: &mut Handle, from: u64, out: &mut u64) -> i32
+    ensures told { IsTold (asked.runnable_told h.old.home from) result out.old out.new }
+    ensures same { h.new.home ≡ h.old.home }
+{
+    let told = questions::runnable(h.kernel(), from);
+    tell(told, out)
+}
+
+/// The first moment, in milliseconds, for which any task waits (9.6, 9.7.1, 9.7.3).
+#[unsafe(no_mangle)]
+pub extern "C" fn adatask_next_due(h: &mut Handle, out: &mut i64) -> i32
+    ensures told { IsTold (asked.due_told h.old.home) result out.old out.new }
+    ensures same { h.new.home ≡ h.old.home }
+{
+    let told = questions::due(h.kernel());
+    tell(told, out)
+}
+
+/// The attributes of all tasks and entries (9.9).
+#[unsafe(no_mangle)]
+pub extern "C" fn adatask_board(h: &mut Handle, out: &mut PlainBoard)
+    ensures told { out.new ≡ boards.plain_board (board_of h.old.home) }
+    ensures same { h.new.home ≡ h.old.home }
+{
+    let board = h.kernel().board();
+    *out = plain_board(board);
 }
 
 /// The slot of an entry, below 1,024.

@@ -1,26 +1,25 @@
 //! Questions to a kernel, in numbers.
 ghost use Rattle.std.specs.Prelude.{◌≡◌, option_map};
+ghost use Rattle.ada_border.specs.Answers.{or_bad as found_or};
 ghost use Rattle.ada_border.specs.Events as events;
 ghost use Rattle.ada_border.specs.Events.{flag as flag_of};
+ghost use Rattle.ada_border.specs.declared.bad.Bad.TheVariants.{NoSuchItem};
+ghost use Rattle.ada_events.specs.declared.names.TaskNo.{TaskNo as Task};
 ghost use Rattle.ada_embed.specs.Questions as spec;
 
 use crate::answering::or_bad;
+use crate::reasons::{PlainReason, plain_reason};
 use ada_border::Bad;
-use ada_border::events::{PlainEvent, plain_of};
+use ada_border::events::{PlainEvent, flag, plain_of};
 use ada_border::lists::{
     PlainDue, PlainLengths, choices_of, dues_of, families_of, lengths_of, plain_choice, plain_due,
     plain_family, tasks_of,
 };
 use ada_border::outcomes::{PlainOutcome, plain_outcome};
 use ada_border::parts::{PlainChoice, PlainFamily, entry_in, position_in, task_in};
-use ada_events::{Event, Refusal};
+use ada_events::{Refusal, TaskNo};
 use ada_kernel::Kernel;
-
-fn flag(holds: bool) -> u32
-    ensures { result ≡ flag_of holds }
-{
-    if holds { 1 } else { 0 }
-}
+use ada_waiting::{first_awaited, first_runnable, next_due, reason_in};
 
 fn flag_or_none(holds: Option<bool>) -> Option<u32>
     ensures { result ≡ option_map flag_of holds }
@@ -28,6 +27,28 @@ fn flag_or_none(holds: Option<bool>) -> Option<u32>
     match holds {
         Some(holds) => Some(flag(holds)),
         None => None,
+    }
+}
+
+// The task of a number, if there is one.
+fn known(kernel: &Kernel, number: u64) -> Result<TaskNo, Bad>
+    ensures { result ≡ spec.known kernel.now number }
+{
+    let task = task_in(number)?;
+    if task.0 < kernel.tasks() {
+        Ok(task)
+    } else {
+        Err(Bad::NoSuchTask)
+    }
+}
+
+// The number of a task that was found.
+fn item_or_none(found: Option<TaskNo>) -> Result<u64, Bad>
+    ensures { result ≡ found_or (option_map (λ (t : Task). t.0) found) NoSuchItem }
+{
+    match found {
+        Some(task) => Ok(u64::from(task.0)),
+        None => Err(Bad::NoSuchItem),
     }
 }
 
@@ -64,6 +85,38 @@ pub fn outcome(kernel: &Kernel, task: u64) -> Result<PlainOutcome, Bad>
         Some(outcome) => Ok(plain_outcome(outcome)),
         None => Err(Bad::NoSuchTask),
     }
+}
+
+/// Why a task doesn't go on.
+pub fn reason(kernel: &Kernel, task: u64) -> Result<PlainReason, Bad>
+    ensures { result ≡ spec.reason_told kernel.now task }
+{
+    let task = known(kernel, task)?;
+    Ok(plain_reason(reason_in(kernel, task)))
+}
+
+/// The first task, of a number or more, for which a task waits.
+pub fn awaited(kernel: &Kernel, task: u64, from: u64) -> Result<u64, Bad>
+    ensures { result ≡ spec.awaited_told kernel.now task from }
+{
+    let from = task_in(from)?;
+    let task = known(kernel, task)?;
+    item_or_none(first_awaited(kernel, task, from))
+}
+
+/// The first task, of a number or more, that runs and didn't before the last request.
+pub fn runnable(kernel: &Kernel, from: u64) -> Result<u64, Bad>
+    ensures { result ≡ spec.runnable_told kernel.now from }
+{
+    let from = task_in(from)?;
+    item_or_none(first_runnable(kernel, from))
+}
+
+/// The first moment for which any task waits.
+pub fn due(kernel: &Kernel) -> Result<i64, Bad>
+    ensures { result ≡ spec.due_told kernel.now }
+{
+    or_bad(next_due(kernel), Bad::NoSuchItem)
 }
 
 /// The slot of an entry.

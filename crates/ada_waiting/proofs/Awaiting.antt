@@ -30,7 +30,7 @@ use Rattle.ada_rows.specs.declared.row.Row.TheVariants.{Terminating}
 use Rattle.ada_rows.specs.Rows.{step_at}
 use Rattle.ada_waiting.specs.declared.reasons.Reason.{Reason}
 use Rattle.ada_waiting.specs.declared.reasons.Reason.TheVariants as reason
-use Rattle.ada_waiting.specs.Reasons.{suspended_at, reason_at, held_reason, reason_of}
+use Rattle.ada_waiting.specs.Reasons.{suspended_at, reason_at, reason_by, held_reason, reason_of}
 use Rattle.ada_waiting.specs.Awaited.{has_made, is_started_at, is_called, is_live_dependent, awaits, waits_for}
 use Rattle.ada_waiting.specs.Laws.{OnlyLiveTasksAreAwaited}
 use Rattle.ada_waiting.proofs.Holding.{suspended_at_from}
@@ -83,7 +83,7 @@ place reason.Completed = None
 
 -- is that of the event that holds the task up
 place_is : (journal : List Event) (p : ℕ) (e : Event) (r : Reason) → reason_at journal p e ≡ Some r → place r ≡ Some p
-unfolding reason_at place
+unfolding reason_by place
 place_is journal p (event.Called by callee entry patience due) r is = by_met (is_met journal p) is
   where
     by_met : (met : Bool) → Some (if met then reason.InRendezvous p else reason.Queued p) ≡ Some r → place r ≡ Some p

@@ -5,3 +5,6 @@ mod Moments
 mod Ticking
 mod Standing
 mod Awaiting
+mod Kept
+mod Groups
+mod Going

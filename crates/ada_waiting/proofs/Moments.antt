@@ -27,7 +27,7 @@ use Rattle.ada_agenda.specs.Kinds.{due_in, due_row, OfTick}
 use Rattle.ada_agenda.specs.Kinds.OfTick.{comes_due}
 use Rattle.ada_agenda.proofs.Adding.{agendas_grow}
 use Rattle.ada_waiting.specs.Reasons.{suspended_at}
-use Rattle.ada_waiting.specs.Standstill.{due_at, due_of, first_due_below, first_due}
+use Rattle.ada_waiting.specs.Standstill.{due_at, due_by, due_of, first_due_below, first_due}
 use Rattle.ada_waiting.proofs.Holding.{suspended_at_is, suspended_at_from}
 use Rattle.ada_waiting.proofs.Settling.{settled_agenda}
 
@@ -88,7 +88,7 @@ cancels_unmet journal p step gives =
 -- where a row that goes by the moment gives a step, its moment is what is waited for
 waits_there : (before : List Event) (now : ℤ) (p : ℕ) (e : Event) (due : ℤ) (row : Row) (step : Event) → due_in e ≡ Some due → due_row e ≡ row
     → step_at (Ticked now ∷ before) row p ≡ Some step → due_at before p e ≡ Some due
-unfolding due_at is_met meeting_in
+unfolding due_by is_met meeting_in
 waits_there before now p (event.Called by callee entry patience moment) due row step waits in_row gives =
     rw (cancels_unmet (Ticked now ∷ before) p step (subst (λ (r : Row). step_at (Ticked now ∷ before) r p ≡ Some step) (sym in_row) gives)) waits
 waits_there before now p (event.Waiting by pick choices tail) due row step waits in_row gives = waits

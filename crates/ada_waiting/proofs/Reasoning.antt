@@ -16,13 +16,13 @@ use Rattle.ada_laws.proofs.Suspending.{is_suspended-at, is_suspended-from}
 use Rattle.ada_rows.proofs.Keys.{none_from}
 use Rattle.ada_waiting.specs.declared.reasons.Reason.{Reason}
 use Rattle.ada_waiting.specs.declared.reasons.Reason.TheVariants as reason
-use Rattle.ada_waiting.specs.Reasons.{reason_at, held_reason, reason_of, suspended_at}
+use Rattle.ada_waiting.specs.Reasons.{reason_at, reason_by, held_reason, reason_of, suspended_at}
 use Rattle.ada_waiting.specs.Laws.{OneReasonEach}
 use Rattle.ada_waiting.proofs.Holding.{suspended_at_is, suspended_at_from}
 
 -- each event that holds a task up is a reason
-reason_of_hold : (journal : List Event) (position : ℕ) (e : Event) (task : ℕ) → held_in e ≡ Some task → (r : Reason) × (reason_at journal position e ≡ Some r)
-unfolding held_in reason_at
+pub reason_of_hold : (journal : List Event) (position : ℕ) (e : Event) (task : ℕ) → held_in e ≡ Some task → (r : Reason) × (reason_at journal position e ≡ Some r)
+unfolding held_in reason_by
 reason_of_hold journal position (event.Called by callee entry patience due) task holds =
     ((if is_met journal position then reason.InRendezvous position else reason.Queued position), refl)
 reason_of_hold journal position (event.Waiting by pick choices tail) task holds = (reason.Waiting position, refl)
@@ -40,7 +40,7 @@ suspended_reason journal task lawful suspended =
     (r, rw (suspended_at_is journal task position lawful h, h.stands) is)
 
 -- a task that isn't suspended is held up by nothing
-free_reason : (journal : List Event) (task : ℕ) → is_suspended journal task ≡ false → held_reason journal task ≡ None
+pub free_reason : (journal : List Event) (task : ℕ) → is_suspended journal task ≡ false → held_reason journal task ≡ None
 unfolding held_reason
 free_reason journal task free =
     rw (none_from (suspended_at journal task) (λ p is.

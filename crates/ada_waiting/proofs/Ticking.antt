@@ -31,7 +31,7 @@ use Rattle.ada_rows.specs.declared.row.Row.{Row}
 use Rattle.ada_rows.specs.declared.row.Row.TheVariants.{Cancelling, Passing, Waking}
 use Rattle.ada_rows.specs.Rows.{step_at}
 use Rattle.ada_agenda.specs.Kinds.{tail_due}
-use Rattle.ada_waiting.specs.Standstill.{due_at, due_of, first_due_below, first_due}
+use Rattle.ada_waiting.specs.Standstill.{due_at, due_by, due_of, first_due_below, first_due}
 use Rattle.ada_waiting.specs.Laws.{TicksForceFromTheFirstMoment}
 use Rattle.ada_waiting.proofs.Settling.{settled_gives_nothing}
 use Rattle.ada_waiting.proofs.Moments.{due_of_suspended, not_due, early_ticks_force_nothing}
@@ -47,7 +47,7 @@ tick_suspends before now task p h = record {
 }
 
 pub same_at : (before : List Event) (now : ℤ) (p : ℕ) (e : Event) → due_at (Ticked now ∷ before) p e ≡ due_at before p e
-unfolding due_at is_met meeting_in
+unfolding due_by is_met meeting_in
 same_at before now p (event.Called by callee entry patience due) = refl
 same_at before now p _ = refl
 
@@ -153,7 +153,7 @@ GivesThere journal p = (row : Row) × (step : Event) × (step_at journal row p �
 
 due_step : (journal : List Event) (task p : ℕ) (e : Event) (d : ℤ) → IsSuspendedAt journal task p → event_at journal p ≡ Some e → held_in e ≡ Some task
     → due_at journal p e ≡ Some d → int_le d (moment journal) ≡ true → GivesThere journal p
-unfolding step_at is_to_cancel is_queued_at is_open_at is_to_wake passed_at due_at held_in call_in wait_in delay_in
+unfolding step_at is_to_cancel is_queued_at is_open_at is_to_wake passed_at due_by held_in call_in wait_in delay_in
 due_step journal task p (event.Called by callee entry patience due) d h stands holds waits comes = by_met (is_met journal p) refl
   where
     by_met : (met : Bool) → is_met journal p ≡ met → GivesThere journal p

@@ -1,12 +1,13 @@
 -- Which tasks a task waits for. One that waits for a call, or for a moment, waits for no task by itself.
-use Rattle.std.specs.Prelude.{ℕ, Bool, false, not, ◌==◌, ◌&&◌, List}
+use Rattle.std.specs.Prelude.{ℕ, Bool, false, not, ◌==◌, ◌&&◌, nat_le, Option, List}
+use Rattle.std.specs.Bool.{then_some}
 use Rattle.std.specs.Option.{option_and_then}
 use Rattle.ada_events.specs.declared.event.Event.{Event}
 use Rattle.ada_events.specs.declared.names.Master.{Master}
 use Rattle.ada_events.specs.declared.names.Master.TheVariants.{Body, Block}
-use Rattle.ada_events.specs.Search.{is_some_and, event_at}
+use Rattle.ada_events.specs.Search.{is_some_and, event_at, first_below}
 use Rattle.ada_events.specs.Says.{Creation, Start, Call, Closing, start_in, closing_in, call_at}
-use Rattle.ada_events.specs.Tasks.{creation_of}
+use Rattle.ada_events.specs.Tasks.{creation_of, task_count}
 use Rattle.ada_events.specs.Masters.{depends_on}
 use Rattle.ada_events.specs.Phases.{lists_task, is_elaborated, is_terminated, has_ended}
 use Rattle.ada_events.specs.Forced.{task_no}
@@ -53,3 +54,7 @@ awaits journal task other reason.Completed = is_live_dependent journal (Body (ta
 -- a task waits for another one
 unfoldable pub waits_for : List Event → ℕ → ℕ → Bool
 waits_for journal task other = is_some_and (reason_of journal task) (awaits journal task other)
+
+-- the first task of a number or more for which a task waits
+unfoldable pub first_awaited : List Event → ℕ → ℕ → Option ℕ
+first_awaited journal task from = first_below (λ other. then_some (nat_le from other && waits_for journal task other) other) (task_count journal)

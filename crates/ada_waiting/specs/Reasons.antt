@@ -1,5 +1,5 @@
 -- Why a task that isn't terminated doesn't run.
-use Rattle.std.specs.Prelude.{ℕ, if◌then◌else◌, Option, Some, None, List, not, ◌||◌}
+use Rattle.std.specs.Prelude.{ℕ, Bool, if◌then◌else◌, Option, Some, None, List, not, ◌||◌}
 use Rattle.std.specs.Bool.{then_some}
 use Rattle.std.specs.Option.{option_or, option_and_then}
 use Rattle.ada_events.specs.declared.event.Event.{Event}
@@ -22,15 +22,19 @@ unfoldable pub suspended_at : List Event → ℕ → Option ℕ
 suspended_at journal task =
     if has_ended journal task then None else option_and_then (λ p. then_some (not (is_released journal p)) p) (latest_hold journal task)
 
+-- what a task waits for that is held up by the event at a position, by whether a rendezvous began with the call there
+unfoldable pub reason_by : Bool → ℕ → Event → Option Reason
+reason_by met position (Called by callee entry patience due) =
+    Some (if met then reason.InRendezvous position else reason.Queued position)
+reason_by met position (Waiting by pick choices tail) = Some (reason.Waiting position)
+reason_by met position (Paused by due) = Some (reason.Delayed position)
+reason_by met position (Started by tasks) = Some (reason.Activating position)
+reason_by met position (Closed by block) = Some (reason.Leaving position)
+reason_by met position _ = None
+
 -- what a task waits for that is held up by the event at a position
-unfoldable pub reason_at : List Event → ℕ → Event → Option Reason
-reason_at journal position (Called by callee entry patience due) =
-    Some (if is_met journal position then reason.InRendezvous position else reason.Queued position)
-reason_at journal position (Waiting by pick choices tail) = Some (reason.Waiting position)
-reason_at journal position (Paused by due) = Some (reason.Delayed position)
-reason_at journal position (Started by tasks) = Some (reason.Activating position)
-reason_at journal position (Closed by block) = Some (reason.Leaving position)
-reason_at journal position _ = None
+abbrev pub reason_at : List Event → ℕ → Event → Option Reason
+reason_at journal position event = reason_by (is_met journal position) position event
 
 -- what the suspension of a task has it wait for
 unfoldable pub held_reason : List Event → ℕ → Option Reason

@@ -13,13 +13,17 @@ use Rattle.ada_waiting.specs.declared.standstill.Verdict.{Verdict}
 use Rattle.ada_waiting.specs.declared.standstill.Verdict.TheVariants.{Finished, GoesOn, WaitsForTick, Stuck}
 use Rattle.ada_waiting.specs.Reasons.{suspended_at}
 
--- the moment at which what stands at a position lets its task go on: a queued timed call (9.7.3), a delay (9.6), or the
--- first of a wait's delay alternatives (9.7.1)
-unfoldable pub due_at : List Event → ℕ → Event → Option ℤ
-due_at journal position (Called by callee entry patience due) = if is_met journal position then None else due
-due_at journal position (Waiting by pick choices tail) = tail_due tail
-due_at journal position (Paused by due) = Some due
-due_at journal position _ = None
+-- the moment at which an event lets go on the task that it holds up: a queued timed call (9.7.3), so not one with which a
+-- rendezvous began, a delay (9.6), or the first of a wait's delay alternatives (9.7.1)
+unfoldable pub due_by : Bool → Event → Option ℤ
+due_by met (Called by callee entry patience due) = if met then None else due
+due_by met (Waiting by pick choices tail) = tail_due tail
+due_by met (Paused by due) = Some due
+due_by met _ = None
+
+-- the moment at which what stands at a position lets its task go on
+abbrev pub due_at : List Event → ℕ → Event → Option ℤ
+due_at journal position event = due_by (is_met journal position) event
 
 -- the moment for which a suspended task waits
 unfoldable pub due_of : List Event → ℕ → Option ℤ

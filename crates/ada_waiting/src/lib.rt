@@ -4,10 +4,14 @@
 
 pub mod awaited;
 pub mod holds;
+pub mod kernels;
 pub mod laws;
 pub mod reasons;
+pub mod runnable;
 pub mod standstill;
 
 pub use awaited::waits_for;
+pub use kernels::{first_awaited, next_due, reason_in};
 pub use reasons::{Reason, reason_of};
+pub use runnable::first_runnable;
 pub use standstill::{Verdict, verdict_of};

@@ -30,7 +30,7 @@ pub enum Reason {
     Completed,
 }
 
-#[tactic(auto, unfolding(crate::specs::Reasons::reason_at))]
+#[tactic(auto, unfolding(crate::specs::Reasons::reason_by))]
 fn reason_at(events: &[Event], position: u32, event: &Event) -> Option<Reason>
     ensures { result ≡ reasons.reason_at (reverse events.now) position event.now }
 {

@@ -25,7 +25,8 @@ pub enum Verdict {
     Stuck,
 }
 
-fn tail_due(tail: &EventTail) -> Option<i64>
+// The least moment of a wait's delay alternatives.
+pub(crate) fn tail_due(tail: &EventTail) -> Option<i64>
     ensures { result ≡ kinds.tail_due tail.now }
 {
     match tail {
@@ -34,7 +35,7 @@ fn tail_due(tail: &EventTail) -> Option<i64>
     }
 }
 
-#[tactic(auto, unfolding(crate::specs::Standstill::due_at))]
+#[tactic(auto, unfolding(crate::specs::Standstill::due_by))]
 fn due_at(events: &[Event], position: u32, event: &Event) -> Option<i64>
     ensures { result ≡ standstill.due_at (reverse events.now) position event.now }
 {

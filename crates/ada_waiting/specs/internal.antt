@@ -1,0 +1,3 @@
+-- What only private contracts and invariants cite: no caller meets it.
+pub mod Going
+pub mod Kept
