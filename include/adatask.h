@@ -122,6 +122,19 @@ enum {
   ADA_GOT_EXCEPTION = 15
 };
 
+/* Why a task doesn't go on by itself. */
+enum {
+  ADA_GOES_ON = 0,          /* it runs, or is terminated */
+  ADA_NOT_STARTED = 1,      /* it was made, and no activation of it was started (9.3) */
+  ADA_ACTIVATING = 2,       /* it started the activation of tasks, which hasn't ended (9.3) */
+  ADA_QUEUED = 3,           /* its call stands in the queue of an entry (9.5) */
+  ADA_IN_RENDEZVOUS = 4,    /* its call is being served (9.5) */
+  ADA_IN_WAIT = 5,          /* it waits for a call, or for what else its wait may take (9.5, 9.7.1) */
+  ADA_DELAYED = 6,          /* it is delayed (9.6) */
+  ADA_LEAVING = 7,          /* it is at the end of a block, of which a dependent isn't terminated (9.4) */
+  ADA_AWAITS_DEPENDENTS = 8 /* it is completed, and a dependent isn't terminated (9.4) */
+};
+
 /* ---- Values ---- */
 
 /* A family of entries with the index range low to high; a single entry is 0 and 0 (9.5). */
@@ -183,6 +196,22 @@ typedef struct {
   uint64_t call;
 } ada_outcome;
 
+/* Why a task doesn't go on: the position is that of its start, call, wait, delay or close; 0 if it isn't suspended. */
+typedef struct {
+  uint32_t kind; /* ADA_GOES_ON .. ADA_AWAITS_DEPENDENTS */
+  uint64_t position;
+} ada_reason;
+
+/* The attributes of all tasks, by their numbers, and entries, by their slots (9.9). Unused places are 0. */
+typedef struct {
+  uint64_t events;         /* how many events there are */
+  uint32_t tasks;          /* how many tasks there are, the main program counted */
+  uint32_t slots;          /* how many entries there are */
+  uint8_t callable[256];   /* CALLABLE of each task, 0 or 1 */
+  uint8_t terminated[256]; /* TERMINATED of each task, 0 or 1 */
+  uint16_t counts[1024];   /* COUNT of each entry */
+} ada_board;
+
 /*
  * ---- What the library exports ----
  *
@@ -214,6 +243,11 @@ int32_t adatask_running(ada_kernel *k, uint64_t task, uint32_t *out);
 int32_t adatask_callable(ada_kernel *k, uint64_t task, uint32_t *out);
 int32_t adatask_terminated(ada_kernel *k, uint64_t task, uint32_t *out);
 int32_t adatask_outcome(ada_kernel *k, uint64_t task, ada_outcome *out);
+int32_t adatask_reason(ada_kernel *k, uint64_t task, ada_reason *out);
+int32_t adatask_awaited(ada_kernel *k, uint64_t task, uint64_t from, uint64_t *out);
+int32_t adatask_runnable(ada_kernel *k, uint64_t from, uint64_t *out);
+int32_t adatask_next_due(ada_kernel *k, int64_t *out);
+void adatask_board(ada_kernel *k, ada_board *out);
 int32_t adatask_slot(ada_kernel *k, uint64_t task, uint32_t family, int32_t index, uint32_t *out);
 int32_t adatask_event(ada_kernel *k, uint64_t position, ada_event *out);
 int32_t adatask_count(ada_kernel *k, uint64_t by, uint32_t family, int32_t index, uint32_t *out);
@@ -354,6 +388,43 @@ static inline int32_t ada_terminated(ada_kernel *k, uint64_t task, uint32_t *out
 /* What became of a task's latest call, wait, delay, activation or close. */
 static inline int32_t ada_outcome_of(ada_kernel *k, uint64_t task, ada_outcome *out) {
   return ada_has(k, out) ? adatask_outcome(k, task, out) : ADA_NULL;
+}
+
+/* Why a task doesn't go on by itself. */
+static inline int32_t ada_reason_of(ada_kernel *k, uint64_t task, ada_reason *out) {
+  return ada_has(k, out) ? adatask_reason(k, task, out) : ADA_NULL;
+}
+
+/*
+ * The first task numbered `from` or more for which a task waits, or ADA_NO_SUCH_ITEM: its maker, if it isn't started;
+ * those that it activates; the task that it called; the dependents of the block that it leaves, or of its own body. It
+ * searches the journal, and is for diagnosis.
+ */
+static inline int32_t ada_awaited(ada_kernel *k, uint64_t task, uint64_t from, uint64_t *out) {
+  return ada_has(k, out) ? adatask_awaited(k, task, from, out) : ADA_NULL;
+}
+
+/*
+ * The first task numbered `from` or more that runs and didn't before the last request that was accepted, or
+ * ADA_NO_SUCH_ITEM. All of them: for (t = 0; ada_runnable(&k, t, &t) == 0; t++) ...
+ */
+static inline int32_t ada_runnable(ada_kernel *k, uint64_t from, uint64_t *out) {
+  return ada_has(k, out) ? adatask_runnable(k, from, out) : ADA_NULL;
+}
+
+/*
+ * The first moment for which any task waits, or ADA_NO_SUCH_ITEM: of a delay, a timed call that isn't served yet, or an
+ * open delay alternative. A tick to an earlier moment forces nothing.
+ */
+static inline int32_t ada_next_due(ada_kernel *k, int64_t *out) {
+  return ada_has(k, out) ? adatask_next_due(k, out) : ADA_NULL;
+}
+
+/* The attributes of all tasks and entries. */
+static inline int32_t ada_board_of(ada_kernel *k, ada_board *out) {
+  if (!ada_has(k, out)) return ADA_NULL;
+  adatask_board(k, out);
+  return ADA_ACCEPTED;
 }
 
 /* The slot of an entry, below 1,024: all entries are numbered in order of task, family and index. */
