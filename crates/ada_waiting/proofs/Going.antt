@@ -1,9 +1,10 @@
 -- A task that runs now ran before the last request, or the request's event or a step let it go on.
 use Rattle.std.proofs.Common.{◌≡◌, ℕ, ◌≤◌, ◌<◌, Bool, true, false, not, ◌&&◌, ◌||◌, ◌⊎◌, Option, Some, None, List, [], ◌∷◌, refl, sym, ap, ◌∙◌, subst, arith, inl, inr}
 use Rattle.std.specs.Prelude.{◌==◌, if◌then◌else◌}
+use Rattle.std.specs.Bool.{then_some}
 use Rattle.std.specs.List.{list_any}
 use Rattle.std.specs.Option.{option_and_then}
-use Rattle.std.proofs.lemmas.Bool.{cases_Bool, cases_lt, true≢false, false≢true, or_parts, or_cases, and_parts, not-true, not-false, eqb-true, lt-ltb, false_from_ne_true}
+use Rattle.std.proofs.lemmas.Bool.{cases_Bool, true≢false, false≢true, or_parts, or_cases, and_parts, not-true, not-false, eqb-true, ltb-false, false_from_ne_true}
 use Rattle.std.proofs.lemmas.Option.{none-some}
 use Rattle.ada_events.specs.declared.event.Event.{Event}
 use Rattle.ada_events.specs.declared.event.Event.TheVariants as event
@@ -283,11 +284,13 @@ began_if_let_go journal task lawful =
           ]
     ]
 
--- only a task that exists runs
-pub running_exists : (journal : List Event) (task : ℕ) → IsLawful journal → is_running journal task ≡ true → has_task journal task ≡ true
-running_exists journal task lawful runs =
-    elim (cases_lt task (task_count journal)) [
-      | inl below ↦ lt-ltb task (task_count journal) below
-      | inr beyond ↦
-          absurd (true≢false (sym (running_started journal task runs) ∙ sym (unmade journal task lawful beyond).stage.started))
-    ]
+pub told_none : (b x : Bool) → then_some b x ≡ None → b ≡ false
+told_none true x none = absurd (none-some x (sym none))
+told_none false x none = refl
+
+-- a task that doesn't exist doesn't run
+pub unknown_idle : (journal : List Event) (task : ℕ) → IsLawful journal → has_task journal task ≡ false → false ≡ is_running journal task
+unknown_idle journal task lawful unknown =
+    let beyond = ltb-false task (task_count journal) unknown in
+    sym (false_from_ne_true (is_running journal task) (λ runs.
+    true≢false (sym (running_started journal task runs) ∙ sym (unmade journal task lawful beyond).stage.started)))

@@ -75,8 +75,10 @@ pub fn reason_in(kernel: &Kernel, task: TaskNo) -> Option<Reason>
     ensures { result ≡ reasons.reason_of kernel.now task.0 }
 {
     let _journal = kernel.journal();
-    let kept = kernel.record(task)?;
-    kept_reason(kernel, &kept)
+    match kernel.record(task) {
+        Some(kept) => kept_reason(kernel, &kept),
+        None => None,
+    }
 }
 
 // The moment for which a task is suspended, by its record.
@@ -91,8 +93,10 @@ fn due_in(kernel: &Kernel, task: TaskNo) -> Option<i64>
     ensures { result ≡ standstill.due_of kernel.now task.0 }
 {
     let _journal = kernel.journal();
-    let kept = kernel.record(task)?;
-    kept_due(kernel, &kept)
+    match kernel.record(task) {
+        Some(kept) => kept_due(kernel, &kept),
+        None => None,
+    }
 }
 
 /// The first moment, in milliseconds, for which any task of a kernel waits; none if none does (9.6, 9.7.1, 9.7.3).

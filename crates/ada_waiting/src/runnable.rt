@@ -1,5 +1,5 @@
 //! Which tasks run that didn't before the last request.
-ghost use Rattle.std.specs.Prelude.{◌≡◌, ◌&&◌, nat_le, length, option_map, reverse};
+ghost use Rattle.std.specs.Prelude.{◌≡◌, ◌≤◌, ◌&&◌, nat_le, length, option_map, reverse};
 ghost use Rattle.std.specs.Bool.{then_some};
 ghost use Rattle.std.specs.List.{list_any};
 ghost use Rattle.std.specs.Option.{option_and_then};
@@ -37,7 +37,8 @@ fn is_step(event: &Event) -> bool
 // How many events there were before the last request, of a journal in the order of arrival.
 #[tactic(auto, using(crate::proofs::Groups::before_last_less, crate::proofs::Groups::before_last_at))]
 fn count_before(events: &[Event]) -> usize
-    ensures { result ≡ length (runnable.before_last (reverse events.now)) }
+    ensures many { result ≡ length (runnable.before_last (reverse events.now)) }
+    ensures within { result ≤ length events.now }
 {
     let mut left = events.len();
     while left > 0 && is_step(&events[left - 1]) {
@@ -71,10 +72,23 @@ fn is_let_go(older: &[Event], since: &[Event], task: TaskNo) -> bool
     since.iter().rev().any(|event| lets_go(older, task, event))
 }
 
+fn was_let_go(events: &[Event], task: TaskNo) -> bool
+    ensures { result ≡ list_any
+        (going.lets_go (runnable.before_last (reverse events.now)) task.0)
+        (going.last_group (reverse events.now)) }
+{
+    let count = count_before(events);
+    is_let_go(&events[..count], &events[count..], task)
+}
+
 fn is_running(kernel: &Kernel, task: TaskNo) -> bool
     ensures { result ≡ phases.is_running kernel.now task.0 }
 {
-    kernel.running(task) == Some(true)
+    let _journal = kernel.journal();
+    match kernel.running(task) {
+        Some(runs) => runs,
+        None => false,
+    }
 }
 
 /// Whether a task runs that didn't before the last request: an event since then started it, or released its call,
@@ -83,8 +97,7 @@ pub fn began_to_run(kernel: &Kernel, task: TaskNo) -> bool
     ensures { result ≡ runnable.began_to_run kernel.now task.0 }
 {
     let events = kernel.journal().as_slice();
-    let count = count_before(events);
-    is_running(kernel, task) && is_let_go(&events[..count], &events[count..], task)
+    is_running(kernel, task) && was_let_go(events, task)
 }
 
 fn runnable_from(kernel: &Kernel, from: TaskNo, task: TaskNo) -> Option<TaskNo>

@@ -1,13 +1,13 @@
-use Rattle.std.proofs.Common.{◌≡◌, ◌<◌, ◌≤◌, ◌-◌, ℕ, zero, suc, ◌∙◌, sym, ap, subst, List, [], length, reverse, take, refl, arith}
+use Rattle.std.proofs.Common.{◌≡◌, ◌<◌, ◌≤◌, ◌-◌, ℕ, zero, suc, ◌∙◌, sym, ap, List, [], length, reverse, take, refl, arith}
 use Rattle.ada_events.specs.declared.event.Event.{Event}
 use Rattle.ada_waiting.specs.Runnable.{is_step, before_last}
 use Rattle.ada_waiting.proofs.Groups.{before_last_at}
 use Rattle.ada_waiting.proofs.runnable.count_before.Goals.{then-loop-left-test+else-is_step, else-loop-left-test}
 use Rattle.ada_waiting.proofs.runnable.count_before.Goals as goal
 
-pub returns : goal.returns
+pub returns-clause-many : goal.returns-clause-many
 unfolding before_last
-returns c =
+returns-clause-many c =
     elim c.loop-left-test.branch [
       | then-loop-left-test+else-is_step w ↦
           c.saturating_sub.ensures
