@@ -8,9 +8,8 @@ use Rattle.ada_events.specs.declared.names.Master.{Master}
 use Rattle.ada_events.specs.declared.names.Master.TheVariants.{Body, Block}
 use Rattle.ada_events.specs.declared.names.Patience.{Patience}
 use Rattle.ada_events.specs.declared.names.Patience.TheVariants.{Simple, Conditional, Timed}
-use Rattle.ada_events.specs.declared.event.EventTail.{EventTail}
 use Rattle.ada_events.specs.declared.event.Way.{Way}
-use Rattle.std.proofs.Common.{Bool, true, false, Some, None, Option, ℤ, ap, ◌∙◌}
+use Rattle.std.proofs.Common.{Bool, true, false, Some, None, ap, ◌∙◌}
 use Rattle.ada_events.specs.declared.refusal.Refusal.TheVariants.{UnknownTask, NotRunning, DuringActivation, NotActivating, NotYourMaster, EmptyList}
 use Rattle.ada_events.specs.declared.refusal.Refusal.TheVariants.{NotYourTask, NoAccept, NoSuchFamily, ConstraintError, SameFamilyNested, TerminateInAccept}
 use Rattle.ada_events.specs.declared.refusal.Refusal.TheVariants.{NotInAccept, NoBlock, StillNested, MainTask, MomentBack}
@@ -19,7 +18,7 @@ use Rattle.ada_events.specs.declared.outcome.Outcome.TheVariants as became
 use Rattle.ada_border.specs.Codes.{AreNumbered}
 use Rattle.ada_border.specs.Outcomes.{AreOutcomesReadBack, plain_outcome, outcome_at}
 use Rattle.ada_border.specs.Events.{AreReadBack, plain_of, event_at, master_at, master_kind, master_number, patience_at, patience_kind, patience_duration}
-use Rattle.ada_border.specs.Events.{tail_at, tail_kind, way_at, way_kind, way_number, flag, is_set}
+use Rattle.ada_border.specs.Events.{way_at, way_kind, way_number, flag, is_set}
 
 master : (m : Master) → master_at (master_kind m) (master_number m) ≡ m
 master (Body task) = refl

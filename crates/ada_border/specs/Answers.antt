@@ -1,5 +1,5 @@
 -- What is answered over the border: a code, and what is written where it is 0.
-use Rattle.std.specs.Prelude.{◌≡◌, ◌⊎◌, ℕ, ℤ, pos, Bool, Option, Some, None, Result, Ok, Err, List}
+use Rattle.std.specs.Prelude.{◌≡◌, ◌⊎◌, ℕ, ℤ, pos, Option, Some, None, Result, Ok, Err, List}
 use Rattle.ada_events.specs.declared.event.Event.{Event}
 use Rattle.ada_events.specs.declared.refusal.Refusal.{Refusal}
 use Rattle.ada_events.specs.declared.request.Request.{Request}

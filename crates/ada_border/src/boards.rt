@@ -27,12 +27,15 @@ pub struct PlainBoard {
 pub fn plain_board(board: Board) -> PlainBoard
     ensures { result ≡ spec.plain_board board }
 {
+    let callable = board.callable;
+    let terminated = board.terminated;
+    let counts = board.counts;
     PlainBoard {
         events: u64::from(board.events),
         tasks: u32::from(board.tasks),
         slots: u32::from(board.slots),
-        callable: board.callable,
-        terminated: board.terminated,
-        counts: board.counts,
+        callable,
+        terminated,
+        counts,
     }
 }

@@ -1,4 +1,4 @@
-use Rattle.std.proofs.Common.{◌≡◌, sym, ◌∙◌}
+use Rattle.std.proofs.Common.{sym, ◌∙◌}
 use Rattle.ada_border.specs.Requests.{family_in}
 use Rattle.ada_border.proofs.Reading.{grown}
 use Rattle.ada_border.proofs.parts.families_in.Goals as goal
