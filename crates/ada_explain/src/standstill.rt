@@ -2,13 +2,14 @@
 use crate::circles::circles;
 use crate::end::End;
 use crate::reasons::write_reason;
+use crate::verdict::verdict_of;
 use ada_account::Scene;
 use ada_events::journal::event_in;
 use ada_events::{Event, TaskNo};
 use ada_kernel::Kernel;
 use ada_reference::making_of;
 use ada_statements::Names;
-use ada_waiting::{Reason, Verdict, verdict_of};
+use ada_waiting::{Reason, Verdict};
 use std::alloc::AllocError;
 
 /// What was found at the end of a play.
@@ -26,7 +27,7 @@ pub fn write_standstill(
     kernel: &Kernel,
     names: &Names,
 ) -> Result<Standstill, AllocError> {
-    let verdict = verdict_of(kernel.journal().as_slice());
+    let verdict = verdict_of(kernel);
     if verdict == Verdict::Finished {
         write!(text, "\nThe main program is terminated.\n")?;
         return Ok(Standstill {
