@@ -12,7 +12,8 @@ use std::alloc::{AllocError, Global};
 /// refused, and what can let the plays go on, as far as these differ.
 pub fn write_ends(text: &mut String, first: &Account, second: &Account) -> Result<(), AllocError> {
     let alloc = *text.allocator();
-    let (one, other) = (End::of(alloc, first)?, End::of(alloc, second)?);
+    let one = End::of(alloc, &first.kernel, &first.names)?;
+    let other = End::of(alloc, &second.kernel, &second.names)?;
     write!(text, "\nAt the end:\n")?;
     let before = text.len();
     for task in 0..one.tasks() {

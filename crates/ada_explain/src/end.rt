@@ -1,9 +1,10 @@
 //! What all tasks do at the end of a play.
 
 use crate::reasons::awaited;
-use ada_account::{Account, Scene};
+use ada_account::Scene;
 use ada_events::TaskNo;
 use ada_kernel::Kernel;
+use ada_statements::Names;
 use ada_waiting::standstill::due_of;
 use ada_waiting::{Reason, reason_of};
 use std::alloc::{AllocError, Global};
@@ -18,15 +19,19 @@ pub struct End<'a> {
 }
 
 impl<'a> End<'a> {
-    /// The end of a play. Only of tasks that are suspended or not started it is searched why.
-    pub fn of(alloc: Global, account: &'a Account) -> Result<Self, AllocError> {
-        let scene = Scene::of(account, u32::MAX);
+    /// The end of the play of a kernel, with the names of its script. Only of tasks that are suspended or not started
+    /// it is searched why.
+    pub fn of(alloc: Global, kernel: &'a Kernel, names: &'a Names) -> Result<Self, AllocError> {
+        let scene = Scene {
+            events: kernel.journal().as_slice(),
+            names,
+        };
         let mut end = End {
             scene,
-            kernel: &account.kernel,
+            kernel,
             reasons: Vec::new(alloc),
         };
-        for task in 0..account.kernel.tasks() {
+        for task in 0..kernel.tasks() {
             let task = TaskNo(task);
             let is_asked = !end.runs(task) && !end.is_terminated(task);
             end.reasons.push(if is_asked {

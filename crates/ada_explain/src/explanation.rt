@@ -42,7 +42,7 @@ pub fn explain(alloc: Global, source: &[u8], account: &Account) -> Result<Explan
             _ => {}
         }
     }
-    let standstill = write_standstill(&mut text, account)?;
+    let standstill = write_standstill(&mut text, &account.kernel, &account.names)?;
     Ok(Explanation {
         text,
         refused,

@@ -9,5 +9,6 @@ pub mod nesting;
 pub mod reasons;
 pub mod refusals;
 pub mod standstill;
+pub mod verdict;
 
 pub use explanation::{Explanation, explain};

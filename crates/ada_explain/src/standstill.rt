@@ -2,11 +2,14 @@
 use crate::circles::circles;
 use crate::end::End;
 use crate::reasons::write_reason;
-use ada_account::{Account, Scene};
+use crate::verdict::verdict_of;
+use ada_account::Scene;
 use ada_events::journal::event_in;
 use ada_events::{Event, TaskNo};
+use ada_kernel::Kernel;
 use ada_reference::making_of;
-use ada_waiting::{Reason, Verdict, verdict_of};
+use ada_statements::Names;
+use ada_waiting::{Reason, Verdict};
 use std::alloc::AllocError;
 
 /// What was found at the end of a play.
@@ -17,9 +20,14 @@ pub struct Standstill {
     pub has_circle: bool,
 }
 
-/// Appends what each task waits for that isn't terminated, circles of them, and what can let the journal go on.
-pub fn write_standstill(text: &mut String, account: &Account) -> Result<Standstill, AllocError> {
-    let verdict = verdict_of(account.kernel.journal().as_slice());
+/// Appends what each task waits for that isn't terminated when a kernel's play ends, circles of them, and what can let
+/// the journal go on. The names are those of its script.
+pub fn write_standstill(
+    text: &mut String,
+    kernel: &Kernel,
+    names: &Names,
+) -> Result<Standstill, AllocError> {
+    let verdict = verdict_of(kernel);
     if verdict == Verdict::Finished {
         write!(text, "\nThe main program is terminated.\n")?;
         return Ok(Standstill {
@@ -27,7 +35,7 @@ pub fn write_standstill(text: &mut String, account: &Account) -> Result<Standsti
             has_circle: false,
         });
     }
-    let end = End::of(*text.allocator(), account)?;
+    let end = End::of(*text.allocator(), kernel, names)?;
     write!(text, "\nAt the end:\n")?;
     for task in 0..end.tasks() {
         write_task(text, &end, TaskNo(task))?;

@@ -14,6 +14,10 @@ pub enum Finding {
     Faulty,
     /// Two plays differ.
     Difference,
+    /// A line of a log is refused.
+    Refused,
+    /// A line of a log is none of the language.
+    NoLog,
     /// A line was refused, or something is stuck at the end, and this was looked for.
     Standstill,
 }
@@ -30,6 +34,9 @@ pub enum ScopeFault {
     /// The input is no script, and was to be compared.
     #[error(transparent)]
     Compared(RunFault),
+    /// The input is longer than a log.
+    #[error("more than 16777216 bytes")]
+    TooLong,
 }
 
 impl From<RunFault> for ScopeFault {
@@ -45,14 +52,16 @@ pub struct Failure<'a> {
     pub fault: ScopeFault,
 }
 
-/// The exit status: 0 if nothing was found, 1 for a faulty line or a difference, 2 for a faulty line of what was to be
-/// compared, 3 for a standstill that was looked for, and 4 where a file, memory, the input or the output was refused.
+/// The exit status: 0 if nothing was found, 1 for a faulty line, a difference or a refused line of a log, 2 for a faulty
+/// line of what was to be compared or of a log, and for a log that is too long, 3 for a standstill that was looked for,
+/// and 4 where a file, memory, the input or the output was refused.
 pub fn status_of(outcome: &Result<Finding, Failure<'_>>) -> u8
     ensures { result ≡ status outcome.now }
 {
     match outcome {
         Ok(Finding::Nothing) => 0,
-        Ok(Finding::Faulty | Finding::Difference) => 1,
+        Ok(Finding::Faulty | Finding::Difference | Finding::Refused) => 1,
+        Ok(Finding::NoLog) => 2,
         Ok(Finding::Standstill) => 3,
         Err(failure) => fault_status(&failure.fault),
     }
@@ -63,7 +72,7 @@ fn fault_status(fault: &ScopeFault) -> u8
 {
     match fault {
         ScopeFault::Run(RunFault::Script(_)) => 1,
-        ScopeFault::Compared(_) => 2,
+        ScopeFault::Compared(_) | ScopeFault::TooLong => 2,
         ScopeFault::Open | ScopeFault::Run(_) => 4,
     }
 }

@@ -1,6 +1,7 @@
 //! The second program: what a command line orders, and how it is obeyed.
 #![tactic(auto)]
 
+pub mod conforming;
 pub mod fault;
 pub mod obeying;
 pub mod order;

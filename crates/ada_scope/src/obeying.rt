@@ -2,6 +2,7 @@
 ghost use Rattle.std.specs.Prelude.{IfOk};
 ghost use Rattle.ada_scope.specs.Findings.{IsFoundIn};
 
+use crate::conforming::tell_conformance;
 use crate::painting::{Kind, painted};
 use crate::{Failure, Finding, Job, ScopeFault, What};
 use ada_account::{Account, account_of};
@@ -22,7 +23,7 @@ use std::rt::Files;
 use std::{fs, io};
 
 /// How the standard input is called where a file's name would stand.
-static STANDARD_INPUT: &str = "<stdin>";
+pub(crate) static STANDARD_INPUT: &str = "<stdin>";
 
 /// Does what was ordered, with colours or without, and says what was found.
 pub fn obey<'a, R: Files + Input + Print + AllocGlobal>(
@@ -40,6 +41,9 @@ pub fn obey<'a, R: Files + Input + Print + AllocGlobal>(
             told.map_err(|fault| Failure { file, fault })
         }
         Job::Compare { first, second } => tell_difference(rt, first, second, is_colored),
+        Job::Conform { file } => {
+            tell_conformance(rt, file).map_err(|fault| Failure { file, fault })
+        }
     }
 }
 

@@ -36,6 +36,8 @@ pub enum Job<'a> {
         first: Option<&'a str>,
         second: Option<&'a str>,
     },
+    /// To check a log of what tasks did.
+    Conform { file: Option<&'a str> },
 }
 
 /// When a text has colours.
@@ -112,6 +114,17 @@ static COMPARE_HELP: &str = "Example:
 The status is 0 if they don't differ, 1 if they do, and 2 if one is no script.
 ";
 
+static CONFORM: &str = "Check a log of what tasks did, and name its first line that no rule allows";
+
+static CONFORM_HELP: &str = "Examples:
+
+  adascope conform run.log
+  adascope conform < run.log || echo not as the rules say
+
+A log is a script of any length that a kernel takes. The status is 0 if it conforms, 1 if a line is
+refused, and 2 if a line is none of the language, or the log has more than 16777216 bytes.
+";
+
 static FORMAT: &str =
     "svg: tasks and events; mermaid: the calls as a sequence; dot: who waits for whom at the end";
 
@@ -130,8 +143,9 @@ static FORMATS: [&str; 3] = ["svg", "mermaid", "dot"];
 static HELP: &str = "Exit status:
 
   0  done, and nothing was found
-  1  the input is no script: a line is faulty; of compare: the plays differ
-  2  the command line is refused; of compare: an input is no script
+  1  the input is no script: a line is faulty; of compare: the plays differ; of conform: a line is
+     refused
+  2  the command line is refused; of compare: an input is no script; of conform: the input is no log
   3  with --strict: a line was refused, or something is stuck at the end
   4  a file, memory, the input or the output was refused
 ";
@@ -210,6 +224,13 @@ fn events<'a>(alloc: Global) -> Result<Command<'a>, AllocError> {
         .arg(file(alloc, "FILE"))
 }
 
+fn conform<'a>(alloc: Global) -> Result<Command<'a>, AllocError> {
+    Command::new(alloc, "conform")
+        .about(CONFORM)
+        .after_help(CONFORM_HELP)
+        .arg(file(alloc, "FILE"))
+}
+
 fn program<'a>(alloc: Global) -> Result<Command<'a>, AllocError> {
     let program = Command::new(alloc, "adascope")
         .about(ABOUT)
@@ -227,7 +248,8 @@ fn others<'a>(alloc: Global, program: Command<'a>) -> Result<Command<'a>, AllocE
     program
         .subcommand(draw(alloc)?)?
         .subcommand(events(alloc)?)?
-        .subcommand(compare(alloc)?)
+        .subcommand(compare(alloc)?)?
+        .subcommand(conform(alloc)?)
 }
 
 // What the subcommand that was met orders.
@@ -246,6 +268,9 @@ fn ordered<'a>(matches: &ArgMatches<'a>) -> Order<'a> {
             },
             color: color_in(found),
         },
+        Some(("conform", found)) => plain(Job::Conform {
+            file: file_in(found, "FILE"),
+        }),
         Some((_, found)) => Order {
             job: tell(What::Explanation, found, found.get_flag("strict")),
             color: color_in(found),

@@ -1,0 +1,74 @@
+//! Reading a log.
+
+use ada_replay::RunFault;
+use std::alloc::Global;
+use std::io::{ErrorKind, Read};
+
+/// The most bytes that a log has: 65,536 lines of 200 bytes with a line feed, each an event, and as much as 3.6 million
+/// bytes of comments and shown attributes.
+pub const MOST_BYTES: usize = 16_777_216;
+
+/// A log as it was read.
+#[derive(Drop)]
+pub struct Log {
+    bytes: Vec<u8>,
+    /// How many of the bytes are in lines that end with a line feed.
+    complete: usize,
+}
+
+impl Log {
+    /// The log of these bytes.
+    pub fn new(bytes: Vec<u8>) -> Self {
+        let complete = complete_bytes(&bytes);
+        Log { bytes, complete }
+    }
+
+    /// The lines that end with a line feed.
+    pub fn lines(&self) -> &[u8] {
+        &self.bytes[..self.complete]
+    }
+
+    /// The first complete lines, of which there are so many at least.
+    pub fn first_lines(&self, count: u32) -> &[u8] {
+        &self.bytes[..end_of_lines(self.lines(), count)]
+    }
+
+    /// What stands after the last line feed, which may be cut off.
+    pub fn rest(&self) -> &[u8] {
+        &self.bytes[self.complete..]
+    }
+}
+
+// How many bytes there are up to the last line feed, this one included.
+fn complete_bytes(bytes: &[u8]) -> usize {
+    let mut complete = bytes.len();
+    while complete > 0 && bytes[complete - 1] != b'\n' {
+        complete -= 1;
+    }
+    complete
+}
+
+// Where so many lines end.
+fn end_of_lines(bytes: &[u8], count: u32) -> usize {
+    let mut left = count;
+    for (i, byte) in bytes.iter().enumerate() {
+        if left == 0 {
+            return i;
+        }
+        if *byte == b'\n' {
+            left -= 1;
+        }
+    }
+    bytes.len()
+}
+
+/// Reads an input to its end, or as many bytes as a log has and one more, with which it is none.
+pub fn read_log<R: Read + Drop>(alloc: Global, reader: R) -> Result<Vec<u8>, RunFault> {
+    let mut bytes = Vec::new(alloc);
+    let mut reader = reader.take(MOST_BYTES as u64 + 1);
+    match reader.read_to_end(&mut bytes) {
+        Ok(_) => Ok(bytes),
+        Err(fault) if fault.kind() == ErrorKind::OutOfMemory => Err(RunFault::Memory),
+        Err(_) => Err(RunFault::Read),
+    }
+}
