@@ -5,15 +5,15 @@ use ada_events::TaskNo;
 use ada_explain::end::End;
 use ada_explain::reasons::write_reason;
 use ada_replay::Answer;
-use ada_waiting::{Verdict, verdict_of};
+use ada_waiting::{Verdict, verdict_in};
 use std::alloc::{AllocError, Global};
 
 /// Appends what each task does at the end of two plays that does something else in the other one, how many lines were
 /// refused, and what can let the plays go on, as far as these differ.
 pub fn write_ends(text: &mut String, first: &Account, second: &Account) -> Result<(), AllocError> {
     let alloc = *text.allocator();
-    let one = End::of(alloc, &first.kernel, &first.names)?;
-    let other = End::of(alloc, &second.kernel, &second.names)?;
+    let one = End::of(&first.kernel, &first.names);
+    let other = End::of(&second.kernel, &second.names);
     write!(text, "\nAt the end:\n")?;
     let before = text.len();
     for task in 0..one.tasks() {
@@ -81,7 +81,7 @@ fn refused_of(alloc: Global, account: &Account) -> Result<String, AllocError> {
 }
 
 fn verdict_text(alloc: Global, account: &Account) -> Result<String, AllocError> {
-    match verdict_of(account.kernel.journal().as_slice()) {
+    match verdict_in(&account.kernel) {
         Verdict::Finished => format!(in alloc; "verdict: terminated"),
         Verdict::GoesOn => format!(in alloc; "verdict: could go on"),
         Verdict::WaitsForTick { until } => {

@@ -9,6 +9,5 @@ pub mod nesting;
 pub mod reasons;
 pub mod refusals;
 pub mod standstill;
-pub mod verdict;
 
 pub use explanation::{Explanation, explain};

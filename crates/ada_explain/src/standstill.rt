@@ -2,14 +2,13 @@
 use crate::circles::circles;
 use crate::end::End;
 use crate::reasons::write_reason;
-use crate::verdict::verdict_of;
 use ada_account::Scene;
 use ada_events::journal::event_in;
 use ada_events::{Event, TaskNo};
 use ada_kernel::Kernel;
 use ada_reference::making_of;
 use ada_statements::Names;
-use ada_waiting::{Reason, Verdict};
+use ada_waiting::{Reason, Verdict, verdict_in};
 use std::alloc::AllocError;
 
 /// What was found at the end of a play.
@@ -27,7 +26,7 @@ pub fn write_standstill(
     kernel: &Kernel,
     names: &Names,
 ) -> Result<Standstill, AllocError> {
-    let verdict = verdict_of(kernel);
+    let verdict = verdict_in(kernel);
     if verdict == Verdict::Finished {
         write!(text, "\nThe main program is terminated.\n")?;
         return Ok(Standstill {
@@ -35,7 +34,7 @@ pub fn write_standstill(
             has_circle: false,
         });
     }
-    let end = End::of(*text.allocator(), kernel, names)?;
+    let end = End::of(kernel, names);
     write!(text, "\nAt the end:\n")?;
     for task in 0..end.tasks() {
         write_task(text, &end, TaskNo(task))?;

@@ -9,7 +9,7 @@ ghost use Rattle.ada_waiting.specs.internal.Kept as kept_of;
 
 use crate::awaited::awaits;
 use crate::reasons::Reason;
-use crate::standstill::tail_due;
+use crate::standstill::{Verdict, tail_due};
 use ada_events::waits::earlier;
 use ada_events::{Event, TaskNo};
 use ada_kernel::Kernel;
@@ -89,7 +89,9 @@ fn kept_due(kernel: &Kernel, kept: &Record) -> Option<i64>
     due_by(kept.suspension.joined, event)
 }
 
-fn due_in(kernel: &Kernel, task: TaskNo) -> Option<i64>
+/// The moment, in milliseconds, for which a task of a kernel is suspended; none if it isn't, or for no moment. Nothing is
+/// searched.
+pub fn due_in(kernel: &Kernel, task: TaskNo) -> Option<i64>
     ensures { result ≡ standstill.due_of kernel.now task.0 }
 {
     let _journal = kernel.journal();
@@ -110,6 +112,34 @@ pub fn next_due(kernel: &Kernel) -> Option<i64>
         first = earlier(first, due_in(kernel, TaskNo(number)));
     }
     first
+}
+
+#[tactic(auto, unfolding(crate::specs::Standstill::nobody_runs, ada_events::specs::Search::all_below), using(ada_reference::proofs::Numbers::all_below_more))]
+fn nobody_runs(kernel: &Kernel) -> bool
+    ensures { result ≡ standstill.nobody_runs kernel.now }
+{
+    let mut nobody = true;
+    for number in 0..kernel.tasks() {
+        nobody = nobody && kernel.running(TaskNo(number)) != Some(true);
+    }
+    nobody
+}
+
+/// What can let a kernel's journal go on. Nothing is searched.
+#[tactic(auto, unfolding(crate::specs::Standstill::verdict_of))]
+pub fn verdict_in(kernel: &Kernel) -> Verdict
+    ensures { result ≡ standstill.verdict_of kernel.now }
+{
+    if kernel.finished() {
+        Verdict::Finished
+    } else if !nobody_runs(kernel) {
+        Verdict::GoesOn
+    } else {
+        match next_due(kernel) {
+            Some(until) => Verdict::WaitsForTick { until },
+            None => Verdict::Stuck,
+        }
+    }
 }
 
 fn waits_in(kernel: &Kernel, task: TaskNo, other: TaskNo) -> bool

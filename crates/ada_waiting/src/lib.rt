@@ -11,7 +11,7 @@ pub mod runnable;
 pub mod standstill;
 
 pub use awaited::waits_for;
-pub use kernels::{first_awaited, next_due, reason_in};
+pub use kernels::{due_in, first_awaited, next_due, reason_in, verdict_in};
 pub use reasons::{Reason, reason_of};
 pub use runnable::first_runnable;
 pub use standstill::{Verdict, verdict_of};
