@@ -126,7 +126,7 @@ fn nobody_runs(kernel: &Kernel) -> bool
 }
 
 /// What can let a kernel's journal go on. Nothing is searched.
-#[tactic(auto, unfolding(crate::specs::Standstill::verdict_of))]
+#[tactic(auto, unfolding(crate::specs::Standstill::verdict_of, ada_events::specs::Attributes::is_finished))]
 pub fn verdict_in(kernel: &Kernel) -> Verdict
     ensures { result ≡ standstill.verdict_of kernel.now }
 {
