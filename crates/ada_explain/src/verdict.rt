@@ -1,5 +1,4 @@
-//! What can let a kernel's journal go on, by the kernel's own answers, so that a long journal isn't searched for whoever
-//! runs.
+//! What can let a kernel's journal go on. The kernel says who runs, so that a long journal isn't searched for it.
 ghost use Rattle.std.specs.Prelude.{◌≡◌};
 ghost use Rattle.ada_waiting.specs.Standstill as standstill;
 
