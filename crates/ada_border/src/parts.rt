@@ -163,7 +163,8 @@ pub fn choices_in(plain: &[PlainChoice]) -> Result<Choices, Bad>
     Ok(choices)
 }
 
-fn choice_in(plain: PlainChoice) -> Result<Choice, Bad>
+#[inline(always)]
+pub(crate) fn choice_in(plain: PlainChoice) -> Result<Choice, Bad>
     ensures { result ≡ spec.choice_in plain }
 {
     let entry = entry_in(plain.family, plain.index)?;

@@ -1,13 +1,13 @@
 //! The twelve requests, read from numbers. Each is inlined, so that a request isn't copied on its way to the kernel.
-ghost use Rattle.std.specs.Prelude.{◌≡◌};
+ghost use Rattle.std.specs.Prelude.{◌≡◌, [], ◌∷◌};
 ghost use Rattle.ada_border.specs.Requests as spec;
 
 use crate::Bad;
 use crate::parts::{
-    PlainChoice, PlainFamily, PlainPause, choices_in, entry_in, families_in, flag_in, master_in,
-    patience_in, pauses_in, task_in, tasks_in,
+    PlainChoice, PlainFamily, PlainPause, choice_in, choices_in, entry_in, families_in, flag_in,
+    master_in, patience_in, pauses_in, task_in, tasks_in,
 };
-use ada_events::{Request, Tail};
+use ada_events::{Choices, Request, Tail};
 
 /// Opens a block.
 #[inline(always)]
@@ -118,6 +118,25 @@ pub fn wait_in(
         by,
         choices,
         tail,
+        pick,
+    })
+}
+
+/// Accepts a call of one entry: waits selectively with one alternative and no last part. Its request is made without the
+/// copies of lists that a wait's takes.
+#[inline(always)]
+#[tactic(auto, unfolding(crate::specs::Requests::all_in))]
+pub fn accept_in(by: u64, choice: PlainChoice, pick: u32) -> Result<Request, Bad>
+    ensures { result ≡ spec.wait_in by (choice ∷ []) 0 [] pick }
+{
+    let by = task_in(by)?;
+    let choice = choice_in(choice)?;
+    let mut choices = Choices::new();
+    choices.push(choice);
+    Ok(Request::Wait {
+        by,
+        choices,
+        tail: Tail::Nothing,
         pick,
     })
 }

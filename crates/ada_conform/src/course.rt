@@ -43,14 +43,14 @@ fn take_lines(
     names: &mut Names,
     log: &[u8],
 ) -> Result<(Judgement, u32), RunFault> {
-    let mut number = 0;
+    let mut number = 0u32;
     let mut rest = Lines::new(log);
     while let Some(line) = rest.next() {
         if let Err(stop) = take_line(alloc, kernel, names, line) {
-            let judgement = judged(number + 1, stop)?;
+            let judgement = judged(number.saturating_add(1), stop)?;
             return Ok((judgement, number));
         }
-        number += 1;
+        number = number.saturating_add(1);
     }
     Ok((Judgement::Conforms, number))
 }

@@ -13,12 +13,7 @@ use std::alloc::{AllocError, Global};
 
 /// What is told of a log, which is called so: the line that stops it, and why; how far it conforms; and, if it
 /// conforms and doesn't come to its end, what stands still there.
-pub fn report(
-    alloc: Global,
-    file: &str,
-    log: &Log,
-    course: &Course,
-) -> Result<String, AllocError> {
+pub fn report(alloc: Global, file: &str, log: &Log, course: &Course) -> Result<String, AllocError> {
     let mut text = String::new(alloc);
     match &course.judgement {
         Judgement::Conforms => {
@@ -137,16 +132,15 @@ fn write_line(text: &mut String, log: &Log, number: u32) -> Result<(), AllocErro
 
 // Says of a limit of the kernel that it is one.
 fn write_limit(text: &mut String, cause: Refusal) -> Result<(), AllocError> {
-    match cause {
-        Refusal::JournalFull => text.push_str(
-            "The log is too long for a kernel. No rule of Ada refuses this line: it and those after it aren't judged.\n",
-        ),
+    let limit = match cause {
+        Refusal::JournalFull => "The log is too long for a kernel.",
         Refusal::TooManyTasks
         | Refusal::TooManySlots
         | Refusal::TooDeep
-        | Refusal::MomentTooLarge => text.push_str(
-            "This is a limit of the kernel. No rule of Ada refuses this line: it and those after it aren't judged.\n",
-        ),
-        _ => Ok(()),
-    }
+        | Refusal::MomentTooLarge => "This is a limit of the kernel.",
+        _ => return Ok(()),
+    };
+    text.push_str(limit)?;
+    text.push_str(" No rule of Ada refuses this line: ")?;
+    text.push_str("it and those after it aren't judged.\n")
 }

@@ -1,8 +1,4 @@
 //! One line of a log.
-ghost use Rattle.std.specs.Prelude.{◌≡◌, ◌⊎◌, OnOk, OnErr, IfErr};
-ghost use Rattle.ada_replay.specs.Ends.{state};
-ghost use Rattle.ada_conform.specs.Lines.{declared, Accepts, Refuses, Passes};
-ghost use Rattle.ada_conform.specs.Courses.{IsStop};
 
 use crate::judgement::Stop;
 use ada_events::Refusal;
@@ -18,13 +14,7 @@ use std::alloc::Global;
 const ANY_NUMBER: u32 = 1;
 
 // Asks of the kernel what a statement asks, and binds the name that it declares.
-fn ask(kernel: &mut Kernel, names: &mut Names, statement: &Statement) -> Result<(), Refusal>
-    ensures ok { OnOk result (Accepts statement.now (state kernel.old names.old)
-        (state kernel.new names.new)) }
-    ensures err { IfErr result (λ cause. (cause ≡ Refusal.OutOfMemory)
-        ⊎ Refuses statement.now (state kernel.old names.old) cause) }
-    ensures unchanged { OnErr result ((kernel.new ≡ kernel.old) × (names.new ≡ names.old)) }
-{
+fn ask(kernel: &mut Kernel, names: &mut Names, statement: &Statement) -> Result<(), Refusal> {
     match request(statement, names) {
         Some(request) => {
             let made = next_task(kernel);
@@ -44,12 +34,7 @@ fn take_statement(
     kernel: &mut Kernel,
     names: &mut Names,
     statement: Statement,
-) -> Result<(), Stop>
-    ensures ok { OnOk result (Accepts statement (declared (state kernel.old names.old) statement)
-        (state kernel.new names.new)) }
-    ensures err { IfErr result (IsTurnedDown statement (state kernel.old names.old)
-        (state kernel.new names.new)) }
-{
+) -> Result<(), Stop> {
     names.declare(&statement)?;
     match ask(kernel, names, &statement) {
         Ok(()) => Ok(()),
@@ -64,12 +49,7 @@ pub fn take_line(
     kernel: &mut Kernel,
     names: &mut Names,
     line: &[u8],
-) -> Result<(), Stop>
-    ensures ok { OnOk result (Passes line.now (state kernel.old names.old)
-        (state kernel.new names.new)) }
-    ensures err { IfErr result (λ stop. IsStop line.now (state kernel.old names.old) stop
-        (state kernel.new names.new)) }
-{
+) -> Result<(), Stop> {
     check_line(ANY_NUMBER, line)?;
     let mut words = Words::new(line);
     if is_skipped(&words) {

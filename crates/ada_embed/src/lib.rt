@@ -163,6 +163,11 @@ pub extern "C" fn adatask_wait(
     ensures lawful { IsLawful h.new.home }
     ensures settled { IsSettled h.new.home }
 {
+    // An accept statement has a path of its own, since it is most of what is asked.
+    if choices.len() == 1 && tail == 0 && delays.is_empty() {
+        let code = answer(h.kernel(), requests::accept_in(by, choices[0], pick), at);
+        return code;
+    }
     let code = answer(
         h.kernel(),
         requests::wait_in(by, choices, tail, delays, pick),

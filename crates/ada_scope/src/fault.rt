@@ -52,9 +52,9 @@ pub struct Failure<'a> {
     pub fault: ScopeFault,
 }
 
-/// The exit status: 0 if nothing was found, 1 for a faulty line, a difference or a refused line of a log, 2 for a faulty
-/// line of what was to be compared or of a log, and for a log that is too long, 3 for a standstill that was looked for,
-/// and 4 where a file, memory, the input or the output was refused.
+/// The exit status: 0 if nothing was found, 1 for a faulty line, a difference or a refused line of a log, 2 for a
+/// faulty line of what was to be compared or of a log, and for a log that is too long, 3 for a standstill that was
+/// looked for, and 4 where a file, memory, the input or the output was refused.
 pub fn status_of(outcome: &Result<Finding, Failure<'_>>) -> u8
     ensures { result ≡ status outcome.now }
 {

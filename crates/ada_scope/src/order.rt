@@ -37,7 +37,9 @@ pub enum Job<'a> {
         second: Option<&'a str>,
     },
     /// To check a log of what tasks did.
-    Conform { file: Option<&'a str> },
+    Conform {
+        file: Option<&'a str>,
+    },
 }
 
 /// When a text has colours.
