@@ -255,7 +255,8 @@ static int32_t ask(const request_row *row, uint64_t *at) {
     case ADA_CALLED:
       return ada_call(&k, by, bound[row->name], row->family, row->index, row->patience, row->duration, at);
     case ADA_WAITING:
-      return ada_wait(&k, by, row->choices, row->choices_count, row->tail, row->delays, row->delays_count, row->pick, at);
+      return ada_wait(&k, by, row->choices, row->choices_count, row->tail, row->delays, row->delays_count, row->pick,
+                      at);
     case ADA_PAUSED: return ada_delay(&k, by, row->duration, at);
     case ADA_ENDED: return ada_end(&k, by, row->flag, at);
     case ADA_CLOSED: return ada_close(&k, by, at);
