@@ -226,16 +226,23 @@ static void try_masters(void) {
 /* What waits at terminate alternatives goes together, and lets its block be left (9.7.1, 9.4). */
 static void try_quitting(void) {
   const ada_choice open_choice = {0, 0, 1};
+  const uint64_t two[2] = {1, 2};
   begin();
   AT(1, ada_open(&k, 0, &at));
   AT(2, ada_create(&k, 0, ADA_BLOCK, 1, &single, 1, &at));
-  AT(3, activate(0, 1));
-  AT(4, ada_elaborated(&k, 1, 1, &at)); /* 5 activated 3 ok */
-  AT(6, ada_close(&k, 0, &at));
-  WAITS(0, ADA_LEAVING, 6, "1");
-  AT(7, ada_wait(&k, 1, &open_choice, 1, ADA_TERMINATE, NULL, 0, 0, &at)); /* 8 quit 1, 9 left 6 */
+  AT(3, create(0, ADA_BLOCK, 1));
+  AT(4, ada_activate(&k, 0, two, 2, &at));
+  AT(5, ada_elaborated(&k, 1, 1, &at));
+  AT(6, ada_elaborated(&k, 2, 1, &at)); /* 7 activated 4 ok */
+  AT(8, ada_close(&k, 0, &at));
+  WAITS(0, ADA_LEAVING, 8, "12");
+  AT(9, ada_complete(&k, 2, &at)); /* 10 gone 2 */
+  WAITS(0, ADA_LEAVING, 8, "1");
+  RUNNABLE("");
+  AT(11, ada_wait(&k, 1, &open_choice, 1, ADA_TERMINATE, NULL, 0, 0, &at)); /* 12 quit 1, 13 left 8 */
+  GOES_ON(1);
   RUNNABLE("0");
-  EVENTS(9);
+  EVENTS(13);
   ada_kernel_drop(&k);
 }
 
@@ -485,15 +492,15 @@ static int agrees_with_board(void) {
 
 /* A task has no reason exactly if it runs or is terminated, and waits for nobody who is terminated. */
 static int has_reasons(void) {
-  uint64_t task, other;
+  uint64_t task, from, other;
   int holds = 1;
   for (task = 0; task < PLAY_TASKS; task++) {
     ada_reason reason = {77, 0};
     uint32_t terminated = 9;
     holds &= ada_reason_of(&k, task, &reason) == ADA_ACCEPTED && ada_terminated(&k, task, &terminated) == ADA_ACCEPTED;
     holds &= (reason.kind == ADA_GOES_ON) == (runs(task) || terminated);
-    for (other = 0; ada_awaited(&k, task, other, &other) == ADA_ACCEPTED; other++)
-      holds &= ada_terminated(&k, other, &terminated) == ADA_ACCEPTED && !terminated;
+    for (from = 0; from < PLAY_TASKS && ada_awaited(&k, task, from, &other) == ADA_ACCEPTED; from++)
+      holds &= other >= from && ada_terminated(&k, other, &terminated) == ADA_ACCEPTED && !terminated;
   }
   return holds;
 }
