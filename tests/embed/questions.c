@@ -8,8 +8,6 @@
 #include <stdio.h>
 #include <string.h>
 
-#define BEYOND (UINT64_C(1) << 40) /* no task has such a number */
-
 static ada_kernel k;
 static uint64_t at;
 static int passed, failed;
@@ -376,51 +374,6 @@ static void try_board(void) {
   ada_kernel_drop(&k);
 }
 
-/* ---- Bad values ---- */
-
-static void try_bad_values(void) {
-  ada_kernel none = {NULL};
-  static ada_board board, kept;
-  ada_reason reason = {77, 77};
-  uint64_t task = 77;
-  int64_t moment = 77;
-  begin_with(1);
-  memset(&board, 7, sizeof board);
-  memset(&kept, 7, sizeof kept);
-  SAYS(ADA_NO_SUCH_TASK, ada_reason_of(&k, 2, &reason));
-  SAYS(ADA_NO_SUCH_TASK, ada_reason_of(&k, 65535, &reason));
-  SAYS(ADA_OUT_OF_RANGE, ada_reason_of(&k, 65536, &reason));
-  SAYS(ADA_OUT_OF_RANGE, ada_reason_of(&k, BEYOND, &reason));
-  SAYS(ADA_NULL, ada_reason_of(NULL, 0, &reason));
-  SAYS(ADA_NULL, ada_reason_of(&none, 0, &reason));
-  SAYS(ADA_NULL, ada_reason_of(&k, 0, NULL));
-  SAYS(ADA_NO_SUCH_TASK, ada_awaited(&k, 2, 0, &task));
-  SAYS(ADA_OUT_OF_RANGE, ada_awaited(&k, BEYOND, 0, &task));
-  SAYS(ADA_NO_SUCH_ITEM, ada_awaited(&k, 0, 0, &task)); /* the main program runs */
-  SAYS(ADA_NO_SUCH_ITEM, ada_awaited(&k, 0, BEYOND, &task));
-  SAYS(ADA_NO_SUCH_ITEM, ada_awaited(&k, 0, UINT64_MAX, &task));
-  SAYS(ADA_NULL, ada_awaited(NULL, 0, 0, &task));
-  SAYS(ADA_NULL, ada_awaited(&none, 0, 0, &task));
-  SAYS(ADA_NULL, ada_awaited(&k, 0, 0, NULL));
-  SAYS(ADA_NO_SUCH_ITEM, ada_runnable(&k, 1, &task)); /* 4 activated 2 ok: the main program alone */
-  SAYS(ADA_NO_SUCH_ITEM, ada_runnable(&k, BEYOND, &task));
-  SAYS(ADA_NO_SUCH_ITEM, ada_runnable(&k, UINT64_MAX, &task));
-  SAYS(ADA_NULL, ada_runnable(NULL, 0, &task));
-  SAYS(ADA_NULL, ada_runnable(&none, 0, &task));
-  SAYS(ADA_NULL, ada_runnable(&k, 0, NULL));
-  SAYS(ADA_NO_SUCH_ITEM, ada_next_due(&k, &moment));
-  SAYS(ADA_NULL, ada_next_due(NULL, &moment));
-  SAYS(ADA_NULL, ada_next_due(&none, &moment));
-  SAYS(ADA_NULL, ada_next_due(&k, NULL));
-  SAYS(ADA_NULL, ada_board_of(NULL, &board));
-  SAYS(ADA_NULL, ada_board_of(&none, &board));
-  SAYS(ADA_NULL, ada_board_of(&k, NULL));
-  note(reason.kind == 77 && reason.position == 77 && task == 77 && moment == 77, __LINE__, "nothing is written");
-  note(!memcmp(&board, &kept, sizeof board), __LINE__, "no board is written");
-  EVENTS(4);
-  ada_kernel_drop(&k);
-}
-
 /* ---- Longer plays, whose answers are compared with each other ---- */
 
 #define PLAY_TASKS 7
@@ -575,7 +528,6 @@ int main(void) {
   try_abort_of_caller();
   try_moments();
   try_board();
-  try_bad_values();
   try_plays();
   printf("%d passed, %d failed\n", passed, failed);
   return failed != 0;
