@@ -1,6 +1,7 @@
 /* SPDX-License-Identifier: MIT */
-/* Plays a script through the library and prints what adatask prints for it, with its status: gallery PATH. The scripts
-   are tables, which tools/script_table writes into the header that SCRIPT_TABLES names; no script is read here. */
+/* Plays scripts through the library, one after the other, and prints what adatask prints for them, with its status for
+   the last: gallery PATH .. The scripts are tables, which tools/script_table writes into the header that SCRIPT_TABLES
+   names; no script is read here. */
 
 #include "adatask.h"
 #include <stdio.h>
@@ -289,18 +290,27 @@ static const script_row *find(const char *path) {
   return NULL;
 }
 
-int main(int count, char **words) {
+/* Plays a script on a kernel of its own; the status that adatask has for it. */
+static int play_script(void) {
   size_t i;
   int status;
-  script = count == 2 ? find(words[1]) : NULL;
-  if (!script) {
-    fprintf(stderr, "usage: gallery PATH, of a script of the tables\n");
-    return 2;
-  }
   must(ada_kernel_new(&k), "a kernel");
   unbind_all();
   for (i = 0; i < script->rows_count; i++) play(&script->rows[i]);
   status = ada_finished(&k) ? 0 : 3;
   ada_kernel_drop(&k);
+  return status;
+}
+
+int main(int count, char **words) {
+  int i, status = 2;
+  for (i = 1; i < count; i++) {
+    script = find(words[i]);
+    if (!script) {
+      fprintf(stderr, "gallery: there is no table of %s\n", words[i]);
+      return 2;
+    }
+    status = play_script();
+  }
   return status;
 }
