@@ -83,16 +83,16 @@ static void answered(int32_t code, int32_t wanted, const char *what) {
 #define GOOD(call) note((call) == ADA_ACCEPTED, #call, -1)
 
 /* A call with `it` for its kernel, once without a pointer to one, and once without a kernel. */
+static ada_kernel none;
 #define WITHOUT(call) \
   do { \
-    ada_kernel none = {NULL}, *it = NULL; \
+    ada_kernel *it = NULL; \
     BAD(ADA_NULL, call); \
     it = &none; \
     BAD(ADA_NULL, call); \
   } while (0)
 
 static void try_no_kernel(void) {
-  ada_kernel none = {NULL};
   WITHOUT(ada_open(it, 0, &at));
   WITHOUT(ada_create(it, 0, ADA_BODY, 0, NULL, 0, &at));
   WITHOUT(ada_activate(it, 0, NULL, 0, &at));
