@@ -17,13 +17,14 @@
      tasks, events, finished                                                           kernel
      running, callable, terminated,                   task               task          kernel, out
        outcome_of, reason_of
-     awaited                                          task               task, item    kernel, out
+     awaited                                          task, from         task, item    kernel, out
      slot                                             task, family       entry         kernel, out
      count                                            task, family       (refusals)    kernel, out
      event_at, lengths_of                             position           event         kernel, out
      event_task, .._family,                           position           event, item   kernel, out
        .._choice, .._delay
-     runnable, next_due                                                  item          kernel, out
+     runnable                                         from               item          kernel, out
+     next_due                                                            item          kernel, out
      board_of                                                                          kernel, out
 
    A number that is in range and names no task, family, index or block of a request is a refusal of the rules. */
@@ -269,11 +270,13 @@ static void try_questions(void) {
    nobody waits for a moment. */
 static void try_none(void) {
   BAD(ADA_NO_SUCH_ITEM, ada_awaited(&k, 0, 0, &at));
-  BAD(ADA_NO_SUCH_ITEM, ada_awaited(&k, 0, BEYOND, &at));
-  BAD(ADA_NO_SUCH_ITEM, ada_awaited(&k, 0, UINT64_MAX, &at));
+  BAD(ADA_NO_SUCH_ITEM, ada_awaited(&k, 0, MANY - 1, &at));
+  BAD(ADA_OUT_OF_RANGE, ada_awaited(&k, 0, MANY, &at));
+  BAD(ADA_OUT_OF_RANGE, ada_awaited(&k, 0, UINT64_MAX, &at));
   BAD(ADA_NO_SUCH_ITEM, ada_runnable(&k, 1, &at));
-  BAD(ADA_NO_SUCH_ITEM, ada_runnable(&k, BEYOND, &at));
-  BAD(ADA_NO_SUCH_ITEM, ada_runnable(&k, UINT64_MAX, &at));
+  BAD(ADA_NO_SUCH_ITEM, ada_runnable(&k, MANY - 1, &at));
+  BAD(ADA_OUT_OF_RANGE, ada_runnable(&k, MANY, &at));
+  BAD(ADA_OUT_OF_RANGE, ada_runnable(&k, BEYOND, &at));
   BAD(ADA_NO_SUCH_ITEM, ada_next_due(&k, &moment));
 }
 
