@@ -1,6 +1,7 @@
 /* SPDX-License-Identifier: MIT */
-/* Gives the library memory of its own, and refuses one growth after another: each call that needs it answers 23, and the
-   kernel stays as it was. Prints what fails; the last line is 'N passed, M failed'. */
+/* Gives the library memory of its own, and refuses one growth after another: each call that needs it answers 23, and
+   the kernel stays as it was. Questions take no memory, so none is asked for while all is refused. Prints what fails;
+   the last line is 'N passed, M failed'. */
 
 #include "adatask.h"
 #include <stdio.h>
@@ -17,10 +18,12 @@ given rattle_realloc(void *where, size_t kept, size_t size, size_t align);
 void rattle_dealloc(void *where);
 
 static long left = -1; /* how many growths are given before one is refused; none is if this is negative */
+static long asked;     /* how many growths were asked for */
 static unsigned char nowhere[16];
 static int passed, failed;
 
 static int is_refused(void) {
+  asked++;
   if (left > 0) left--;
   else if (left == 0) return 1;
   return 0;
@@ -55,17 +58,32 @@ static void note(int is_right, const char *what, long growth) {
   }
 }
 
+static int32_t wait_for_a_while(ada_kernel *k, uint64_t *at) {
+  static const ada_choice choices[2] = {{0, 0, 1}, {1, 9, 1}};
+  static const ada_pause delays[2] = {{1, 1}, {5, 1}};
+  return ada_wait(k, 1, choices, 2, ADA_DELAYS, delays, 2, 0, at);
+}
+
 /* Request number `i` of a play that makes each thing grow. */
 static int32_t ask(ada_kernel *k, int i, uint64_t *at) {
   static const ada_family families[3] = {{0, 0}, {1, 9}, {0, 0}};
-  const uint64_t task = 1;
+  static const uint64_t task = 1, others[2] = {2, 3};
   if (i < 20) return ada_create(k, 0, ADA_BODY, 0, families, 3, at);
-  if (i == 20) return ada_activate(k, 0, &task, 1, at);
-  if (i == 21) return ada_elaborated(k, 1, 1, at);
-  if (i == 22) return ada_call(k, 0, 1, 1, 5, ADA_SIMPLE, 0, at);
-  if (i == 23) return ada_accept(k, 1, 1, 5, at);
-  if (i == 24) return ada_end(k, 1, 0, at);
-  return ada_tick(k, i, at);
+  switch (i) {
+    case 20: return ada_activate(k, 0, &task, 1, at);
+    case 21: return ada_elaborated(k, 1, 1, at);
+    case 22: return ada_call(k, 0, 1, 1, 5, ADA_SIMPLE, 0, at);
+    case 23: return ada_accept(k, 1, 1, 5, at);
+    case 24: return ada_end(k, 1, 0, at);
+    case 25: return ada_open(k, 0, at);
+    case 26: return wait_for_a_while(k, at);
+    case 28: return ada_close(k, 0, at);
+    case 29: return ada_call(k, 0, 1, 0, 0, ADA_TIMED, 1, at);
+    case 31: return ada_abort(k, 0, others, 2, at);
+    case 32: return ada_complete(k, 1, at);
+    case 33: return ada_delay(k, 0, 1, at);
+    default: return ada_tick(k, i, at);
+  }
 }
 
 /* Plays until a request isn't accepted, with one growth refused; whether one was. */
@@ -95,10 +113,74 @@ static int play(long growth) {
   return 0;
 }
 
+/* An answer that took no memory. */
+#define ANSWERS(question) note((question) == ADA_ACCEPTED, #question, left)
+
+/* Events 1 to 8: a task is made, activated, waits with a delay alternative until 1, and is called within 5 then. */
+static void begin(ada_kernel *k) {
+  static const ada_family single = {0, 0};
+  static const ada_choice choice = {0, 0, 1};
+  static const ada_pause delay = {1, 1};
+  static const uint64_t task = 1;
+  uint64_t at;
+  left = -1;
+  ANSWERS(ada_kernel_new(k));
+  ANSWERS(ada_create(k, 0, ADA_BODY, 0, &single, 1, &at));
+  ANSWERS(ada_activate(k, 0, &task, 1, &at));
+  ANSWERS(ada_elaborated(k, 1, 1, &at)); /* 4 activated 2 ok */
+  ANSWERS(ada_wait(k, 1, &choice, 1, ADA_DELAYS, &delay, 1, 0, &at));
+  ANSWERS(ada_tick(k, 1, &at)); /* 7 passed 5 delay 0 */
+}
+
+static void try_questions(void) {
+  static ada_board board;
+  ada_kernel k = {NULL};
+  ada_outcome outcome;
+  ada_reason reason;
+  ada_event event;
+  ada_lengths lengths;
+  ada_family family;
+  ada_choice choice;
+  ada_due due;
+  uint64_t at;
+  int64_t moment;
+  uint32_t answer;
+  begin(&k);
+  left = 0;
+  asked = 0;
+  ANSWERS(ada_runnable(&k, 0, &at)); /* task 1, by the tick */
+  note(asked == 0, "a question takes no memory", asked);
+  left = -1;
+  ANSWERS(ada_call(&k, 0, 1, 0, 0, ADA_TIMED, 4, &at));
+  left = 0;
+  asked = 0;
+  ANSWERS(ada_running(&k, 0, &answer));
+  ANSWERS(ada_callable(&k, 0, &answer));
+  ANSWERS(ada_terminated(&k, 0, &answer));
+  ANSWERS(ada_outcome_of(&k, 0, &outcome));
+  ANSWERS(ada_slot(&k, 1, 0, 0, &answer));
+  ANSWERS(ada_count(&k, 1, 0, 0, &answer));
+  ANSWERS(ada_event_at(&k, 5, &event));
+  ANSWERS(ada_lengths_of(&k, 5, &lengths));
+  ANSWERS(ada_event_family(&k, 1, 0, &family));
+  ANSWERS(ada_event_task(&k, 2, 0, &at));
+  ANSWERS(ada_event_choice(&k, 5, 0, &choice));
+  ANSWERS(ada_event_delay(&k, 5, 0, &due));
+  ANSWERS(ada_reason_of(&k, 0, &reason));
+  ANSWERS(ada_awaited(&k, 0, 0, &at));
+  ANSWERS(ada_next_due(&k, &moment));
+  ANSWERS(ada_board_of(&k, &board));
+  note(ada_tasks(&k) == 2 && ada_events(&k) == 8 && !ada_finished(&k), "how many there are", left);
+  note(asked == 0, "questions take no memory", asked);
+  left = -1;
+  ada_kernel_drop(&k);
+}
+
 int main(void) {
   long growth = 0;
   while (play(growth)) growth++;
   note(growth > 10, "growths are met", growth);
+  try_questions();
   printf("%d passed, %d failed\n", passed, failed);
   return failed != 0;
 }
