@@ -324,14 +324,14 @@ package body Adatask is
       return Yes /= 0;
    end Terminated;
 
-   function Count
+   function Count_Of
      (K : in out Kernel; By : Task_Number; Item : Entry_Name; Said : access Answer := null) return Natural
    is
       Number : Unsigned_32 := 0;
    begin
       Settle ((if Is_There (K) then C_Count (K.Held, By, Item.Family, Item.Index, Number) else No_Kernel), Said);
       return Natural (Number);
-   end Count;
+   end Count_Of;
 
    function Slot
      (K : in out Kernel; T : Task_Number; Item : Entry_Name; Said : access Answer := null) return Natural

@@ -59,7 +59,7 @@ package Adatask is
       No_Such_Task,         --  there is no such task
       No_Such_Entry,        --  the task has no such entry
       No_Kernel)            --  the kernel was dropped, or memory for it was refused
-     with Convention => C;
+     with Convention => C, Size => 32;
    for Answer use
      (Accepted => 0, Unknown_Task => 1, Not_Running => 2, During_Activation => 3, Not_Activating => 4,
       Not_Your_Master => 5, Empty_List => 6, Not_Your_Task => 7, No_Accept => 8, No_Such_Family => 9,
@@ -131,7 +131,7 @@ package Adatask is
    ---------------
 
    --  What tasks depend on: a task's body, or a block, by the position of its opening (9.4).
-   type Master_Kind is (A_Body, A_Block) with Convention => C;
+   type Master_Kind is (A_Body, A_Block) with Convention => C, Size => 32;
    type Master (Kind : Master_Kind := A_Body) is record
       case Kind is
          when A_Body  => Owner     : Task_Number := Main_Program;
@@ -144,7 +144,7 @@ package Adatask is
    -----------------------
 
    --  A simple call waits (9.5), a conditional one doesn't (9.7.2), a timed one does for a duration (9.7.3).
-   type Call_Kind is (Simple, Conditional, Timed) with Convention => C;
+   type Call_Kind is (Simple, Conditional, Timed) with Convention => C, Size => 32;
 
    --  An accept alternative; Is_Open is what its guard gives (9.7.1).
    type Choice is record
@@ -167,7 +167,7 @@ package Adatask is
 
    --  The last part of a wait: an else part, delay alternatives, or a terminate alternative (9.7.1).
    type Last_Part is (Nothing, Else_Part, Delays, Terminate_Alternative, Closed_Terminate_Alternative)
-     with Convention => C;
+     with Convention => C, Size => 32;
 
    --  Of N alternatives that may be selected, the one with the number Pick mod N is, in text order from 0 (9.7.1).
    type Pick_Number is mod 2 ** 32;
@@ -181,10 +181,10 @@ package Adatask is
      (No_Event,
       Opened, Created, Started, Elaborated, Called, Waiting, Paused, Ended, Closed, Completed, Aborted, Ticked,
       Halted, Failed, Met, Cancelled, Passed, Woken, Activated, Gone, Quit, Left)
-     with Convention => C;
+     with Convention => C, Size => 32;
 
    --  How a wait ended without a rendezvous (9.7.1).
-   type Way is (By_Else, By_Delay, By_Program_Error) with Convention => C;
+   type Way is (By_Else, By_Delay, By_Program_Error) with Convention => C, Size => 32;
 
    --  An event. What its kind has no use for is 0 or False.
    type Event is record
@@ -245,22 +245,44 @@ package Adatask is
 
    --  What became of a task's latest call, wait, delay, activation or close (9.3 to 9.7, 11.5).
    type Outcome_Kind is
-     (Did_Nothing, Is_Dead, Is_Done, Is_Held, Was_Served, Got_Tasking_Error, Was_Cancelled, Has_Accepted, Took_Else,
-      Took_Delay, Got_Program_Error, Is_Awake, Activation_Ok, Activation_Failed, Left_Block, Got_Exception)
-     with Convention => C;
+     (Did_Nothing,        --  there was none
+      Is_Dead,            --  it is terminated
+      Is_Done,            --  it is completed
+      Is_Held,            --  nothing yet: it isn't released
+      Was_Served,         --  its call, to the end of the rendezvous
+      Got_Tasking_Error,  --  its call failed
+      Was_Cancelled,      --  its conditional or timed call left the queue
+      Has_Accepted,       --  its wait took a call
+      Took_Else,          --  its wait took the else part
+      Took_Delay,         --  its wait took a delay alternative
+      Got_Program_Error,  --  nothing was open in its wait
+      Is_Awake,           --  its delay is over
+      Activation_Ok,      --  all that it activated came up
+      Activation_Failed,  --  one that it activated didn't: TASKING_ERROR
+      Left_Block,         --  it left the block that it closed
+      Got_Exception)      --  an exception ended the rendezvous in which it was
+     with Convention => C, Size => 32;
    type Outcome is record
       Kind   : Outcome_Kind := Did_Nothing;
       Number : Place := 0;                  --  the alternative that was taken, from 0
       Call   : Position := 0;               --  the call that was accepted
    end record with Convention => C;
 
-   --  Why a task doesn't go on; Goes_On: it runs, or is terminated.
+   --  Why a task doesn't go on by itself.
    type Reason_Kind is
-     (Goes_On, Not_Started, Activating, Queued, In_Rendezvous, In_Wait, Delayed, Leaving, Awaits_Dependents)
-     with Convention => C;
+     (Goes_On,            --  it runs, or is terminated
+      Not_Started,        --  it was made, and no activation of it was started (9.3)
+      Activating,         --  it started an activation, which hasn't ended (9.3)
+      Queued,             --  its call stands in the queue of an entry (9.5)
+      In_Rendezvous,      --  its call is being served (9.5)
+      In_Wait,            --  it waits for a call, or for what else its wait may take (9.5, 9.7.1)
+      Delayed,            --  it is delayed (9.6)
+      Leaving,            --  it is at the end of a block, of which a dependent isn't terminated (9.4)
+      Awaits_Dependents)  --  it is completed, and a dependent isn't terminated (9.4)
+     with Convention => C, Size => 32;
    type Reason is record
       Kind        : Reason_Kind := Goes_On;
-      At_Position : Position := 0;          --  the start, call, wait, delay or close, else 0
+      At_Position : Position := 0;          --  of its start, call, wait, delay or close; 0 if it isn't suspended
    end record with Convention => C;
 
    --  The attributes of all tasks and entries (9.9). What is beyond Tasks and Slots is False and 0.
@@ -364,30 +386,35 @@ package Adatask is
    function Terminated (K : in out Kernel; T : Task_Number; Said : access Answer := null) return Boolean;
 
    --  COUNT of an entry of the asking task's own (9.9). It is refused like a request.
-   function Count
+   function Count_Of
      (K : in out Kernel; By : Task_Number; Item : Entry_Name; Said : access Answer := null) return Natural;
 
    --  The slot of an entry, below 1,024: all entries are numbered in order of task, family and index.
    function Slot
      (K : in out Kernel; T : Task_Number; Item : Entry_Name; Said : access Answer := null) return Natural;
 
+   --  What became of a task.
    function Outcome_Of (K : in out Kernel; T : Task_Number; Said : access Answer := null) return Outcome;
 
-   --  Why a task doesn't go on.
+   --  Why a task doesn't go on by itself.
    function Reason_Of (K : in out Kernel; T : Task_Number; Said : access Answer := null) return Reason;
 
-   --  The first task with the number From or more for which T waits; No_Such_Item if there is none.
+   --  The first task with the number From or more for which T waits, or No_Such_Item: its maker, if it isn't started;
+   --  those that it activates; the task that it called; the dependents of the block that it leaves, or of its own body.
+   --  It searches the journal, and is for diagnosis.
    function Awaited
      (K : in out Kernel; T : Task_Number; From : Task_Number := 0; Said : access Answer := null) return Task_Number;
 
-   --  The first task with the number From or more that runs now, and didn't before the last accepted request;
-   --  No_Such_Item if there is none.
+   --  The first task with the number From or more that runs, and didn't before the last request that was accepted; or
+   --  No_Such_Item.
    function Runnable
      (K : in out Kernel; From : Task_Number := 0; Said : access Answer := null) return Task_Number;
 
-   --  The first moment for which any task waits; No_Such_Item if there is none.
+   --  The first moment for which any task waits, or No_Such_Item: of a delay, a timed call that isn't served yet, or an
+   --  open delay alternative. A tick to an earlier moment forces nothing.
    function Next_Due (K : in out Kernel; Said : access Answer := null) return Milliseconds;
 
+   --  The attributes of all tasks and entries (9.9).
    function Board_Of (K : in out Kernel; Said : access Answer := null) return Board;
 
    --  The event at a position, and what its lists have at a place.

@@ -21,7 +21,7 @@ package body Tasking_Trace is
       Length : Natural := 0;
       Words  : String (1 .. Most_Characters) := (others => ' ');
    end record;
-   No_Statement : constant Statement_Text := (others => <>);
+   No_Statement : constant Statement_Text := (Length => 0, Words => (others => ' '));
 
    --  Of the rendezvous that a task is in, innermost last, the bits of those that aren't written.
    type Rendezvous_Stack is mod 2 ** 64;
@@ -30,12 +30,15 @@ package body Tasking_Trace is
    --  is written if it was accepted, and if it wasn't.
    type Doing is record
       Own_Name            : Name_Text := No_Name;
-      Call, Failing, Wait : Statement_Text;
+      Call, Failing, Wait : Statement_Text := No_Statement;
       Is_Try              : Boolean := False;
       Left_Out            : Rendezvous_Stack := 0;
    end record;
 
-   package Doings is new Ada.Task_Attributes (Doing, (others => <>));
+   No_Doing : constant Doing :=
+     (Own_Name => No_Name, Call | Failing | Wait => No_Statement, Is_Try => False, Left_Out => 0);
+
+   package Doings is new Ada.Task_Attributes (Doing, No_Doing);
 
    --  The tasks and blocks, with what each stands under; so an abort is known to reach dependents (9.10).
    type Master is record
@@ -189,13 +192,21 @@ package body Tasking_Trace is
    --  The log  --
    ---------------
 
+   --  From here on the calling task has this name.
+   procedure Begin_Doing (Name : String) is
+      Now : Doing := No_Doing;
+   begin
+      Now.Own_Name := Name_Of (Name);
+      Doings.Set_Value (Now);
+   end Begin_Doing;
+
    procedure Open (File_Name : String) is
    begin
       Ada.Text_IO.Create (File, Ada.Text_IO.Out_File, File_Name);
       Began := Ada.Calendar.Clock;
       Moment := 0;
       Made := 0;
-      Doings.Set_Value ((Own_Name => Name_Of ("main"), others => <>));
+      Begin_Doing ("main");
    end Open;
 
    procedure Close is
@@ -222,13 +233,13 @@ package body Tasking_Trace is
 
    procedure End_Activation (Name : String) is
    begin
-      Doings.Set_Value ((Own_Name => Name_Of (Name), others => <>));
+      Begin_Doing (Name);
       Write (Own_Line ("up"));
    end End_Activation;
 
    procedure Fail_Activation (Name : String) is
    begin
-      Doings.Set_Value ((Own_Name => Name_Of (Name), others => <>));
+      Begin_Doing (Name);
       Write (Own_Line ("fail"));
    end Fail_Activation;
 

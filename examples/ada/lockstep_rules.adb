@@ -156,7 +156,8 @@ package body Lockstep_Rules is
          Forced : constant Outcome := Outcome_Of (K, T);
       begin
          if Forced.Kind /= Became then
-            Disagree (Where, "of task" & T'Image & " became " & Became'Image & "; the rules force " & Forced.Kind'Image);
+            Disagree
+              (Where, "of task" & T'Image & " became " & Became'Image & "; the rules force " & Forced.Kind'Image);
          end if;
       end Expect;
 

@@ -1,8 +1,8 @@
 --  SPDX-License-Identifier: MIT
 --  A bounded buffer with its makers and users, each tasking action of which is written to a file as a line of a script
 --  of adatask: traced FILE. With a second word one kind of action is written at another place than tasking_trace.ads
---  asks, as a program well might: `calls` and `waits` where they are made, `ups` after the `begin`, `ends` after the
---  accept statement, `aborts` before the abort statement, without the lock. docs/EMBEDDING.md tells what comes of that.
+--  asks, as a program well might: `calls`, `tries` and `timed` calls and `waits` before they are made, `ups` after the
+--  `begin`, `ends` after the accept statement, `aborts` without the lock. docs/EMBEDDING.md tells what comes of that.
 
 with Ada.Command_Line;          use Ada.Command_Line;
 with Ada.Numerics.Float_Random; use Ada.Numerics.Float_Random;
@@ -13,6 +13,8 @@ procedure Traced is
    Moved : constant String := (if Argument_Count > 1 then Argument (2) else "");
 
    Calls_Are_Moved  : constant Boolean := Moved = "calls";
+   Tries_Are_Moved  : constant Boolean := Moved = "tries";
+   Timed_Are_Moved  : constant Boolean := Moved = "timed";
    Waits_Are_Moved  : constant Boolean := Moved = "waits";
    Ups_Are_Moved    : constant Boolean := Moved = "ups";
    Ends_Are_Moved   : constant Boolean := Moved = "ends";
@@ -21,7 +23,7 @@ procedure Traced is
    Places : constant := 2;
    Rounds : constant := 6;
 
-   --  The last act of an activation; in a declaration, unless it is moved to the statements.
+   --  The last act of an activation, as a declaration, unless it is moved to the statements.
    function Is_Up (Name : String) return Boolean is
    begin
       if not Ups_Are_Moved then
@@ -30,12 +32,12 @@ procedure Traced is
       return not Ups_Are_Moved;
    end Is_Up;
 
-   procedure Come_Up (Name : String; Is_Up : Boolean) is
+   procedure Begin_Statements (Name : String; Is_Up : Boolean) is
    begin
       if not Is_Up then
          End_Activation (Name);
       end if;
-   end Come_Up;
+   end Begin_Statements;
 
    --  Spends up to a quarter of a millisecond, so that the tasks come in many orders.
    procedure Dawdle (Source : in out Generator) is
@@ -80,7 +82,7 @@ procedure Traced is
          end Announce;
 
       begin
-         Come_Up ("Store", Started);
+         Begin_Statements ("Store", Started);
          loop
             Announce;
             select
@@ -125,7 +127,7 @@ procedure Traced is
          Source  : Generator;
          Started : constant Boolean := Is_Up (Name);
       begin
-         Come_Up (Name, Started);
+         Begin_Statements (Name, Started);
          Reset (Source);
          for Item in 1 .. Rounds loop
             Dawdle (Source);
@@ -141,7 +143,7 @@ procedure Traced is
          Item    : Integer;
          Started : constant Boolean := Is_Up (Name);
       begin
-         Come_Up (Name, Started);
+         Begin_Statements (Name, Started);
          Reset (Source);
          for Round in 1 .. Rounds loop
             Will_Call ("Store", "Get", At_Once => Calls_Are_Moved);
@@ -157,16 +159,16 @@ procedure Traced is
          Source  : Generator;
          Started : constant Boolean := Is_Up ("Hasty");
       begin
-         Come_Up ("Hasty", Started);
+         Begin_Statements ("Hasty", Started);
          Reset (Source);
          for Round in 1 .. Rounds loop
-            Will_Call ("Store", "Look", Conditional, At_Once => Calls_Are_Moved);
+            Will_Call ("Store", "Look", Conditional, At_Once => Tries_Are_Moved);
             select
                Store.Look;
             else
                Call_Is_Over;
             end select;
-            Will_Call ("Store", "Look", Timed, 0.001, At_Once => Calls_Are_Moved);
+            Will_Call ("Store", "Look", Timed, 0.001, At_Once => Timed_Are_Moved);
             select
                Store.Look;
             or
@@ -185,10 +187,13 @@ procedure Traced is
       task body Lost is
          Started : constant Boolean := Is_Up ("Lost");
       begin
-         Come_Up ("Lost", Started);
+         Begin_Statements ("Lost", Started);
          loop
             Will_Call ("Store", "Look", At_Once => Calls_Are_Moved);
             Store.Look;
+            Delay_For (0.0);
+            delay 0.0;
+            Delay_Is_Over;
          end loop;
       end Lost;
 
