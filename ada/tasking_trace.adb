@@ -1,6 +1,6 @@
 --  SPDX-License-Identifier: MIT
 --  The lock is taken by trying: a protected action may contain no abort statement, and a task that ends may find its
---  own entry calls cancelled.
+--  own entry calls cancelled. It is released as an object is finalized, for a task may abort itself while it holds it.
 
 with Ada.Calendar;
 with Ada.Characters.Handling;
@@ -88,6 +88,15 @@ package body Tasking_Trace is
       end loop;
    end Seize;
 
+   --  Releases the lock where it is left.
+   type Holder is new Ada.Finalization.Limited_Controlled with null record;
+
+   overriding procedure Finalize (Object : in out Holder) is
+      pragma Unreferenced (Object);
+   begin
+      Lock.Release;
+   end Finalize;
+
    -------------
    --  Words  --
    -------------
@@ -144,29 +153,29 @@ package body Tasking_Trace is
    procedure Write (Line : String) is
    begin
       Seize;
-      Put (Line);
-      Lock.Release;
-   exception
-      when others =>
-         Lock.Release;
-         raise;
+      declare
+         Hold : Holder;
+         pragma Unreferenced (Hold);
+      begin
+         Put (Line);
+      end;
    end Write;
 
    --  Writes a line that makes a master.
    procedure Write_Master (Line : String; Made_Name, Under : Name_Text) is
    begin
       Seize;
-      if Made = Most_Masters then
-         raise Bad_Line with "there are 4,096 tasks and blocks";
-      end if;
-      Put (Line);
-      Made := Made + 1;
-      Masters (Made) := (Made_Name, Under, Is_Aborted => False);
-      Lock.Release;
-   exception
-      when others =>
-         Lock.Release;
-         raise;
+      declare
+         Hold : Holder;
+         pragma Unreferenced (Hold);
+      begin
+         if Made = Most_Masters then
+            raise Bad_Line with "there are 4,096 tasks and blocks";
+         end if;
+         Put (Line);
+         Made := Made + 1;
+         Masters (Made) := (Made_Name, Under, Is_Aborted => False);
+      end;
    end Write_Master;
 
    --------------
@@ -212,8 +221,12 @@ package body Tasking_Trace is
    procedure Close is
    begin
       Seize;
-      Ada.Text_IO.Close (File);
-      Lock.Release;
+      declare
+         Hold : Holder;
+         pragma Unreferenced (Hold);
+      begin
+         Ada.Text_IO.Close (File);
+      end;
    end Close;
 
    ------------------------------
@@ -269,12 +282,16 @@ package body Tasking_Trace is
       Now : Natural;
    begin
       Seize;
-      Now := Milliseconds (Ada.Calendar.Clock - Began);
-      if Now > Moment then
-         Put ("tick " & Image (Now));
-         Moment := Now;
-      end if;
-      Lock.Release;
+      declare
+         Hold : Holder;
+         pragma Unreferenced (Hold);
+      begin
+         Now := Milliseconds (Ada.Calendar.Clock - Began);
+         if Now > Moment then
+            Put ("tick " & Image (Now));
+            Moment := Now;
+         end if;
+      end;
    end Tick;
 
    procedure End_Rendezvous (Raised : Boolean := False) is
@@ -296,14 +313,14 @@ package body Tasking_Trace is
       Line : constant String := Own_Line ("abort " & Names);
    begin
       Seize;
-      Put (Line);
-      Mark_Aborted (Names);
-      Act.all;
-      Lock.Release;
-   exception
-      when others =>
-         Lock.Release;
-         raise;
+      declare
+         Hold : Holder;
+         pragma Unreferenced (Hold);
+      begin
+         Put (Line);
+         Mark_Aborted (Names);
+         Act.all;
+      end;
    end Abort_Tasks;
 
    -----------------------
@@ -355,12 +372,16 @@ package body Tasking_Trace is
       Is_Late : Boolean;
    begin
       Seize;
-      Is_Late := Is_Aborted (Theirs.Own_Name) and then Call /= "";
-      if not Is_Late then
-         Put (if Theirs.Is_Try then Wait else Call);
-         Put (if Theirs.Is_Try then Call else Wait);
-      end if;
-      Lock.Release;
+      declare
+         Hold : Holder;
+         pragma Unreferenced (Hold);
+      begin
+         Is_Late := Is_Aborted (Theirs.Own_Name) and then Call /= "";
+         if not Is_Late then
+            Put (if Theirs.Is_Try then Wait else Call);
+            Put (if Theirs.Is_Try then Call else Wait);
+         end if;
+      end;
       Theirs.Call := No_Statement;
       Doings.Set_Value (Theirs, Caller);
       Mine.Wait := No_Statement;
@@ -395,10 +416,14 @@ package body Tasking_Trace is
       Now : constant Doing := Doings.Value;
    begin
       Seize;
-      if not Is_Aborted (Now.Own_Name) then
-         Put (Line_Of (Now.Own_Name, Now.Wait));
-      end if;
-      Lock.Release;
+      declare
+         Hold : Holder;
+         pragma Unreferenced (Hold);
+      begin
+         if not Is_Aborted (Now.Own_Name) then
+            Put (Line_Of (Now.Own_Name, Now.Wait));
+         end if;
+      end;
    end Finalize;
 
 end Tasking_Trace;

@@ -42,9 +42,9 @@ procedure Trace_Lines is
    --  Tasks go on in a known order: who awaits a stage goes on once another one has reached it.
    protected Stages is
       procedure Reach (Stage : Positive);
-      entry Await (1 .. 2);
+      entry Await (1 .. 7);
    private
-      Reached : Natural := 0;
+      Reached : Positive := 1;
    end Stages;
 
    protected body Stages is
@@ -54,32 +54,20 @@ procedure Trace_Lines is
          Reached := Stage;
       end Reach;
 
-      entry Await (for Stage in 1 .. 2) when Reached >= Stage is
+      entry Await (for Stage in 1 .. 7) when Reached >= Stage is
       begin
          null;
       end Await;
 
    end Stages;
 
-   function Is_Up (Name : String) return Boolean is
+   function Is_Up (Name : String; Stage : Positive) return Boolean is
    begin
+      Stages.Await (Stage);
       End_Activation (Name);
+      Stages.Reach (Stage + 1);
       return True;
    end Is_Up;
-
-   function Is_First_Up (Name : String) return Boolean is
-   begin
-      End_Activation (Name);
-      Stages.Reach (1);
-      return True;
-   end Is_First_Up;
-
-   function Is_Second_Up (Name : String) return Boolean is
-   begin
-      Stages.Await (1);
-      End_Activation (Name);
-      return True;
-   end Is_Second_Up;
 
    procedure Run is
 
@@ -89,10 +77,11 @@ procedure Trace_Lines is
       end Server;
 
       task Owner;
+      task Selfish;
 
       task body Server is
          Last : Last_Wait;
-         Up   : constant Boolean := Is_First_Up ("Server");
+         Up   : constant Boolean := Is_Up ("Server", Stage => 1);
          pragma Unreferenced (Last, Up);
       begin
          Will_Wait ("accept Ask 2");
@@ -106,7 +95,7 @@ procedure Trace_Lines is
          else
             Wait_Is_Over;
          end select;
-         Stages.Reach (2);
+         Stages.Reach (6);
          Will_Wait ("select 0 accept Ask 1 or terminate");
          select
             accept Ask (1);
@@ -117,9 +106,10 @@ procedure Trace_Lines is
 
       --  Has a dependent that waits at a terminate alternative, and is aborted with it.
       task body Owner is
-         Up : constant Boolean := Is_Second_Up ("Owner");
+         Up : constant Boolean := Is_Up ("Owner", Stage => 2);
          pragma Unreferenced (Up);
       begin
+         Stages.Await (4);
          Create_Task ("Inner", Under => "Owner", Entries => "Call");
          Activate_Tasks ("Inner");
          declare
@@ -129,7 +119,7 @@ procedure Trace_Lines is
 
             task body Inner is
                Last : Last_Wait;
-               Up   : constant Boolean := Is_Up ("Inner");
+               Up   : constant Boolean := Is_Up ("Inner", Stage => 4);
                pragma Unreferenced (Last, Up);
             begin
                Will_Wait ("select 0 accept Call or terminate");
@@ -147,15 +137,35 @@ procedure Trace_Lines is
          end;
       end Owner;
 
+      --  Aborts itself, while it holds the lock.
+      task body Selfish is
+         Up : constant Boolean := Is_Up ("Selfish", Stage => 3);
+         pragma Unreferenced (Up);
+
+         procedure Abort_Selfish is
+         begin
+            abort Selfish;
+         end Abort_Selfish;
+
+      begin
+         Stages.Await (7);
+         Abort_Tasks ("Selfish", Abort_Selfish'Access);
+         Complete_Task;
+      end Selfish;
+
       procedure Abort_Owner is
       begin
          abort Owner;
       end Abort_Owner;
 
    begin
-      Stages.Await (2);
+      Stages.Await (6);
       Abort_Tasks ("Owner", Abort_Owner'Access);
       while not Owner'Terminated loop
+         delay 0.001;
+      end loop;
+      Stages.Reach (7);
+      while not Selfish'Terminated loop
          delay 0.001;
       end loop;
       Will_Call ("Server", "Stop", Timed, 0.010);
@@ -175,7 +185,8 @@ begin
    Open_Block ("B");
    Create_Task ("Server", "B", "Ask 1 2 Stop");
    Create_Task ("Owner", "B", "Stop");
-   Activate_Tasks ("Server Owner");
+   Create_Task ("Selfish", "B");
+   Activate_Tasks ("Server Owner Selfish");
    Run;
    Try_Name ("", "an empty name");
    Try_Name ("1st", "a digit in front");
