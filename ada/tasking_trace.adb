@@ -2,8 +2,8 @@
 --  The lock is taken by trying: a protected action may contain no abort statement, and a task that ends may find its
 --  own entry calls cancelled. It is released as an object is finalized, for a task may abort itself while it holds it.
 
-with Ada.Calendar;
 with Ada.Characters.Handling;
+with Ada.Real_Time;
 with Ada.Strings.Fixed;
 with Ada.Task_Attributes;
 with Ada.Text_IO;
@@ -47,7 +47,7 @@ package body Tasking_Trace is
    end record;
 
    File    : Ada.Text_IO.File_Type;
-   Began   : Ada.Calendar.Time;
+   Began   : Ada.Real_Time.Time;
    Moment  : Natural := 0;
    Masters : array (1 .. Most_Masters) of Master;
    Made    : Natural := 0;
@@ -212,7 +212,7 @@ package body Tasking_Trace is
    procedure Open (File_Name : String) is
    begin
       Ada.Text_IO.Create (File, Ada.Text_IO.Out_File, File_Name);
-      Began := Ada.Calendar.Clock;
+      Began := Ada.Real_Time.Clock;
       Moment := 0;
       Made := 0;
       Begin_Doing ("main");
@@ -278,7 +278,7 @@ package body Tasking_Trace is
    end Delay_Is_Over;
 
    procedure Tick is
-      use type Ada.Calendar.Time;
+      use type Ada.Real_Time.Time;
       Now : Natural;
    begin
       Seize;
@@ -286,7 +286,7 @@ package body Tasking_Trace is
          Hold : Holder;
          pragma Unreferenced (Hold);
       begin
-         Now := Milliseconds (Ada.Calendar.Clock - Began);
+         Now := Milliseconds (Ada.Real_Time.To_Duration (Ada.Real_Time.Clock - Began));
          if Now > Moment then
             Put ("tick " & Image (Now));
             Moment := Now;
