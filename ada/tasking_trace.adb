@@ -1,6 +1,6 @@
 --  SPDX-License-Identifier: MIT
---  The lock is taken by trying: a protected action may contain no abort statement, and a task that ends may find its
---  own entry calls cancelled. It is released as an object is finalized, for a task may abort itself while it holds it.
+--  The lock is no protected action, since none may contain an abort statement. It is taken as an object is initialized
+--  and released as it is finalized: both are done whole, whatever is aborted in between (Ada 95, 9.8).
 
 with Ada.Characters.Handling;
 with Ada.Real_Time;
@@ -57,7 +57,7 @@ package body Tasking_Trace is
    ----------------
 
    protected Lock is
-      procedure Try (Got : out Boolean);
+      entry Seize;
       procedure Release;
    private
       Is_Held : Boolean := False;
@@ -65,11 +65,10 @@ package body Tasking_Trace is
 
    protected body Lock is
 
-      procedure Try (Got : out Boolean) is
+      entry Seize when not Is_Held is
       begin
-         Got := not Is_Held;
          Is_Held := True;
-      end Try;
+      end Seize;
 
       procedure Release is
       begin
@@ -78,18 +77,16 @@ package body Tasking_Trace is
 
    end Lock;
 
-   procedure Seize is
-      Got : Boolean;
-   begin
-      loop
-         Lock.Try (Got);
-         exit when Got;
-         delay 0.000_1;
-      end loop;
-   end Seize;
-
-   --  Releases the lock where it is left.
+   --  Holds the lock as long as it is there.
    type Holder is new Ada.Finalization.Limited_Controlled with null record;
+   overriding procedure Initialize (Object : in out Holder);
+   overriding procedure Finalize (Object : in out Holder);
+
+   overriding procedure Initialize (Object : in out Holder) is
+      pragma Unreferenced (Object);
+   begin
+      Lock.Seize;
+   end Initialize;
 
    overriding procedure Finalize (Object : in out Holder) is
       pragma Unreferenced (Object);
@@ -151,31 +148,23 @@ package body Tasking_Trace is
    end Put;
 
    procedure Write (Line : String) is
+      Hold : Holder;
+      pragma Unreferenced (Hold);
    begin
-      Seize;
-      declare
-         Hold : Holder;
-         pragma Unreferenced (Hold);
-      begin
-         Put (Line);
-      end;
+      Put (Line);
    end Write;
 
    --  Writes a line that makes a master.
    procedure Write_Master (Line : String; Made_Name, Under : Name_Text) is
+      Hold : Holder;
+      pragma Unreferenced (Hold);
    begin
-      Seize;
-      declare
-         Hold : Holder;
-         pragma Unreferenced (Hold);
-      begin
-         if Made = Most_Masters then
-            raise Bad_Line with "there are 4,096 tasks and blocks";
-         end if;
-         Put (Line);
-         Made := Made + 1;
-         Masters (Made) := (Made_Name, Under, Is_Aborted => False);
-      end;
+      if Made = Most_Masters then
+         raise Bad_Line with "there are 4,096 tasks and blocks";
+      end if;
+      Put (Line);
+      Made := Made + 1;
+      Masters (Made) := (Made_Name, Under, Is_Aborted => False);
    end Write_Master;
 
    --------------
@@ -219,14 +208,10 @@ package body Tasking_Trace is
    end Open;
 
    procedure Close is
+      Hold : Holder;
+      pragma Unreferenced (Hold);
    begin
-      Seize;
-      declare
-         Hold : Holder;
-         pragma Unreferenced (Hold);
-      begin
-         Ada.Text_IO.Close (File);
-      end;
+      Ada.Text_IO.Close (File);
    end Close;
 
    ------------------------------
@@ -279,19 +264,15 @@ package body Tasking_Trace is
 
    procedure Tick is
       use type Ada.Real_Time.Time;
-      Now : Natural;
+      Now  : Natural;
+      Hold : Holder;
+      pragma Unreferenced (Hold);
    begin
-      Seize;
-      declare
-         Hold : Holder;
-         pragma Unreferenced (Hold);
-      begin
-         Now := Milliseconds (Ada.Real_Time.To_Duration (Ada.Real_Time.Clock - Began));
-         if Now > Moment then
-            Put ("tick " & Image (Now));
-            Moment := Now;
-         end if;
-      end;
+      Now := Milliseconds (Ada.Real_Time.To_Duration (Ada.Real_Time.Clock - Began));
+      if Now > Moment then
+         Put ("tick " & Image (Now));
+         Moment := Now;
+      end if;
    end Tick;
 
    procedure End_Rendezvous (Raised : Boolean := False) is
@@ -311,16 +292,12 @@ package body Tasking_Trace is
 
    procedure Abort_Tasks (Names : String; Act : not null access procedure) is
       Line : constant String := Own_Line ("abort " & Names);
+      Hold : Holder;
+      pragma Unreferenced (Hold);
    begin
-      Seize;
-      declare
-         Hold : Holder;
-         pragma Unreferenced (Hold);
-      begin
-         Put (Line);
-         Mark_Aborted (Names);
-         Act.all;
-      end;
+      Put (Line);
+      Mark_Aborted (Names);
+      Act.all;
    end Abort_Tasks;
 
    -----------------------
@@ -370,18 +347,14 @@ package body Tasking_Trace is
       Call    : constant String := Line_Of (Theirs.Own_Name, Theirs.Call);
       Wait    : constant String := Line_Of (Mine.Own_Name, Mine.Wait);
       Is_Late : Boolean;
+      Hold    : Holder;
+      pragma Unreferenced (Hold);
    begin
-      Seize;
-      declare
-         Hold : Holder;
-         pragma Unreferenced (Hold);
-      begin
-         Is_Late := Is_Aborted (Theirs.Own_Name) and then Call /= "";
-         if not Is_Late then
-            Put (if Theirs.Is_Try then Wait else Call);
-            Put (if Theirs.Is_Try then Call else Wait);
-         end if;
-      end;
+      Is_Late := Is_Aborted (Theirs.Own_Name) and then Call /= "";
+      if not Is_Late then
+         Put (if Theirs.Is_Try then Wait else Call);
+         Put (if Theirs.Is_Try then Call else Wait);
+      end if;
       Theirs.Call := No_Statement;
       Doings.Set_Value (Theirs, Caller);
       Mine.Wait := No_Statement;
@@ -413,17 +386,13 @@ package body Tasking_Trace is
    --  An aborted task writes nothing more.
    overriding procedure Finalize (Object : in out Last_Wait) is
       pragma Unreferenced (Object);
-      Now : constant Doing := Doings.Value;
+      Now  : constant Doing := Doings.Value;
+      Hold : Holder;
+      pragma Unreferenced (Hold);
    begin
-      Seize;
-      declare
-         Hold : Holder;
-         pragma Unreferenced (Hold);
-      begin
-         if not Is_Aborted (Now.Own_Name) then
-            Put (Line_Of (Now.Own_Name, Now.Wait));
-         end if;
-      end;
+      if not Is_Aborted (Now.Own_Name) then
+         Put (Line_Of (Now.Own_Name, Now.Wait));
+      end if;
    end Finalize;
 
 end Tasking_Trace;
