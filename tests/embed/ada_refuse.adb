@@ -60,6 +60,16 @@ procedure Ada_Refuse is
       Note (Held = 0, "a kernel that was left holds memory");
    end Try_No_Kernel;
 
+   --  The kernel that was there before is given up.
+   procedure Try_Renewal is
+      K      : Kernel;
+      Before : constant long := Held;
+   begin
+      Note (Tick (K, 1) = 1, "the first event");
+      Renew (K);
+      Note (Held = Before and then Events (K) = 0, "a renewed kernel holds what the former one held");
+   end Try_Renewal;
+
    --  Ticks until a list has to grow.
    procedure Try_Growth is
       K        : Kernel;
@@ -82,6 +92,7 @@ procedure Ada_Refuse is
 begin
    Try_Leaving;
    Try_No_Kernel;
+   Try_Renewal;
    Try_Growth;
    Put_Line (Passed'Image (2 .. Passed'Image'Last) & " passed," & Failed'Image & " failed");
    Set_Exit_Status (if Failed = 0 then 0 else 1);

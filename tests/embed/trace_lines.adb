@@ -42,7 +42,7 @@ procedure Trace_Lines is
    --  Tasks go on in a known order: who awaits a stage goes on once another one has reached it.
    protected Stages is
       procedure Reach (Stage : Positive);
-      entry Await (1 .. 7);
+      entry Await (1 .. 10);
    private
       Reached : Positive := 1;
    end Stages;
@@ -54,7 +54,7 @@ procedure Trace_Lines is
          Reached := Stage;
       end Reach;
 
-      entry Await (for Stage in 1 .. 7) when Reached >= Stage is
+      entry Await (for Stage in 1 .. 10) when Reached >= Stage is
       begin
          null;
       end Await;
@@ -78,6 +78,7 @@ procedure Trace_Lines is
 
       task Owner;
       task Selfish;
+      task Doomed;
 
       task body Server is
          Last : Last_Wait;
@@ -95,13 +96,20 @@ procedure Trace_Lines is
          else
             Wait_Is_Over;
          end select;
-         Stages.Reach (6);
-         Will_Wait ("select 0 accept Ask 1 or terminate");
-         select
-            accept Ask (1);
-         or
-            terminate;
-         end select;
+         Stages.Reach (7);
+         loop
+            Will_Wait ("select 0 accept Ask 1 or terminate");
+            select
+               accept Ask (1) do
+                  Stages.Reach (9);
+                  Stages.Await (10);
+                  Begin_Rendezvous (Ask'Caller);
+                  End_Rendezvous;
+               end Ask;
+            or
+               terminate;
+            end select;
+         end loop;
       end Server;
 
       --  Has a dependent that waits at a terminate alternative, and is aborted with it.
@@ -109,7 +117,7 @@ procedure Trace_Lines is
          Up : constant Boolean := Is_Up ("Owner", Stage => 2);
          pragma Unreferenced (Up);
       begin
-         Stages.Await (4);
+         Stages.Await (5);
          Create_Task ("Inner", Under => "Owner", Entries => "Call");
          Activate_Tasks ("Inner");
          declare
@@ -119,7 +127,7 @@ procedure Trace_Lines is
 
             task body Inner is
                Last : Last_Wait;
-               Up   : constant Boolean := Is_Up ("Inner", Stage => 4);
+               Up   : constant Boolean := Is_Up ("Inner", Stage => 5);
                pragma Unreferenced (Last, Up);
             begin
                Will_Wait ("select 0 accept Call or terminate");
@@ -148,10 +156,25 @@ procedure Trace_Lines is
          end Abort_Selfish;
 
       begin
-         Stages.Await (7);
+         Stages.Await (8);
          Abort_Tasks ("Selfish", Abort_Selfish'Access);
          Complete_Task;
       end Selfish;
+
+      --  Is aborted when its rendezvous has begun, and isn't written yet.
+      task body Doomed is
+         Up : constant Boolean := Is_Up ("Doomed", Stage => 4);
+         pragma Unreferenced (Up);
+      begin
+         Stages.Await (8);
+         Will_Call ("Server", "Ask 1");
+         Server.Ask (1);
+      end Doomed;
+
+      procedure Abort_Doomed is
+      begin
+         abort Doomed;
+      end Abort_Doomed;
 
       procedure Abort_Owner is
       begin
@@ -159,15 +182,18 @@ procedure Trace_Lines is
       end Abort_Owner;
 
    begin
-      Stages.Await (6);
+      Stages.Await (7);
       Abort_Tasks ("Owner", Abort_Owner'Access);
       while not Owner'Terminated loop
          delay 0.001;
       end loop;
-      Stages.Reach (7);
+      Stages.Reach (8);
       while not Selfish'Terminated loop
          delay 0.001;
       end loop;
+      Stages.Await (9);
+      Abort_Tasks ("Doomed", Abort_Doomed'Access);
+      Stages.Reach (10);
       Will_Call ("Server", "Stop", Timed, 0.010);
       select
          Server.Stop;
@@ -186,7 +212,8 @@ begin
    Create_Task ("Server", "B", "Ask 1 2 Stop");
    Create_Task ("Owner", "B", "Stop");
    Create_Task ("Selfish", "B");
-   Activate_Tasks ("Server Owner Selfish");
+   Create_Task ("Doomed", "B");
+   Activate_Tasks ("Server Owner Selfish Doomed");
    Run;
    Try_Name ("", "an empty name");
    Try_Name ("1st", "a digit in front");
