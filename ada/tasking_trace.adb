@@ -375,10 +375,10 @@ package body Tasking_Trace is
       end if;
    end Call_Is_Over;
 
-   procedure Wait_Is_Over is
+   procedure Wait_Is_Over (Statement : String := "") is
       Now : Doing := Doings.Value;
    begin
-      Write (Line_Of (Now.Own_Name, Now.Wait));
+      Write (if Statement = "" then Line_Of (Now.Own_Name, Now.Wait) else Own_Line (Statement));
       Now.Wait := No_Statement;
       Doings.Set_Value (Now);
    end Wait_Is_Over;

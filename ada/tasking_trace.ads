@@ -6,7 +6,8 @@
 --  Each line is written for the task that calls, under one lock, and flushed. A task, a block or an entry has a name of
 --  the script language: a letter, then letters, digits and underscores, 16 in all; no task or block has the name of
 --  another, or `main`. A name that is none, and a line of more than 200 characters, raise Bad_Line, and nothing is
---  written. Ada 95, with its Annex C, tells the caller of an entry; Ada 2005 passes a procedure.
+--  written. The package is Ada 2012; it needs task attributes and the caller of an entry (Ada 95, Annex C), controlled
+--  types (Ada 95), and a procedure as a parameter (Ada 2005).
 
 private with Ada.Finalization;
 with Ada.Task_Identification;
@@ -82,9 +83,9 @@ package Tasking_Trace is
    --  A timed call is written with no time left.
    procedure Call_Is_Over;
 
-   --  First after a wait without a rendezvous: in the else part, or after a delay alternative, which is announced with
-   --  no time left.
-   procedure Wait_Is_Over;
+   --  First after a wait without a rendezvous: in the else part; or after a delay alternative, and then with the
+   --  statement again, in which the alternative that was taken has no time left, as "select 0 accept Put or delay 0".
+   procedure Wait_Is_Over (Statement : String := "");
 
    --  An object of this type, declared first in the body of a task, writes the announced wait if the task ends by its
    --  terminate alternative (9.7.1).

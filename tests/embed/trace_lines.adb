@@ -96,6 +96,13 @@ procedure Trace_Lines is
          else
             Wait_Is_Over;
          end select;
+         Will_Wait ("select 0 accept Stop or delay 1");
+         select
+            accept Stop;
+         or
+            delay 0.001;
+            Wait_Is_Over ("select 0 accept Stop or delay 0");
+         end select;
          Stages.Reach (7);
          loop
             Will_Wait ("select 0 accept Ask 1 or terminate");
