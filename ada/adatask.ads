@@ -1,0 +1,444 @@
+--  SPDX-License-Identifier: MIT
+--  The run-time kernel beneath Ada tasks, for programs in Ada: what the library for C exports (include/adatask.h), in
+--  Ada's own terms. docs/EMBEDDING.md says how to use it. A section is one of the Ada 83 manual (ANSI/MIL-STD-1815A);
+--  moments and durations are in milliseconds.
+--
+--  An operation that may be refused takes Said last. If it is left out, a refusal raises Refused, with the name of the
+--  answer as its message. If it is given, the answer is put there and nothing is raised; the result of a refused one is
+--  0 or False, in each component of a record. A refused request changes nothing.
+--
+--  A kernel is used by one task at a time: make it a component of a protected object. It is `in out` in each operation,
+--  in questions too, so the compiler refuses a protected function that asks one, since several tasks may be in such a
+--  function at once. Functions with such parameters are Ada 2012; Ada 95 has controlled types and the convention C.
+
+with Ada.Exceptions;
+private with Ada.Finalization;
+with Interfaces;
+private with System;
+
+package Adatask is
+   pragma Preelaborate;
+
+   ---------------
+   --  Answers  --
+   ---------------
+
+   --  Why a request is refused, in the order in which the causes are checked, up to Out_Of_Memory; and then what is
+   --  wrong with the numbers that were passed. docs/RULES.md has each cause.
+   type Answer is
+     (Accepted,
+      Unknown_Task,         --  a task that is named doesn't exist
+      Not_Running,          --  the task that asks isn't running
+      During_Activation,    --  it has to end its activation first (9.3)
+      Not_Activating,       --  it has ended its activation, or is the main program (9.3)
+      Not_Your_Master,      --  it isn't within this master (9.4)
+      Empty_List,           --  a list of tasks or of delay alternatives is empty (9.7.1, 9.10)
+      Not_Your_Task,        --  a task isn't its to activate, or is named twice (9.3)
+      No_Accept,            --  a wait has no accept alternative (9.7.1)
+      No_Such_Family,       --  a family of entries isn't declared (9.5)
+      Breaks_Constraint,    --  an index is outside of its family's range: CONSTRAINT_ERROR (9.5)
+      Same_Family_Nested,   --  an accept within a rendezvous of the same family (9.5)
+      Terminate_In_Accept,  --  a terminate alternative within a rendezvous (9.7.1)
+      Not_In_Accept,        --  the innermost construct isn't a rendezvous (9.5)
+      No_Block,             --  the innermost construct isn't a block (9.4)
+      Still_Nested,         --  an end of an activation or a body within a construct (9.4)
+      Main_Task,            --  an abort of the main program (9.10)
+      Moment_Back,          --  the moment would move back (9.6)
+      Moment_Too_Large,     --  a moment above 9_000_000_000_000 (9.6)
+      Too_Many_Tasks,       --  there are 256 tasks, those that are gone counted
+      Too_Many_Slots,       --  there would be more than 1,024 entries
+      Too_Deep,             --  the task is within 32 constructs
+      Journal_Full,         --  the journal of 65,536 events hasn't room for another request, which is 769
+      Out_Of_Memory,        --  memory was refused; the same request may be made again
+      Too_Long,             --  a list is longer than the kernel takes
+      No_Such_Kind,         --  a kind that is none, as an invalid value of a type of kinds here
+      Out_Of_Range,         --  a number that is too large for a task, a position or a family
+      No_Such_Event,        --  there is no event at this position
+      No_Such_Item,         --  the list has no such item, or none is found
+      No_Such_Task,         --  there is no such task
+      No_Such_Entry,        --  the task has no such entry
+      No_Kernel)            --  the kernel was dropped, or memory for it was refused
+     with Convention => C, Size => 32;
+   for Answer use
+     (Accepted => 0, Unknown_Task => 1, Not_Running => 2, During_Activation => 3, Not_Activating => 4,
+      Not_Your_Master => 5, Empty_List => 6, Not_Your_Task => 7, No_Accept => 8, No_Such_Family => 9,
+      Breaks_Constraint => 10, Same_Family_Nested => 11, Terminate_In_Accept => 12, Not_In_Accept => 13, No_Block => 14,
+      Still_Nested => 15, Main_Task => 16, Moment_Back => 17, Moment_Too_Large => 18, Too_Many_Tasks => 19,
+      Too_Many_Slots => 20, Too_Deep => 21, Journal_Full => 22, Out_Of_Memory => 23, Too_Long => 100,
+      No_Such_Kind => 101, Out_Of_Range => 102, No_Such_Event => 103, No_Such_Item => 104, No_Such_Task => 105,
+      No_Such_Entry => 106, No_Kernel => 107);
+
+   --  What a refusal raises.
+   Refused : exception;
+
+   --  The answer that an occurrence of Refused stands for.
+   function Answer_Of (Occurrence : Ada.Exceptions.Exception_Occurrence) return Answer is
+     (Answer'Value (Ada.Exceptions.Exception_Message (Occurrence)));
+
+   ------------------------
+   --  Tasks and events  --
+   ------------------------
+
+   --  A task: 0 is the main program, and the others count up in the order of their creation, to 255 (9.1).
+   type Task_Number is range 0 .. 2 ** 63 - 1 with Size => 64;
+   Main_Program : constant Task_Number := 0;
+
+   --  Where an event stands in the journal, from 1 to 65,536; a call, wait, delay, start of an activation, close or
+   --  block is named by the position of its event. 0 stands for none.
+   type Position is range 0 .. 2 ** 63 - 1 with Size => 64;
+
+   --  A moment, counted from the beginning, 0 to 9_000_000_000_000; or a duration, of which a negative one counts as 0
+   --  (9.6).
+   type Milliseconds is range -2 ** 63 .. 2 ** 63 - 1 with Size => 64;
+
+   --  The place of an item in a list, from 0; so alternatives of a wait have the numbers by which outcomes name them.
+   type Place is range 0 .. 2 ** 31 - 1 with Size => 32;
+
+   type Task_List is array (Place range <>) of Task_Number with Convention => C;
+
+   --  A Boolean as C has it.
+   type Flag is new Boolean with Convention => C, Size => 32;
+
+   ---------------
+   --  Entries  --
+   ---------------
+
+   --  The place of a family of entries in the task's declaration, from 0 to 15 (9.5).
+   type Family_Number is range 0 .. 2 ** 31 - 1 with Size => 32;
+
+   --  The index of an entry of a family; 0 for a single entry (9.5).
+   type Entry_Index is range -2 ** 31 .. 2 ** 31 - 1 with Size => 32;
+
+   --  A family with its range of indexes; it has no entry if Low is above High. A single entry is one of 0 .. 0 (9.5).
+   type Family is record
+      Low, High : Entry_Index := 0;
+   end record with Convention => C;
+   Single_Entry : constant Family := (Low => 0, High => 0);
+
+   --  What a task declares: up to 16 families, with 1,024 entries in all tasks together.
+   type Family_List is array (Place range <>) of Family with Convention => C;
+   No_Families : constant Family_List (1 .. 0) := (others => (Low => 0, High => 0));
+
+   --  An entry of a task (9.5).
+   type Entry_Name is record
+      Family : Family_Number := 0;
+      Index  : Entry_Index := 0;
+   end record with Convention => C;
+
+   ---------------
+   --  Masters  --
+   ---------------
+
+   --  What tasks depend on: a task's body, or a block, by the position of its opening (9.4).
+   type Master_Kind is (A_Body, A_Block) with Convention => C, Size => 32;
+   type Master (Kind : Master_Kind := A_Body) is record
+      case Kind is
+         when A_Body  => Owner     : Task_Number := Main_Program;
+         when A_Block => Opened_At : Position := 0;
+      end case;
+   end record;
+
+   -----------------------
+   --  Calls and waits  --
+   -----------------------
+
+   --  A simple call waits (9.5), a conditional one doesn't (9.7.2), a timed one does for a duration (9.7.3).
+   type Call_Kind is (Simple, Conditional, Timed) with Convention => C, Size => 32;
+
+   --  An accept alternative; Is_Open is what its guard gives (9.7.1).
+   type Choice is record
+      Item    : Entry_Name;
+      Is_Open : Flag := True;
+   end record with Convention => C;
+
+   --  The accept alternatives of a wait, 1 to 16.
+   type Choice_List is array (Place range <>) of Choice with Convention => C;
+
+   --  A delay alternative (9.7.1).
+   type Delay_Alternative is record
+      Length  : Milliseconds := 0;
+      Is_Open : Flag := True;
+   end record with Convention => C;
+
+   --  The delay alternatives of a wait, 1 to 8 if its last part is Delays, else none.
+   type Delay_List is array (Place range <>) of Delay_Alternative with Convention => C;
+   No_Delays : constant Delay_List (1 .. 0) := (others => (Length => 0, Is_Open => False));
+
+   --  The last part of a wait: an else part, delay alternatives, or a terminate alternative (9.7.1).
+   type Last_Part is (Nothing, Else_Part, Delays, Terminate_Alternative, Closed_Terminate_Alternative)
+     with Convention => C, Size => 32;
+
+   --  Of N alternatives that may be selected, the one with the number Pick mod N is, in text order from 0 (9.7.1).
+   type Pick_Number is mod 2 ** 32;
+
+   --------------
+   --  Events  --
+   --------------
+
+   --  Opened to Ticked are what tasks ask for, Halted to Left is forced. docs/FORMAT.md says what each means.
+   type Event_Kind is
+     (No_Event,
+      Opened, Created, Started, Elaborated, Called, Waiting, Paused, Ended, Closed, Completed, Aborted, Ticked,
+      Halted, Failed, Met, Cancelled, Passed, Woken, Activated, Gone, Quit, Left)
+     with Convention => C, Size => 32;
+
+   --  How a wait ended without a rendezvous (9.7.1).
+   type Way is (By_Else, By_Delay, By_Program_Error) with Convention => C, Size => 32;
+
+   --  An event. What its kind has no use for is 0 or False.
+   type Event is record
+      Kind        : Event_Kind := No_Event;
+      Form        : Interfaces.Unsigned_32 := 0;  --  read it by the functions below
+      By          : Task_Number := 0;             --  the task that asked for it, or to which it happened
+      Callee      : Task_Number := 0;             --  the task whose entry was called
+      Item        : Entry_Name;                   --  the entry that was called
+      Under_Kind  : Master_Kind := A_Body;        --  read these four by the functions below
+      Master_Kind : Adatask.Master_Kind := A_Body;
+      Under       : Interfaces.Unsigned_64 := 0;
+      Master      : Interfaces.Unsigned_64 := 0;
+      Call        : Position := 0;                --  the call
+      At_Position : Position := 0;                --  the wait, delay, start, close or block
+      Number      : Pick_Number := 0;             --  the pick of a wait, or the number of a delay alternative, from 0
+      Is_Timed    : Flag := False;                --  whether a call has a moment at which it ends
+      Moment      : Milliseconds := 0;            --  when it is due, or to which the moment moved
+      Length      : Milliseconds := 0;            --  the duration of a timed call
+   end record with Convention => C;
+
+   --  Of Elaborated and Activated whether it was without an exception (9.3); of Ended whether by one (11.5).
+   function Is_Ok (E : Event) return Boolean is (Boolean'Val (E.Form));
+   function Is_Raised (E : Event) return Boolean is (Boolean'Val (E.Form));
+
+   --  Of Called, of Waiting, of Passed.
+   function Call_Kind_Of (E : Event) return Call_Kind is (Call_Kind'Val (E.Form));
+   function Last_Part_Of (E : Event) return Last_Part is (Last_Part'Val (E.Form));
+   function Way_Of (E : Event) return Way is (Way'Val (E.Form));
+
+   --  Of Opened and Created the master in which the task was; of Created the one on which the new task depends, and of
+   --  Quit the one whose dependents terminated (9.4).
+   function Under_Of (E : Event) return Master is
+     (case E.Under_Kind is
+         when A_Body  => (A_Body, Task_Number (E.Under)),
+         when A_Block => (A_Block, Position (E.Under)));
+   function Master_Of (E : Event) return Master is
+     (case E.Master_Kind is
+         when A_Body  => (A_Body, Task_Number (E.Master)),
+         when A_Block => (A_Block, Position (E.Master)));
+
+   --  How many items the lists of an event have.
+   type List_Lengths is record
+      Tasks    : Interfaces.Unsigned_64 := 0;  --  those that Started or Aborted named
+      Families : Interfaces.Unsigned_64 := 0;  --  those that a task declared, of Created
+      Choices  : Interfaces.Unsigned_64 := 0;  --  the accept alternatives of Waiting
+      Delays   : Interfaces.Unsigned_64 := 0;  --  the delay alternatives of Waiting
+   end record with Convention => C;
+
+   --  A delay alternative of an event: the moment at which it is due, 0 if it is closed.
+   type Due is record
+      Moment  : Milliseconds := 0;
+      Is_Open : Flag := False;
+   end record with Convention => C;
+
+   ----------------------------
+   --  Outcomes and reasons  --
+   ----------------------------
+
+   --  What became of a task's latest call, wait, delay, activation or close (9.3 to 9.7, 11.5).
+   type Outcome_Kind is
+     (Did_Nothing,        --  there was none
+      Is_Dead,            --  it is terminated
+      Is_Done,            --  it is completed
+      Is_Held,            --  nothing yet: it isn't released
+      Was_Served,         --  its call, to the end of the rendezvous
+      Got_Tasking_Error,  --  its call failed
+      Was_Cancelled,      --  its conditional or timed call left the queue
+      Has_Accepted,       --  its wait took a call
+      Took_Else,          --  its wait took the else part
+      Took_Delay,         --  its wait took a delay alternative
+      Got_Program_Error,  --  nothing was open in its wait
+      Is_Awake,           --  its delay is over
+      Activation_Ok,      --  all that it activated came up
+      Activation_Failed,  --  one that it activated didn't: TASKING_ERROR
+      Left_Block,         --  it left the block that it closed
+      Got_Exception)      --  an exception ended the rendezvous in which it was
+     with Convention => C, Size => 32;
+   type Outcome is record
+      Kind   : Outcome_Kind := Did_Nothing;
+      Number : Place := 0;                  --  the alternative that was taken, from 0
+      Call   : Position := 0;               --  the call that was accepted
+   end record with Convention => C;
+
+   --  Why a task doesn't go on by itself.
+   type Reason_Kind is
+     (Goes_On,            --  it runs, or is terminated
+      Not_Started,        --  it was made, and no activation of it was started (9.3)
+      Activating,         --  it started an activation, which hasn't ended (9.3)
+      Queued,             --  its call stands in the queue of an entry (9.5)
+      In_Rendezvous,      --  its call is being served (9.5)
+      In_Wait,            --  it waits for a call, or for what else its wait may take (9.5, 9.7.1)
+      Delayed,            --  it is delayed (9.6)
+      Leaving,            --  it is at the end of a block, of which a dependent isn't terminated (9.4)
+      Awaits_Dependents)  --  it is completed, and a dependent isn't terminated (9.4)
+     with Convention => C, Size => 32;
+   type Reason is record
+      Kind        : Reason_Kind := Goes_On;
+      At_Position : Position := 0;          --  of its start, call, wait, delay or close; 0 if it isn't suspended
+   end record with Convention => C;
+
+   --  The attributes of all tasks and entries (9.9). What is beyond Tasks and Slots is False and 0.
+   subtype Board_Task is Task_Number range 0 .. 255;
+   type Task_Flags is array (Board_Task) of Boolean with Component_Size => 8, Convention => C;
+   type Slot_Counts is array (Natural range 0 .. 1_023) of Interfaces.Unsigned_16 with Convention => C;
+   type Board is record
+      Events     : Interfaces.Unsigned_64 := 0;
+      Tasks      : Interfaces.Unsigned_32 := 0;
+      Slots      : Interfaces.Unsigned_32 := 0;
+      Callable   : Task_Flags := (others => False);
+      Terminated : Task_Flags := (others => False);
+      Counts     : Slot_Counts := (others => 0);     --  by the slot of the entry
+   end record with Convention => C;
+
+   ---------------
+   --  Kernels  --
+   ---------------
+
+   --  A kernel, made where it is declared, with an empty journal; the main program runs in it. It can't be copied, and
+   --  is dropped where it is left. If memory for it was refused, each request is answered No_Kernel.
+   type Kernel is limited private;
+
+   --  Drops the kernel, and makes a new one in its place. Answers Accepted or Out_Of_Memory.
+   procedure Renew (K : in out Kernel; Said : access Answer := null);
+
+   --  Drops the kernel now; it may be renewed.
+   procedure Drop (K : in out Kernel);
+
+   --------------------------------------------------------------------------------------------------------------
+   --  Requests: By is the task that asks, and the result the position of its event. What it forces follows it  --
+   --------------------------------------------------------------------------------------------------------------
+
+   --  Enters a block within what the task is in (5.6, 9.4). The block is named by the position.
+   function Open_Block (K : in out Kernel; By : Task_Number; Said : access Answer := null) return Position;
+
+   --  Makes a task that depends on a master (9.1, 9.4), with families of entries. Its number is Tasks (K) - 1 then.
+   function Create_Task
+     (K : in out Kernel; By : Task_Number; On : Master; Entries : Family_List := No_Families;
+      Said : access Answer := null) return Position;
+
+   --  Starts the activation of tasks, up to 256, and waits for its end (9.3).
+   function Activate_Tasks
+     (K : in out Kernel; By : Task_Number; Tasks : Task_List; Said : access Answer := null) return Position;
+
+   --  Ends the task's own activation; by an exception, which completes it, if it isn't Ok (9.3).
+   function End_Activation
+     (K : in out Kernel; By : Task_Number; Ok : Boolean := True; Said : access Answer := null) return Position;
+
+   --  Calls an entry (9.5, 9.7.2, 9.7.3). Length is that of a timed call, and counts for no other.
+   function Call_Entry
+     (K : in out Kernel; By, Callee : Task_Number; Item : Entry_Name; Kind : Call_Kind := Simple;
+      Length : Milliseconds := 0; Said : access Answer := null) return Position;
+
+   --  Accepts a call of one entry: a wait with one open alternative and no last part (9.5).
+   function Accept_Call
+     (K : in out Kernel; By : Task_Number; Item : Entry_Name; Said : access Answer := null) return Position;
+
+   --  Waits selectively (9.7.1).
+   function Selective_Wait
+     (K : in out Kernel; By : Task_Number; Choices : Choice_List; Last : Last_Part := Nothing;
+      Alternatives : Delay_List := No_Delays; Pick : Pick_Number := 0; Said : access Answer := null) return Position;
+
+   --  Delays the task (9.6).
+   function Delay_For
+     (K : in out Kernel; By : Task_Number; Length : Milliseconds; Said : access Answer := null) return Position;
+
+   --  Ends the innermost rendezvous (9.5); by an exception, which the caller has too, if it is Raised (11.5).
+   function End_Rendezvous
+     (K : in out Kernel; By : Task_Number; Raised : Boolean := False; Said : access Answer := null) return Position;
+
+   --  Comes to the end of the innermost block, and waits for its dependents (9.4).
+   function Close_Block (K : in out Kernel; By : Task_Number; Said : access Answer := null) return Position;
+
+   --  Completes the task's body (9.4).
+   function Complete_Task (K : in out Kernel; By : Task_Number; Said : access Answer := null) return Position;
+
+   --  Aborts tasks, up to 256, and their dependents (9.10).
+   function Abort_Tasks
+     (K : in out Kernel; By : Task_Number; Tasks : Task_List; Said : access Answer := null) return Position;
+
+   --  Moves the moment, which is 0 at first and never goes back. No task asks for it.
+   function Tick (K : in out Kernel; Now : Milliseconds; Said : access Answer := null) return Position;
+
+   -----------------------------------------
+   --  Questions, which change no kernel  --
+   -----------------------------------------
+
+   --  How many tasks there are, the main program counted, and how many events; 0 without a kernel.
+   function Tasks (K : in out Kernel) return Task_Number;
+   function Events (K : in out Kernel) return Position;
+
+   --  Whether the main program is terminated; False without a kernel.
+   function Finished (K : in out Kernel) return Boolean;
+
+   --  Whether a task runs: it is activated or being so, hasn't ended, and isn't held up.
+   function Running (K : in out Kernel; T : Task_Number; Said : access Answer := null) return Boolean;
+
+   --  The attributes of a task (9.9).
+   function Callable (K : in out Kernel; T : Task_Number; Said : access Answer := null) return Boolean;
+   function Terminated (K : in out Kernel; T : Task_Number; Said : access Answer := null) return Boolean;
+
+   --  COUNT of an entry of the asking task's own (9.9). It is refused like a request.
+   function Count_Of
+     (K : in out Kernel; By : Task_Number; Item : Entry_Name; Said : access Answer := null) return Natural;
+
+   --  The slot of an entry, below 1,024: all entries are numbered in order of task, family and index.
+   function Slot
+     (K : in out Kernel; T : Task_Number; Item : Entry_Name; Said : access Answer := null) return Natural;
+
+   --  What became of a task.
+   function Outcome_Of (K : in out Kernel; T : Task_Number; Said : access Answer := null) return Outcome;
+
+   --  Why a task doesn't go on by itself.
+   function Reason_Of (K : in out Kernel; T : Task_Number; Said : access Answer := null) return Reason;
+
+   --  The first task with the number From or more for which T waits, or No_Such_Item: its maker, if it isn't started;
+   --  those that it activates; the task that it called; the dependents of the block that it leaves, or of its own body.
+   --  It searches the journal, and is for diagnosis.
+   function Awaited
+     (K : in out Kernel; T : Task_Number; From : Task_Number := 0; Said : access Answer := null) return Task_Number;
+
+   --  The first task with the number From or more that runs, and didn't before the last request that was accepted; or
+   --  No_Such_Item.
+   function Runnable
+     (K : in out Kernel; From : Task_Number := 0; Said : access Answer := null) return Task_Number;
+
+   --  The first moment for which any task waits, or No_Such_Item: of a delay, a timed call that isn't served yet, or an
+   --  open delay alternative. A tick to an earlier moment forces nothing.
+   function Next_Due (K : in out Kernel; Said : access Answer := null) return Milliseconds;
+
+   --  The attributes of all tasks and entries (9.9).
+   function Board_Of (K : in out Kernel; Said : access Answer := null) return Board;
+
+   --  The event at a position, and what its lists have at a place.
+   function Event_At (K : in out Kernel; At_Position : Position; Said : access Answer := null) return Event;
+   function Lengths_At (K : in out Kernel; At_Position : Position; Said : access Answer := null) return List_Lengths;
+   function Task_At
+     (K : in out Kernel; At_Position : Position; At_Place : Place; Said : access Answer := null) return Task_Number;
+   function Family_At
+     (K : in out Kernel; At_Position : Position; At_Place : Place; Said : access Answer := null) return Family;
+   function Choice_At
+     (K : in out Kernel; At_Position : Position; At_Place : Place; Said : access Answer := null) return Choice;
+   function Delay_At
+     (K : in out Kernel; At_Position : Position; At_Place : Place; Said : access Answer := null) return Due;
+
+private
+
+   --  The struct of C, which is passed by value where it is dropped.
+   type Handle is record
+      Kernel : System.Address := System.Null_Address;
+   end record with Convention => C_Pass_By_Copy;
+
+   type Kernel is new Ada.Finalization.Limited_Controlled with record
+      Held : Handle;
+   end record;
+   overriding procedure Initialize (K : in out Kernel);
+   overriding procedure Finalize (K : in out Kernel);
+
+end Adatask;
