@@ -122,8 +122,8 @@ pub fn wait_in(
     })
 }
 
-/// Accepts a call of one entry: waits selectively with one alternative and no last part. Its request is made without the
-/// copies of lists that a wait's takes.
+/// Accepts a call of one entry: waits selectively with one alternative and no last part. Its request is made without
+/// the copies of lists that a wait's takes.
 #[inline(always)]
 #[tactic(auto, unfolding(crate::specs::Requests::all_in))]
 pub fn accept_in(by: u64, choice: PlainChoice, pick: u32) -> Result<Request, Bad>

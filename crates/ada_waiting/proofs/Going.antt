@@ -1,10 +1,12 @@
 -- A task that runs now ran before the last request, or the request's event or a step let it go on.
-use Rattle.std.proofs.Common.{◌≡◌, ℕ, ◌≤◌, ◌<◌, Bool, true, false, not, ◌&&◌, ◌||◌, ◌⊎◌, Option, Some, None, List, [], ◌∷◌, refl, sym, ap, ◌∙◌, subst, arith, inl, inr}
+use Rattle.std.proofs.Common.{◌≡◌, ℕ, ◌≤◌, ◌<◌, Bool, true, false, not, ◌&&◌, ◌||◌, ◌⊎◌, Option, Some, None, List, [], ◌∷◌}
+use Rattle.std.proofs.Common.{refl, sym, ap, ◌∙◌, subst, arith, inl, inr}
 use Rattle.std.specs.Prelude.{◌==◌, if◌then◌else◌}
 use Rattle.std.specs.Bool.{then_some}
 use Rattle.std.specs.List.{list_any}
 use Rattle.std.specs.Option.{option_and_then}
-use Rattle.std.proofs.lemmas.Bool.{cases_Bool, true≢false, false≢true, or_parts, or_cases, and_parts, not-true, not-false, eqb-true, ltb-false, false_from_ne_true}
+use Rattle.std.proofs.lemmas.Bool.{cases_Bool, true≢false, false≢true, or_parts, or_cases, and_parts, not-true, not-false}
+use Rattle.std.proofs.lemmas.Bool.{eqb-true, ltb-false, false_from_ne_true}
 use Rattle.std.proofs.lemmas.Option.{none-some}
 use Rattle.ada_events.specs.declared.event.Event.{Event}
 use Rattle.ada_events.specs.declared.event.Event.TheVariants as event
@@ -112,7 +114,8 @@ asked_runs event before task (inl forces) holds = absurd (none-some task (sym (f
 asked_runs event before task (inr asked) holds =
     asker_runs before asked.request task asked.accepted (held_in-asked before asked.request task (ap held_in (sym asked.becomes) ∙ holds))
 
-one_of : (test : TaskNo → Bool) (tasks : List TaskNo) (task : ℕ) → list_any test tasks ≡ false → lists_task task tasks ≡ true → (t : TaskNo) × (t.0 ≡ task) × (test t ≡ false)
+one_of : (test : TaskNo → Bool) (tasks : List TaskNo) (task : ℕ) → list_any test tasks ≡ false → lists_task task tasks ≡ true
+    → (t : TaskNo) × (t.0 ≡ task) × (test t ≡ false)
 one_of test [] task none lists = absurd (false≢true lists)
 one_of test (t ∷ rest) task none lists =
     let parts = or_parts (test t) (list_any test rest) none in
@@ -143,7 +146,8 @@ activated_idle journal (request.Activate by tasks) task accepted lists =
 activated_idle journal _ task accepted lists = absurd (false≢true lists)
 
 -- a task that an event starts didn't run
-started_idle : (event : Event) (before : List Event) (task : ℕ) → MayFollow before event → lists_task task (started_in event) ≡ true → is_running before task ≡ false
+started_idle : (event : Event) (before : List Event) (task : ℕ) → MayFollow before event → lists_task task (started_in event) ≡ true
+    → is_running before task ≡ false
 started_idle event before task (inl forces) lists =
     let (by, holds) = starting_holds event task lists in
     absurd (none-some by (sym (forced-step before event forces).holds_none ∙ holds))
@@ -171,6 +175,16 @@ before_asked event before asked = rw asked refl
 group_asked : (event : Event) (before : List Event) → is_step event ≡ false → last_group (event ∷ before) ≡ event ∷ []
 unfolding last_group
 group_asked event before asked = rw asked refl
+
+-- whether something of the group lets a task go on
+any_of_step : (event : Event) (before : List Event) (task : ℕ) (b : Bool) → is_step event ≡ true
+    → list_any (lets_go (before_last (event ∷ before)) task) (last_group (event ∷ before)) ≡ b
+    → (lets_go (before_last before) task event || list_any (lets_go (before_last before) task) (last_group before)) ≡ b
+any_of_step event before task b step any = rw (before_step event before step, group_step event before step) at any
+
+any_of_asked : (event : Event) (before : List Event) (task : ℕ) (b : Bool) → is_step event ≡ false
+    → list_any (lets_go (before_last (event ∷ before)) task) (last_group (event ∷ before)) ≡ b → (lets_go before task event || false) ≡ b
+any_of_asked event before task b asked any = rw (before_asked event before asked, group_asked event before asked) at any
 
 -- what holds a task up stands in it, or is the event of the request, and the task ran
 held_before : (journal : List Event) (task p : ℕ) (e : Event) → IsLawful journal → event_at journal p ≡ Some e → held_in e ≡ Some task
@@ -215,7 +229,8 @@ none_let_go [] task lawful runs none = runs
 none_let_go (event ∷ before) task lawful runs none =
     elim (cases_Bool (is_step event)) [
       | inl step ↦
-          let parts = or_parts (lets_go (before_last before) task event) (list_any (lets_go (before_last before) task) (last_group before)) (rw (before_step event before step, group_step event before step) at none) in
+          let parts = or_parts (lets_go (before_last before) task event) (list_any (lets_go (before_last before) task) (last_group before))
+          (any_of_step event before task false step none) in
           let here = or_parts (lists_task task (started_in event)) _ parts.0 in
           rw (before_step event before step) (elim (cases_Bool (is_running (before_last before) task)) [
             | inl ran ↦ ran
@@ -227,9 +242,10 @@ none_let_go (event ∷ before) task lawful runs none =
                 ])) parts.1
           ])
       | inr asked ↦
-          let parts = or_parts (lets_go before task event) false (rw (before_asked event before asked, group_asked event before asked) at none) in
+          let parts = or_parts (lets_go before task event) false (any_of_asked event before task false asked none) in
           let here = or_parts (lists_task task (started_in event)) _ parts.0 in
-          rw (before_asked event before asked) (ran_before event before task runs here.0 (λ p frees held. not_freed before event task p held.event here.1 frees held.stands held.holds))
+          rw (before_asked event before asked) (ran_before event before task runs here.0 (λ p frees held.
+          not_freed before event task p held.event here.1 frees held.stands held.holds))
     ]
 
 -- what an event releases that stands in an older journal holds its task up there
@@ -249,7 +265,9 @@ some_let_go [] task lawful some = absurd (false≢true (rw no_group at some))
 some_let_go (event ∷ before) task lawful some =
     elim (cases_Bool (is_step event)) [
       | inl step ↦
-          rw (before_step event before step) (elim (or_cases (lets_go (before_last before) task event) (list_any (lets_go (before_last before) task) (last_group before)) (rw (before_step event before step, group_step event before step) at some)) [
+          let cases = or_cases (lets_go (before_last before) task event) (list_any (lets_go (before_last before) task) (last_group before))
+          (any_of_step event before task true step some) in
+          rw (before_step event before step) (elim cases [
             | inl here ↦
                 elim (or_cases (lists_task task (started_in event)) _ here) [
                   | inl lists ↦
@@ -260,7 +278,8 @@ some_let_go (event ∷ before) task lawful some =
             | inr there ↦ some_let_go before task lawful.0 there
           ])
       | inr asked ↦
-          rw (before_asked event before asked) (elim (or_cases (lets_go before task event) false (rw (before_asked event before asked, group_asked event before asked) at some)) [
+          let cases = or_cases (lets_go before task event) false (any_of_asked event before task true asked some) in
+          rw (before_asked event before asked) (elim cases [
             | inl here ↦
                 elim (or_cases (lists_task task (started_in event)) _ here) [
                   | inl lists ↦ started_idle event before task lawful.1 lists

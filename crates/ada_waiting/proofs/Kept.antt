@@ -69,7 +69,8 @@ due_by_place journal task (suc n) joined lawful free held met =
     let h = held (omega arith) in
     rw (met (omega arith), h.stands) (sym (due_of_suspended journal task (suc n) h.event lawful h h.stands))
 
-pub due_by_record : (journal : List Event) (task : ℕ) (kept : Record) → IsLawful journal → IsRecordOf journal task kept → kept_due journal kept ≡ due_of journal task
+pub due_by_record : (journal : List Event) (task : ℕ) (kept : Record) → IsLawful journal → IsRecordOf journal task kept
+    → kept_due journal kept ≡ due_of journal task
 due_by_record journal task kept lawful right =
     due_by_place journal task kept.suspension.at kept.suspension.joined lawful right.suspension.at.free right.suspension.at.held right.suspension.joined
 

@@ -21,7 +21,8 @@ use Rattle.ada_waiting.specs.Laws.{OneReasonEach}
 use Rattle.ada_waiting.proofs.Holding.{suspended_at_is, suspended_at_from}
 
 -- each event that holds a task up is a reason
-pub reason_of_hold : (journal : List Event) (position : ℕ) (e : Event) (task : ℕ) → held_in e ≡ Some task → (r : Reason) × (reason_at journal position e ≡ Some r)
+pub reason_of_hold : (journal : List Event) (position : ℕ) (e : Event) (task : ℕ) → held_in e ≡ Some task
+    → (r : Reason) × (reason_at journal position e ≡ Some r)
 unfolding held_in reason_by
 reason_of_hold journal position (event.Called by callee entry patience due) task holds =
     ((if is_met journal position then reason.InRendezvous position else reason.Queued position), refl)

@@ -70,7 +70,8 @@ fn kept_reason(kernel: &Kernel, kept: &Record) -> Option<Reason>
     }
 }
 
-/// Why a task of a kernel doesn't go on by itself; none if it runs, is terminated, or doesn't exist. Nothing is searched.
+/// Why a task of a kernel doesn't go on by itself; none if it runs, is terminated, or doesn't exist. Nothing is
+/// searched.
 pub fn reason_in(kernel: &Kernel, task: TaskNo) -> Option<Reason>
     ensures { result ≡ reasons.reason_of kernel.now task.0 }
 {
@@ -89,8 +90,8 @@ fn kept_due(kernel: &Kernel, kept: &Record) -> Option<i64>
     due_by(kept.suspension.joined, event)
 }
 
-/// The moment, in milliseconds, for which a task of a kernel is suspended; none if it isn't, or for no moment. Nothing is
-/// searched.
+/// The moment, in milliseconds, for which a task of a kernel is suspended; none if it isn't, or for no moment. Nothing
+/// is searched.
 pub fn due_in(kernel: &Kernel, task: TaskNo) -> Option<i64>
     ensures { result ≡ standstill.due_of kernel.now task.0 }
 {
@@ -162,8 +163,8 @@ fn awaited_from(kernel: &Kernel, task: TaskNo, from: TaskNo, other: TaskNo) -> O
     }
 }
 
-/// The first task of a number or more for which a task of a kernel waits; none if there is no such task. The journal is
-/// searched for what is awaited.
+/// The first task of a number or more for which a task of a kernel waits; none if there is no such task. The journal
+/// is searched for what is awaited.
 #[tactic(auto, unfolding(crate::specs::Awaited::first_awaited, ada_events::specs::Search::first_below), using(ada_reference::proofs::Numbers::first_below_more))]
 pub fn first_awaited(kernel: &Kernel, task: TaskNo, from: TaskNo) -> Option<TaskNo>
     ensures { option_map (λ (t : Task). t.0) result
