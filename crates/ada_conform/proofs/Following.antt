@@ -23,7 +23,11 @@ says_it line old statement range unskipped stands spelled =
 pub stops_line : (line : List ℕ) (old new : PlayState) (statement : Statement) (stop : Stop) → Says old.names line statement
     → IsTurnedDown statement old stop new → IsStop line old stop new
 stops_line line old new statement (stops.Refused said cause) says (same, refused, unchanged) =
-    record { says = subst (λ s. Says old.names line s) (sym same) says; refused = subst (λ s. Refuses s new cause) (sym same) refused; unchanged = subst (λ s. new ≡ declared old s) (sym same) unchanged }
+    record {
+      says = subst (λ s. Says old.names line s) (sym same) says;
+      refused = subst (λ s. Refuses s new cause) (sym same) refused;
+      unchanged = subst (λ s. new ≡ declared old s) (sym same) unchanged;
+    }
 stops_line line old new statement (stops.Faulty cause) says memory = inl memory
 
 -- the first of the lines stops a log
