@@ -1,4 +1,9 @@
 //! Following a log on a kernel.
+ghost use Rattle.std.specs.Prelude.{◌≡◌, ◌<◌, ◌^◌, length, IfOk, IfErr, OnOk};
+ghost use Rattle.ada_statements.specs.Text.{lines_of};
+ghost use Rattle.ada_replay.specs.Ends.{state};
+ghost use Rattle.ada_conform.specs.Courses.{beginning, judged as judged_so, IsCourse};
+ghost use Rattle.ada_conform.specs.declared.judgement.Stop.TheVariants as stops;
 
 use crate::judgement::{Judgement, Stop};
 use crate::step::take_line;
@@ -21,7 +26,11 @@ pub struct Course {
 }
 
 // What it means that the line of a number stops a log.
-fn judged(number: u32, stop: Stop) -> Result<Judgement, RunFault> {
+fn judged(number: u32, stop: Stop) -> Result<Judgement, RunFault>
+    ensures ok { IfOk result (λ judgement. judgement ≡ judged_so number stop) }
+    ensures found { OnOk result (stop ≡ stops.Faulty Cause.OutOfMemory → ⊥) }
+    ensures err { IfErr result (λ fault. fault ≡ RunFault.Memory) }
+{
     match stop {
         Stop::Refused(statement, cause) => Ok(Judgement::Refused {
             line: number,
@@ -37,27 +46,38 @@ fn judged(number: u32, stop: Stop) -> Result<Judgement, RunFault> {
 }
 
 // Takes the lines of a log up to the first that stops it: how it is judged, and how many lines came before that one.
+#[tactic(auto, using(crate::proofs::Following::lines_few, crate::proofs::Following::stops_here, crate::proofs::Following::leads_on))]
 fn take_lines(
     alloc: Global,
     kernel: &mut Kernel,
     names: &mut Names,
     log: &[u8],
-) -> Result<(Judgement, u32), RunFault> {
+) -> Result<(Judgement, u32), RunFault>
+    requires { length log.now < 2 ^ 32 }
+    ensures ok { IfOk result (λ taken. IsCourse 1 (lines_of log.now)
+        (state kernel.old names.old) taken.0 (state kernel.new names.new)) }
+    ensures err { IfErr result (λ fault. fault ≡ RunFault.Memory) }
+{
     let mut number = 0u32;
     let mut rest = Lines::new(log);
     while let Some(line) = rest.next() {
         if let Err(stop) = take_line(alloc, kernel, names, line) {
-            let judgement = judged(number.saturating_add(1), stop)?;
+            let judgement = judged(number + 1, stop)?;
             return Ok((judgement, number));
         }
-        number = number.saturating_add(1);
+        number += 1;
     }
     Ok((Judgement::Conforms, number))
 }
 
 /// Follows a log, of which each line is complete, on a kernel of its own, up to the first line that stops it. An `Err`
 /// is `Memory`.
-pub fn follow(alloc: Global, log: &[u8]) -> Result<Course, RunFault> {
+pub fn follow(alloc: Global, log: &[u8]) -> Result<Course, RunFault>
+    requires { length log.now < 2 ^ 32 }
+    ensures ok { IfOk result (λ course. IsCourse 1 (lines_of log.now) beginning course.judgement
+        (state course.kernel course.names)) }
+    ensures err { IfErr result (λ fault. fault ≡ RunFault.Memory) }
+{
     let mut names = Names::new(alloc).map_err(|_| RunFault::Memory)?;
     let mut kernel = Kernel::new(alloc).map_err(|_| RunFault::Memory)?;
     let (judgement, lines) = take_lines(alloc, &mut kernel, &mut names, log)?;

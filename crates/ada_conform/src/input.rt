@@ -1,4 +1,5 @@
 //! Reading a log.
+ghost use Rattle.std.specs.Prelude.{◌≤◌, ◌<◌, ◌^◌, length, vec_len};
 
 use ada_replay::RunFault;
 use std::alloc::Global;
@@ -14,23 +15,31 @@ pub struct Log {
     bytes: Vec<u8>,
     /// How many of the bytes are in lines that end with a line feed.
     complete: usize,
+    ghost within: { complete ≤ vec_len bytes },
+    ghost short: { vec_len bytes ≤ 16777216 },
 }
 
 impl Log {
-    /// The log of these bytes.
-    pub fn new(bytes: Vec<u8>) -> Self {
+    /// The log of these bytes; none if there are more than a log has.
+    pub fn of(bytes: Vec<u8>) -> Option<Self> {
+        if bytes.len() > MOST_BYTES {
+            return None;
+        }
         let complete = complete_bytes(&bytes);
-        Log { bytes, complete }
+        Some(Log { bytes, complete })
     }
 
     /// The lines that end with a line feed.
-    pub fn lines(&self) -> &[u8] {
+    pub fn lines(&self) -> &[u8]
+        ensures { length result.now < 2 ^ 32 }
+    {
         &self.bytes[..self.complete]
     }
 
     /// The first complete lines, of which there are so many at least.
     pub fn first_lines(&self, count: u32) -> &[u8] {
-        &self.bytes[..end_of_lines(self.lines(), count)]
+        let lines = self.lines();
+        &lines[..end_of_lines(lines, count)]
     }
 
     /// What stands after the last line feed, which may be cut off.
@@ -40,7 +49,9 @@ impl Log {
 }
 
 // How many bytes there are up to the last line feed, this one included.
-fn complete_bytes(bytes: &[u8]) -> usize {
+fn complete_bytes(bytes: &[u8]) -> usize
+    ensures { result ≤ length bytes.now }
+{
     let mut complete = bytes.len();
     while complete > 0 && bytes[complete - 1] != b'\n' {
         complete -= 1;
@@ -49,7 +60,9 @@ fn complete_bytes(bytes: &[u8]) -> usize {
 }
 
 // Where so many lines end.
-fn end_of_lines(bytes: &[u8], count: u32) -> usize {
+fn end_of_lines(bytes: &[u8], count: u32) -> usize
+    ensures { result ≤ length bytes.now }
+{
     let mut left = count;
     for (i, byte) in bytes.iter().enumerate() {
         if left == 0 {

@@ -1,4 +1,6 @@
 //! How a log is judged.
+ghost use Rattle.std.specs.Prelude.{◌≡◌};
+ghost use Rattle.ada_conform.specs.declared.judgement.Stop.TheVariants as stops;
 
 use ada_events::Refusal;
 use ada_script::{Cause, ScriptFault, Statement};
@@ -28,6 +30,8 @@ pub enum Stop {
 }
 
 impl From<Cause> for Stop {
+    ghost from_gives = { λ cause stop. stop ≡ stops.Faulty cause };
+
     fn from(cause: Cause) -> Stop {
         Stop::Faulty(cause)
     }

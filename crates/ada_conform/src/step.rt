@@ -1,4 +1,8 @@
 //! One line of a log.
+ghost use Rattle.std.specs.Prelude.{◌≡◌, ◌⊎◌, OnOk, OnErr, IfErr};
+ghost use Rattle.ada_replay.specs.Ends.{state};
+ghost use Rattle.ada_conform.specs.Lines.{declared, Accepts, Refuses, Passes};
+ghost use Rattle.ada_conform.specs.Courses.{IsStop, IsTurnedDown};
 
 use crate::judgement::Stop;
 use ada_events::Refusal;
@@ -14,7 +18,13 @@ use std::alloc::Global;
 const ANY_NUMBER: u32 = 1;
 
 // Asks of the kernel what a statement asks, and binds the name that it declares.
-fn ask(kernel: &mut Kernel, names: &mut Names, statement: &Statement) -> Result<(), Refusal> {
+fn ask(kernel: &mut Kernel, names: &mut Names, statement: &Statement) -> Result<(), Refusal>
+    ensures ok { OnOk result (Accepts statement.now (state kernel.old names.old)
+        (state kernel.new names.new)) }
+    ensures err { IfErr result (λ cause. (cause ≡ Refusal.OutOfMemory)
+        ⊎ Refuses statement.now (state kernel.old names.old) cause) }
+    ensures unchanged { OnErr result ((kernel.new ≡ kernel.old) × (names.new ≡ names.old)) }
+{
     match request(statement, names) {
         Some(request) => {
             let made = next_task(kernel);
@@ -30,11 +40,12 @@ fn ask(kernel: &mut Kernel, names: &mut Names, statement: &Statement) -> Result<
 }
 
 // Declares the name that a statement declares, and asks what it asks.
-fn take_statement(
-    kernel: &mut Kernel,
-    names: &mut Names,
-    statement: Statement,
-) -> Result<(), Stop> {
+fn take_statement(kernel: &mut Kernel, names: &mut Names, statement: Statement) -> Result<(), Stop>
+    ensures ok { OnOk result (Accepts statement (declared (state kernel.old names.old) statement)
+        (state kernel.new names.new)) }
+    ensures err { IfErr result (λ stop. IsTurnedDown statement (state kernel.old names.old) stop
+        (state kernel.new names.new)) }
+{
     names.declare(&statement)?;
     match ask(kernel, names, &statement) {
         Ok(()) => Ok(()),
@@ -44,12 +55,18 @@ fn take_statement(
 }
 
 /// Takes a line: it is skipped, or it is a statement that the kernel accepts.
+#[tactic(auto, using(crate::proofs::Following::says_it, crate::proofs::Following::stops_line))]
 pub fn take_line(
     alloc: Global,
     kernel: &mut Kernel,
     names: &mut Names,
     line: &[u8],
-) -> Result<(), Stop> {
+) -> Result<(), Stop>
+    ensures ok { OnOk result (Passes line.now (state kernel.old names.old)
+        (state kernel.new names.new)) }
+    ensures err { IfErr result (λ stop. IsStop line.now (state kernel.old names.old) stop
+        (state kernel.new names.new)) }
+{
     check_line(ANY_NUMBER, line)?;
     let mut words = Words::new(line);
     if is_skipped(&words) {

@@ -2,7 +2,7 @@
 
 use crate::obeying::{STANDARD_INPUT, check};
 use crate::{Finding, ScopeFault};
-use ada_conform::input::{Log, MOST_BYTES, read_log};
+use ada_conform::input::{Log, read_log};
 use ada_conform::report::{report, write_before};
 use ada_conform::{Course, Judgement, follow};
 use ada_replay::RunFault;
@@ -25,10 +25,7 @@ fn log_of<R: Files + Input + AllocGlobal>(rt: &R, file: Option<&str>) -> Result<
         }
         None => read_log(rt.alloc(), rt.reader())?,
     };
-    if bytes.len() > MOST_BYTES {
-        return Err(ScopeFault::TooLong);
-    }
-    Ok(Log::new(bytes))
+    Log::of(bytes).ok_or(ScopeFault::TooLong)
 }
 
 // What `lint` says of a log's first faulty line, where a script may have that many lines, and how far the log conforms.
