@@ -183,9 +183,13 @@ procedure Trace_Lines is
          abort Doomed;
       end Abort_Doomed;
 
+      --  Under the lock: what another task has to write waits until this is over.
       procedure Abort_Owner is
       begin
          abort Owner;
+         Stages.Reach (8);
+         delay 0.1;
+         Note (not Selfish'Terminated, "a task wrote a line while another one aborted");
       end Abort_Owner;
 
    begin
@@ -194,7 +198,6 @@ procedure Trace_Lines is
       while not Owner'Terminated loop
          delay 0.001;
       end loop;
-      Stages.Reach (8);
       while not Selfish'Terminated loop
          delay 0.001;
       end loop;
