@@ -7,27 +7,16 @@ use Rattle.ada_conform.specs.declared.judgement.Judgement.{Judgement}
 use Rattle.ada_conform.specs.declared.judgement.Judgement.TheVariants.{Conforms, Refused, Faulty}
 use Rattle.ada_conform.specs.declared.judgement.Stop.{Stop}
 use Rattle.ada_conform.specs.declared.judgement.Stop.TheVariants as stops
-use Rattle.ada_statements.specs.declared.statement.Statement.{Statement}
-use Rattle.ada_conform.specs.Lines.{declared, Refuses, Passes, IsRefusedLine, IsFaultyLine}
+use Rattle.ada_conform.specs.Lines.{Passes, IsRefusedLine, IsFaultyLine}
 
 -- before the first line: an empty journal, and the main program alone
 abbrev pub beginning : PlayState
 beginning = record { journal = []; names = main_alone }
 
--- a statement is refused once its name is declared, or memory was refused
-abbrev pub IsTurnedDown : Statement → PlayState → Stop → PlayState → Type 0
-IsTurnedDown said old (stops.Refused statement cause) new = (statement ≡ said) × Refuses said new cause × (new ≡ declared old said)
-IsTurnedDown said old (stops.Faulty cause) new = cause ≡ causes.OutOfMemory
-
 -- why a line stops a log; or memory was refused
 abbrev pub IsStop : List ℕ → PlayState → Stop → PlayState → Type 0
 IsStop line old (stops.Refused statement cause) new = IsRefusedLine line statement cause old new
 IsStop line old (stops.Faulty cause) new = (cause ≡ causes.OutOfMemory) ⊎ (IsFaultyLine old.names line cause × (new ≡ old))
-
--- how a log is judged that the line of this number stops
-abbrev pub judged : ℕ → Stop → Judgement
-judged number (stops.Refused statement cause) = Refused number statement cause
-judged number (stops.Faulty cause) = Faulty (record { line = number; cause = cause })
 
 -- the line of this number stops a log
 abbrev pub Stops : ℕ → List ℕ → PlayState → Judgement → PlayState → Type 0

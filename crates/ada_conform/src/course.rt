@@ -2,7 +2,8 @@
 ghost use Rattle.std.specs.Prelude.{◌≡◌, ◌<◌, ◌^◌, length, IfOk, IfErr, OnOk};
 ghost use Rattle.ada_statements.specs.Text.{lines_of};
 ghost use Rattle.ada_replay.specs.Ends.{state};
-ghost use Rattle.ada_conform.specs.Courses.{beginning, judged as judged_so, IsCourse};
+ghost use Rattle.ada_conform.specs.Courses.{beginning, IsCourse};
+ghost use Rattle.ada_conform.specs.internal.Stopping.{judged as judged_so};
 ghost use Rattle.ada_conform.specs.declared.judgement.Stop.TheVariants as stops;
 
 use crate::judgement::{Judgement, Stop};

@@ -2,7 +2,8 @@
 ghost use Rattle.std.specs.Prelude.{◌≡◌, ◌⊎◌, OnOk, OnErr, IfErr};
 ghost use Rattle.ada_replay.specs.Ends.{state};
 ghost use Rattle.ada_conform.specs.Lines.{declared, Accepts, Refuses, Passes};
-ghost use Rattle.ada_conform.specs.Courses.{IsStop, IsTurnedDown};
+ghost use Rattle.ada_conform.specs.Courses.{IsStop};
+ghost use Rattle.ada_conform.specs.internal.Stopping.{IsTurnedDown};
 
 use crate::judgement::Stop;
 use ada_events::Refusal;
