@@ -10,4 +10,4 @@ pub mod step;
 
 pub use course::{Course, follow};
 pub use judgement::Judgement;
-pub use report::report;
+pub use report::report_of;

@@ -13,7 +13,12 @@ use std::alloc::{AllocError, Global};
 
 /// What is told of a log, which is called so: the line that stops it, and why; how far it conforms; and, if it
 /// conforms and doesn't come to its end, what stands still there.
-pub fn report(alloc: Global, file: &str, log: &Log, course: &Course) -> Result<String, AllocError> {
+pub fn report_of(
+    alloc: Global,
+    file: &str,
+    log: &Log,
+    course: &Course,
+) -> Result<String, AllocError> {
     let mut text = String::new(alloc);
     match &course.judgement {
         Judgement::Conforms => {

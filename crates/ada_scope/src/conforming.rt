@@ -3,8 +3,8 @@
 use crate::obeying::{STANDARD_INPUT, check};
 use crate::{Finding, ScopeFault};
 use ada_conform::input::{Log, read_log};
-use ada_conform::report::{report, write_before};
-use ada_conform::{Course, Judgement, follow};
+use ada_conform::report::write_before;
+use ada_conform::{Course, Judgement, follow, report_of};
 use ada_replay::RunFault;
 use ada_replay::output::write_output;
 use ada_script::ScriptFault;
@@ -37,17 +37,17 @@ fn faulty_report(
     fault: ScriptFault,
 ) -> Result<String, RunFault> {
     if fault.line > LAST_LINE {
-        return report(alloc, file, log, course).map_err(|_| RunFault::Memory);
+        return report_of(alloc, file, log, course).map_err(|_| RunFault::Memory);
     }
     let (mut text, _) = check(alloc, file, log.first_lines(fault.line))?;
     write_before(&mut text, course).map_err(|_| RunFault::Memory)?;
     Ok(text)
 }
 
-fn report_of(alloc: Global, file: &str, log: &Log, course: &Course) -> Result<String, RunFault> {
+fn text_of(alloc: Global, file: &str, log: &Log, course: &Course) -> Result<String, RunFault> {
     match &course.judgement {
         Judgement::Faulty(fault) => faulty_report(alloc, file, log, course, *fault),
-        _ => report(alloc, file, log, course).map_err(|_| RunFault::Memory),
+        _ => report_of(alloc, file, log, course).map_err(|_| RunFault::Memory),
     }
 }
 
@@ -67,7 +67,7 @@ pub fn tell_conformance<R: Files + Input + Print + AllocGlobal>(
 ) -> Result<Finding, ScopeFault> {
     let log = log_of(rt, file)?;
     let course = follow(rt.alloc(), log.lines())?;
-    let text = report_of(rt.alloc(), file.unwrap_or(STANDARD_INPUT), &log, &course)?;
+    let text = text_of(rt.alloc(), file.unwrap_or(STANDARD_INPUT), &log, &course)?;
     write_output(&mut io::writer(rt), text.as_bytes())?;
     Ok(finding_of(&course.judgement))
 }
