@@ -72,11 +72,12 @@ fn write_effect(text: &mut String, scene: Scene<'_>, row: &Row<'_>) -> Result<()
     text.push('\n')
 }
 
-// Appends the entry of the call at a position.
+// Appends the entry of the call at a position, always with its index, since the text is only compared.
 fn write_entry(text: &mut String, scene: Scene<'_>, position: u32) -> Result<(), AllocError> {
     match event_in(scene.events, position) {
         Some(Event::Called { callee, entry, .. }) => {
-            write!(text, " {}", scene.entry(*callee, *entry))
+            let family = scene.family(*callee, entry.family);
+            write!(text, " {family}({})", entry.index)
         }
         _ => Ok(()),
     }
