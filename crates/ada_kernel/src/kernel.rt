@@ -82,8 +82,9 @@ impl Kernel {
         &self.journal
     }
 
-    // The journal with what is kept of it.
-    fn view(&self) -> View<'_>
+    /// The journal with what is kept of it: records, tables and the moment, for a crate that reads more of
+    /// them than the queries below tell.
+    pub fn view(&self) -> View<'_>
         ensures { result ≡ self.now }
     {
         self.index.view(&self.journal)
