@@ -172,8 +172,8 @@ impl<'a> View<'a> {
         }
     }
 
-    // Whether a master is complete (9.4): the task of a body is completed, a block is closed or its task has ended.
-    fn is_complete(&self, master: Master) -> bool
+    /// Whether a master is complete (9.4): the task of a body is completed, a block is closed or its task has ended.
+    pub fn is_complete(&self, master: Master) -> bool
         ensures { result ≡ ending.is_complete self.now master }
     {
         match master {
@@ -200,9 +200,9 @@ impl<'a> View<'a> {
         }
     }
 
-    // Whether the task will never be activated (9.3, 9.4).
+    /// Whether the task will never be activated (9.3, 9.4).
     #[tactic(auto, unfolding(ada_events::specs::Termination::is_abandoned))]
-    fn is_abandoned(&self, task: TaskNo) -> bool
+    pub fn is_abandoned(&self, task: TaskNo) -> bool
         ensures { result ≡ ending.is_abandoned self.now task.0 }
     {
         let named = self.record(task).stage.named;
