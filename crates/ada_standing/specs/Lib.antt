@@ -1,0 +1,4 @@
+pub mod Renaming
+pub mod Names
+pub mod Holds
+pub mod StandsIn
