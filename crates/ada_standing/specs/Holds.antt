@@ -1,8 +1,7 @@
 -- What holds up a task (9.3 to 9.7): when a call, wait, delay, start or close of one journal is that of another.
-use Rattle.std.specs.Prelude.{◌≡◌, ℕ, Bool, true, false, ◌&&◌, Option, Some, None, List, [], ◌∷◌}
+use Rattle.std.specs.Prelude.{◌≡◌, ℕ, Bool, false, ◌&&◌, ◌||◌, Some, List, is_some}
 use Rattle.std.specs.List.{list_any}
 use Rattle.ada_events.specs.declared.event.Event.{Event}
-use Rattle.ada_events.specs.declared.event.Event.TheVariants.{Called, Waiting, Paused, Started, Closed}
 use Rattle.ada_events.specs.declared.names.TaskNo.{TaskNo}
 use Rattle.ada_events.specs.Phases.{lists_task, has_failed}
 use Rattle.ada_events.specs.Calls.{is_met}
@@ -42,9 +41,6 @@ pub data IsSameHold (old new : List Event) (names : Renaming) (p q : ℕ) (d e :
 
 -- the events are of one kind: both calls, waits, delays, starts or closes
 abbrev pub is_same_kind : Event → Event → Bool
-is_same_kind (Called _ _ _ _ _) (Called _ _ _ _ _) = true
-is_same_kind (Waiting _ _ _ _) (Waiting _ _ _ _) = true
-is_same_kind (Paused _ _) (Paused _ _) = true
-is_same_kind (Started _ _) (Started _ _) = true
-is_same_kind (Closed _ _) (Closed _ _) = true
-is_same_kind _ _ = false
+is_same_kind d e =
+    is_some (call_in d) && is_some (call_in e) || is_some (wait_in d) && is_some (wait_in e) || is_some (delay_in d) && is_some (delay_in e)
+    || is_some (start_in d) && is_some (start_in e) || is_some (closing_in d) && is_some (closing_in e)

@@ -1,11 +1,13 @@
 //! Which tasks and positions of a second journal stand for those of a first one.
 
-ghost use Rattle.std.specs.Prelude.{◌≡◌, IfSome, true, Some};
+ghost use Rattle.std.specs.Prelude.{◌≡◌, ◌≤◌, IfSome, true, Some, length};
 ghost use Rattle.std.specs.Option.{option_map};
 ghost use Rattle.ada_events.specs.declared.names.TaskNo.{TaskNo as Number};
+ghost use Rattle.ada_events.specs.declared.limits.TheConstants.{MOST_TASKS};
 ghost use Rattle.ada_standing.specs.Names.{named, placed, rises_from};
 
 use ada_events::TaskNo;
+use ada_events::limits::MOST_TASKS;
 use std::marker::Model;
 
 /// A position of the first journal, and the position of the second one that stands for it.
@@ -24,14 +26,16 @@ pub struct Renaming {
 }
 
 impl Model for Renaming {
-    ghost use Rattle.std.specs.Prelude.{◌≡◌, true};
+    ghost use Rattle.std.specs.Prelude.{◌≡◌, ◌≤◌, true, length};
+    ghost use Rattle.ada_events.specs.declared.limits.TheConstants.{MOST_TASKS};
     ghost use Rattle.ada_standing.specs.Names.{Names, rises_from};
 
     ghost Value = { Names };
 
     ghost view = { λ n. record { tasks = n.tasks.items; places = n.places.items } };
 
-    ghost invariant = { λ n. rises_from 0 n.places.items ≡ true };
+    ghost invariant = { λ n. (length n.tasks.items ≤ MOST_TASKS)
+        × (rises_from 0 n.places.items ≡ true) };
 }
 
 // Whether the old positions rise.
@@ -50,16 +54,33 @@ fn rise(places: &[Place]) -> bool
 }
 
 impl Renaming {
-    /// The names by these tasks, by number, and these places; none unless the old positions of the places rise.
+    /// The names by these tasks, by number, and these places; none unless there are at most 256 tasks, and the old
+    /// positions of the places rise.
     pub fn new(tasks: Vec<Option<TaskNo>>, places: Vec<Place>) -> Option<Self>
         ensures { IfSome result (λ names.
             names ≡ record { tasks = tasks.items; places = places.items }) }
     {
-        if rise(&places) {
+        if tasks.len() <= MOST_TASKS && rise(&places) {
             Some(Renaming { tasks, places })
         } else {
             None
         }
+    }
+
+    /// How many tasks of the first journal there are names for, at most 256: those with the least numbers.
+    pub fn tasks(&self) -> u16
+        ensures value { result ≡ length self.now.tasks }
+        ensures fits { result ≤ MOST_TASKS }
+    {
+        self.tasks.len() as u16
+    }
+
+    /// The places, whose old positions rise.
+    pub fn places(&self) -> &[Place]
+        ensures places { result.now ≡ self.now.places }
+        ensures rise { rises_from 0 self.now.places ≡ true }
+    {
+        &self.places
     }
 
     /// The task that stands for a task of the first journal.

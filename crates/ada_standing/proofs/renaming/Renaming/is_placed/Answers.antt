@@ -19,5 +19,5 @@ returns-in-Ok c = λ same.
         ap (λ (l : List Place). get_or l c.in-Ok.at here) c.deref.ensures.value ∙ sym c.index.ensures in
     let old : here.old ≡ c.args.old = ap (λ (p : Place). p.old) (sym read) ∙ ranked _ c.args.old _ (sym (by_key here)) in
     let at_here : placed places here.old ≡ Some here.new =
-        subst (λ (p : Place). placed places p.old ≡ Some p.new) (sym c.index.ensures) (placed_at places 0 c.in-Ok.at here c.self.invariant within) in
+        subst (λ (p : Place). placed places p.old ≡ Some p.new) (sym c.index.ensures) (placed_at places 0 c.in-Ok.at here c.self.invariant.1 within) in
     rw (← c.self.view_is, ← old, ← eqb-true here.new c.args.new same) at_here

@@ -1,0 +1,6 @@
+mod Equal
+mod Nesting
+mod Holding
+mod Suspended
+mod StandingIn
+mod Positions

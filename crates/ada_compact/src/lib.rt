@@ -1,0 +1,11 @@
+//! A shorter journal in place of a longer one: the check that it stands in for it.
+//!
+//! Section numbers are those of the Ada 83 manual, ANSI/MIL-STD-1815A.
+#![tactic(auto)]
+
+pub mod comparison;
+pub mod holds;
+pub mod kinds;
+pub mod nests;
+pub mod standing;
+pub mod tasks;
