@@ -1,1 +1,6 @@
 mod Placing
+mod Sameness
+mod Deciding
+mod Passing
+mod HeldAlike
+mod Decided
