@@ -4,3 +4,5 @@ mod Deciding
 mod Passing
 mod HeldAlike
 mod Decided
+mod Unmatched
+mod worked

@@ -1,0 +1,4 @@
+-- Worked pairs of journals: short ones that stand in for longer ones, and wrong ones that don't, all computed.
+mod Turns
+mod Server
+mod Closing
