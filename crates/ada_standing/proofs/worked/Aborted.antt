@@ -1,5 +1,5 @@
 -- Worked pairs. A task completed and was aborted later; its dependent is in a rendezvous, so neither is gone.
-use Rattle.std.specs.Prelude.{true, false, Some, None, List, [], ◌∷◌, pos, refl}
+use Rattle.std.specs.Prelude.{true, Some, None, List, [], ◌∷◌, pos, refl}
 use Rattle.ada_events.specs.declared.request.Request.TheVariants.{Create, Activate, Call, Wait, Complete, Abort}
 use Rattle.ada_events.specs.declared.request.Tail.TheVariants.{Nothing}
 use Rattle.ada_events.specs.declared.event.Event.TheVariants.{Created, Started, Called, Waiting, Completed, Aborted, Halted, Met, Activated, Gone}

@@ -1,6 +1,5 @@
 -- Worked pairs. A dependent that is gone held up the end of a block, until a call came that holds it up now.
 use Rattle.std.specs.Prelude.{◌≡◌, Bool, true, false, not, ◌&&◌, ◌==◌, Some, None, List, [], ◌∷◌, length, pos, refl}
-use Rattle.ada_events.specs.declared.event.Event.{Event}
 use Rattle.ada_events.specs.declared.names.Family.{Family}
 use Rattle.ada_events.specs.declared.request.Request.TheVariants.{Open, Create, Activate, Call, Wait, Close, Complete}
 use Rattle.ada_events.specs.declared.request.Tail.TheVariants.{Terminate}

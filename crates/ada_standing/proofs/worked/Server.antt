@@ -1,6 +1,5 @@
 -- Worked pairs. A server whose client is gone: all that is left is the main program and the server that waits.
 use Rattle.std.specs.Prelude.{true, false, Some, None, List, [], ◌∷◌, pos, refl}
-use Rattle.ada_events.specs.declared.event.Event.{Event}
 use Rattle.ada_events.specs.declared.request.Request.TheVariants.{Create, Activate, Call, Wait, End, Complete}
 use Rattle.ada_events.specs.declared.request.Tail.TheVariants.{Nothing}
 use Rattle.ada_events.specs.declared.event.Event.TheVariants.{Created, Started, Called, Waiting, Ended, Completed, Met, Activated, Gone}

@@ -4,10 +4,10 @@ use Rattle.ada_events.specs.declared.request.Request.TheVariants.{Create, Activa
 use Rattle.ada_events.specs.declared.event.Event.TheVariants.{Created, Started, Completed, Activated, Gone}
 use Rattle.ada_standing.specs.Renaming.{Renaming}
 use Rattle.ada_standing.specs.Names.{Names, renaming_of}
-use Rattle.ada_standing.specs.Holds.{IsSameHold}
 use Rattle.ada_standing.specs.StandsIn.{StandsIn}
 use Rattle.ada_standing.proofs.Deciding.{stands}
 use Rattle.ada_standing.proofs.Decided.{stands_in}
+use Rattle.ada_standing.proofs.Unmatched.{failure_forgotten}
 use Rattle.ada_standing.proofs.worked.Turns.{Turn, accepted, after, IsPlayed, everything, asks_end, ended, main, task, body, place}
 
 -- a task comes and goes; of two more, activated together, the first fails, and the second is still in its activation
@@ -84,3 +84,10 @@ wrong_names = record {
 wrong_is_told : stands (after [] old_turns) (after [] wrong_turns) wrong_names ≡ false
 unfolding everything
 wrong_is_told = refl
+
+-- and other names don't help: no task failed there
+wrong_stands_in_never : (names : Renaming) → StandsIn (after [] old_turns) (after [] wrong_turns) names → ⊥
+unfolding everything
+wrong_stands_in_never names stands =
+    failure_forgotten (after [] old_turns) (after [] wrong_turns) names 0 0 9 main (task 2 ∷ task 3 ∷ []) refl refl refl refl refl (λ t. refl)
+    stands.tasks.main stands
