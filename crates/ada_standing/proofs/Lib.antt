@@ -1,1 +1,8 @@
 mod Placing
+mod Sameness
+mod Deciding
+mod Passing
+mod HeldAlike
+mod Decided
+mod Unmatched
+mod worked

@@ -1,0 +1,8 @@
+-- Worked pairs of journals: short ones that stand in for longer ones, and wrong ones that don't, all computed.
+mod Turns
+mod Server
+mod Arrival
+mod Queued
+mod Closing
+mod Aborted
+mod Starting
