@@ -2,7 +2,7 @@
 use Rattle.std.proofs.Common.{◌≡◌, ℕ, zero, suc, ◌<◌, ◌≤◌, ◌+◌, Bool, true, false, ◌&&◌, ◌||◌, Option, Some, None, List, ◌⊎◌, ◌≢◌, [], ◌∷◌, length, get_or, refl, sym, ◌∙◌, ap, subst, arith, inl, inr}
 use Rattle.std.specs.Prelude.{if◌then◌else◌, nat_le, is_some}
 use Rattle.std.specs.List.{All}
-use Rattle.std.proofs.lemmas.Bool.{and_parts, cases_eq, cases_lt, leb-true, ne_eqb, eq-eqb, true≢false}
+use Rattle.std.proofs.lemmas.Bool.{and_parts, cases_eq, cases_lt, leb-true, ne_eqb, eq-eqb, cases_Bool}
 use Rattle.std.proofs.lemmas.Option.{none-some, same_Some}
 use Rattle.ada_standing.specs.declared.renaming.Place.{Place}
 use Rattle.ada_standing.specs.Names.{placed, rises_from}
@@ -68,22 +68,18 @@ module _ (test : ℕ → Bool) where
   least_among : (places : List Place) (low q b : ℕ) → rises_among test low places ≡ true → placed places q ≡ Some b → test q ≡ true → low ≤ b
   unfolding placed
   least_among [] low q b rises found passes = absurd (none-some b found)
-  least_among (place ∷ rest) low q b rises found passes = by_test (test place.old) refl
-    where
-      by_test : (t : Bool) → test place.old ≡ t → low ≤ b
-      by_test true here =
-          let both = among_here place rest low rises here in
-          elim (placed_cases place rest q b found) [
-            | inl is ↦ omega (arith, both.0, is.1)
-            | inr further ↦
-                let below : suc place.new ≤ b = least_among rest (suc place.new) q b both.1 further.1 passes in
-                omega (arith, both.0, below)
-          ]
-      by_test false here =
-          elim (placed_cases place rest q b found) [
-            | inl is ↦ absurd (true≢false (sym passes ∙ ap test (sym is.0) ∙ here))
-            | inr further ↦ least_among rest low q b (among_past place rest low rises here) further.1 passes
-          ]
+  least_among (place ∷ rest) low q b rises found passes =
+      elim (placed_cases place rest q b found) [
+        | inl is ↦ omega (arith, (among_here place rest low rises (ap test is.0 ∙ passes)).0, is.1)
+        | inr further ↦
+            elim (cases_Bool (test place.old)) [
+              | inl here ↦
+                  let both = among_here place rest low rises here in
+                  let below : suc place.new ≤ b = least_among rest (suc place.new) q b both.1 further.1 passes in
+                  omega (arith, both.0, below)
+              | inr past ↦ least_among rest low q b (among_past place rest low rises past) further.1 passes
+            ]
+      ]
 
   -- of two places that pass, the later has the later new position
   pub order_among : (places : List Place) (low first p q a b : ℕ) → rises_from first places ≡ true → rises_among test low places ≡ true
