@@ -1,8 +1,8 @@
 -- What is equal by the tests of the types of which lists are made is the same.
-use Rattle.std.proofs.Common.{◌≡◌, ℕ, ℤ, eqb, Bool, true, false, ◌&&◌, List, [], ◌∷◌, refl, ◌∙◌, sym}
+use Rattle.std.proofs.Common.{◌≡◌, ℕ, ℤ, eqb, Bool, true, false, ◌&&◌, List, [], ◌∷◌, refl}
 use lib.Pointwise.{pointwise}
 use mathlib.Core.Bool.{beq}
-use Rattle.std.specs.Prelude.{Option, Some, None, ◌==◌}
+use Rattle.std.specs.Prelude.{Option, Some, None}
 use Rattle.std.specs.Option.{option_eq}
 use Rattle.std.specs.Ordering.{int_eq}
 use Rattle.std.specs.Cmp.{signed_Decides}

@@ -1,5 +1,5 @@
 -- Two calls, waits, delays, starts or closes that hold tasks up alike.
-use Rattle.std.proofs.Common.{◌≡◌, ℕ, ℤ, Bool, true, false, Option, Some, List, refl, ap}
+use Rattle.std.proofs.Common.{◌≡◌, ℕ, ℤ, false, Option, Some, List, ap}
 use Rattle.std.specs.List.{list_any}
 use Rattle.ada_events.specs.declared.event.Event.{Event}
 use Rattle.ada_events.specs.declared.event.Event.TheVariants.{Called, Waiting, Paused, Started, Closed}

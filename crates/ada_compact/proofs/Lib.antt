@@ -4,3 +4,4 @@ mod Holding
 mod Suspended
 mod StandingIn
 mod Positions
+mod Placed

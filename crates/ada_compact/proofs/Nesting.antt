@@ -1,5 +1,5 @@
 -- Nests are compared member by member.
-use Rattle.std.proofs.Common.{◌≡◌, ℕ, zero, suc, ◌<◌, ◌+◌, Bool, true, ◌||◌, Some, List, [], ◌∷◌, length, drop, get_or, map, refl, arith, inl, inr, add-one}
+use Rattle.std.proofs.Common.{◌≡◌, ℕ, zero, suc, ◌<◌, ◌+◌, List, [], ◌∷◌, length, drop, get_or, refl, arith, inl, inr, add-one}
 use Rattle.std.specs.List.{list_any}
 use Rattle.std.proofs.lemmas.Bool.{or_cases}
 use Rattle.ada_events.specs.declared.event.Event.{Event}
@@ -7,8 +7,8 @@ use Rattle.ada_events.specs.declared.names.Member.{Member}
 use Rattle.ada_events.specs.Nests.{nest}
 use Rattle.ada_tables.specs.declared.layers.Layer.{Layer}
 use Rattle.ada_tables.specs.Layers.{member_of, members}
-use Rattle.ada_standing.specs.Renaming.{Renaming, renamed_member}
-use Rattle.ada_standing.specs.StandsIn.{is_block, IsSameBlock, IsSameNest}
+use Rattle.ada_standing.specs.Renaming.{Renaming}
+use Rattle.ada_standing.specs.StandsIn.{is_block, IsSameNest}
 use Rattle.ada_compact.specs.internal.Nesting.{IsSameMember, AreSameMembers}
 
 members_more : (layers : List Layer) (i : ℕ) (d : Layer) → i < length layers → members (drop i layers) ≡ member_of (get_or layers i d) ∷ members (drop (suc i) layers)

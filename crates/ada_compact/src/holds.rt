@@ -160,7 +160,8 @@ impl Comparison<'_> {
                 self.is_placed(*block, *other)
             }
             (Event::Started { tasks, .. }, Event::Started { tasks: others, .. }) => {
-                has_failure(&self.old, tasks.as_slice()) == has_failure(&self.new, others.as_slice())
+                has_failure(&self.old, tasks.as_slice())
+                    == has_failure(&self.new, others.as_slice())
                     && self.are_listed_alike(tasks.as_slice(), others.as_slice())
             }
             _ => false,

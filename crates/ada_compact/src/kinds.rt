@@ -2,6 +2,8 @@
 
 ghost use Rattle.std.specs.Prelude.{◌≡◌, IfSome, true};
 ghost use Rattle.std.specs.List.{All};
+ghost use Rattle.ada_standing.specs.Names.{renaming_of};
+ghost use Rattle.ada_standing.specs.StandsIn.{KeepsPositions};
 ghost use Rattle.ada_standing.specs.declared.renaming.Place.{Place as PlaceValue};
 ghost use Rattle.ada_compact.specs.declared.kinds.Kind.{Kind as KindValue};
 ghost use Rattle.ada_compact.specs.internal.Kinds.{AreAlikePlaces, IsAlikePlace, has_kind, is_kind_at, rises_among};
@@ -114,11 +116,10 @@ impl Comparison<'_> {
     }
 
     // Whether the events at each place are of the same kind.
-    fn are_alike_places(&self) -> bool
-        ensures { result ≡ true
-            → AreAlikePlaces self.now.old self.now.new self.now.names.now.places }
+    fn are_alike_places(&self, places: &[Place]) -> bool
+        ensures { result ≡ true → AreAlikePlaces self.now.old self.now.new places.now }
     {
-        for place in self.names.places() {
+        for place in places {
             if !self.is_alike_place(*place) {
                 return false;
             }
@@ -128,12 +129,11 @@ impl Comparison<'_> {
 
     // Whether among the places of a kind the new positions rise.
     #[tactic(auto, unfolding(crate::specs::internal::Kinds::rises_among))]
-    fn rises(&self, kind: Kind) -> bool
-        ensures { result
-            ≡ rises_among (is_kind_at self.now.old kind) 0 self.now.names.now.places }
+    fn rises(&self, kind: Kind, places: &[Place]) -> bool
+        ensures { result ≡ rises_among (is_kind_at self.now.old kind) 0 places.now }
     {
         let mut low = 0;
-        for place in self.names.places() {
+        for place in places {
             if kind.is_at(&self.old, place.old) {
                 if u64::from(place.new) < low {
                     return false;
@@ -142,5 +142,40 @@ impl Comparison<'_> {
             }
         }
         true
+    }
+
+    // Whether among the places of each kind the new positions rise.
+    fn rise(&self, places: &[Place]) -> bool
+        ensures { result ≡ true → (kind : KindValue)
+            → rises_among (is_kind_at self.now.old kind) 0 places.now ≡ true }
+    {
+        if !self.rises(Kind::Call, places) {
+            return false;
+        }
+        if !self.rises(Kind::Wait, places) {
+            return false;
+        }
+        if !self.rises(Kind::Delay, places) {
+            return false;
+        }
+        if !self.rises(Kind::Start, places) {
+            return false;
+        }
+        if !self.rises(Kind::Close, places) {
+            return false;
+        }
+        self.rises(Kind::Block, places)
+    }
+
+    /// Whether positions are kept apart and in their order.
+    pub(crate) fn keeps_positions(&self) -> bool
+        ensures { result ≡ true → KeepsPositions self.now.old self.now.new
+            (renaming_of self.now.names.now) }
+    {
+        let places = self.names.places();
+        if !self.are_alike_places(places) {
+            return false;
+        }
+        self.rise(places)
     }
 }

@@ -44,7 +44,8 @@ impl Comparison<'_> {
         ensures { result ≡ true
             → IsSameBlock self.now.old self.now.new (renaming_of self.now.names.now) old new }
     {
-        let complete = self.old.is_complete(Master::Block(old)) == self.new.is_complete(Master::Block(new));
+        let complete = self.old.is_complete(Master::Block(old))
+            == self.new.is_complete(Master::Block(new));
         complete && self.is_same_parent(opened_in(&self.old, old), opened_in(&self.new, new))
     }
 

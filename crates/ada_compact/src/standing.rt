@@ -1,10 +1,10 @@
 //! Whether a new journal stands in for an old one.
 
 ghost use Rattle.std.specs.Prelude.{◌≡◌, ◌<◌, ℕ, true, Some, length};
-ghost use Rattle.ada_events.specs.Tasks.{task_count};
+ghost use Rattle.ada_events.specs.Tasks.{moment, task_count};
 ghost use Rattle.ada_standing.specs.Names.{renaming_of};
 ghost use Rattle.ada_standing.specs.StandsIn.{StandsIn, is_live};
-ghost use Rattle.ada_compact.specs.internal.Keeping.{IsKeptRight, IsStandIn, RisesBelow};
+ghost use Rattle.ada_compact.specs.internal.Keeping.{AreTasksRight, IsKeptRight, IsStandIn, RisesBelow};
 
 use crate::comparison::Comparison;
 use crate::kinds::Kind;
@@ -119,5 +119,47 @@ impl Comparison<'_> {
             }
         }
         true
+    }
+
+    // Whether the moment is the same.
+    fn is_same_moment(&self) -> bool
+        ensures { result ≡ true → moment self.now.new ≡ moment self.now.old }
+    {
+        self.old.moment() == self.new.moment()
+    }
+
+    // Whether tasks are kept, each right, and in their order.
+    fn keeps_tasks(&self) -> bool
+        requires { length self.now.names.now.tasks ≡ task_count self.now.old }
+        ensures { result ≡ true → AreTasksRight self.now.old self.now.new
+            (renaming_of self.now.names.now) }
+    {
+        if !self.is_named(TaskNo(0), TaskNo(0)) {
+            return false;
+        }
+        if !self.are_kept_right() {
+            return false;
+        }
+        if !self.are_accounted_for() {
+            return false;
+        }
+        self.tasks_rise()
+    }
+
+    /// Whether the new journal stands in for the old one.
+    pub(crate) fn stands_in(&self) -> bool
+        ensures { result ≡ true → StandsIn self.now.old self.now.new
+            (renaming_of self.now.names.now) }
+    {
+        if self.names.tasks() != queries::tasks(&self.old) {
+            return false;
+        }
+        if !self.is_same_moment() {
+            return false;
+        }
+        if !self.keeps_positions() {
+            return false;
+        }
+        self.keeps_tasks()
     }
 }

@@ -15,7 +15,6 @@ use crate::comparison::Comparison;
 use ada_events::{Event, Families, FamilyList, TaskNo};
 use ada_view::{View, queries};
 
-
 // Who may still activate a task (9.3).
 #[tactic(auto, unfolding(ada_standing::specs::StandsIn::activator_of, ada_events::specs::Says::creation_in))]
 fn activator(view: &View, task: TaskNo) -> Option<TaskNo>
@@ -63,7 +62,7 @@ impl Comparison<'_> {
     fn is_same_activator(&self, old: Option<TaskNo>, new: Option<TaskNo>) -> bool
         ensures { result ≡ true → option_map (λ (t : Number). t.0) new
             ≡ option_and_then (renaming_of self.now.names.now).task
-              (option_map (λ (t : Number). t.0) old) }
+            (option_map (λ (t : Number). t.0) old) }
     {
         match (old, new) {
             (Some(task), Some(stands)) => self.is_named(task, stands),
@@ -81,18 +80,22 @@ impl Comparison<'_> {
     {
         match (old, new) {
             (
-                Some(Event::Created {
-                    under,
-                    master,
-                    families,
-                    ..
-                }),
-                Some(Event::Created {
-                    under: frame,
-                    master: owner,
-                    families: entries,
-                    ..
-                }),
+                Some(
+                    Event::Created {
+                        under,
+                        master,
+                        families,
+                        ..
+                    },
+                ),
+                Some(
+                    Event::Created {
+                        under: frame,
+                        master: owner,
+                        families: entries,
+                        ..
+                    },
+                ),
             ) => {
                 are_same_families(families, entries)
                     && self.is_same_master(*master, *owner)
@@ -110,7 +113,10 @@ impl Comparison<'_> {
         ensures { result ≡ true → renamed_outcome (renaming_of self.now.names.now) (outcome_of self.now.old old.0)
             ≡ Some (outcome_of self.now.new new.0) }
     {
-        match (queries::outcome(&self.old, old), queries::outcome(&self.new, new)) {
+        match (
+            queries::outcome(&self.old, old),
+            queries::outcome(&self.new, new),
+        ) {
             (Some(outcome), Some(other)) => self.is_same_outcome(outcome, other),
             _ => false,
         }

@@ -153,7 +153,9 @@ keeps_positions-sound old new names passes =
     let held = and_parts _ _ blocks.0 in
     let first = and_parts _ _ held.0 in
     record {
-      within = λ p a is. leb-true a (length new) (all_placed-at names.places (λ p a. leb a (length new)) p a first.0 is);
+      within = λ p a is.
+          let both = and_parts _ _ (all_placed-at names.places (λ p a. leb p (length old) && leb a (length new)) p a first.0 is) in
+          (leb-true p (length old) both.0, leb-true a (length new) both.1);
       one = λ p q a is has. eqb-true p q
           (implied (eqb a a) (eqb p q)
           (all_placed-at names.places (λ q b. not (eqb a b) || eqb p q) q a

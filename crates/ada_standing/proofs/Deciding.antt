@@ -41,7 +41,7 @@ both_pass test _ _ = false
 -- among the positions that pass together, the order is kept; the test is computed only where it isn't
 abbrev pub keeps_order : Names → (ℕ → ℕ → Bool) → Bool
 keeps_order names test =
-    all_placed names (λ p a. all_placed names (λ q b. elim (ltb p q && not (ltb a b)) [ | true ↦ not (test p q) | false ↦ true ]))
+    all_placed names (λ p a. all_placed names (λ q b. elim (ltb p q && not (ltb a b)) [ true ↦ not (test p q) | false ↦ true ]))
 
 -- what holds tasks up
 
@@ -142,7 +142,7 @@ is_inhabited journal p = not (all_below (λ s. not (is_live journal s && list_an
 
 abbrev pub keeps_positions : List Event → List Event → Names → Bool
 keeps_positions old new names =
-    all_placed names (λ p a. leb a (length new))
+    all_placed names (λ p a. leb p (length old) && leb a (length new))
     && all_placed names (λ p a. all_placed names (λ q b. not (eqb a b) || eqb p q))
     && keeps_order names (hold_alike old)
     && keeps_order names (λ p q. is_inhabited old p && is_inhabited old q)

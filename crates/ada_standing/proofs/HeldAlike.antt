@@ -64,23 +64,23 @@ same_hold-sound old new names p q d e passes =
           let (c, b, is, has, same) = both_pass-true (same_call old new names p q) (call_in d) (call_in e) calls in
           IsSameHold.call c b is has (same_call-sound old new names p q c b same)
       | inr others ↦ elim (or_cases (both_pass same_wait (wait_in d) (wait_in e)) _ others) [
-            | inl waits ↦
-                let (w, v, is, has, same) = both_pass-true same_wait (wait_in d) (wait_in e) waits in
-                IsSameHold.wait w v is has (same_wait-sound w v same)
-            | inr rest ↦ elim (or_cases (both_pass same_delay (delay_in d) (delay_in e)) _ rest) [
-                  | inl delays ↦
-                      let (a, b, is, has, same) = both_pass-true same_delay (delay_in d) (delay_in e) delays in
-                      IsSameHold.pause a b is has (same_index-true b.due a.due same)
-                  | inr last ↦ elim (or_cases (both_pass (same_start old new names) (start_in d) (start_in e)) _ last) [
-                        | inl starts ↦
-                            let (s, r, is, has, same) = both_pass-true (same_start old new names) (start_in d) (start_in e) starts in
-                            IsSameHold.start s r is has (same_start-sound old new names s r same)
-                        | inr closes ↦
-                            let (a, b, is, has, same) = both_pass-true (same_closing names) (closing_in d) (closing_in e) closes in
-                            IsSameHold.close a b is has (same_option-true eqb (placed names.places a.block) (Some b.block) eqb-true same)
-                      ]
-                ]
+        | inl waits ↦
+            let (w, v, is, has, same) = both_pass-true same_wait (wait_in d) (wait_in e) waits in
+            IsSameHold.wait w v is has (same_wait-sound w v same)
+        | inr rest ↦ elim (or_cases (both_pass same_delay (delay_in d) (delay_in e)) _ rest) [
+          | inl delays ↦
+              let (a, b, is, has, same) = both_pass-true same_delay (delay_in d) (delay_in e) delays in
+              IsSameHold.pause a b is has (same_index-true b.due a.due same)
+          | inr last ↦ elim (or_cases (both_pass (same_start old new names) (start_in d) (start_in e)) _ last) [
+            | inl starts ↦
+                let (s, r, is, has, same) = both_pass-true (same_start old new names) (start_in d) (start_in e) starts in
+                IsSameHold.start s r is has (same_start-sound old new names s r same)
+            | inr closes ↦
+                let (a, b, is, has, same) = both_pass-true (same_closing names) (closing_in d) (closing_in e) closes in
+                IsSameHold.close a b is has (same_option-true eqb (placed names.places a.block) (Some b.block) eqb-true same)
           ]
+        ]
+      ]
     ]
 
 -- the event that holds a task up passes that test
@@ -93,7 +93,7 @@ pub held_alike-sound : (old new : List Event) (names : Names) (u v p : ℕ) (hel
     → held_alike old new names u v p held.event ≡ true → IsHeldAlike old new (renaming_of names) v p held.event
 held_alike-sound old new names u v p held active passes =
     let there = implied (holds old u p held.event) (option_map_or (held_there old new names v p held.event) (placed names.places p) false)
-        passes (holds-from old u p held) in
+    passes (holds-from old u p held) in
     let (at, renamed, found) = option_map_or-true (held_there old new names v p held.event) (placed names.places p) there in
     let (event, stands, alike) = option_map_or-true (λ (e : Event). holds new v at e && same_hold old new names p at held.event e) (event_at new at) found in
     let both = and_parts (holds new v at event) (same_hold old new names p at held.event event) alike in

@@ -92,7 +92,7 @@ all_placed-at (place ∷ rest) test p a passes is =
     ]
 
 -- in the order of the old positions
-kept : (less order passes : Bool) → (elim (less && not order) [ | true ↦ not passes | false ↦ true ]) ≡ true → less ≡ true → passes ≡ true → order ≡ true
+kept : (less order passes : Bool) → (elim (less && not order) [ true ↦ not passes | false ↦ true ]) ≡ true → less ≡ true → passes ≡ true → order ≡ true
 kept less true passes keeps is test = refl
 kept false false passes keeps is test = absurd (false≢true is)
 kept true false true keeps is test = absurd (false≢true keeps)
@@ -102,6 +102,6 @@ pub keeps_order-at : (names : Names) (test : ℕ → ℕ → Bool) (p q a b : �
     → placed names.places p ≡ Some a → placed names.places q ≡ Some b → p < q → a < b
 keeps_order-at names test p q a b keeps passes first second less =
     let inner = all_placed-at names.places
-        (λ p a. all_placed names (λ q b. elim (ltb p q && not (ltb a b)) [ | true ↦ not (test p q) | false ↦ true ])) p a keeps first in
-    let at = all_placed-at names.places (λ q b. elim (ltb p q && not (ltb a b)) [ | true ↦ not (test p q) | false ↦ true ]) q b inner second in
+    (λ p a. all_placed names (λ q b. elim (ltb p q && not (ltb a b)) [ true ↦ not (test p q) | false ↦ true ])) p a keeps first in
+    let at = all_placed-at names.places (λ q b. elim (ltb p q && not (ltb a b)) [ true ↦ not (test p q) | false ↦ true ]) q b inner second in
     ltb-true a b (kept (ltb p q) (ltb a b) (test p q) at (lt-ltb p q less) passes)

@@ -1,6 +1,6 @@
 -- A place is found by its old position, since these rise.
-use Rattle.std.proofs.Common.{◌≡◌, ℕ, zero, suc, ◌<◌, ◌≤◌, Bool, true, ◌&&◌, Option, Some, List, [], ◌∷◌, length, get_or, refl, arith}
-use Rattle.std.specs.Prelude.{if◌then◌else◌, nat_le}
+use Rattle.std.proofs.Common.{◌≡◌, ℕ, zero, suc, ◌<◌, ◌≤◌, true, Some, List, [], ◌∷◌, length, get_or, refl, arith}
+use Rattle.std.specs.Prelude.{nat_le}
 use Rattle.std.proofs.lemmas.Bool.{and_parts, leb-true, ne_eqb, eq-eqb}
 use Rattle.ada_standing.specs.declared.renaming.Place.{Place}
 use Rattle.ada_standing.specs.Names.{placed, rises_from}

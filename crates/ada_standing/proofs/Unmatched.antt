@@ -26,7 +26,7 @@ unmatched old new names u test live passes none stands =
     let same = stands.same u v named in
     let below : v < task_count new = ltb-true v (task_count new) same.exists in
     let fails : test (families_of new v) (is_terminated new v) ≡ false =
-        not-true _ (all_below-holds (λ v. not (test (families_of new v) (is_terminated new v))) (task_count new) v none below) in
+    not-true _ (all_below-holds (λ v. not (test (families_of new v) (is_terminated new v))) (task_count new) v none below) in
     true≢false (sym passes ∙ rw (← same.families, ← same.terminated) fails)
 
 none_of : (test : ℕ → Bool) (tasks : List TaskNo) → ((t : ℕ) → test t ≡ false) → list_any (λ (t : TaskNo). test t.0) tasks ≡ false

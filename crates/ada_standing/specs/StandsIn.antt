@@ -1,5 +1,5 @@
 -- When a second journal may stand in for a first one: all that can still matter of the first is alike in the second.
-use Rattle.std.specs.Prelude.{◌≡◌, ℕ, ◌<◌, ◌≤◌, Bool, true, false, not, ◌==◌, ◌&&◌, Option, Some, None, List, [], ◌∷◌, length, map}
+use Rattle.std.specs.Prelude.{◌≡◌, ℕ, ◌<◌, ◌≤◌, Bool, true, false, not, ◌==◌, ◌&&◌, Option, Some, List, length, map}
 use Rattle.std.specs.Option.{option_map, option_and_then}
 use Rattle.std.specs.Bool.{then_some}
 use Rattle.std.specs.List.{list_any}
@@ -9,7 +9,6 @@ use Rattle.ada_events.specs.declared.names.Master.TheVariants.{Body, Block}
 use Rattle.ada_events.specs.declared.names.Member.{Member}
 use Rattle.ada_events.specs.declared.names.Member.TheVariants.{Block as BlockMember, Rendezvous}
 use Rattle.ada_events.specs.Says.{Creation}
-use Rattle.ada_events.specs.Search.{event_at}
 use Rattle.ada_events.specs.Tasks.{has_task, creation_of, families_of, moment}
 use Rattle.ada_events.specs.Phases.{has_start, is_started, is_elaborated, is_completed, is_terminated, has_ended, is_abnormal, is_suspended}
 use Rattle.ada_events.specs.Nests.{nest}
@@ -91,10 +90,11 @@ pub record KeepsTasks (old new : List Event) (names : Renaming) : Type 0 where
   pub rising : (s t u v : ℕ) → names.task s ≡ Some u → names.task t ≡ Some v → s < t → u < v
   pub others : (v : ℕ) → is_live new v ≡ true → (u : ℕ) × (names.task u ≡ Some v)
 
--- positions: each stands for one; the order is kept among the calls at which tasks are suspended, and so among
--- their waits, delays, starts and closes, and among the blocks in the nests of tasks that aren't terminated
+-- positions: each is one of its journal, and stands for one; the order is kept among the calls at which tasks are
+-- suspended, and so among their waits, delays, starts and closes, and among the blocks in the nests of tasks that
+-- aren't terminated
 pub record KeepsPositions (old new : List Event) (names : Renaming) : Type 0 where
-  pub within : (p a : ℕ) → names.position p ≡ Some a → a ≤ length new
+  pub within : (p a : ℕ) → names.position p ≡ Some a → (p ≤ length old) × (a ≤ length new)
   pub one : (p q a : ℕ) → names.position p ≡ Some a → names.position q ≡ Some a → p ≡ q
   pub holds : (s t p q a b : ℕ) (d : IsSuspendedAt old s p) (e : IsSuspendedAt old t q) → is_same_kind d.event e.event ≡ true
       → names.position p ≡ Some a → names.position q ≡ Some b → p < q → a < b

@@ -3,7 +3,7 @@ use Rattle.std.specs.Prelude.{◌≡◌, ℕ, ◌<◌, true, false, Some, List}
 use Rattle.ada_events.specs.declared.event.Event.{Event}
 use Rattle.ada_events.specs.Phases.{is_terminated, has_ended}
 use Rattle.ada_standing.specs.Renaming.{Renaming}
-use Rattle.ada_standing.specs.StandsIn.{is_live, IsSameTask, IsSameDependent, IsSameNest, IsSameActive}
+use Rattle.ada_standing.specs.StandsIn.{is_live, KeepsTasks, IsSameTask, IsSameDependent, IsSameNest, IsSameActive}
 
 -- the second task stands for the first in all that matters
 pub record IsStandIn (old new : List Event) (names : Renaming) (u v : ℕ) : Type 0 where
@@ -21,3 +21,8 @@ pub record IsKeptRight (old new : List Event) (names : Renaming) (u : ℕ) : Typ
 pub record RisesBelow (names : Renaming) (many low : ℕ) : Type 0 where
   pub below : (s u : ℕ) → s < many → names.task s ≡ Some u → u < low
   pub rising : (s t u v : ℕ) → s < t → t < many → names.task s ≡ Some u → names.task t ≡ Some v → u < v
+
+-- the tasks are kept, and each that may still be named is right
+pub record AreTasksRight (old new : List Event) (names : Renaming) : Type 0 where
+  pub keeps : KeepsTasks old new names
+  pub stands : (u v : ℕ) → names.task u ≡ Some v → IsStandIn old new names u v

@@ -5,5 +5,4 @@ use Rattle.ada_compact.specs.internal.Kinds.{IsAlikePlace}
 use Rattle.ada_compact.proofs.comparison.Comparison.are_alike_places.Given as goal
 
 abbrev pub invariant-loop-place : goal.invariant-loop-place
-invariant-loop-place l =
-    (k : ℕ) (d : Place) → k < l.place-index → IsAlikePlace l.self.old l.self.new (slice_index_or l.self.names.now.places k d)
+invariant-loop-place l = (k : ℕ) (d : Place) → k < l.place-index → IsAlikePlace l.self.old l.self.new (slice_index_or l.places k d)

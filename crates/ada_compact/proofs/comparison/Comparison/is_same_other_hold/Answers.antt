@@ -1,4 +1,4 @@
-use Rattle.std.proofs.Common.{rules, sym}
+use Rattle.std.proofs.Common.{rules}
 use Rattle.ada_compact.proofs.Holding.{same_pauses, same_closes, same_starts}
 use Rattle.ada_compact.proofs.comparison.Comparison.is_same_other_hold.Goals as goal
 

@@ -4,5 +4,4 @@ use Rattle.ada_compact.proofs.comparison.Comparison.rises.Given as goal
 
 abbrev pub invariant-loop-place : goal.invariant-loop-place
 invariant-loop-place l =
-    rises_among (is_kind_at l.self.old l.kind) l.low (drop l.place-index l.self.names.now.places)
-    ≡ rises_among (is_kind_at l.self.old l.kind) 0 l.self.names.now.places
+    rises_among (is_kind_at l.self.old l.kind) l.low (drop l.place-index l.places) ≡ rises_among (is_kind_at l.self.old l.kind) 0 l.places
