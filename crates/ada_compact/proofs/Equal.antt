@@ -28,7 +28,8 @@ pointwise_same {A} {E} sound (x ∷ xs) (y ∷ ys) same =
     let both = and_parts (E x y) (pointwise E xs ys) same in
     rw (sound x y both.0, pointwise_same sound xs ys both.1) refl
 
-entry_of : (a b : ℕ) (i j : ℤ) → a ≡ b → i ≡ j → (let x : Entry = record { family = a; index = i } in x) ≡ (let y : Entry = record { family = b; index = j } in y)
+entry_of : (a b : ℕ) (i j : ℤ) → a ≡ b → i ≡ j
+    → (let x : Entry = record { family = a; index = i } in x) ≡ (let y : Entry = record { family = b; index = j } in y)
 entry_of a b i j families indexes = rw (families, indexes) refl
 
 same_entry : (x y : Entry) → (eqb x.family y.family && int_eq x.index y.index) ≡ true → x ≡ y
@@ -36,7 +37,8 @@ same_entry x y same =
     let both = and_parts (eqb x.family y.family) (int_eq x.index y.index) same in
     entry_of x.family y.family x.index y.index (eqb-true x.family y.family both.0) ((signed_Decides x.index y.index).0 both.1)
 
-choice_of : (a b : Bool) (e f : Entry) → a ≡ b → e ≡ f → (let x : Choice = record { guard = a; entry = e } in x) ≡ (let y : Choice = record { guard = b; entry = f } in y)
+choice_of : (a b : Bool) (e f : Entry) → a ≡ b → e ≡ f
+    → (let x : Choice = record { guard = a; entry = e } in x) ≡ (let y : Choice = record { guard = b; entry = f } in y)
 choice_of a b e f guards entries = rw (guards, entries) refl
 
 same_guard : (a b : Bool) → beq a b ≡ true → a ≡ b

@@ -11,7 +11,8 @@ use Rattle.ada_standing.specs.Renaming.{Renaming}
 use Rattle.ada_standing.specs.StandsIn.{is_block, IsSameNest}
 use Rattle.ada_compact.specs.internal.Nesting.{IsSameMember, AreSameMembers}
 
-members_more : (layers : List Layer) (i : ℕ) (d : Layer) → i < length layers → members (drop i layers) ≡ member_of (get_or layers i d) ∷ members (drop (suc i) layers)
+members_more : (layers : List Layer) (i : ℕ) (d : Layer) → i < length layers
+    → members (drop i layers) ≡ member_of (get_or layers i d) ∷ members (drop (suc i) layers)
 members_more [] i d within = absurd (omega (arith, within))
 members_more (layer ∷ layers) zero d within = refl
 members_more (layer ∷ layers) (suc i) d within = members_more layers i d (omega (arith, within))

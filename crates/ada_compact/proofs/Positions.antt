@@ -101,7 +101,8 @@ module _ (test : ℕ → Bool) where
             elim (placed_cases place rest q b other) [
               | inl is ↦ absurd (omega (arith, before, is.0, later_old))
               | inr beyond ↦
-                  order_among rest (after (test place.old)) (suc place.old) p q a b (old_parts place rest first olds).1 (rest_rises (test place.old) refl) further.1 beyond.1 passes also before
+                  order_among rest (after (test place.old)) (suc place.old) p q a b (old_parts place rest first olds).1
+                  (rest_rises (test place.old) refl) further.1 beyond.1 passes also before
             ]
       ]
     where

@@ -30,7 +30,8 @@ fn opened_in(view: &View, block: u32) -> Option<Master>
 impl Comparison<'_> {
     // Whether the parents of two masters are alike.
     fn is_same_parent(&self, old: Option<Master>, new: Option<Master>) -> bool
-        ensures { result ≡ true → new ≡ option_and_then (renamed_master (renaming_of self.now.names.now)) old }
+        ensures { result ≡ true
+            → new ≡ option_and_then (renamed_master (renaming_of self.now.names.now)) old }
     {
         match (old, new) {
             (Some(master), Some(other)) => self.is_same_master(master, other),
@@ -52,8 +53,8 @@ impl Comparison<'_> {
     // Whether two members of nests are alike.
     #[tactic(auto, unfolding(ada_standing::specs::Renaming::renamed_member))]
     fn is_same_layer(&self, old: Layer, new: Layer) -> bool
-        ensures { result ≡ true → IsSameMember self.now.old self.now.new (renaming_of self.now.names.now)
-            (member_of old) (member_of new) }
+        ensures { result ≡ true → IsSameMember self.now.old self.now.new
+            (renaming_of self.now.names.now) (member_of old) (member_of new) }
     {
         match (old, new) {
             (Layer::Block { opening, .. }, Layer::Block { opening: other, .. }) => {
@@ -68,8 +69,8 @@ impl Comparison<'_> {
 
     // Whether two nests are alike.
     fn are_same_layers(&self, old: &[Layer], new: &[Layer]) -> bool
-        ensures { result ≡ true → AreSameMembers self.now.old self.now.new (renaming_of self.now.names.now)
-            (members old.now) (members new.now) }
+        ensures { result ≡ true → AreSameMembers self.now.old self.now.new
+            (renaming_of self.now.names.now) (members old.now) (members new.now) }
     {
         if old.len() != new.len() {
             return false;

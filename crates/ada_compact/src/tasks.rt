@@ -110,7 +110,8 @@ impl Comparison<'_> {
     fn has_same_outcome(&self, old: TaskNo, new: TaskNo) -> bool
         requires known { old.0 < task_count self.now.old }
         requires copied { new.0 < task_count self.now.new }
-        ensures { result ≡ true → renamed_outcome (renaming_of self.now.names.now) (outcome_of self.now.old old.0)
+        ensures { result ≡ true
+            → renamed_outcome (renaming_of self.now.names.now) (outcome_of self.now.old old.0)
             ≡ Some (outcome_of self.now.new new.0) }
     {
         match (
@@ -140,8 +141,8 @@ impl Comparison<'_> {
     /// Whether a task stands for another one that isn't terminated: it depends on the same, is completed or not, and
     /// named by a start or not.
     pub(crate) fn is_same_dependent(&self, old: TaskNo, new: TaskNo) -> bool
-        ensures { result ≡ true
-            → IsSameDependent self.now.old self.now.new (renaming_of self.now.names.now) old.0 new.0 }
+        ensures { result ≡ true → IsSameDependent self.now.old self.now.new
+            (renaming_of self.now.names.now) old.0 new.0 }
     {
         let stage = self.old.record(old).stage;
         let other = self.new.record(new).stage;
