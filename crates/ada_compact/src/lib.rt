@@ -4,8 +4,11 @@
 #![tactic(auto)]
 
 pub mod comparison;
+pub mod failure;
 pub mod holds;
 pub mod kinds;
 pub mod nests;
+pub mod posts;
+pub mod source;
 pub mod standing;
 pub mod tasks;
