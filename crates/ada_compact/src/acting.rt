@@ -1,6 +1,6 @@
 //! Idle tasks do something that has the outcome of what they did last.
 
-use crate::failure::Failure;
+use crate::failure::NotCompacted;
 use crate::helpers::SERVICE;
 use crate::walk::Walk;
 use ada_events::limits::MOST_FAMILIES;
@@ -25,7 +25,7 @@ fn pauses_up_to(open: u8) -> Pauses {
 
 impl Walk<'_> {
     // Accepts the helper's call, and ends the rendezvous. A call whose rendezvous isn't over was accepted with the nest.
-    fn serve_again(&mut self, task: TaskNo, by: TaskNo) -> Result<(), Failure> {
+    fn serve_again(&mut self, task: TaskNo, by: TaskNo) -> Result<(), NotCompacted> {
         let Some(call) = self.old.call_over(task) else {
             return Ok(());
         };
@@ -34,37 +34,37 @@ impl Walk<'_> {
     }
 
     // A conditional call: the server isn't waiting for it.
-    fn be_cancelled(&mut self, by: TaskNo) -> Result<(), Failure> {
+    fn be_cancelled(&mut self, by: TaskNo) -> Result<(), NotCompacted> {
         let server = self.server()?;
         self.new.call(by, server, SERVICE, Patience::Conditional)?;
         Ok(())
     }
 
-    fn fail_to_call(&mut self, by: TaskNo) -> Result<(), Failure> {
+    fn fail_to_call(&mut self, by: TaskNo) -> Result<(), NotCompacted> {
         let dead = self.dead()?;
         self.new.call(by, dead, SERVICE, Patience::Simple)?;
         Ok(())
     }
 
-    fn be_served(&mut self, by: TaskNo, raised: bool) -> Result<(), Failure> {
+    fn be_served(&mut self, by: TaskNo, raised: bool) -> Result<(), NotCompacted> {
         let server = self.server()?;
         self.new.call(by, server, SERVICE, Patience::Simple)?;
         self.new.accept(server, SERVICE, 0)?;
         self.new.end(server, raised)
     }
 
-    fn sleep(&mut self, by: TaskNo) -> Result<(), Failure> {
+    fn sleep(&mut self, by: TaskNo) -> Result<(), NotCompacted> {
         self.new.ask(Request::Delay { by, duration: 0 })?;
         Ok(())
     }
 
-    fn leave_block(&mut self, by: TaskNo) -> Result<(), Failure> {
+    fn leave_block(&mut self, by: TaskNo) -> Result<(), NotCompacted> {
         self.new.ask(Request::Open { by })?;
         self.new.ask(Request::Close { by })?;
         Ok(())
     }
 
-    fn activate_helper(&mut self, by: TaskNo, ok: bool) -> Result<(), Failure> {
+    fn activate_helper(&mut self, by: TaskNo, ok: bool) -> Result<(), NotCompacted> {
         let frame = self.new.frame(by)?;
         let helper = self.new.create(by, frame, Families::new())?;
         self.new.activate(by, helper)?;
@@ -76,7 +76,7 @@ impl Walk<'_> {
     }
 
     // Unless the latest thing that the task did in the new kernel was to activate a helper.
-    fn activate_well(&mut self, by: TaskNo) -> Result<(), Failure> {
+    fn activate_well(&mut self, by: TaskNo) -> Result<(), NotCompacted> {
         if self.new.kernel().outcome(by) == Some(Outcome::ActivationOk) {
             return Ok(());
         }
@@ -105,8 +105,8 @@ impl Walk<'_> {
     }
 
     // A wait with a closed choice, whose index is never checked, ends by its tail.
-    fn wait_in_vain(&mut self, task: TaskNo, by: TaskNo, tail: Tail) -> Result<(), Failure> {
-        let family = self.free_family(task).ok_or(Failure::Unnamed)?;
+    fn wait_in_vain(&mut self, task: TaskNo, by: TaskNo, tail: Tail) -> Result<(), NotCompacted> {
+        let family = self.free_family(task).ok_or(NotCompacted::Unnamed)?;
         let choices = Choices::from_slice(&[Choice {
             guard: false,
             entry: Entry { family, index: 0 },
@@ -120,7 +120,7 @@ impl Walk<'_> {
         Ok(())
     }
 
-    fn bring_about(&mut self, task: TaskNo, outcome: Outcome) -> Result<(), Failure> {
+    fn bring_about(&mut self, task: TaskNo, outcome: Outcome) -> Result<(), NotCompacted> {
         let by = self.names.copy(task)?;
         match outcome {
             Outcome::Accepted { .. } => self.serve_again(task, by),
@@ -142,7 +142,7 @@ impl Walk<'_> {
     }
 
     /// Brings about the outcome of the task, if it is idle, once.
-    pub(crate) fn act(&mut self, task: TaskNo) -> Result<(), Failure> {
+    pub(crate) fn act(&mut self, task: TaskNo) -> Result<(), NotCompacted> {
         let Some(outcome) = self.old.outcome(task) else {
             return Ok(());
         };
@@ -154,7 +154,7 @@ impl Walk<'_> {
     }
 
     /// Brings about the outcomes of all idle tasks.
-    pub(crate) fn act_all(&mut self) -> Result<(), Failure> {
+    pub(crate) fn act_all(&mut self) -> Result<(), NotCompacted> {
         for number in 0..self.old.tasks() {
             self.act(TaskNo(number))?;
         }

@@ -1,7 +1,7 @@
 //! The end of a walk: the moment, the abort, and whatever completes or waits to leave a block. Until then helpers held up
 //! what would else have terminated.
 
-use crate::failure::Failure;
+use crate::failure::NotCompacted;
 use crate::source::MAIN;
 use crate::suspending::push_task;
 use crate::walk::Walk;
@@ -17,7 +17,7 @@ struct Closing {
 
 impl Walk<'_> {
     // All live abnormal tasks: with each of them all live ones that depend on it are there already.
-    fn abnormal(&self) -> Result<Tasks, Failure> {
+    fn abnormal(&self) -> Result<Tasks, NotCompacted> {
         let mut tasks = Tasks::new();
         for number in 0..self.old.tasks() {
             let stage = self.old.record(TaskNo(number)).stage;
@@ -28,7 +28,7 @@ impl Walk<'_> {
         Ok(tasks)
     }
 
-    fn abort(&mut self) -> Result<(), Failure> {
+    fn abort(&mut self) -> Result<(), NotCompacted> {
         let mut tasks = self.abnormal()?;
         for activator in &self.activators {
             push_task(&mut tasks, *activator)?;
@@ -45,7 +45,7 @@ impl Walk<'_> {
     }
 
     // The ends of blocks where tasks are suspended, in the order of the old journal.
-    fn closings(&self, alloc: Global) -> Result<Vec<Closing>, Failure> {
+    fn closings(&self, alloc: Global) -> Result<Vec<Closing>, NotCompacted> {
         let mut closings = Vec::new(alloc);
         for number in 0..self.old.tasks() {
             let at = self.old.record(TaskNo(number)).suspension.at;
@@ -60,13 +60,13 @@ impl Walk<'_> {
         Ok(closings)
     }
 
-    fn close(&mut self, closing: Closing) -> Result<(), Failure> {
+    fn close(&mut self, closing: Closing) -> Result<(), NotCompacted> {
         let by = self.names.copy(closing.task)?;
         let place = self.new.ask(Request::Close { by })?;
         self.names.place(closing.at, place)
     }
 
-    fn close_all(&mut self, closings: &[Closing]) -> Result<(), Failure> {
+    fn close_all(&mut self, closings: &[Closing]) -> Result<(), NotCompacted> {
         for closing in closings {
             self.close(*closing)?;
         }
@@ -74,7 +74,7 @@ impl Walk<'_> {
     }
 
     // A task that was completed and then aborted is halted by the abort, and isn't to complete any more.
-    fn complete(&mut self, task: TaskNo) -> Result<(), Failure> {
+    fn complete(&mut self, task: TaskNo) -> Result<(), NotCompacted> {
         let copy = self.names.copy(task)?;
         if self.new.has_ended(copy) {
             return Ok(());
@@ -82,7 +82,7 @@ impl Walk<'_> {
         self.new.complete(copy)
     }
 
-    fn complete_all(&mut self) -> Result<(), Failure> {
+    fn complete_all(&mut self) -> Result<(), NotCompacted> {
         for number in 0..self.old.tasks() {
             if self.old.is_over(TaskNo(number)) {
                 self.complete(TaskNo(number))?;
@@ -92,7 +92,7 @@ impl Walk<'_> {
     }
 
     // The abort may have ended helpers as well.
-    fn complete_helpers(&mut self) -> Result<(), Failure> {
+    fn complete_helpers(&mut self) -> Result<(), NotCompacted> {
         for helper in &self.helpers {
             if !self.new.has_ended(*helper) {
                 self.new.complete(*helper)?;
@@ -101,7 +101,7 @@ impl Walk<'_> {
         Ok(())
     }
 
-    fn complete_server(&mut self) -> Result<(), Failure> {
+    fn complete_server(&mut self) -> Result<(), NotCompacted> {
         match self.server {
             Some(server) => self.new.complete(server),
             None => Ok(()),
@@ -109,7 +109,7 @@ impl Walk<'_> {
     }
 
     /// Asks for what comes last.
-    pub(crate) fn finish(&mut self, alloc: Global) -> Result<(), Failure> {
+    pub(crate) fn finish(&mut self, alloc: Global) -> Result<(), NotCompacted> {
         self.new.tick(self.old.moment())?;
         self.abort()?;
         let closings = self.closings(alloc)?;
@@ -119,14 +119,14 @@ impl Walk<'_> {
         self.complete_server()
     }
 
-    fn make_dead_of_main(&mut self, task: TaskNo) -> Result<(), Failure> {
+    fn make_dead_of_main(&mut self, task: TaskNo) -> Result<(), NotCompacted> {
         let copy = self.new.create_dead(MAIN, self.old.families(task))?;
         self.names.name(task, copy);
         Ok(())
     }
 
     /// Asks for all where main is terminated, so that no task is live.
-    pub(crate) fn finish_main(&mut self) -> Result<(), Failure> {
+    pub(crate) fn finish_main(&mut self) -> Result<(), NotCompacted> {
         for number in 1..self.old.tasks() {
             if self.is_kept_dead(TaskNo(number)) {
                 self.make_dead_of_main(TaskNo(number))?;

@@ -6,35 +6,38 @@ use thiserror::Error;
 
 /// Why no shorter journal was made. The old kernel is as it was.
 #[derive(Clone, Copy, Debug, PartialEq, Eq, Error)]
-pub enum Failure {
+pub enum NotCompacted {
     /// A growth was refused.
     #[error("out of memory")]
     OutOfMemory,
-    /// The new kernel refused a request: mostly there is no room for a helper or its entry.
-    #[error("refused: {0}")]
-    Refused(Refusal),
+    /// The new kernel refused a request, since there is no room for a helper or its entry.
+    #[error("no room for helpers: {0}")]
+    NoRoom(Refusal),
     /// What a request would have to name has no name in the new journal, or the names have no order.
     #[error("unnamed")]
     Unnamed,
+    /// The check found that the new journal doesn't stand in for the old one.
+    #[error("not alike")]
+    NotAlike,
 }
 
-impl From<Refusal> for Failure {
+impl From<Refusal> for NotCompacted {
     fn from(cause: Refusal) -> Self {
         match cause {
-            Refusal::OutOfMemory => Failure::OutOfMemory,
-            _ => Failure::Refused(cause),
+            Refusal::OutOfMemory => NotCompacted::OutOfMemory,
+            _ => NotCompacted::NoRoom(cause),
         }
     }
 }
 
-impl From<AllocError> for Failure {
+impl From<AllocError> for NotCompacted {
     fn from(_: AllocError) -> Self {
-        Failure::OutOfMemory
+        NotCompacted::OutOfMemory
     }
 }
 
-impl<T: Drop> From<AllocFailed<T>> for Failure {
+impl<T: Drop> From<AllocFailed<T>> for NotCompacted {
     fn from(_: AllocFailed<T>) -> Self {
-        Failure::OutOfMemory
+        NotCompacted::OutOfMemory
     }
 }

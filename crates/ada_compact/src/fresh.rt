@@ -1,6 +1,6 @@
 //! A new kernel, and requests to it in few words.
 
-use crate::failure::Failure;
+use crate::failure::NotCompacted;
 use ada_events::{
     Choice, Choices, Entry, Families, Master, Patience, Request, Tail, TaskNo, Tasks,
 };
@@ -30,7 +30,7 @@ fn choices_up_to(entry: Entry, open: u8) -> Choices {
 
 impl Fresh {
     /// A kernel with an empty journal.
-    pub(crate) fn new(alloc: Global) -> Result<Self, Failure> {
+    pub(crate) fn new(alloc: Global) -> Result<Self, NotCompacted> {
         let kernel = Kernel::new(alloc)?;
         Ok(Fresh { kernel })
     }
@@ -46,11 +46,11 @@ impl Fresh {
     }
 
     /// Asks, and answers the position of the request's event.
-    pub(crate) fn ask(&mut self, request: Request) -> Result<u32, Failure> {
+    pub(crate) fn ask(&mut self, request: Request) -> Result<u32, NotCompacted> {
         Ok(self.kernel.step(request)?)
     }
 
-    fn order(&mut self, request: Request) -> Result<(), Failure> {
+    fn order(&mut self, request: Request) -> Result<(), NotCompacted> {
         self.kernel.step(request)?;
         Ok(())
     }
@@ -61,12 +61,12 @@ impl Fresh {
     }
 
     /// The innermost block that a task is in, else its body.
-    pub(crate) fn frame(&self, task: TaskNo) -> Result<Master, Failure> {
+    pub(crate) fn frame(&self, task: TaskNo) -> Result<Master, NotCompacted> {
         let view = self.kernel.view();
         if task.0 < queries::tasks(&view) {
             Ok(view.frame(task))
         } else {
-            Err(Failure::Unnamed)
+            Err(NotCompacted::Unnamed)
         }
     }
 
@@ -76,7 +76,7 @@ impl Fresh {
         by: TaskNo,
         master: Master,
         families: Families,
-    ) -> Result<TaskNo, Failure> {
+    ) -> Result<TaskNo, NotCompacted> {
         let made = TaskNo(self.kernel.tasks());
         self.order(Request::Create {
             by,
@@ -87,13 +87,13 @@ impl Fresh {
     }
 
     /// Activates one task.
-    pub(crate) fn activate(&mut self, by: TaskNo, task: TaskNo) -> Result<(), Failure> {
+    pub(crate) fn activate(&mut self, by: TaskNo, task: TaskNo) -> Result<(), NotCompacted> {
         let tasks = Tasks::from_slice(&[task]);
         self.order(Request::Activate { by, tasks })
     }
 
     /// Ends a task's own activation.
-    pub(crate) fn elaborate(&mut self, by: TaskNo, ok: bool) -> Result<(), Failure> {
+    pub(crate) fn elaborate(&mut self, by: TaskNo, ok: bool) -> Result<(), NotCompacted> {
         self.order(Request::Elaborated { by, ok })
     }
 
@@ -103,7 +103,7 @@ impl Fresh {
         by: TaskNo,
         master: Master,
         families: Families,
-    ) -> Result<TaskNo, Failure> {
+    ) -> Result<TaskNo, NotCompacted> {
         let made = self.create(by, master, families)?;
         self.activate(by, made)?;
         self.elaborate(made, true)?;
@@ -115,7 +115,7 @@ impl Fresh {
         &mut self,
         by: TaskNo,
         families: Families,
-    ) -> Result<TaskNo, Failure> {
+    ) -> Result<TaskNo, NotCompacted> {
         let made = self.create(by, Master::Body(TaskNo(0)), families)?;
         self.abort(by, Tasks::from_slice(&[made]))?;
         Ok(made)
@@ -128,7 +128,7 @@ impl Fresh {
         callee: TaskNo,
         entry: Entry,
         patience: Patience,
-    ) -> Result<u32, Failure> {
+    ) -> Result<u32, NotCompacted> {
         self.ask(Request::Call {
             by,
             callee,
@@ -138,7 +138,7 @@ impl Fresh {
     }
 
     /// Accepts a call by the choice of this number, which is the only open one.
-    pub(crate) fn accept(&mut self, by: TaskNo, entry: Entry, choice: u8) -> Result<(), Failure> {
+    pub(crate) fn accept(&mut self, by: TaskNo, entry: Entry, choice: u8) -> Result<(), NotCompacted> {
         self.order(Request::Wait {
             by,
             choices: choices_up_to(entry, choice),
@@ -148,22 +148,22 @@ impl Fresh {
     }
 
     /// Ends a rendezvous.
-    pub(crate) fn end(&mut self, by: TaskNo, raised: bool) -> Result<(), Failure> {
+    pub(crate) fn end(&mut self, by: TaskNo, raised: bool) -> Result<(), NotCompacted> {
         self.order(Request::End { by, raised })
     }
 
     /// Completes a task.
-    pub(crate) fn complete(&mut self, by: TaskNo) -> Result<(), Failure> {
+    pub(crate) fn complete(&mut self, by: TaskNo) -> Result<(), NotCompacted> {
         self.order(Request::Complete { by })
     }
 
     /// Aborts tasks.
-    pub(crate) fn abort(&mut self, by: TaskNo, tasks: Tasks) -> Result<(), Failure> {
+    pub(crate) fn abort(&mut self, by: TaskNo, tasks: Tasks) -> Result<(), NotCompacted> {
         self.order(Request::Abort { by, tasks })
     }
 
     /// Moves the moment, unless it is 0.
-    pub(crate) fn tick(&mut self, now: i64) -> Result<(), Failure> {
+    pub(crate) fn tick(&mut self, now: i64) -> Result<(), NotCompacted> {
         if now == 0 {
             return Ok(());
         }

@@ -1,6 +1,6 @@
 //! Helpers, which do in a new kernel what tasks did that are gone.
 
-use crate::failure::Failure;
+use crate::failure::NotCompacted;
 use crate::source::MAIN;
 use crate::walk::Walk;
 use ada_events::{Entry, Families, Family, Master, Outcome, TaskNo};
@@ -41,7 +41,7 @@ impl Walk<'_> {
     }
 
     /// Makes the server, if it is needed.
-    pub(crate) fn make_server(&mut self) -> Result<(), Failure> {
+    pub(crate) fn make_server(&mut self) -> Result<(), NotCompacted> {
         if self.is_server_needed() {
             let server = self.new.bring_up(MAIN, Master::Body(MAIN), service())?;
             self.posts.fill(Master::Body(MAIN), server);
@@ -51,12 +51,12 @@ impl Walk<'_> {
     }
 
     /// The server.
-    pub(crate) fn server(&self) -> Result<TaskNo, Failure> {
-        self.server.ok_or(Failure::Unnamed)
+    pub(crate) fn server(&self) -> Result<TaskNo, NotCompacted> {
+        self.server.ok_or(NotCompacted::Unnamed)
     }
 
     /// The dead helper, made now if there is none.
-    pub(crate) fn dead(&mut self) -> Result<TaskNo, Failure> {
+    pub(crate) fn dead(&mut self) -> Result<TaskNo, NotCompacted> {
         if let Some(dead) = self.dead {
             return Ok(dead);
         }
@@ -67,13 +67,13 @@ impl Walk<'_> {
     }
 
     // A helper that runs, until it completes at the end.
-    fn help(&mut self, by: TaskNo, master: Master) -> Result<TaskNo, Failure> {
+    fn help(&mut self, by: TaskNo, master: Master) -> Result<TaskNo, NotCompacted> {
         let helper = self.new.bring_up(by, master, Families::new())?;
         self.helpers.push(helper)?;
         Ok(helper)
     }
 
-    fn make_caller(&mut self, task: TaskNo) -> Result<(), Failure> {
+    fn make_caller(&mut self, task: TaskNo) -> Result<(), NotCompacted> {
         if self.old.call_over(task).is_none() {
             return Ok(());
         }
@@ -85,7 +85,7 @@ impl Walk<'_> {
     }
 
     /// Makes a helper for each call that is over and stands in an outcome.
-    pub(crate) fn make_callers(&mut self) -> Result<(), Failure> {
+    pub(crate) fn make_callers(&mut self) -> Result<(), NotCompacted> {
         for number in 0..self.old.tasks() {
             self.make_caller(TaskNo(number))?;
         }
@@ -93,7 +93,7 @@ impl Walk<'_> {
     }
 
     /// The task has become the owner of the master: makes the helper under it, if one is needed.
-    pub(crate) fn mount(&mut self, task: TaskNo, master: Master) -> Result<(), Failure> {
+    pub(crate) fn mount(&mut self, task: TaskNo, master: Master) -> Result<(), NotCompacted> {
         if !self.posts.is_needed(master) {
             return Ok(());
         }

@@ -1,6 +1,6 @@
 //! What a shorter journal brings about at the places where the old one did.
 
-use crate::failure::Failure;
+use crate::failure::NotCompacted;
 use crate::source::{MAIN, Source};
 use ada_events::{Event, Member, TaskNo};
 use std::alloc::Global;
@@ -50,18 +50,18 @@ impl Items<'_> {
         &self.items
     }
 
-    fn add(&mut self, at: u32, item: Item) -> Result<(), Failure> {
+    fn add(&mut self, at: u32, item: Item) -> Result<(), NotCompacted> {
         self.items.push(Placed { at, item })?;
         Ok(())
     }
 
     /// The items of a terminated task that may still be named.
-    pub(crate) fn add_dead(&mut self, task: TaskNo) -> Result<(), Failure> {
+    pub(crate) fn add_dead(&mut self, task: TaskNo) -> Result<(), NotCompacted> {
         self.add(self.old.record(task).created, Item::MadeDead(task))
     }
 
     /// The items of a live task.
-    pub(crate) fn add_live(&mut self, task: TaskNo) -> Result<(), Failure> {
+    pub(crate) fn add_live(&mut self, task: TaskNo) -> Result<(), NotCompacted> {
         if task != MAIN {
             self.add(self.old.record(task).created, Item::Made(task))?;
         }
@@ -73,7 +73,7 @@ impl Items<'_> {
         }
     }
 
-    fn add_blocks(&mut self, task: TaskNo) -> Result<(), Failure> {
+    fn add_blocks(&mut self, task: TaskNo) -> Result<(), NotCompacted> {
         for place in 0..self.old.depth(task) {
             if let Some(Member::Block(opening)) = self.old.member(task, place) {
                 self.add(opening, Item::Opened { task, place })?;
@@ -84,7 +84,7 @@ impl Items<'_> {
 
     // Blocks are closed at the very end: while tasks of the past are missing in the shorter journal, all that are left
     // could quit.
-    fn add_suspension(&mut self, task: TaskNo) -> Result<(), Failure> {
+    fn add_suspension(&mut self, task: TaskNo) -> Result<(), NotCompacted> {
         let at = self.old.record(task).suspension.at;
         match self.old.event(at) {
             None | Some(Event::Closed { .. }) => Ok(()),

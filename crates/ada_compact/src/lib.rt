@@ -1,9 +1,11 @@
-//! A shorter journal in place of a longer one: the check that it stands in for it.
+//! A kernel with a shorter journal in place of another kernel: how it is made, and the check that its journal stands in
+//! for the other one's.
 //!
 //! Section numbers are those of the Ada 83 manual, ANSI/MIL-STD-1815A.
 #![tactic(auto)]
 
 pub mod acting;
+pub mod compacting;
 pub mod comparison;
 pub mod ending;
 pub mod entering;
@@ -23,5 +25,6 @@ pub mod suspending;
 pub mod tasks;
 pub mod walk;
 
-pub use failure::Failure;
-pub use walk::{Shortened, shorten};
+pub use compacting::{compact, stands_in};
+pub use failure::NotCompacted;
+pub use walk::Compacted;

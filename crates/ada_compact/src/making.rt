@@ -1,15 +1,15 @@
 //! Tasks are made again.
 
-use crate::failure::Failure;
+use crate::failure::NotCompacted;
 use crate::walk::Walk;
 use ada_events::{Families, Master, TaskNo};
 
 impl Walk<'_> {
     // Who makes a task again, under a master of the new kernel: its creator, or else the helper under its master; and if
     // it was left in its activation, a helper in whose stead that one makes it, and which is halted at the end.
-    fn maker(&mut self, task: TaskNo, creator: TaskNo, under: Master) -> Result<TaskNo, Failure> {
+    fn maker(&mut self, task: TaskNo, creator: TaskNo, under: Master) -> Result<TaskNo, NotCompacted> {
         let by = match self.old.orphaned(task) {
-            Some(master) => self.posts.helper(master).ok_or(Failure::Unnamed)?,
+            Some(master) => self.posts.helper(master).ok_or(NotCompacted::Unnamed)?,
             None => self.names.copy(creator)?,
         };
         if !self.old.is_left_in_activation(task) {
@@ -22,7 +22,7 @@ impl Walk<'_> {
 
     // Activates a task that its maker activated before, and that isn't in its activation now unless it was left there.
     // Whether it comes up early or late in the new journal makes no difference.
-    fn activate_again(&mut self, by: TaskNo, task: TaskNo, copy: TaskNo) -> Result<(), Failure> {
+    fn activate_again(&mut self, by: TaskNo, task: TaskNo, copy: TaskNo) -> Result<(), NotCompacted> {
         let is_unready = self.old.is_unready(task);
         if is_unready && !self.old.is_left_in_activation(task) {
             return Ok(());
@@ -35,8 +35,8 @@ impl Walk<'_> {
     }
 
     /// Makes a live task again.
-    pub(crate) fn make(&mut self, task: TaskNo) -> Result<(), Failure> {
-        let (creator, master) = self.old.making(task).ok_or(Failure::Unnamed)?;
+    pub(crate) fn make(&mut self, task: TaskNo) -> Result<(), NotCompacted> {
+        let (creator, master) = self.old.making(task).ok_or(NotCompacted::Unnamed)?;
         let under = self.names.master(master)?;
         let by = self.maker(task, creator, under)?;
         let copy = self.new.create(by, under, self.old.families(task))?;
@@ -48,7 +48,7 @@ impl Walk<'_> {
     }
 
     /// Makes a terminated task again, by its creator if that may still name it when it activates tasks.
-    pub(crate) fn make_dead(&mut self, task: TaskNo) -> Result<(), Failure> {
+    pub(crate) fn make_dead(&mut self, task: TaskNo) -> Result<(), NotCompacted> {
         let by = match self.old.making(task) {
             Some((creator, _)) if self.old.may_be_activated(task) => self.names.copy(creator)?,
             _ => self.server()?,

@@ -1,6 +1,6 @@
 //! What a new journal has for what the old one names.
 
-use crate::failure::Failure;
+use crate::failure::NotCompacted;
 use crate::source::MAIN;
 use ada_events::{Master, TaskNo};
 use ada_standing::{Place, Renaming};
@@ -17,7 +17,7 @@ pub(crate) struct Names {
 
 impl Names {
     /// Of so many tasks main alone has a name.
-    pub(crate) fn new(alloc: Global, tasks: u16) -> Result<Self, Failure> {
+    pub(crate) fn new(alloc: Global, tasks: u16) -> Result<Self, NotCompacted> {
         let mut copies = Vec::new(alloc);
         for number in 0..tasks {
             copies.push(if number == 0 { Some(MAIN) } else { None })?;
@@ -29,10 +29,10 @@ impl Names {
     }
 
     /// The task that stands for one of the old journal.
-    pub(crate) fn copy(&self, task: TaskNo) -> Result<TaskNo, Failure> {
+    pub(crate) fn copy(&self, task: TaskNo) -> Result<TaskNo, NotCompacted> {
         match self.copies.get(usize::from(task.0)) {
             Some(Some(copy)) => Ok(*copy),
-            _ => Err(Failure::Unnamed),
+            _ => Err(NotCompacted::Unnamed),
         }
     }
 
@@ -44,33 +44,33 @@ impl Names {
     }
 
     /// The new position stands for the old one.
-    pub(crate) fn place(&mut self, old: u32, new: u32) -> Result<(), Failure> {
+    pub(crate) fn place(&mut self, old: u32, new: u32) -> Result<(), NotCompacted> {
         self.places.push(Place { old, new })?;
         Ok(())
     }
 
     /// The master that stands for one of the old journal.
-    pub(crate) fn master(&self, master: Master) -> Result<Master, Failure> {
+    pub(crate) fn master(&self, master: Master) -> Result<Master, NotCompacted> {
         match master {
             Master::Body(task) => Ok(Master::Body(self.copy(task)?)),
             Master::Block(opening) => self.block(opening),
         }
     }
 
-    fn block(&self, opening: u32) -> Result<Master, Failure> {
+    fn block(&self, opening: u32) -> Result<Master, NotCompacted> {
         let Ok(at) = self.places.binary_search_by_key(&opening, |place| place.old) else {
-            return Err(Failure::Unnamed);
+            return Err(NotCompacted::Unnamed);
         };
         match self.places.get(at) {
             Some(place) => Ok(Master::Block(place.new)),
-            None => Err(Failure::Unnamed),
+            None => Err(NotCompacted::Unnamed),
         }
     }
 
     /// The names, if no position has two.
-    pub(crate) fn into_renaming(self) -> Result<Renaming, Failure> {
+    pub(crate) fn into_renaming(self) -> Result<Renaming, NotCompacted> {
         let Names { copies, mut places } = self;
         places.sort_unstable_by_key(|place| place.old);
-        Renaming::new(copies, places).ok_or(Failure::Unnamed)
+        Renaming::new(copies, places).ok_or(NotCompacted::Unnamed)
     }
 }

@@ -1,6 +1,6 @@
 //! The masters under which tasks were made by tasks that are gone.
 
-use crate::failure::Failure;
+use crate::failure::NotCompacted;
 use crate::source::Source;
 use ada_events::{Master, TaskNo};
 use std::alloc::Global;
@@ -29,7 +29,7 @@ pub(crate) struct Posts {
 
 impl Posts {
     /// The masters where helpers are needed, none of which is there yet.
-    pub(crate) fn new(alloc: Global, old: Source<'_>) -> Result<Self, Failure> {
+    pub(crate) fn new(alloc: Global, old: Source<'_>) -> Result<Self, NotCompacted> {
         let mut posts = Vec::new(alloc);
         for number in 0..old.tasks() {
             if let Some(master) = old.orphaned(TaskNo(number)) {

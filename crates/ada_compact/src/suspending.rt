@@ -1,6 +1,6 @@
 //! Tasks are suspended again.
 
-use crate::failure::Failure;
+use crate::failure::NotCompacted;
 use crate::walk::Walk;
 use ada_events::{
     Choices, Event, EventTail, Families, Master, Patience, Pause, Pauses, Refusal, Request, Tail,
@@ -42,9 +42,9 @@ fn tail_again(tail: &EventTail) -> Tail {
 }
 
 /// Appends a task. A list that is full is refused as a kernel refuses more tasks.
-pub(crate) fn push_task(tasks: &mut Tasks, task: TaskNo) -> Result<(), Failure> {
+pub(crate) fn push_task(tasks: &mut Tasks, task: TaskNo) -> Result<(), NotCompacted> {
     if tasks.is_full() {
-        return Err(Failure::Refused(Refusal::TooManyTasks));
+        return Err(NotCompacted::NoRoom(Refusal::TooManyTasks));
     }
     tasks.push(task);
     Ok(())
@@ -60,7 +60,7 @@ impl Walk<'_> {
     }
 
     // The request for an event that suspended a task, other than a start or the end of a block.
-    fn request_again(&self, task: TaskNo, event: &Event) -> Result<Request, Failure> {
+    fn request_again(&self, task: TaskNo, event: &Event) -> Result<Request, NotCompacted> {
         let by = self.names.copy(task)?;
         match event {
             Event::Called {
@@ -83,12 +83,12 @@ impl Walk<'_> {
                 pick: *pick,
             }),
             Event::Paused { due, .. } => Ok(Request::Delay { by, duration: *due }),
-            _ => Err(Failure::Unnamed),
+            _ => Err(NotCompacted::Unnamed),
         }
     }
 
     // Those of some tasks that are still in their activation, in the new kernel.
-    fn unready_of(&self, tasks: &[TaskNo]) -> Result<Tasks, Failure> {
+    fn unready_of(&self, tasks: &[TaskNo]) -> Result<Tasks, NotCompacted> {
         let mut unready = Tasks::new();
         for task in tasks {
             if self.old.is_unready(*task) {
@@ -99,7 +99,7 @@ impl Walk<'_> {
     }
 
     // A helper to fail its activation, where the activation of a task failed.
-    fn failing(&mut self, by: TaskNo, tasks: &[TaskNo]) -> Result<Option<TaskNo>, Failure> {
+    fn failing(&mut self, by: TaskNo, tasks: &[TaskNo]) -> Result<Option<TaskNo>, NotCompacted> {
         if !tasks.iter().any(|task| self.old.record(*task).stage.failed) {
             return Ok(None);
         }
@@ -107,7 +107,7 @@ impl Walk<'_> {
         Ok(Some(self.new.create(by, frame, Families::new())?))
     }
 
-    fn mount_unready(&mut self, tasks: &[TaskNo]) -> Result<(), Failure> {
+    fn mount_unready(&mut self, tasks: &[TaskNo]) -> Result<(), NotCompacted> {
         for task in tasks {
             if self.old.is_unready(*task) {
                 self.mount(*task, Master::Body(*task))?;
@@ -117,7 +117,7 @@ impl Walk<'_> {
     }
 
     // A task waits again for the activation of those that haven't ended it, and the activation of one has failed or not.
-    fn start_again(&mut self, task: TaskNo, at: u32, started: &[TaskNo]) -> Result<(), Failure> {
+    fn start_again(&mut self, task: TaskNo, at: u32, started: &[TaskNo]) -> Result<(), NotCompacted> {
         let by = self.names.copy(task)?;
         let mut tasks = self.unready_of(started)?;
         let failing = self.failing(by, started)?;
@@ -133,7 +133,7 @@ impl Walk<'_> {
     }
 
     /// Suspends a task again where it is suspended.
-    pub(crate) fn suspend(&mut self, task: TaskNo) -> Result<(), Failure> {
+    pub(crate) fn suspend(&mut self, task: TaskNo) -> Result<(), NotCompacted> {
         self.accept_rest(task)?;
         let at = self.old.record(task).suspension.at;
         match self.old.event(at) {
@@ -143,7 +143,7 @@ impl Walk<'_> {
                 let place = self.new.ask(request)?;
                 self.names.place(at, place)
             }
-            None => Err(Failure::Unnamed),
+            None => Err(NotCompacted::Unnamed),
         }
     }
 }

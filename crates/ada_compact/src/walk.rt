@@ -1,6 +1,6 @@
 //! A new kernel is asked for what still matters of an old one.
 
-use crate::failure::Failure;
+use crate::failure::NotCompacted;
 use crate::fresh::Fresh;
 use crate::items::{Item, Items};
 use crate::names::Names;
@@ -13,7 +13,7 @@ use std::alloc::Global;
 
 /// A kernel with a shorter journal, and the names that lead to it from the old one.
 #[derive(Drop)]
-pub struct Shortened {
+pub struct Compacted {
     pub kernel: Kernel,
     pub names: Renaming,
 }
@@ -60,7 +60,7 @@ pub(crate) struct Walk<'a> {
     pub(crate) activators: Vec<TaskNo>,
 }
 
-fn no_progress(alloc: Global, tasks: u16) -> Result<Vec<Progress>, Failure> {
+fn no_progress(alloc: Global, tasks: u16) -> Result<Vec<Progress>, NotCompacted> {
     let mut progress = Vec::new(alloc);
     for _ in 0..tasks {
         progress.push(Progress::NONE)?;
@@ -70,7 +70,7 @@ fn no_progress(alloc: Global, tasks: u16) -> Result<Vec<Progress>, Failure> {
 
 impl<'a> Walk<'a> {
     // At the beginning, with a new kernel.
-    fn new(alloc: Global, old: Source<'a>) -> Result<Self, Failure> {
+    fn new(alloc: Global, old: Source<'a>) -> Result<Self, NotCompacted> {
         let progress = no_progress(alloc, old.tasks())?;
         let names = Names::new(alloc, old.tasks())?;
         let posts = Posts::new(alloc, old)?;
@@ -112,7 +112,7 @@ impl Walk<'_> {
         self.progress(task).is_kept && !self.old.is_live(task)
     }
 
-    fn add_items(&self, items: &mut Items<'_>) -> Result<(), Failure> {
+    fn add_items(&self, items: &mut Items<'_>) -> Result<(), NotCompacted> {
         for number in 0..self.old.tasks() {
             if self.old.is_live(TaskNo(number)) {
                 items.add_live(TaskNo(number))?;
@@ -124,7 +124,7 @@ impl Walk<'_> {
         Ok(())
     }
 
-    fn take(&mut self, item: Item) -> Result<(), Failure> {
+    fn take(&mut self, item: Item) -> Result<(), NotCompacted> {
         match item {
             Item::Made(task) => self.make(task),
             Item::MadeDead(task) => self.make_dead(task),
@@ -134,14 +134,14 @@ impl Walk<'_> {
         }
     }
 
-    fn take_all(&mut self, items: &Items<'_>) -> Result<(), Failure> {
+    fn take_all(&mut self, items: &Items<'_>) -> Result<(), NotCompacted> {
         for placed in items.as_slice() {
             self.take(placed.item)?;
         }
         Ok(())
     }
 
-    fn walk(&mut self, alloc: Global) -> Result<(), Failure> {
+    fn walk(&mut self, alloc: Global) -> Result<(), NotCompacted> {
         let mut items = Items::new(alloc, self.old);
         self.add_items(&mut items)?;
         self.make_server()?;
@@ -152,7 +152,7 @@ impl Walk<'_> {
         self.finish(alloc)
     }
 
-    fn run(&mut self, alloc: Global, kept: &[TaskNo]) -> Result<(), Failure> {
+    fn run(&mut self, alloc: Global, kept: &[TaskNo]) -> Result<(), NotCompacted> {
         self.keep(kept);
         if self.old.is_live(MAIN) {
             self.walk(alloc)
@@ -161,25 +161,24 @@ impl Walk<'_> {
         }
     }
 
-    fn into_shortened(self) -> Result<Shortened, Failure> {
+    fn into_compacted(self) -> Result<Compacted, NotCompacted> {
         let Walk { new, names, .. } = self;
         let names = names.into_renaming()?;
-        Ok(Shortened {
+        Ok(Compacted {
             kernel: new.into_kernel(),
             names,
         })
     }
 }
 
-/// A second kernel for the live tasks of a first one and for the terminated ones that are kept, which are those that
-/// may still be named: asked the same from now on, it's meant to answer the same under other names. Its journal is as
-/// short as what matters asks for, whatever came before.
+/// A second kernel that is asked for what still matters of a first one, and the names that lead to it. That it stands in
+/// for the first one is left to a check.
 ///
 /// # Errors
 ///
-/// [`Failure::Refused`] where there is no room for helpers: up to three for a live task, and two more.
-pub fn shorten(old: &Kernel, kept: &[TaskNo], alloc: Global) -> Result<Shortened, Failure> {
+/// [`NotCompacted::NoRoom`] where there is no room for helpers: up to three for a live task, and two more.
+pub(crate) fn shorten(old: &Kernel, kept: &[TaskNo], alloc: Global) -> Result<Compacted, NotCompacted> {
     let mut walk = Walk::new(alloc, Source::new(old))?;
     walk.run(alloc, kept)?;
-    walk.into_shortened()
+    walk.into_compacted()
 }

@@ -1,6 +1,6 @@
 //! What has to be alike of two kernels, and how long the journal of the second may be.
 
-use ada_compact::Shortened;
+use ada_compact::Compacted;
 use ada_events::{Member, Outcome, TaskNo};
 use ada_kernel::Kernel;
 use ada_standing::Renaming;
@@ -57,7 +57,7 @@ fn renamed(names: &Renaming, outcome: Option<Outcome>) -> Option<Outcome> {
     }
 }
 
-fn assert_task<R: Abort>(rt: &R, old: &Kernel, new: &Shortened, task: TaskNo, copy: TaskNo) {
+fn assert_task<R: Abort>(rt: &R, old: &Kernel, new: &Compacted, task: TaskNo, copy: TaskNo) {
     let outcome = renamed(&new.names, old.outcome(task));
     assert_eq!(rt; new.kernel.outcome(copy), outcome, "task {}", task.0);
     assert_eq!(rt; new.kernel.callable(copy), old.callable(task), "task {}", task.0);
@@ -71,7 +71,7 @@ fn assert_forgotten<R: Abort>(rt: &R, old: &Kernel, kept: &[TaskNo], task: TaskN
 }
 
 /// Each live or kept task has one in its place, which answers the same, and no other task of the new kernel is live.
-pub fn assert_alike<R: Abort>(rt: &R, old: &Kernel, kept: &[TaskNo], new: &Shortened) {
+pub fn assert_alike<R: Abort>(rt: &R, old: &Kernel, kept: &[TaskNo], new: &Compacted) {
     assert_eq!(rt; new.names.tasks(), old.tasks());
     assert_eq!(rt; live_tasks(&new.kernel), live_tasks(old));
     for number in 0..old.tasks() {

@@ -1,7 +1,7 @@
 //! Nests that are full, and kernels without room for a helper.
 
 use crate::playing::check;
-use ada_compact::{Failure, shorten};
+use ada_compact::{NotCompacted, compact};
 use ada_events::limits::MOST_MEMBERS;
 use ada_events::{Choice, Choices, Patience, Refusal, Request, Tail, TaskNo};
 use ada_kernel::Kernel;
@@ -90,15 +90,15 @@ fn call_in_vain() -> Request {
     }
 }
 
-/// Why the kernel can't be shortened.
-fn failure_of<R: AllocGlobal>(rt: &R, kernel: &Kernel) -> Option<Failure> {
-    match shorten(kernel, &[], rt.alloc()) {
+/// Why the kernel can't be compacted.
+fn failure_of<R: AllocGlobal>(rt: &R, kernel: &Kernel) -> Option<NotCompacted> {
+    match compact(kernel, &[], rt.alloc()) {
         Ok(_) => None,
         Err(failure) => Some(failure),
     }
 }
 
-fn assert_failure<R: Abort + AllocGlobal>(rt: &R, kernel: &Kernel, failure: Failure) {
+fn assert_failure<R: Abort + AllocGlobal>(rt: &R, kernel: &Kernel, failure: NotCompacted) {
     assert_eq!(rt; failure_of(rt, kernel), Some(failure));
 }
 
@@ -109,6 +109,6 @@ fn no_room_for_a_helper(rt: HostRuntime) -> Result<(), Fail> {
     fill(&mut kernel)?;
     check(&rt, &kernel, &[])?;
     kernel.step(call_in_vain())?;
-    assert_failure(&rt, &kernel, Failure::Refused(Refusal::TooManyTasks));
+    assert_failure(&rt, &kernel, NotCompacted::NoRoom(Refusal::TooManyTasks));
     Ok(())
 }

@@ -1,7 +1,7 @@
-//! Scripts are played, and their kernels shortened, twice.
+//! Scripts are played, and their kernels compacted, twice.
 
 use crate::alike::{assert_alike, assert_short};
-use ada_compact::shorten;
+use ada_compact::compact;
 use ada_events::TaskNo;
 use ada_kernel::Kernel;
 use ada_script::{Line, Names, Script, read, request};
@@ -47,10 +47,10 @@ pub fn check_once<R: Abort + AllocGlobal>(
     old: &Kernel,
     kept: &[TaskNo],
 ) -> Result<Kernel, Fail> {
-    let shortened = shorten(old, kept, rt.alloc())?;
-    assert_short(rt, old, kept, &shortened.kernel);
-    assert_alike(rt, old, kept, &shortened);
-    Ok(shortened.kernel)
+    let compacted = compact(old, kept, rt.alloc())?;
+    assert_short(rt, old, kept, &compacted.kernel);
+    assert_alike(rt, old, kept, &compacted);
+    Ok(compacted.kernel)
 }
 
 /// Shortens a kernel, and what comes of it once more, without the tasks that were kept.
