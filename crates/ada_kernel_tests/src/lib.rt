@@ -12,6 +12,8 @@ mod chains;
 #[cfg(test)]
 mod checked_tables;
 #[cfg(test)]
+mod compacting;
+#[cfg(test)]
 mod creation;
 #[cfg(test)]
 mod crowd;
@@ -32,6 +34,8 @@ mod names;
 #[cfg(test)]
 mod nests;
 #[cfg(test)]
+mod pair;
+#[cfg(test)]
 mod plain;
 #[cfg(test)]
 mod queries;
@@ -39,6 +43,10 @@ mod queries;
 mod queues;
 #[cfg(test)]
 mod random;
+#[cfg(test)]
+mod renamed;
+#[cfg(test)]
+mod renamed_events;
 #[cfg(test)]
 mod requests;
 #[cfg(test)]

@@ -128,7 +128,10 @@ impl Pair {
             .skip(full as usize)
             .zip(others.iter().skip(short as usize));
         for (event, other) in pairs {
-            assert!(rt; self.names.is_event(event, other), "{event:?} and {other:?}");
+            assert!(rt;
+                self.names.is_event(event, other),
+                "{event:?} and {other:?}"
+            );
         }
     }
 
@@ -169,14 +172,28 @@ impl Pair {
     fn compare_task<R: Abort>(&self, rt: &R, task: TaskNo, named: TaskNo) {
         let wanted = match self.full.outcome(task) {
             Some(Outcome::Accepted { call, choice }) => {
-                self.names.position(call).map(|call| Outcome::Accepted { call, choice })
+                self.names
+                    .position(call)
+                    .map(|call| Outcome::Accepted { call, choice })
             }
             other => other,
         };
         assert_eq!(rt; self.short.outcome(named), wanted, "outcome");
-        assert_eq!(rt; self.short.callable(named), self.full.callable(task), "callable");
-        assert_eq!(rt; self.short.terminated(named), self.full.terminated(task), "terminated");
-        assert_eq!(rt; self.short.running(named), self.full.running(task), "running");
+        assert_eq!(rt;
+            self.short.callable(named),
+            self.full.callable(task),
+            "callable"
+        );
+        assert_eq!(rt;
+            self.short.terminated(named),
+            self.full.terminated(task),
+            "terminated"
+        );
+        assert_eq!(rt;
+            self.short.running(named),
+            self.full.running(task),
+            "running"
+        );
     }
 
     /// Makes the short kernel shorter, with these dead tasks kept, and goes on with the shorter one. Limits may refuse

@@ -1,8 +1,6 @@
 //! Requests and events of one kernel, in the names of a second one whose journal stands in for the first one's.
 
-use ada_events::{
-    Choices, Families, Master, Patience, Pauses, Request, Tail, TaskNo, Tasks,
-};
+use ada_events::{Choices, Families, Master, Patience, Pauses, Request, Tail, TaskNo, Tasks};
 use ada_standing::Place;
 use std::alloc::{AllocError, Global};
 
@@ -34,7 +32,10 @@ impl Names {
 
     /// The position that stands for a position.
     pub fn position(&self, position: u32) -> Option<u32> {
-        match self.places.binary_search_by_key(&position, |place| place.old) {
+        match self
+            .places
+            .binary_search_by_key(&position, |place| place.old)
+        {
             Ok(at) => self.places.get(at).map(|place| place.new),
             Err(_) => None,
         }
@@ -81,7 +82,9 @@ impl Names {
             } => self.is_forgotten(*task, tasks),
             Request::Call { callee, .. } => self.is_forgotten(*callee, tasks),
             Request::Activate { tasks: list, .. } | Request::Abort { tasks: list, .. } => {
-                list.as_slice().iter().any(|task| self.is_forgotten(*task, tasks))
+                list.as_slice()
+                    .iter()
+                    .any(|task| self.is_forgotten(*task, tasks))
             }
             _ => false,
         };

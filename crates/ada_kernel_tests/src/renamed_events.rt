@@ -36,22 +36,40 @@ impl Names {
     /// The same of what tasks ask for, but calls and waits.
     fn is_asked(&self, old: &Event, new: &Event) -> bool {
         match (old, new) {
-            (Event::Opened { by, under }, Event::Opened { by: at, under: frame }) => {
-                self.is_task(*by, *at) && self.is_master(*under, *frame)
-            }
-            (Event::Started { by, tasks }, Event::Started { by: at, tasks: list })
-            | (Event::Aborted { by, tasks }, Event::Aborted { by: at, tasks: list }) => {
-                self.is_task(*by, *at) && self.are_tasks(tasks.as_slice(), list.as_slice())
-            }
+            (
+                Event::Opened { by, under },
+                Event::Opened {
+                    by: at,
+                    under: frame,
+                },
+            ) => { self.is_task(*by, *at) && self.is_master(*under, *frame) }
+            (
+                Event::Started { by, tasks },
+                Event::Started {
+                    by: at,
+                    tasks: list,
+                },
+            )
+            | (
+                Event::Aborted { by, tasks },
+                Event::Aborted {
+                    by: at,
+                    tasks: list,
+                },
+            ) => { self.is_task(*by, *at) && self.are_tasks(tasks.as_slice(), list.as_slice()) }
             (Event::Elaborated { by, ok }, Event::Elaborated { by: at, ok: same }) => {
                 self.is_task(*by, *at) && ok == same
             }
             (Event::Paused { by, due }, Event::Paused { by: at, due: same }) => {
                 self.is_task(*by, *at) && due == same
             }
-            (Event::Closed { by, block }, Event::Closed { by: at, block: same }) => {
-                self.is_task(*by, *at) && self.is_position(*block, *same)
-            }
+            (
+                Event::Closed { by, block },
+                Event::Closed {
+                    by: at,
+                    block: same,
+                },
+            ) => { self.is_task(*by, *at) && self.is_position(*block, *same) }
             (Event::Completed { by }, Event::Completed { by: at }) => self.is_task(*by, *at),
             (Event::Ticked { now }, Event::Ticked { now: same }) => now == same,
             _ => self.is_made_or_ended(old, new),
@@ -144,18 +162,30 @@ impl Names {
             | (Event::Cancelled { call }, Event::Cancelled { call: same }) => {
                 self.is_position(*call, *same)
             }
-            (Event::Met { call, wait }, Event::Met { call: same, wait: at }) => {
-                self.is_position(*call, *same) && self.is_position(*wait, *at)
-            }
-            (Event::Passed { wait, way }, Event::Passed { wait: at, way: same }) => {
-                self.is_position(*wait, *at) && way == same
-            }
+            (
+                Event::Met { call, wait },
+                Event::Met {
+                    call: same,
+                    wait: at,
+                },
+            ) => { self.is_position(*call, *same) && self.is_position(*wait, *at) }
+            (
+                Event::Passed { wait, way },
+                Event::Passed {
+                    wait: at,
+                    way: same,
+                },
+            ) => { self.is_position(*wait, *at) && way == same }
             (Event::Woken { pause }, Event::Woken { pause: same }) => {
                 self.is_position(*pause, *same)
             }
-            (Event::Activated { start, ok }, Event::Activated { start: at, ok: same }) => {
-                self.is_position(*start, *at) && ok == same
-            }
+            (
+                Event::Activated { start, ok },
+                Event::Activated {
+                    start: at,
+                    ok: same,
+                },
+            ) => { self.is_position(*start, *at) && ok == same }
             (Event::Quit { master }, Event::Quit { master: same }) => {
                 self.is_master(*master, *same)
             }
