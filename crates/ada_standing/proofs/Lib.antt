@@ -6,3 +6,4 @@ mod HeldAlike
 mod Decided
 mod Unmatched
 mod worked
+mod alike
