@@ -3,3 +3,4 @@ mod Searches
 mod Kinds
 mod Orderly
 mod Pairs
+mod Mastering
