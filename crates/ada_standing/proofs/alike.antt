@@ -4,3 +4,6 @@ mod Kinds
 mod Orderly
 mod Pairs
 mod Mastering
+mod Passing
+mod Calling
+mod Queueing
