@@ -7,3 +7,4 @@ mod Mastering
 mod Passing
 mod Calling
 mod Queueing
+mod Rows
