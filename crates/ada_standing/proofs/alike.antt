@@ -8,3 +8,6 @@ mod Passing
 mod Calling
 mod Queueing
 mod Rows
+mod Activating
+mod Terminating
+mod Forcing

@@ -46,7 +46,7 @@ then_alike names false b x y same is = rw (← same) refl
 
 -- what an event says, where it is pending, gives alike
 
-abbrev AreHeld : {X : Type 0} → List Event → (Event → Option X) → (ℕ → X → Option Event) → Type 0
+abbrev pub AreHeld : {X : Type 0} → List Event → (Event → Option X) → (ℕ → X → Option Event) → Type 0
 AreHeld {X} journal say give =
     (p : ℕ) (e : Event) (x : X) (y : Event) → event_at journal p ≡ Some e → say e ≡ Some x → give p x ≡ Some y → (u : ℕ) × IsSuspendedAt journal u p
 
@@ -56,7 +56,7 @@ said_held journal say give held p d y at gives =
     let (x, says, is) = option_and_then-some (give p) (say d) y gives in
     held p d x y at says is
 
-said_alike : {X : Type 0} (old new : List Event) (names : Renaming) (say : Event → Option X) (give there : ℕ → X → Option Event)
+pub said_alike : {X : Type 0} (old new : List Event) (names : Renaming) (say : Event → Option X) (give there : ℕ → X → Option Event)
     (Same : ℕ → ℕ → X → X → Type 0) → StandsIn old new names → IsOrderly old → IsOrderly new → AreHeld old say give → AreHeld new say there
     → ((d e : Event) (x y : X) → say d ≡ Some x → say e ≡ Some y → is_same_kind d e ≡ true)
     → ((p q : ℕ) (pair : IsPair old new names p q) → AreBoth (Same p q) (say pair.held.event) (say pair.holds.event))
@@ -77,14 +77,14 @@ said_alike old new names say give there Same stands orderly also held holds kind
     ])
 
 -- what is pending holds its task up
-pending_held : (journal : List Event) (u p : ℕ) (e : Event) → event_at journal p ≡ Some e → held_in e ≡ Some u → is_pending journal p u ≡ true
+pub pending_held : (journal : List Event) (u p : ℕ) (e : Event) → event_at journal p ≡ Some e → held_in e ≡ Some u → is_pending journal p u ≡ true
     → (t : ℕ) × IsSuspendedAt journal t p
 pending_held journal u p e at holds pending =
     let both = pending_parts journal p u pending in
     (u, record { event = e; stands = at; holds = holds; unreleased = both.0; live = both.1 })
 
 -- and what holds a task up is pending
-pending_by : (journal : List Event) (u t p : ℕ) (held : IsSuspendedAt journal u p) → held_in held.event ≡ Some t → is_pending journal p t ≡ true
+pub pending_by : (journal : List Event) (u t p : ℕ) (held : IsSuspendedAt journal u p) → held_in held.event ≡ Some t → is_pending journal p t ≡ true
 pending_by journal u t p held by = rw (same_Some t u (sym by ∙ held.holds)) (pending_from journal u p held)
 
 -- a call fails
