@@ -7,3 +7,4 @@ mod Decided
 mod Unmatched
 mod worked
 mod alike
+mod lawful
