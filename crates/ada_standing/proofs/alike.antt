@@ -1,13 +1,13 @@
 -- Two journals of which one stands in for the other are alike: what matters of both, and the steps that both force.
-mod Searches
-mod Kinds
-mod Orderly
-mod Pairs
-mod Mastering
-mod Passing
-mod Calling
-mod Queueing
-mod Rows
-mod Activating
-mod Terminating
-mod Forcing
+pub mod Searches
+pub mod Kinds
+pub mod Orderly
+pub mod Pairs
+pub mod Mastering
+pub mod Passing
+pub mod Calling
+pub mod Queueing
+pub mod Rows
+pub mod Activating
+pub mod Terminating
+pub mod Forcing

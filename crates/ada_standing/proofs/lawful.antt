@@ -1,4 +1,7 @@
 -- Laws of lawful journals: which masters live tasks are within.
-mod Leaving
-mod Nesting
-
+pub mod Leaving
+pub mod Nesting
+pub mod Climbing
+pub mod Living
+pub mod Starting
+pub mod Orderly
