@@ -6,5 +6,5 @@ mod HeldAlike
 mod Decided
 mod Unmatched
 mod worked
-mod alike
-mod lawful
+pub mod alike
+pub mod lawful

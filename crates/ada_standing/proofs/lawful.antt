@@ -5,3 +5,4 @@ pub mod Climbing
 pub mod Living
 pub mod Starting
 pub mod Orderly
+pub mod Laws
