@@ -3,6 +3,7 @@ pub mod Searches
 pub mod Kinds
 pub mod Orderly
 pub mod Pairs
+pub mod Phases
 pub mod Mastering
 pub mod Passing
 pub mod Calling

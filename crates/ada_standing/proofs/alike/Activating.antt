@@ -1,7 +1,6 @@
 -- Activations end alike.
-use Rattle.std.proofs.Common.{◌≡◌, ℕ, ◌<◌, Bool, true, false, cond, not, ◌&&◌, ◌||◌, eqb, Option, Some, None, List, [], ◌∷◌, refl, sym, ap, ◌∙◌, inl, inr}
+use Rattle.std.proofs.Common.{◌≡◌, ℕ, ◌<◌, Bool, true, false, cond, not, ◌&&◌, eqb, Some, None, List, [], ◌∷◌, refl, sym, ap, ◌∙◌, inl, inr}
 use Rattle.std.proofs.Common.{subst}
-use Rattle.std.specs.Option.{option_map}
 use Rattle.std.specs.List.{list_any, list_all}
 use Rattle.std.proofs.lemmas.Bool.{cases_Bool, and_parts, and_cases, or_cases, or_left, or_right, or_parts, eq-eqb, eqb-true, true≢false, false≢true}
 use Rattle.std.proofs.lemmas.Bool.{true_from_ne_false}
@@ -21,7 +20,7 @@ use Rattle.ada_standing.specs.Holds.{IsSameStart}
 use Rattle.ada_standing.specs.StandsIn.{StandsIn}
 use Rattle.ada_standing.proofs.alike.Orderly.{IsOrderly}
 use Rattle.ada_standing.proofs.alike.Kinds.{starts_alike, both_starts}
-use Rattle.ada_standing.proofs.alike.Pairs.{IsPair, ended_alike, active_parts, live_from, live_parts, live_back, live_alike}
+use Rattle.ada_standing.proofs.alike.Pairs.{IsPair, ended_alike, active_parts, live_from, live_back}
 use Rattle.ada_standing.proofs.alike.Rows.{AreAlike, said_alike, pending_held, pending_by}
 
 all_fails : (test : TaskNo → Bool) (tasks : List TaskNo) → list_all test tasks ≡ false → (t : TaskNo) × (lists_task t.0 tasks ≡ true) × (test t ≡ false)

@@ -1,10 +1,9 @@
 -- Calls: open, joined and queued alike.
-use Rattle.std.proofs.Common.{◌≡◌, ℕ, ◌<◌, Bool, true, false, not, ◌&&◌, ◌||◌, eqb, Option, Some, None, List, refl, sym, ap, ◌∙◌, inl, inr}
-use Rattle.std.specs.Option.{option_map, option_and_then}
-use Rattle.std.proofs.lemmas.Bool.{cases_Bool, and_from, and_parts, eqb-true, not-true}
-use Rattle.std.proofs.lemmas.Option.{same_Some, none-some}
+use Rattle.std.proofs.Common.{◌≡◌, ℕ, Bool, true, false, not, ◌&&◌, eqb, Some, None, List, refl, sym, ap, ◌∙◌, inl, inr}
+use Rattle.std.proofs.lemmas.Bool.{cases_Bool, and_parts, eqb-true, not-true}
+use Rattle.std.proofs.lemmas.Option.{same_Some}
 use Rattle.ada_events.specs.declared.event.Event.{Event}
-use Rattle.ada_events.specs.Search.{is_some_and, any_event, event_at}
+use Rattle.ada_events.specs.Search.{is_some_and, event_at}
 use Rattle.ada_events.specs.Says.{Call, Wait, call_in, wait_in}
 use Rattle.ada_events.specs.Phases.{is_released, has_ended}
 use Rattle.ada_events.specs.Calls.{is_pending, is_met, is_open_at, is_joined_at, is_queued_at, is_open_call, is_caller_in_rendezvous}
@@ -14,7 +13,6 @@ use Rattle.ada_laws.proofs.Searching.{option_map_or-true}
 use Rattle.ada_laws.proofs.Saying.{held_in-call, held_in-wait}
 use Rattle.ada_laws.proofs.Queueing.{is_open_at-call, open_call_suspends}
 use Rattle.ada_standing.specs.Renaming.{Renaming}
-use Rattle.ada_standing.specs.Holds.{IsSameCall, IsSameWait}
 use Rattle.ada_standing.specs.StandsIn.{StandsIn}
 use Rattle.ada_standing.proofs.alike.Orderly.{IsOrderly}
 use Rattle.ada_standing.proofs.alike.Kinds.{AreBoth, calls_alike, waits_alike}
@@ -79,7 +77,8 @@ pub open_call_alike : (old new : List Event) (names : Renaming) (p q : ℕ) → 
 unfolding is_open_call
 open_call_alike old new names p q pair = rw (pair.held.stands, pair.holds.stands) (open_at_alike old new names p q pair)
 
-pub queued_held : (journal : List Event) (p : ℕ) (e : Event) → event_at journal p ≡ Some e → is_queued_at journal p e ≡ true → (u : ℕ) × IsSuspendedAt journal u p
+pub queued_held : (journal : List Event) (p : ℕ) (e : Event) → event_at journal p ≡ Some e → is_queued_at journal p e ≡ true
+    → (u : ℕ) × IsSuspendedAt journal u p
 unfolding is_queued_at
 queued_held journal p e at queued = open_held journal p e at (and_parts (is_open_at journal p e) (not (is_met journal p)) queued).0
 

@@ -1,34 +1,32 @@
 -- Masters that live tasks are within: the same reach one another, the same tasks depend on them, and they are complete alike.
-use Rattle.std.proofs.Common.{◌≡◌, ℕ, zero, suc, ◌<◌, Bool, true, false, not, ◌&&◌, ◌||◌, eqb, Option, Some, None, List, [], ◌∷◌, map, refl, sym, ap, ◌∙◌}
+use Rattle.std.proofs.Common.{◌≡◌, ℕ, ◌<◌, Bool, true, false, not, ◌||◌, eqb, Option, Some, None, List, [], ◌∷◌, map, refl, sym, ap, ◌∙◌}
 use Rattle.std.proofs.Common.{subst, inl, inr, arith}
 use Rattle.std.specs.Option.{option_map, option_map_or, option_and_then}
 use Rattle.std.specs.List.{list_any, Contains}
-use Rattle.std.proofs.lemmas.Bool.{cases_order, or_cases, or_left, or_right, or_parts, eq-eqb, eqb-true, not-false, not-true, true≢false, false≢true}
-use Rattle.std.proofs.lemmas.Bool.{true_from_ne_false, lt-ltb}
-use Rattle.std.proofs.lemmas.Option.{same_Some, none-some}
+use Rattle.std.proofs.lemmas.Bool.{cases_order, or_cases, or_left, or_right, or_parts, eq-eqb, eqb-true, true≢false, false≢true}
+use Rattle.std.proofs.lemmas.Bool.{true_from_ne_false}
+use Rattle.std.proofs.lemmas.Option.{same_Some}
 use Rattle.ada_events.specs.declared.event.Event.{Event}
-use Rattle.ada_events.specs.declared.names.TaskNo.{TaskNo}
 use Rattle.ada_events.specs.declared.names.Master.{Master}
 use Rattle.ada_events.specs.declared.names.Master.TheVariants.{Body, Block}
 use Rattle.ada_events.specs.declared.names.Member.{Member}
 use Rattle.ada_events.specs.declared.names.Member.TheVariants.{Block as BlockMember, Rendezvous}
-use Rattle.ada_events.specs.Search.{is_some_and, all_below}
+use Rattle.ada_events.specs.Search.{all_below}
 use Rattle.ada_events.specs.Tasks.{task_count}
 use Rattle.ada_events.specs.Masters.{same_master, reaches, depends_on}
-use Rattle.ada_events.specs.Phases.{is_completed, is_terminated}
+use Rattle.ada_events.specs.Phases.{is_terminated}
 use Rattle.ada_events.specs.Nests.{nest}
 use Rattle.ada_events.specs.Termination.{all_terminated, is_complete}
 use Rattle.ada_events.specs.Forced.{task_no}
 use Rattle.ada_laws.specs.Masters.{parent_of, IsKnown}
 use Rattle.ada_laws.proofs.Searching.{all_below-fails, all_below-holds, option_map-some}
 use Rattle.ada_laws.proofs.Gathering.{Contains-first, Contains-later}
-use Rattle.ada_laws.proofs.Framing.{nest_block}
 use Rattle.ada_laws.proofs.Reaching.{reaches-same}
 use Rattle.ada_laws.proofs.Parents.{same_truth}
-use Rattle.ada_laws.proofs.Depending.{depends_exists}
 use Rattle.ada_standing.specs.Renaming.{Renaming, renamed_master, renamed_member, renamed_parent}
 use Rattle.ada_standing.specs.StandsIn.{StandsIn, KeepsTasks, is_live, is_block}
 use Rattle.ada_standing.proofs.alike.Orderly.{IsOrderly, IsLivedIn, IsClimb}
+use Rattle.ada_standing.proofs.lawful.Nesting.{nested_own}
 use Rattle.ada_standing.proofs.alike.Pairs.{live_from, live_parts, live_alike, live_back}
 
 -- no task stands for two
@@ -65,7 +63,8 @@ block_forth names p (BlockMember r ∷ xs) (y ∷ ys) same has =
     elim (or_cases (eqb r p) (list_any (is_block p) xs) has) [
       | inl here ↦
           let (q, is, made) = option_map-some BlockMember (names.position r) y (sym head) in
-          (q, ap names.position (sym (eqb-true r p here)) ∙ is, or_left (is_block q y) (list_any (is_block q) ys) (ap (is_block q) (sym made) ∙ eq-eqb q q refl))
+          let first : is_block q y ≡ true = ap (is_block q) (sym made) ∙ eq-eqb q q refl in
+          (q, ap names.position (sym (eqb-true r p here)) ∙ is, or_left (is_block q y) (list_any (is_block q) ys) first)
       | inr later ↦
           let (q, is, there) = block_forth names p xs ys tail later in
           (q, is, or_right (is_block q y) (list_any (is_block q) ys) there)
@@ -128,18 +127,10 @@ lived_back old new names y stands (IsLivedIn.block task q live within) =
     let (p, placed, there) = block_back names q (nest old u) (nest new task) same.members within in
     (Block p, rw placed refl, IsLivedIn.block u p lives there)
 
-contains_block : (p : ℕ) (members : List Member) → list_any (is_block p) members ≡ true → Contains members (BlockMember p)
-contains_block p [] has = absurd (false≢true has)
-contains_block p (BlockMember q ∷ rest) has = elim (or_cases (eqb q p) (list_any (is_block p) rest) has) [
-  | inl same ↦ subst (λ (n : ℕ). Contains (BlockMember n ∷ rest) (BlockMember p)) (sym (eqb-true q p same)) (Contains-first (BlockMember p) rest)
-  | inr later ↦ Contains-later (BlockMember q) (BlockMember p) rest (contains_block p rest later)
-]
-contains_block p (Rendezvous call ∷ rest) has = Contains-later (Rendezvous call) (BlockMember p) rest (contains_block p rest has)
-
 pub lived_known : (journal : List Event) (x : Master) → IsLivedIn journal x → IsKnown journal x
 lived_known journal x (IsLivedIn.body t live) = (live_parts journal t.0 live).0
 lived_known journal x (IsLivedIn.block task p live within) =
-    let block = nest_block journal task p (contains_block p (nest journal task) within) in
+    let block = (nested_own journal task p within).block in
     record { event = block.event; opening = block.opening; stands = block.stands; says = block.says }
 
 -- the parent of such a master is one too

@@ -1,5 +1,5 @@
 -- What holds tasks up in one journal and in another, position by position.
-use Rattle.std.proofs.Common.{◌≡◌, ℕ, ◌<◌, true, false, not, ◌&&◌, ◌||◌, Option, Some, None, List, refl, sym, ap, ◌∙◌, subst, inl, inr}
+use Rattle.std.proofs.Common.{◌≡◌, ℕ, ◌<◌, true, false, not, Option, Some, None, List, refl, sym, ap, ◌∙◌, subst, inl, inr}
 use Rattle.std.specs.Option.{option_map, option_and_then}
 use Rattle.std.proofs.lemmas.Bool.{cases_Bool, and_from, and_parts, or_parts, lt-ltb, ltb-true, not_from_false, not-true}
 use Rattle.std.proofs.lemmas.Option.{same_Some, none-some}
@@ -15,7 +15,7 @@ use Rattle.ada_standing.specs.Renaming.{Renaming}
 use Rattle.ada_standing.specs.Holds.{IsSameHold, is_same_kind}
 use Rattle.ada_standing.specs.StandsIn.{StandsIn, is_live}
 use Rattle.ada_standing.proofs.alike.Orderly.{IsOrderly}
-use Rattle.ada_standing.proofs.alike.Searches.{IsMatch, given_at, first_given-is, search_alike}
+use Rattle.ada_standing.proofs.alike.Searches.{given_at, first_given-is, search_alike}
 
 pub live_from : (journal : List Event) (u : ℕ) → u < task_count journal → is_terminated journal u ≡ false → is_live journal u ≡ true
 live_from journal u below still =

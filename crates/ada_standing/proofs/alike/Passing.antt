@@ -1,10 +1,9 @@
 -- Tests that only events pass which hold up tasks that haven't ended: what two journals find alike by them.
-use Rattle.std.proofs.Common.{◌≡◌, ℕ, zero, suc, ◌<◌, Bool, true, false, Option, Some, None, List, [], ◌∷◌, length, get_or, map, refl, sym, ap, ◌∙◌}
+use Rattle.std.proofs.Common.{◌≡◌, ℕ, zero, suc, ◌<◌, Bool, true, Option, Some, List, [], ◌∷◌, get_or, map, refl, sym, ap, ◌∙◌}
 use Rattle.std.proofs.Common.{◌⊎◌, inl, inr, arith, subst}
 use Rattle.std.specs.Bool.{then_some}
 use Rattle.std.specs.List.{Contains, AllPairs}
-use Rattle.std.proofs.lemmas.Bool.{cases_eq}
-use Rattle.std.proofs.lemmas.Option.{same_Some, none-some}
+use Rattle.std.proofs.lemmas.Option.{same_Some}
 use Rattle.ada_events.specs.declared.event.Event.{Event}
 use Rattle.ada_events.specs.Search.{any_event, gathered, event_at}
 use Rattle.ada_laws.specs.Suspension.{IsSuspendedAt}

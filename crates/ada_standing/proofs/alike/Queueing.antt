@@ -1,5 +1,5 @@
 -- Queues: what stands in them, what is at their front, and which call a wait takes.
-use Rattle.std.proofs.Common.{◌≡◌, ℕ, zero, suc, ◌%◌, Bool, true, false, cond, ◌&&◌, eqb, Option, Some, None, List, [], ◌∷◌, length, map, refl, sym, ap, ◌∙◌}
+use Rattle.std.proofs.Common.{◌≡◌, ℕ, suc, Bool, true, false, cond, ◌&&◌, eqb, Option, Some, None, List, [], ◌∷◌, length, map, refl, sym, ap}
 use Rattle.std.specs.Option.{option_map, option_and_then, is_some}
 use Rattle.std.specs.List.{slice_get}
 use Rattle.std.proofs.lemmas.Bool.{and_parts}
@@ -10,7 +10,7 @@ use Rattle.ada_events.specs.declared.names.Choice.{Choice}
 use Rattle.ada_events.specs.Says.{Call, Wait, call_in}
 use Rattle.ada_events.specs.Entries.{same_entry}
 use Rattle.ada_events.specs.Calls.{is_queued_at, is_call_of, queue, count_of}
-use Rattle.ada_events.specs.Waits.{numbers_from, picked, front_of, is_selectable, taken_choice, taken_call}
+use Rattle.ada_events.specs.Waits.{numbers_from, front_of, is_selectable, taken_choice, taken_call}
 use Rattle.ada_laws.proofs.Searching.{option_map_or-true}
 use Rattle.ada_standing.specs.Renaming.{Renaming}
 use Rattle.ada_standing.specs.Holds.{IsSameWait}

@@ -1,37 +1,33 @@
 -- The rows that search for a position: what one journal forces, renamed, is what the other forces.
-use Rattle.std.proofs.Common.{◌≡◌, ℕ, ◌<◌, Bool, true, false, cond, not, ◌&&◌, ◌||◌, Option, Some, None, List, [], ◌∷◌, refl, sym, ap, ◌∙◌, inl, inr, int_le}
+use Rattle.std.proofs.Common.{◌≡◌, ℕ, Bool, true, false, not, ◌&&◌, ◌||◌, Option, Some, None, List, refl, sym, ap, ◌∙◌, inl, inr, int_le}
 use Rattle.std.specs.Option.{option_map, option_and_then}
 use Rattle.std.specs.Bool.{then_some}
-use Rattle.std.specs.List.{list_any, list_all}
-use Rattle.std.proofs.lemmas.Bool.{cases_Bool, and_parts, and_right, not_from_true, and_cases, or_cases, or_left, or_right, or_parts, eq-eqb, eqb-true, true≢false, false≢true}
-use Rattle.std.proofs.lemmas.Bool.{true_from_ne_false}
+use Rattle.std.proofs.lemmas.Bool.{cases_Bool, and_parts, and_right, not_from_true}
 use Rattle.std.proofs.lemmas.Option.{same_Some, none-some}
 use Rattle.ada_events.specs.declared.event.Event.{Event}
-use Rattle.ada_events.specs.declared.event.Event.TheVariants.{Failed, Met, Cancelled, Passed, Woken, Activated, Left}
+use Rattle.ada_events.specs.declared.event.Event.TheVariants.{Failed, Met, Cancelled, Passed, Woken, Left}
 use Rattle.ada_events.specs.declared.event.Way.{Way}
-use Rattle.ada_events.specs.declared.names.TaskNo.{TaskNo}
 use Rattle.ada_events.specs.declared.names.Master.TheVariants.{Block}
 use Rattle.ada_events.specs.Search.{is_some_and, first_given, event_at}
-use Rattle.ada_events.specs.Says.{Call, Wait, Delay, Start, Closing, call_in, wait_in, delay_in, start_in, closing_in, held_in}
-use Rattle.ada_events.specs.Tasks.{task_count, moment}
-use Rattle.ada_events.specs.Phases.{lists_task, is_elaborated, has_failed, is_terminated, has_ended, is_abnormal}
+use Rattle.ada_events.specs.Says.{Call, Delay, Closing, call_in, wait_in, delay_in, closing_in, held_in}
+use Rattle.ada_events.specs.Tasks.{moment}
+use Rattle.ada_events.specs.Phases.{has_ended, is_abnormal}
 use Rattle.ada_events.specs.Calls.{is_pending, is_met, is_open_at, is_queued_at}
 use Rattle.ada_events.specs.Waits.{is_due, taken_call, way_of}
 use Rattle.ada_events.specs.Termination.{all_terminated}
-use Rattle.ada_events.specs.Forced.{task_no, is_conditional, is_to_fail, failed, met_at, met, is_to_cancel, cancelled, passed_at, passed, is_to_wake, woken}
-use Rattle.ada_events.specs.Forced.{is_done_activating, activated_at, activated, is_to_leave, left}
+use Rattle.ada_events.specs.Forced.{is_conditional, is_to_fail, failed, met_at, met, is_to_cancel, cancelled, passed_at, passed, is_to_wake, woken}
+use Rattle.ada_events.specs.Forced.{is_to_leave, left}
 use Rattle.ada_laws.specs.Suspension.{IsSuspendedAt}
 use Rattle.ada_laws.proofs.Searching.{option_map_or-true, option_and_then-some, then_some-some, if_some}
-use Rattle.ada_laws.proofs.Saying.{held_in-call, held_in-wait, held_in-delay, held_in-start, held_in-closing}
+use Rattle.ada_laws.proofs.Saying.{held_in-wait, held_in-delay, held_in-closing}
 use Rattle.ada_laws.proofs.Stepping.{pending_parts}
-use Rattle.ada_laws.proofs.Parents.{same_truth}
 use Rattle.ada_standing.specs.Renaming.{Renaming, renamed_master, renamed_event}
-use Rattle.ada_standing.specs.Holds.{IsSameCall, IsSameWait, IsSameStart, is_same_kind}
-use Rattle.ada_standing.specs.StandsIn.{StandsIn, is_live}
+use Rattle.ada_standing.specs.Holds.{IsSameWait, is_same_kind}
+use Rattle.ada_standing.specs.StandsIn.{StandsIn}
 use Rattle.ada_standing.proofs.alike.Orderly.{IsOrderly}
-use Rattle.ada_standing.proofs.alike.Kinds.{AreBoth, AreDueAlike, AreClosesAlike, calls_alike, waits_alike, delays_alike, starts_alike, closes_alike}
-use Rattle.ada_standing.proofs.alike.Kinds.{both_calls, both_waits, both_delays, both_starts, both_closes}
-use Rattle.ada_standing.proofs.alike.Pairs.{IsPair, first_alike, ended_alike, active_parts, live_from, live_parts, live_back}
+use Rattle.ada_standing.proofs.alike.Kinds.{AreBoth, AreDueAlike, AreClosesAlike, calls_alike, waits_alike, delays_alike, closes_alike}
+use Rattle.ada_standing.proofs.alike.Kinds.{both_calls, both_waits, both_delays, both_closes}
+use Rattle.ada_standing.proofs.alike.Pairs.{IsPair, first_alike, ended_alike}
 use Rattle.ada_standing.proofs.alike.Mastering.{all_terminated_alike}
 use Rattle.ada_standing.proofs.alike.Calling.{pending_from, wait_by, open_held, queued_held, open_at_alike, queued_at_alike}
 use Rattle.ada_standing.proofs.alike.Queueing.{taken_call_alike}

@@ -1,10 +1,9 @@
 -- The rows that search for a task or a block: tasks are halted, go, and quit alike.
-use Rattle.std.proofs.Common.{◌≡◌, ℕ, ◌<◌, Bool, true, false, not, ◌&&◌, ◌||◌, Option, Some, None, List, [], ◌∷◌, refl, sym, ap, ◌∙◌, inl, inr, subst}
+use Rattle.std.proofs.Common.{◌≡◌, ℕ, ◌<◌, Bool, true, false, not, ◌&&◌, ◌||◌, Option, Some, List, refl, sym, ap, ◌∙◌, inl, inr, subst}
 use Rattle.std.specs.Option.{option_map, option_and_then}
 use Rattle.std.specs.Bool.{then_some}
 use Rattle.std.specs.List.{list_any}
-use Rattle.std.proofs.lemmas.Bool.{cases_Bool, and_parts, and_left, or_parts, not-false, not-true}
-use Rattle.std.proofs.lemmas.Option.{same_Some, none-some}
+use Rattle.std.proofs.lemmas.Bool.{cases_Bool, and_parts, or_parts, not-false, not-true}
 use Rattle.ada_events.specs.declared.event.Event.{Event}
 use Rattle.ada_events.specs.declared.event.Event.TheVariants.{Halted, Gone, Quit}
 use Rattle.ada_events.specs.declared.names.Master.{Master}
@@ -22,11 +21,11 @@ use Rattle.ada_laws.proofs.Searching.{all_below-fails, option_and_then-some, opt
 use Rattle.ada_standing.specs.Renaming.{Renaming, renamed_task, renamed_master, renamed_event}
 use Rattle.ada_standing.specs.StandsIn.{StandsIn, is_live, is_block}
 use Rattle.ada_standing.proofs.alike.Orderly.{IsOrderly, IsLivedIn}
-use Rattle.ada_standing.proofs.alike.Searches.{IsMatch, given_at, given_below, below_bound, below_from, first_given-is, first_below-is, search_alike}
+use Rattle.ada_standing.proofs.alike.Searches.{given_at, given_below, below_bound, below_from, first_given-is, first_below-is, search_alike}
 use Rattle.ada_standing.proofs.alike.Pairs.{live_from, live_parts, live_alike, live_back, ended_alike, active_parts}
 use Rattle.ada_standing.proofs.alike.Mastering.{lived_forth, lived_back, lived_known, depends_alike, all_alike, all_terminated_alike, complete_alike}
 use Rattle.ada_standing.proofs.alike.Calling.{caller_alike, ready_alike}
-use Rattle.ada_standing.proofs.alike.Rows.{AreAlike, then_alike}
+use Rattle.ada_standing.proofs.alike.Rows.{AreAlike}
 
 -- a search for the first task that passes a test which only live tasks pass
 record AreTestsAlike (old new : List Event) (names : Renaming) (test there : ℕ → Bool) (make : ℕ → Event) : Type 0 where

@@ -1,14 +1,12 @@
 -- In a lawful journal one comes by parents from each master to one that has none.
-use Rattle.std.proofs.Common.{◌≡◌, ℕ, suc, ◌<◌, ◌≤◌, Bool, true, ◌||◌, Option, Some, None, List, [], ◌∷◌, length, sym, refl, ap, ◌∙◌, subst, arith, inl, inr}
-use Rattle.std.proofs.Common.{eqb}
-use Rattle.std.specs.Option.{option_map, option_map_or, option_len}
+use Rattle.std.proofs.Common.{◌≡◌, ℕ, suc, ◌<◌, ◌≤◌, true, Option, Some, None, List, [], ◌∷◌, length, sym, refl, ap, ◌∙◌, subst, arith, inl, inr}
+use Rattle.std.specs.Option.{option_len}
 use Rattle.std.proofs.lemmas.Bool.{cases_eq, eq-eqb, ne_eqb, or_right}
-use Rattle.std.proofs.lemmas.Option.{none-some}
 use Rattle.ada_events.specs.declared.event.Event.{Event}
 use Rattle.ada_events.specs.declared.names.TaskNo.{TaskNo}
 use Rattle.ada_events.specs.declared.names.Master.{Master}
 use Rattle.ada_events.specs.declared.names.Master.TheVariants.{Body, Block}
-use Rattle.ada_events.specs.Search.{is_some_and, event_at}
+use Rattle.ada_events.specs.Search.{event_at}
 use Rattle.ada_events.specs.Says.{Creation, Opening, creation_in, opening_in}
 use Rattle.ada_events.specs.Tasks.{task_count, creation_of}
 use Rattle.ada_events.specs.Masters.{same_master, reaches}
@@ -16,7 +14,7 @@ use Rattle.ada_events.specs.Nests.{frame}
 use Rattle.ada_events.specs.Lawful.{IsLawful}
 use Rattle.ada_laws.specs.Masters.{parent_of, IsKnown}
 use Rattle.ada_laws.proofs.Searching.{event_at-cases, event_at-newest, event_at-other, event_at-within}
-use Rattle.ada_laws.proofs.Reaching.{reaches-same, reaches_known, known_later, frame_known, creation_asked, opening_asked}
+use Rattle.ada_laws.proofs.Reaching.{reaches-same, reaches_known, frame_known, creation_asked, opening_asked}
 use Rattle.ada_laws.proofs.Parents.{masters_reach_by_parents}
 use Rattle.ada_standing.proofs.alike.Orderly.{IsClimb}
 

@@ -1,6 +1,5 @@
 -- Laws of two lawful journals of which the second stands in for the first.
-use Rattle.std.proofs.Common.{List, sym}
-use Rattle.ada_events.specs.declared.event.Event.{Event}
+use Rattle.std.proofs.Common.{sym}
 use Rattle.ada_events.specs.Forced.{forced}
 use Rattle.ada_standing.specs.Laws.{ForcedAlike}
 use Rattle.ada_standing.proofs.alike.Forcing.{steps_alike, alike_is, alike_none}

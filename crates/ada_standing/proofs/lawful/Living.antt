@@ -1,14 +1,14 @@
 -- Live tasks are within what they depend on: bodies of live tasks, and blocks that live tasks haven't left.
-use Rattle.std.proofs.Common.{◌≡◌, ℕ, ◌<◌, Bool, true, false, ◌&&◌, ◌||◌, eqb, Option, Some, None, List, [], ◌∷◌, refl, sym, ap, ◌∙◌, subst, ◌⊎◌, inl, inr}
+use Rattle.std.proofs.Common.{◌≡◌, ℕ, ◌<◌, true, false, ◌||◌, eqb, Option, Some, None, List, [], ◌∷◌, refl, sym, ap, ◌∙◌, subst, ◌⊎◌, inl, inr}
 use Rattle.std.specs.Option.{option_map_or}
-use Rattle.std.proofs.lemmas.Bool.{and_parts, or_cases, or_left, or_right, eqb-true, true≢false, false≢true, false_from_ne_true}
+use Rattle.std.proofs.lemmas.Bool.{and_parts, or_cases, or_right, eqb-true, true≢false, false≢true, false_from_ne_true}
 use Rattle.std.proofs.lemmas.Option.{none-some, same_Some}
 use Rattle.ada_events.specs.declared.event.Event.{Event}
 use Rattle.ada_events.specs.declared.event.Event.TheVariants as event
 use Rattle.ada_events.specs.declared.names.TaskNo.{TaskNo}
 use Rattle.ada_events.specs.declared.names.Master.{Master}
 use Rattle.ada_events.specs.declared.names.Master.TheVariants.{Body, Block}
-use Rattle.ada_events.specs.Search.{is_some_and, any_event, event_at}
+use Rattle.ada_events.specs.Search.{any_event, event_at}
 use Rattle.ada_events.specs.Says.{creation_in, opening_in, left_in}
 use Rattle.ada_events.specs.Tasks.{task_count}
 use Rattle.ada_events.specs.Masters.{same_master, parent_in, reaches, depends_on}
@@ -158,7 +158,8 @@ holder_live : (journal : List Event) (u : ℕ) (t : TaskNo) → IsLawful journal
     → is_live journal t.0 ≡ true
 holder_live journal u t lawful live depends =
     let parts = live_parts journal u live in
-    let below : t.0 < task_count journal = reaches_known journal lawful (Body (task_no u)) (Body t) parts.0 (depends_reaches journal (task_no u) (Body t) depends) in
+    let below : t.0 < task_count journal =
+        reaches_known journal lawful (Body (task_no u)) (Body t) parts.0 (depends_reaches journal (task_no u) (Body t) depends) in
     live_from journal t.0 below
     (false_from_ne_true (is_terminated journal t.0) (λ ended.
     true≢false (sym (a_terminated_body_has_no_live_dependent journal lawful t u ended depends) ∙ parts.1)))

@@ -1,10 +1,10 @@
 -- Blocks nest: what a block that isn't left was opened in isn't left either.
-use Rattle.std.proofs.Common.{◌≡◌, ℕ, zero, suc, ◌-◌, ◌<◌, ◌≤◌, Bool, true, false, not, ◌&&◌, eqb, Option, Some, None, List, [], ◌∷◌, ◌++◌, length, get_or, refl}
+use Rattle.std.proofs.Common.{◌≡◌, ℕ, zero, suc, ◌-◌, ◌<◌, ◌≤◌, true, false, not, ◌&&◌, eqb, Option, Some, None, List, [], ◌∷◌, ◌++◌, length, get_or, refl}
 use Rattle.std.proofs.Common.{sym, ap, ◌∙◌, subst, arith, ◌⊎◌, inl, inr, append-nil, length-append}
-use Rattle.std.specs.Option.{option_map_or, option_or, option_to_list}
+use Rattle.std.specs.Option.{option_map_or, option_to_list}
 use Rattle.std.specs.Bool.{then_some}
 use Rattle.std.specs.List.{Contains, slice_get, list_any}
-use Rattle.std.proofs.lemmas.Bool.{and_parts, or_cases, or_left, or_right, eq-eqb, eqb-true, not-true, false_from_ne_true, true≢false, false≢true}
+use Rattle.std.proofs.lemmas.Bool.{and_parts, or_cases, or_left, or_right, eq-eqb, eqb-true, false_from_ne_true, true≢false, false≢true}
 use Rattle.std.proofs.lemmas.Option.{none-some, same_Some, slice_get_within, get_or_from_slice_get}
 use Rattle.ada_events.specs.declared.event.Event.{Event}
 use Rattle.ada_events.specs.declared.event.Event.TheVariants as event
@@ -16,7 +16,6 @@ use Rattle.ada_events.specs.declared.names.Member.{Member}
 use Rattle.ada_events.specs.declared.names.Member.TheVariants.{Block, Rendezvous}
 use Rattle.ada_events.specs.Search.{gathered, event_at}
 use Rattle.ada_events.specs.Says.{Opening, Closing, Meeting, opening_in, closing_in, meeting_in, left_in}
-use Rattle.ada_events.specs.Tasks.{task_count}
 use Rattle.ada_events.specs.Phases.{is_released, has_ended, is_suspended}
 use Rattle.ada_events.specs.Calls.{is_open_call, is_pending}
 use Rattle.ada_events.specs.Nests.{is_left, is_wait_of, member_at, nest, innermost, innermost_block, frame}
@@ -25,20 +24,20 @@ use Rattle.ada_events.specs.Refusals.{refusal, has_no_block, is_rendezvous}
 use Rattle.ada_events.specs.Termination.{all_terminated}
 use Rattle.ada_events.specs.Forced.{is_to_leave}
 use Rattle.ada_events.specs.Lawful.{IsLawful, MayFollow}
-use Rattle.ada_laws.specs.Masters.{parent_of, IsKnown}
+use Rattle.ada_laws.specs.Masters.{parent_of}
 use Rattle.ada_laws.proofs.Accepting.{is_accepted, running_free}
 use Rattle.ada_laws.proofs.Searching.{event_at-older, event_at-newest, event_at-other, event_at-within, event_at-cases, then_some-some, option_or-some}
 use Rattle.ada_laws.proofs.Stepping.{forced-step, pending_parts}
 use Rattle.ada_laws.proofs.Saying.{held_in-closing}
 use Rattle.ada_laws.proofs.Suspending.{is_suspended-from}
 use Rattle.ada_laws.proofs.Growing.{is_released-before, has_ended-before}
-use Rattle.ada_laws.proofs.Gathering.{Contains-first, Contains-later, gathered-found, gathered-from}
+use Rattle.ada_laws.proofs.Gathering.{Contains-first, Contains-later, gathered-from}
 use Rattle.ada_laws.proofs.Members.{IsMember, nest_member}
-use Rattle.ada_laws.proofs.Members.IsMember.{block_in, rendezvous_in}
+use Rattle.ada_laws.proofs.Members.IsMember.{block_in}
 use Rattle.ada_laws.proofs.Framing.{IsBlockOf}
 use Rattle.ada_laws.proofs.Reaching.{opening_asked}
 use Rattle.ada_standing.specs.StandsIn.{is_block}
-use Rattle.ada_standing.proofs.lawful.Leaving.{IsLeaving, Leaves, left_cases, unleft_before}
+use Rattle.ada_standing.proofs.lawful.Leaving.{Leaves, left_cases, unleft_before}
 
 -- a block that a task opened and hasn't left
 pub record IsOwnBlock (journal : List Event) (task p : ℕ) : Type 0 where

@@ -1,5 +1,5 @@
 -- A start names only tasks that exist.
-use Rattle.std.proofs.Common.{◌≡◌, ℕ, ◌<◌, ◌≤◌, true, false, not, ◌||◌, eqb, Option, Some, None, List, [], ◌∷◌, sym, ap, ◌∙◌, arith, inl, inr}
+use Rattle.std.proofs.Common.{◌≡◌, ℕ, ◌<◌, ◌≤◌, true, false, not, eqb, Some, None, List, [], ◌∷◌, sym, ap, ◌∙◌, arith, inl, inr}
 use Rattle.std.specs.List.{list_any}
 use Rattle.std.proofs.lemmas.Bool.{or_cases, or_parts, eqb-true, ltb-true, not-false, false≢true}
 use Rattle.std.proofs.lemmas.Option.{none-some, same_Some}
