@@ -6,3 +6,5 @@ mod HeldAlike
 mod Decided
 mod Unmatched
 mod worked
+pub mod alike
+pub mod lawful

@@ -2,3 +2,4 @@ pub mod Renaming
 pub mod Names
 pub mod Holds
 pub mod StandsIn
+pub mod Laws

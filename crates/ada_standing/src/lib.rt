@@ -4,6 +4,7 @@
 //! Section numbers are those of the Ada 83 manual, ANSI/MIL-STD-1815A.
 #![tactic(auto)]
 
+pub mod laws;
 pub mod renaming;
 
 pub use renaming::{Place, Renaming};

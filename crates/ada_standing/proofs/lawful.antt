@@ -1,0 +1,8 @@
+-- Laws of lawful journals: which masters live tasks are within.
+pub mod Leaving
+pub mod Nesting
+pub mod Climbing
+pub mod Living
+pub mod Starting
+pub mod Orderly
+pub mod Laws

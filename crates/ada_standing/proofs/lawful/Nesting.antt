@@ -1,0 +1,341 @@
+-- Blocks nest: what a block that isn't left was opened in isn't left either.
+use Rattle.std.proofs.Common.{◌≡◌, ℕ, zero, suc, ◌-◌, ◌<◌, ◌≤◌, true, false, not, ◌&&◌, eqb, Option, Some, None, List, [], ◌∷◌, ◌++◌, length, get_or, refl}
+use Rattle.std.proofs.Common.{sym, ap, ◌∙◌, subst, arith, ◌⊎◌, inl, inr, append-nil, length-append}
+use Rattle.std.specs.Option.{option_map_or, option_to_list}
+use Rattle.std.specs.Bool.{then_some}
+use Rattle.std.specs.List.{Contains, slice_get, list_any}
+use Rattle.std.proofs.lemmas.Bool.{and_parts, or_cases, or_left, or_right, eq-eqb, eqb-true, false_from_ne_true, true≢false, false≢true}
+use Rattle.std.proofs.lemmas.Option.{none-some, same_Some, slice_get_within, get_or_from_slice_get}
+use Rattle.ada_events.specs.declared.event.Event.{Event}
+use Rattle.ada_events.specs.declared.event.Event.TheVariants as event
+use Rattle.ada_events.specs.declared.request.Request.{Request}
+use Rattle.ada_events.specs.declared.request.Request.TheVariants as request
+use Rattle.ada_events.specs.declared.names.Master.{Master}
+use Rattle.ada_events.specs.declared.names.Master.TheVariants.{Body, Block as BlockMaster}
+use Rattle.ada_events.specs.declared.names.Member.{Member}
+use Rattle.ada_events.specs.declared.names.Member.TheVariants.{Block, Rendezvous}
+use Rattle.ada_events.specs.Search.{gathered, event_at}
+use Rattle.ada_events.specs.Says.{Opening, Closing, Meeting, opening_in, closing_in, meeting_in, left_in}
+use Rattle.ada_events.specs.Phases.{is_released, has_ended, is_suspended}
+use Rattle.ada_events.specs.Calls.{is_open_call, is_pending}
+use Rattle.ada_events.specs.Nests.{is_left, is_wait_of, member_at, nest, innermost, innermost_block, frame}
+use Rattle.ada_events.specs.Asks.{asked_event, member_position}
+use Rattle.ada_events.specs.Refusals.{refusal, has_no_block, is_rendezvous}
+use Rattle.ada_events.specs.Termination.{all_terminated}
+use Rattle.ada_events.specs.Forced.{is_to_leave}
+use Rattle.ada_events.specs.Lawful.{IsLawful, MayFollow}
+use Rattle.ada_laws.specs.Masters.{parent_of}
+use Rattle.ada_laws.proofs.Accepting.{is_accepted, running_free}
+use Rattle.ada_laws.proofs.Searching.{event_at-older, event_at-newest, event_at-other, event_at-within, event_at-cases, then_some-some, option_or-some}
+use Rattle.ada_laws.proofs.Stepping.{forced-step, pending_parts}
+use Rattle.ada_laws.proofs.Saying.{held_in-closing}
+use Rattle.ada_laws.proofs.Suspending.{is_suspended-from}
+use Rattle.ada_laws.proofs.Growing.{is_released-before, has_ended-before}
+use Rattle.ada_laws.proofs.Gathering.{Contains-first, Contains-later, gathered-from}
+use Rattle.ada_laws.proofs.Members.{IsMember, nest_member}
+use Rattle.ada_laws.proofs.Members.IsMember.{block_in}
+use Rattle.ada_laws.proofs.Framing.{IsBlockOf}
+use Rattle.ada_laws.proofs.Reaching.{opening_asked}
+use Rattle.ada_standing.specs.StandsIn.{is_block}
+use Rattle.ada_standing.proofs.lawful.Leaving.{Leaves, left_cases, unleft_before}
+
+-- a block that a task opened and hasn't left
+pub record IsOwnBlock (journal : List Event) (task p : ℕ) : Type 0 where
+  pub block : IsBlockOf journal task p
+  pub unleft : is_left journal p ≡ false
+
+contained : {A : Type 0} (xs : List A) (k : ℕ) (x : A) → slice_get xs k ≡ Some x → Contains xs x
+contained xs k x found = (k, slice_get_within xs k x found, get_or_from_slice_get xs k x x found)
+
+-- such blocks are those of the task's nest
+
+pub own_member : (journal : List Event) (task p : ℕ) → Contains (nest journal task) (Block p) → IsOwnBlock journal task p
+own_member journal task p contains = of_member (nest_member journal task (Block p) contains)
+  where
+    of_member : IsMember journal task (Block p) → IsOwnBlock journal task p
+    of_member (block_in q e o at says by unleft) =
+        record { block = record { event = e; opening = o; stands = at; says = says; by = by }; unleft = unleft }
+
+member_given : (journal : List Event) (task p : ℕ) (own : IsOwnBlock journal task p) → member_at journal task p own.block.event ≡ Some (Block p)
+unfolding member_at
+member_given journal task p own = rw (own.block.says, eq-eqb own.block.opening.by task own.block.by, own.unleft) refl
+
+has_contained : (members : List Member) (b k : ℕ) → k < length members → get_or members k (Block b) ≡ Block b → list_any (is_block b) members ≡ true
+has_contained [] b k below is = absurd (omega (arith, below))
+has_contained (member ∷ rest) b zero below is =
+    or_left (is_block b member) (list_any (is_block b) rest) (ap (is_block b) is ∙ eq-eqb b b refl)
+has_contained (member ∷ rest) b (suc k) below is =
+    or_right (is_block b member) (list_any (is_block b) rest) (has_contained rest b k (omega (arith, below)) is)
+
+pub own_nested : (journal : List Event) (task p : ℕ) → IsOwnBlock journal task p → list_any (is_block p) (nest journal task) ≡ true
+unfolding nest
+own_nested journal task p own =
+    let (k, below, is) = gathered-from (member_at journal task) journal p own.block.event (Block p) own.block.stands (member_given journal task p own) in
+    has_contained (nest journal task) p k below is
+
+contains_block : (p : ℕ) (members : List Member) → list_any (is_block p) members ≡ true → Contains members (Block p)
+contains_block p [] has = absurd (false≢true has)
+contains_block p (Block q ∷ rest) has = elim (or_cases (eqb q p) (list_any (is_block p) rest) has) [
+  | inl same ↦ subst (λ (n : ℕ). Contains (Block n ∷ rest) (Block p)) (sym (eqb-true q p same)) (Contains-first (Block p) rest)
+  | inr later ↦ Contains-later (Block q) (Block p) rest (contains_block p rest later)
+]
+contains_block p (Rendezvous call ∷ rest) has = Contains-later (Rendezvous call) (Block p) rest (contains_block p rest has)
+
+pub nested_own : (journal : List Event) (task p : ℕ) → list_any (is_block p) (nest journal task) ≡ true → IsOwnBlock journal task p
+nested_own journal task p has = own_member journal task p (contains_block p (nest journal task) has)
+
+-- the frame of a task is its body, or such a block
+
+innermost_is : (outer : Master) (members : List Member) → (innermost_block outer members ≡ outer)
+    ⊎ ((p : ℕ) × Contains members (Block p) × (innermost_block outer members ≡ BlockMaster p))
+unfolding innermost_block
+innermost_is outer [] = inl refl
+innermost_is outer (Block p ∷ rest) =
+    elim (innermost_is (BlockMaster p) rest) [
+      | inl same ↦ inr (p, Contains-first (Block p) rest, same)
+      | inr block ↦ inr (block.0, Contains-later (Block p) (Block block.0) rest block.1, block.2)
+    ]
+innermost_is outer (Rendezvous call ∷ rest) =
+    elim (innermost_is outer rest) [
+      | inl same ↦ inl same
+      | inr block ↦ inr (block.0, Contains-later (Rendezvous call) (Block block.0) rest block.1, block.2)
+    ]
+
+-- the master is the task's body, or a block that it opened and hasn't left
+pub data IsOwn (journal : List Event) (task : ℕ) : Master → Type 0 where
+  own_body : IsOwn journal task (Body (record { 0 = task }))
+  own_block : (p : ℕ) → IsOwnBlock journal task p → IsOwn journal task (BlockMaster p)
+
+pub frame_own : (journal : List Event) (task : ℕ) → IsOwn journal task (frame journal task)
+unfolding frame
+frame_own journal task =
+    elim (innermost_is (Body (record { 0 = task })) (nest journal task)) [
+      | inl same ↦ subst (IsOwn journal task) (sym same) IsOwn.own_body
+      | inr block ↦ subst (IsOwn journal task) (sym block.2) (IsOwn.own_block block.0 (own_member journal task block.0 block.1))
+    ]
+
+-- the innermost block of a nest is the latest
+
+slice_last : (members : List Member) (x : Member) → slice_get (members ++ x ∷ []) (length members) ≡ Some x
+slice_last [] x = refl
+slice_last (y ∷ rest) x = slice_last rest x
+
+innermost_last : (members : List Member) (x : Member) → innermost (members ++ x ∷ []) ≡ Some x
+innermost_last members x =
+    let many : length (members ++ x ∷ []) - 1 ≡ length members = omega (arith, length-append members (x ∷ [])) in
+    ap (slice_get (members ++ x ∷ [])) many ∙ slice_last members x
+
+latest : (give : ℕ → Event → Option Member) (journal : List Event) (p b : ℕ) (e : Event) → ((q r : ℕ) (f : Event) → give q f ≡ Some (Block r) → q ≡ r)
+    → event_at journal p ≡ Some e → give p e ≡ Some (Block p) → innermost (gathered give journal) ≡ Some (Block b) → p ≤ b
+unfolding gathered event_at
+latest give [] p b e placed at gives last = absurd (none-some e at)
+latest give (newest ∷ earlier) p b e placed at gives last =
+    by_newest (give (suc (length earlier)) newest) refl last (λ older rest. latest give earlier p b e placed older gives rest)
+  where
+    by_newest : (o : Option Member) → give (suc (length earlier)) newest ≡ o → innermost (gathered give earlier ++ option_to_list o) ≡ Some (Block b)
+        → (event_at earlier p ≡ Some e → innermost (gathered give earlier) ≡ Some (Block b) → p ≤ b) → p ≤ b
+    by_newest None is last again =
+        elim (event_at-cases newest earlier p e at) [
+          | inl now ↦ absurd (none-some (Block p) (sym is ∙ ap (give (suc (length earlier))) now.1 ∙ ap (λ n. give n e) (sym now.0) ∙ gives))
+          | inr older ↦ again older (ap innermost (sym (append-nil (gathered give earlier))) ∙ last)
+        ]
+    by_newest (Some x) is last again =
+        let same : Some x ≡ Some (Block b) = sym (innermost_last (gathered give earlier) x) ∙ last in
+        let place : suc (length earlier) ≡ b = placed (suc (length earlier)) b newest (is ∙ same) in
+        let low : p ≤ length (newest ∷ earlier) = event_at-within (newest ∷ earlier) p e at in
+        omega (arith, place, low)
+
+placed_member : (journal : List Event) (task q r : ℕ) (e : Event) → member_at journal task q e ≡ Some (Block r) → q ≡ r
+unfolding member_at
+placed_member journal task q r e gives =
+    elim (option_or-some (option_map_or (λ (o : Opening). then_some (eqb o.by task && not (is_left journal q)) (Block q)) (opening_in e) None)
+    (option_map_or (λ (m : Meeting). then_some (is_wait_of journal task m.wait && is_open_call journal m.call) (Rendezvous m.call)) (meeting_in e) None)
+    (Block r) gives) [
+      | inl opened ↦ by_opening (opening_in e) opened
+      | inr met ↦ absurd (no_block (meeting_in e) met)
+    ]
+  where
+    by_opening : (o : Option Opening) → option_map_or (λ (o : Opening). then_some (eqb o.by task && not (is_left journal q)) (Block q)) o None ≡ Some (Block r)
+        → q ≡ r
+    by_opening None gives = absurd (none-some (Block r) gives)
+    by_opening (Some o) gives =
+        let found = then_some-some (eqb o.by task && not (is_left journal q)) (Block q) (Block r) gives in
+        cc (found.1)
+
+    no_block : (o : Option Meeting) → option_map_or
+        (λ (m : Meeting). then_some (is_wait_of journal task m.wait && is_open_call journal m.call) (Rendezvous m.call)) o None ≡ Some (Block r) → ⊥
+    no_block None gives = none-some (Block r) gives
+    no_block (Some m) gives =
+        let found = then_some-some (is_wait_of journal task m.wait && is_open_call journal m.call) (Rendezvous m.call) (Block r) gives in
+        cc (found.1)
+
+-- the block is the task's own, and none of the task's own was opened later
+pub record IsInnermost (journal : List Event) (task b : ℕ) : Type 0 where
+  pub own : IsBlockOf journal task b
+  pub last : (p : ℕ) → IsOwnBlock journal task p → p ≤ b
+
+innermost_found : (journal : List Event) (task : ℕ) (o : Option Member) → innermost (nest journal task) ≡ o → option_map_or is_rendezvous o true ≡ false
+    → IsInnermost journal task (member_position o)
+unfolding nest
+innermost_found journal task None is block = absurd (true≢false block)
+innermost_found journal task (Some (Rendezvous call)) is block = absurd (true≢false block)
+innermost_found journal task (Some (Block b)) is block = record {
+  own = (own_member journal task b (contained (nest journal task) (length (nest journal task) - 1) (Block b) is)).block;
+  last = λ p own.
+      latest (member_at journal task) journal p b own.block.event (placed_member journal task) own.block.stands (member_given journal task p own) is;
+}
+
+asked_close : (journal : List Event) (r : Request) (k : Closing) → refusal journal r ≡ None → closing_in (asked_event journal r) ≡ Some k
+    → IsInnermost journal k.by k.block
+unfolding asked_event closing_in has_no_block
+asked_close journal (request.Close by) k accepted says =
+    let same = same_Some _ k says in
+    subst (λ (x : Closing). IsInnermost journal x.by x.block) same
+    (innermost_found journal by.0 (innermost (nest journal by.0)) refl (is_accepted journal (request.Close by) accepted).in_block)
+asked_close journal _ k accepted says = absurd (none-some k says)
+
+new_close : (event : Event) (before : List Event) (k : Closing) → MayFollow before event → closing_in event ≡ Some k → IsInnermost before k.by k.block
+new_close event before k (inl forces) says = absurd (none-some k.by (sym (forced-step before event forces).holds_none ∙ held_in-closing event k says))
+new_close event before k (inr asked) says = asked_close before asked.request k asked.accepted (ap closing_in (sym asked.becomes) ∙ says)
+
+block_later : (event : Event) (before : List Event) (task p : ℕ) → IsBlockOf before task p → IsBlockOf (event ∷ before) task p
+block_later event before task p block = record {
+  event = block.event;
+  opening = block.opening;
+  stands = event_at-older event before p block.event block.stands;
+  says = block.says;
+  by = block.by;
+}
+
+block_older : (before : List Event) (task p : ℕ) (event : Event) (block : IsBlockOf (event ∷ before) task p) → event_at before p ≡ Some block.event
+    → IsBlockOf before task p
+block_older before task p event block older =
+    record { event = block.event; opening = block.opening; stands = older; says = block.says; by = block.by }
+
+no_opening : (e : Event) (k : Closing) → closing_in e ≡ Some k → opening_in e ≡ None
+unfolding closing_in opening_in
+no_opening (event.Closed by block) k says = refl
+no_opening _ k says = absurd (none-some k says)
+
+-- the innermost stays so while the task opens nothing
+still_last : (event : Event) (before : List Event) (task b : ℕ) → IsInnermost before task b → ((o : Opening) → opening_in event ≡ Some o → o.by ≡ task → ⊥)
+    → IsInnermost (event ∷ before) task b
+still_last event before task b was opens = record {
+  own = block_later event before task b was.own;
+  last = λ p own.
+      elim (event_at-cases event before p own.block.event own.block.stands) [
+        | inl newest ↦ absurd (opens own.block.opening (ap opening_in newest.1 ∙ own.block.says) own.block.by)
+        | inr older ↦ was.last p (record {
+          block = block_older before task p event own.block older;
+          unleft = unleft_before event before p own.unleft;
+        })
+      ];
+}
+
+-- where a close is pending, its block is the innermost of the task's own
+pub closed_last : (journal : List Event) (c : ℕ) (e : Event) (k : Closing) → IsLawful journal → event_at journal c ≡ Some e → closing_in e ≡ Some k
+    → is_released journal c ≡ false → has_ended journal k.by ≡ false → IsInnermost journal k.by k.block
+unfolding event_at
+closed_last [] c e k lawful at says unreleased live = absurd (none-some e at)
+closed_last (event ∷ before) c e k lawful at says unreleased live =
+    elim (event_at-cases event before c e at) [
+      | inl newest ↦
+          let now : closing_in event ≡ Some k = ap closing_in newest.1 ∙ says in
+          still_last event before k.by k.block (new_close event before k lawful.1 now)
+          (λ o opens by. none-some o (sym (no_opening event k now) ∙ opens))
+      | inr older ↦
+          let free = is_released-before event before c unreleased in
+          let lives = has_ended-before event before k.by live in
+          let suspended = is_suspended-from before k.by c
+              (record { event = e; stands = older; holds = held_in-closing e k says; unreleased = free; live = lives }) in
+          still_last event before k.by k.block (closed_last before c e k lawful.0 older says free lives)
+          (λ o opens by.
+          let runs = (opening_asked event before o lawful.1 opens).runs in
+          true≢false (sym suspended ∙ (ap (λ n. is_suspended before n) (sym by) ∙ running_free before o.by runs)))
+    ]
+
+parent_newest : (event : Event) (before : List Event) (p : ℕ) (o : Opening) → p ≡ suc (length before) → opening_in event ≡ Some o
+    → parent_of (event ∷ before) (BlockMaster p) ≡ Some o.under
+parent_newest event before p o same says = rw (same, event_at-newest event before, says) refl
+
+parent_older : (event : Event) (before : List Event) (p : ℕ) (e : Event) → event_at before p ≡ Some e
+    → parent_of (event ∷ before) (BlockMaster p) ≡ parent_of before (BlockMaster p)
+parent_older event before p e at =
+    let within : p ≤ length before = event_at-within before p e at in
+    rw (event_at-other event before p (omega arith)) refl
+
+-- what an own block was opened in: the task's body, or an own block, which was opened before
+pub data IsOuter (journal : List Event) (task p : ℕ) : Master → Type 0 where
+  in_body : IsOuter journal task p (Body (record { 0 = task }))
+  in_block : (q : ℕ) → q < p → IsOwnBlock journal task q → IsOuter journal task p (BlockMaster q)
+
+opening_leaves_none : (e : Event) (o : Opening) → opening_in e ≡ Some o → left_in e ≡ None
+unfolding opening_in left_in
+opening_leaves_none (event.Opened by under) o says = refl
+opening_leaves_none _ o says = absurd (none-some o says)
+
+own_later : (event : Event) (before : List Event) (task p : ℕ) → IsLawful (event ∷ before) → (Leaves event before p → ⊥) → IsOwnBlock before task p
+    → IsOwnBlock (event ∷ before) task p
+own_later event before task p lawful stays own = record {
+  block = block_later event before task p own.block;
+  unleft = false_from_ne_true (is_left (event ∷ before) p) (λ left.
+      elim (left_cases event before p lawful left) [
+        | inl leaves ↦ stays leaves
+        | inr was ↦ true≢false (sym was ∙ own.unleft)
+      ]);
+}
+
+one_opener : (journal : List Event) (s t p : ℕ) → IsBlockOf journal s p → IsBlockOf journal t p → s ≡ t
+one_opener journal s t p one other =
+    let event : one.event ≡ other.event = same_Some one.event other.event (sym one.stands ∙ other.stands) in
+    let opening : one.opening ≡ other.opening = same_Some one.opening other.opening (sym one.says ∙ (ap opening_in event ∙ other.says)) in
+    sym one.by ∙ (ap (λ (o : Opening). o.by) opening ∙ other.by)
+
+-- a block within which an own block was opened isn't left while that isn't
+outer_stays : (event : Event) (before : List Event) (task p q : ℕ) → IsLawful (event ∷ before) → IsOwnBlock before task p → q < p → IsOwnBlock before task q
+    → Leaves event before q → ⊥
+unfolding is_to_leave
+outer_stays event before task p q lawful own less outer leaves =
+    let gone = leaves.gone in
+    let pending = pending_parts before leaves.close gone.closing.by
+        (and_parts (is_pending before leaves.close gone.closing.by) (all_terminated before (BlockMaster gone.closing.block)) gone.leave).0 in
+    let last = closed_last before leaves.close gone.closed gone.closing lawful.0 gone.stands gone.says pending.0 pending.1 in
+    let by : gone.closing.by ≡ task =
+        one_opener before gone.closing.by task q (subst (IsBlockOf before gone.closing.by) leaves.block last.own) outer.block in
+    let below : p ≤ gone.closing.block = last.last p (subst (λ (n : ℕ). IsOwnBlock before n p) (sym by) own) in
+    let block : gone.closing.block ≡ q = leaves.block in
+    omega arith
+
+outer_newest : (event : Event) (before : List Event) (task p : ℕ) (o : Opening) (z : Master) → IsLawful (event ∷ before) → p ≡ suc (length before)
+    → opening_in event ≡ Some o → IsOwn before task z → IsOuter (event ∷ before) task p z
+outer_newest event before task p o z lawful same says (IsOwn.own_body) = IsOuter.in_body
+outer_newest event before task p o z lawful same says (IsOwn.own_block q own) =
+    let within : q ≤ length before = event_at-within before q own.block.event own.block.stands in
+    IsOuter.in_block q (omega arith)
+    (own_later event before task q lawful (λ leaves. none-some leaves.close (sym (opening_leaves_none event o says) ∙ leaves.leaves)) own)
+
+outer_later : (event : Event) (before : List Event) (task p : ℕ) (z : Master) → IsLawful (event ∷ before) → IsOwnBlock before task p → IsOuter before task p z
+    → IsOuter (event ∷ before) task p z
+outer_later event before task p z lawful own (IsOuter.in_body) = IsOuter.in_body
+outer_later event before task p z lawful own (IsOuter.in_block q less outer) =
+    IsOuter.in_block q less (own_later event before task q lawful (λ leaves. outer_stays event before task p q lawful own less outer leaves) outer)
+
+pub outer_own : (journal : List Event) (task p : ℕ) → IsLawful journal → IsOwnBlock journal task p
+    → (z : Master) × (parent_of journal (BlockMaster p) ≡ Some z) × IsOuter journal task p z
+unfolding event_at
+outer_own [] task p lawful own = absurd (none-some own.block.event own.block.stands)
+outer_own (event ∷ before) task p lawful own =
+    elim (event_at-cases event before p own.block.event own.block.stands) [
+      | inl newest ↦
+          let o = own.block.opening in
+          let says : opening_in event ≡ Some o = ap opening_in newest.1 ∙ own.block.says in
+          let asked = opening_asked event before o lawful.1 says in
+          let frame_is : o.under ≡ frame before task = asked.within ∙ ap (frame before) own.block.by in
+          (o.under, parent_newest event before p o newest.0 says,
+          outer_newest event before task p o o.under lawful newest.0 says (subst (IsOwn before task) (sym frame_is) (frame_own before task)))
+      | inr older ↦
+          let was : IsOwnBlock before task p =
+              record { block = block_older before task p event own.block older; unleft = unleft_before event before p own.unleft } in
+          let (z, is, outer) = outer_own before task p lawful.0 was in
+          (z, parent_older event before p own.block.event older ∙ is, outer_later event before task p z lawful was outer)
+    ]
