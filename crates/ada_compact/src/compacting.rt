@@ -34,11 +34,7 @@ pub fn stands_in(old: &Kernel, new: &Kernel, names: &Renaming) -> bool
 ///
 /// [`NotCompacted::NoRoom`] if tasks that are gone have to be replaced by helpers, up to three for a live task and two
 /// more, and there is no room for them; [`NotCompacted::OutOfMemory`]. In each case nothing has changed.
-pub fn compact(
-    kernel: &Kernel,
-    kept: &[TaskNo],
-    alloc: Global,
-) -> Result<Compacted, NotCompacted>
+pub fn compact(kernel: &Kernel, kept: &[TaskNo], alloc: Global) -> Result<Compacted, NotCompacted>
     ensures stands { IfOk result (λ compacted.
         StandsIn kernel.now compacted.kernel (renaming_of compacted.names)) }
     ensures lawful { IfOk result (λ compacted. IsLawful compacted.kernel) }

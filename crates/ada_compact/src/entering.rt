@@ -7,7 +7,12 @@ use ada_events::{Master, Member, Outcome, Patience, Request, TaskNo};
 
 impl Walk<'_> {
     /// Accepts a call of the old journal by the choice of this number; it is the first in its queue.
-    pub(crate) fn accept(&mut self, task: TaskNo, call: u32, choice: u8) -> Result<(), NotCompacted> {
+    pub(crate) fn accept(
+        &mut self,
+        task: TaskNo,
+        call: u32,
+        choice: u8,
+    ) -> Result<(), NotCompacted> {
         let by = self.names.copy(task)?;
         let entry = self.old.entry(call).ok_or(NotCompacted::Unnamed)?;
         self.new.accept(by, entry, choice)
@@ -46,8 +51,8 @@ impl Walk<'_> {
         Ok(())
     }
 
-    // Whether the task can come to its outcome only while this last place of its nest is free: a wait and the opening of
-    // a block are refused in a full one.
+    // Whether the task can come to its outcome only while this last place of its nest is free: in a full nest waits and
+    // the opening of blocks are refused.
     fn needs_place(&self, task: TaskNo, place: usize) -> bool {
         if place != MOST_MEMBERS - 1 {
             return false;

@@ -138,7 +138,12 @@ impl Fresh {
     }
 
     /// Accepts a call by the choice of this number, which is the only open one.
-    pub(crate) fn accept(&mut self, by: TaskNo, entry: Entry, choice: u8) -> Result<(), NotCompacted> {
+    pub(crate) fn accept(
+        &mut self,
+        by: TaskNo,
+        entry: Entry,
+        choice: u8,
+    ) -> Result<(), NotCompacted> {
         self.order(Request::Wait {
             by,
             choices: choices_up_to(entry, choice),

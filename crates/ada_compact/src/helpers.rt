@@ -16,8 +16,7 @@ fn service() -> Families {
 }
 
 impl Walk<'_> {
-    // Whether the server is needed for the task: to make it or to halt it, to activate it before it is halted itself, or
-    // for its outcome.
+    // Whether the server is needed for the task: to make it, to halt it or who activates it, or for its outcome.
     fn needs_server(&self, task: TaskNo) -> bool {
         if self.is_kept_dead(task) {
             return !self.old.may_be_activated(task);
@@ -29,9 +28,7 @@ impl Walk<'_> {
             || self.old.is_left_in_activation(task)
             || matches!(
                 self.old.outcome(task),
-                Some(
-                    Outcome::Served | Outcome::Raised | Outcome::TaskingError | Outcome::Cancelled
-                )
+                Some(Outcome::Served | Outcome::Raised | Outcome::TaskingError | Outcome::Cancelled)
             )
     }
 

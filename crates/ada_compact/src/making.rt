@@ -5,9 +5,14 @@ use crate::walk::Walk;
 use ada_events::{Families, Master, TaskNo};
 
 impl Walk<'_> {
-    // Who makes a task again, under a master of the new kernel: its creator, or else the helper under its master; and if
-    // it was left in its activation, a helper in whose stead that one makes it, and which is halted at the end.
-    fn maker(&mut self, task: TaskNo, creator: TaskNo, under: Master) -> Result<TaskNo, NotCompacted> {
+    // Who makes a task again, under a master of the new kernel: its creator, or else the helper under its master. If it
+    // was left in its activation, either of them makes a helper to do it, which the abort at the end halts.
+    fn maker(
+        &mut self,
+        task: TaskNo,
+        creator: TaskNo,
+        under: Master,
+    ) -> Result<TaskNo, NotCompacted> {
         let by = match self.old.orphaned(task) {
             Some(master) => self.posts.helper(master).ok_or(NotCompacted::Unnamed)?,
             None => self.names.copy(creator)?,
@@ -22,7 +27,12 @@ impl Walk<'_> {
 
     // Activates a task that its maker activated before, and that isn't in its activation now unless it was left there.
     // Whether it comes up early or late in the new journal makes no difference.
-    fn activate_again(&mut self, by: TaskNo, task: TaskNo, copy: TaskNo) -> Result<(), NotCompacted> {
+    fn activate_again(
+        &mut self,
+        by: TaskNo,
+        task: TaskNo,
+        copy: TaskNo,
+    ) -> Result<(), NotCompacted> {
         let is_unready = self.old.is_unready(task);
         if is_unready && !self.old.is_left_in_activation(task) {
             return Ok(());

@@ -58,7 +58,10 @@ impl Names {
     }
 
     fn block(&self, opening: u32) -> Result<Master, NotCompacted> {
-        let Ok(at) = self.places.binary_search_by_key(&opening, |place| place.old) else {
+        let Ok(at) = self
+            .places
+            .binary_search_by_key(&opening, |place| place.old)
+        else {
             return Err(NotCompacted::Unnamed);
         };
         match self.places.get(at) {

@@ -13,7 +13,7 @@ struct Post {
 }
 
 // Bodies by their tasks, and then blocks by their openings.
-fn rank(master: Master) -> u64 {
+fn rank_of(master: Master) -> u64 {
     match master {
         Master::Body(task) => u64::from(task.0),
         Master::Block(opening) => u64::from(opening) + 65_536,
@@ -34,7 +34,7 @@ impl Posts {
         for number in 0..old.tasks() {
             if let Some(master) = old.orphaned(TaskNo(number)) {
                 posts.push(Post {
-                    rank: rank(master),
+                    rank: rank_of(master),
                     helper: None,
                 })?;
             }
@@ -44,10 +44,10 @@ impl Posts {
     }
 
     fn place(&self, master: Master) -> Option<usize> {
-        match self.posts.binary_search_by_key(&rank(master), |post| post.rank) {
-            Ok(place) => Some(place),
-            Err(_) => None,
-        }
+        let rank = rank_of(master);
+        self.posts
+            .binary_search_by_key(&rank, |post| post.rank)
+            .ok()
     }
 
     /// Whether a helper is needed under the master.

@@ -151,7 +151,8 @@ impl<'a> Source<'a> {
     }
 
     fn is_serving(self, task: TaskNo, call: u32) -> bool {
-        (0..self.depth(task)).any(|place| self.member(task, place) == Some(Member::Rendezvous(call)))
+        let served = Some(Member::Rendezvous(call));
+        (0..self.depth(task)).any(|place| self.member(task, place) == served)
     }
 
     /// The call that an idle task accepted last, if its rendezvous is over.

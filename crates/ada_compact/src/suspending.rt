@@ -64,7 +64,10 @@ impl Walk<'_> {
         let by = self.names.copy(task)?;
         match event {
             Event::Called {
-                callee, entry, due, ..
+                callee,
+                entry,
+                due,
+                ..
             } => Ok(Request::Call {
                 by,
                 callee: self.names.copy(*callee)?,
@@ -116,8 +119,13 @@ impl Walk<'_> {
         Ok(())
     }
 
-    // A task waits again for the activation of those that haven't ended it, and the activation of one has failed or not.
-    fn start_again(&mut self, task: TaskNo, at: u32, started: &[TaskNo]) -> Result<(), NotCompacted> {
+    // A task waits again for those that are in their activation, and one has failed if one had before.
+    fn start_again(
+        &mut self,
+        task: TaskNo,
+        at: u32,
+        started: &[TaskNo],
+    ) -> Result<(), NotCompacted> {
         let by = self.names.copy(task)?;
         let mut tasks = self.unready_of(started)?;
         let failing = self.failing(by, started)?;

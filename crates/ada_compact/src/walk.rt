@@ -177,7 +177,11 @@ impl Walk<'_> {
 /// # Errors
 ///
 /// [`NotCompacted::NoRoom`] where there is no room for helpers: up to three for a live task, and two more.
-pub(crate) fn shorten(old: &Kernel, kept: &[TaskNo], alloc: Global) -> Result<Compacted, NotCompacted> {
+pub(crate) fn shorten(
+    old: &Kernel,
+    kept: &[TaskNo],
+    alloc: Global,
+) -> Result<Compacted, NotCompacted> {
     let mut walk = Walk::new(alloc, Source::new(old))?;
     walk.run(alloc, kept)?;
     walk.into_compacted()

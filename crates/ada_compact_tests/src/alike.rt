@@ -12,7 +12,9 @@ fn is_live(kernel: &Kernel, task: TaskNo) -> bool {
 }
 
 fn live_tasks(kernel: &Kernel) -> usize {
-    (0..kernel.tasks()).filter(|number| is_live(kernel, TaskNo(*number))).count()
+    (0..kernel.tasks())
+        .filter(|number| is_live(kernel, TaskNo(*number)))
+        .count()
 }
 
 // How many blocks a task is in.
@@ -22,7 +24,10 @@ fn blocks_of(kernel: &Kernel, task: TaskNo) -> usize {
         return 0;
     }
     let layers = view.nest(task).as_slice();
-    layers.iter().filter(|layer| matches!(layer.member(), Member::Block(_))).count()
+    layers
+        .iter()
+        .filter(|layer| matches!(layer.member(), Member::Block(_)))
+        .count()
 }
 
 fn live_blocks(kernel: &Kernel) -> usize {
@@ -60,9 +65,24 @@ fn renamed(names: &Renaming, outcome: Option<Outcome>) -> Option<Outcome> {
 fn assert_task<R: Abort>(rt: &R, old: &Kernel, new: &Compacted, task: TaskNo, copy: TaskNo) {
     let outcome = renamed(&new.names, old.outcome(task));
     assert_eq!(rt; new.kernel.outcome(copy), outcome, "task {}", task.0);
-    assert_eq!(rt; new.kernel.callable(copy), old.callable(task), "task {}", task.0);
-    assert_eq!(rt; new.kernel.terminated(copy), old.terminated(task), "task {}", task.0);
-    assert_eq!(rt; new.kernel.running(copy), old.running(task), "task {}", task.0);
+    assert_eq!(rt;
+        new.kernel.callable(copy),
+        old.callable(task),
+        "task {}",
+        task.0
+    );
+    assert_eq!(rt;
+        new.kernel.terminated(copy),
+        old.terminated(task),
+        "task {}",
+        task.0
+    );
+    assert_eq!(rt;
+        new.kernel.running(copy),
+        old.running(task),
+        "task {}",
+        task.0
+    );
 }
 
 fn assert_forgotten<R: Abort>(rt: &R, old: &Kernel, kept: &[TaskNo], task: TaskNo) {

@@ -54,11 +54,7 @@ pub fn check_once<R: Abort + AllocGlobal>(
 }
 
 /// Shortens a kernel, and what comes of it once more, without the tasks that were kept.
-pub fn check<R: Abort + AllocGlobal>(
-    rt: &R,
-    old: &Kernel,
-    kept: &[TaskNo],
-) -> Result<(), Fail> {
+pub fn check<R: Abort + AllocGlobal>(rt: &R, old: &Kernel, kept: &[TaskNo]) -> Result<(), Fail> {
     let new = check_once(rt, old, kept)?;
     let _newest = check_once(rt, &new, &[])?;
     Ok(())

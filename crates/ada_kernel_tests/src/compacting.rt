@@ -10,7 +10,7 @@ use std::process::Abort;
 use std::test::Fail;
 
 /// How many runs there are of each mix.
-const RUNS: u64 = 4;
+const RUNS: u64 = 20;
 
 /// How many requests there are in a run.
 const LENGTH: u64 = 120;

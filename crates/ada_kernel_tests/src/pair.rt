@@ -2,7 +2,7 @@
 
 use crate::renamed::Names;
 use ada_compact::{NotCompacted, compact, stands_in};
-use ada_events::{Outcome, Refusal, Request, TaskNo};
+use ada_events::{Event, Outcome, Refusal, Request, TaskNo};
 use ada_kernel::Kernel;
 use ada_standing::{Place, Renaming};
 use std::alloc::{AllocError, Global};
@@ -135,6 +135,21 @@ impl Pair {
         }
     }
 
+    // Whether the full kernel has an opening, a call, a wait, a delay, a start or a close at a position.
+    fn is_named_event(&self, position: u32) -> bool {
+        matches!(
+            self.full.journal().get(position),
+            Some(
+                Event::Opened { .. }
+                    | Event::Called { .. }
+                    | Event::Waiting { .. }
+                    | Event::Paused { .. }
+                    | Event::Started { .. }
+                    | Event::Closed { .. }
+            )
+        )
+    }
+
     /// The names as the check takes them.
     fn renaming(&self) -> Result<Option<Renaming>, AllocError> {
         let mut tasks = Vec::new(self.alloc);
@@ -143,7 +158,9 @@ impl Pair {
         }
         let mut places = Vec::new(self.alloc);
         for place in &self.names.places {
-            places.push(*place)?;
+            if self.is_named_event(place.old) {
+                places.push(*place)?;
+            }
         }
         Ok(Renaming::new(tasks, places))
     }
