@@ -1,5 +1,5 @@
-//! The end of a walk: the moment, the abort, and whatever completes or waits to leave a block. Until then helpers held up
-//! what would else have terminated.
+//! The end of a walk: the moment, the abort, and whatever completes or waits to leave a block. Until then helpers held
+//! up what would else have terminated.
 
 use crate::failure::NotCompacted;
 use crate::source::MAIN;

@@ -171,8 +171,8 @@ impl Walk<'_> {
     }
 }
 
-/// A second kernel that is asked for what still matters of a first one, and the names that lead to it. That it stands in
-/// for the first one is left to a check.
+/// A second kernel that is asked for what still matters of a first one, and the names that lead to it. That it stands
+/// in for the first one is left to a check.
 ///
 /// # Errors
 ///
