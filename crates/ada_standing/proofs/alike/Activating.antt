@@ -106,6 +106,6 @@ activated_alike old new names stands orderly also =
     (not (list_any (λ (t : TaskNo). has_failed old t.0) s.tasks)) (not (list_any (λ (t : TaskNo). has_failed new t.0) r.tasks)) pair.placed
     (rw (
       pending_by old pair.task s.by p pair.held (held_in-start pair.held.event s is),
-      pending_by new pair.stand r.by q pair.holds (held_in-start pair.holds.event r has)
+      pending_by new pair.stand r.by q pair.holds (held_in-start pair.holds.event r has),
     ) (all_done_alike old new names p q pair s r stands orderly also is has same))
     (ap not (sym same.failed)))

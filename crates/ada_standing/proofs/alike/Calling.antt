@@ -169,7 +169,7 @@ terminates_alike old new names p q u v pair stands named =
             same.tail,
             pair.held.unreleased,
             pair.holds.unreleased,
-            same_task_alike old new names pair.task u pair.stand v stands pair.named named
+            same_task_alike old new names pair.task u pair.stand v stands pair.named named,
           ) refl
       | AreBoth.neither is has ↦ rw (is, has) refl
     ]
@@ -186,11 +186,11 @@ ready_alike old new names u v stands orderly also named =
           let there : has_ended new v ≡ false = ended_alike old new names u v stands named ∙ active in
           rw (
             any_alike old new names (terminates old u) (terminates new v) stands orderly also
-            (λ p e at passes. terminates_held old u p e active at passes) (λ q e at passes. terminates_held new v q e there at passes)
-            (λ p q pair. terminates_alike old new names p q u v pair stands named),
+                (λ p e at passes. terminates_held old u p e active at passes) (λ q e at passes. terminates_held new v q e there at passes)
+                (λ p q pair. terminates_alike old new names p q u v pair stands named),
             there,
             active,
-            empty_alike old new names u v stands orderly also named
+            empty_alike old new names u v stands orderly also named,
           ) refl
     ]
   where

@@ -158,7 +158,7 @@ both_starts d e s r is has =
       has,
       no_call d 4 (start_kind d s is) (λ one. absurd cc),
       no_wait d 4 (start_kind d s is) (λ one. absurd cc),
-      no_delay d 4 (start_kind d s is) (λ one. absurd cc)
+      no_delay d 4 (start_kind d s is) (λ one. absurd cc),
     ) refl
 
 pub both_closes : (d e : Event) (a b : Closing) → closing_in d ≡ Some a → closing_in e ≡ Some b → is_same_kind d e ≡ true
@@ -169,5 +169,5 @@ both_closes d e a b is has =
       no_call d 5 (closing_kind d a is) (λ one. absurd cc),
       no_wait d 5 (closing_kind d a is) (λ one. absurd cc),
       no_delay d 5 (closing_kind d a is) (λ one. absurd cc),
-      no_start d 5 (closing_kind d a is) (λ one. absurd cc)
+      no_start d 5 (closing_kind d a is) (λ one. absurd cc),
     ) refl

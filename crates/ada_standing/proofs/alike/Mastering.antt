@@ -34,13 +34,13 @@ pub task_one : (old new : List Event) (names : Renaming) (s t v : ℕ) → Keeps
 task_one old new names s t v keeps first second = elim (cases_order s t) [
   | inl same ↦ same
   | inr other ↦ elim other [
-        | inl less ↦
-            let below : v < v = keeps.rising s t v v first second less in
-            omega arith
-        | inr more ↦
-            let below : v < v = keeps.rising t s v v second first more in
-            omega arith
-      ]
+    | inl less ↦
+        let below : v < v = keeps.rising s t v v first second less in
+        omega arith
+    | inr more ↦
+        let below : v < v = keeps.rising t s v v second first more in
+        omega arith
+  ]
 ]
 
 -- two numbers are the same alike, where what stands for them is
@@ -185,20 +185,20 @@ reaches_alike old new names x z y w stands orderly also (IsClimb.top m none) liv
       also.reach y w (lived_known new y there),
       none,
       at_top,
-      same_master_alike old new names x z y w stands first second
+      same_master_alike old new names x z y w stands first second,
     ) refl
 reaches_alike old new names x z y w stands orderly also (IsClimb.up m parent is climb) lived there first second =
     let within = parent_lived old x parent orderly lived is in
     let (other, named, beside) = lived_forth old new names parent stands within in
     let parent_is : parent_of new y ≡ Some other =
-        parent_alike old new names x y stands lived first ∙ (ap (option_and_then (renamed_master names)) is ∙ named) in
+    parent_alike old new names x y stands lived first ∙ (ap (option_and_then (renamed_master names)) is ∙ named) in
     rw (
       orderly.reach x z (lived_known old x lived),
       also.reach y w (lived_known new y there),
       is,
       parent_is,
       same_master_alike old new names x z y w stands first second,
-      reaches_alike old new names parent z other w stands orderly also climb within beside named second
+      reaches_alike old new names parent z other w stands orderly also climb within beside named second,
     ) refl
 
 by_parent : (old new : List Event) (names : Renaming) (u v : ℕ) (z w : Master) (o : Option Master) → StandsIn old new names → IsOrderly old → IsOrderly new

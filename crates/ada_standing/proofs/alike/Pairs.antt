@@ -85,7 +85,7 @@ pair_back old new names v q stands orderly also held =
     let one : like.at ≡ q = also.once v like.at q like.held held in (
       p,
       subst (IsPair old new names p) one
-      (record { task = u; stand = v; named = named; placed = like.renamed; held = there; holds = like.held; alike = like.alike }),
+          (record { task = u; stand = v; named = named; placed = like.renamed; held = there; holds = like.held; alike = like.alike }),
     )
 
 -- what stands at the positions of a pair

@@ -102,7 +102,7 @@ taken_choice_alike old new names w x stands orderly also named same =
       same.choices,
       same.pick,
       same_numbers (λ (c : Choice). is_some (front_of old w.by c)) (λ (c : Choice). is_some (front_of new x.by c)) 0 w.choices
-      (λ c. some_alike names.position (front_of old w.by c) (front_of new x.by c) (front_alike old new names w.by x.by c stands orderly also named))
+          (λ c. some_alike names.position (front_of old w.by c) (front_of new x.by c) (front_alike old new names w.by x.by c stands orderly also named)),
     ) refl
 
 front_at : (old new : List Event) (names : Renaming) (u v : ℕ) (o : Option Choice) → StandsIn old new names → IsOrderly old → IsOrderly new

@@ -111,8 +111,8 @@ to_fail_call : (journal : List Event) (p : ℕ) (e y : Event) → then_some (is_
 unfolding is_to_fail
 to_fail_call journal p e y gives =
     let (c, says, test) = option_map_or-true (λ (c : Call). has_ended journal c.callee || is_abnormal journal c.callee) (call_in e)
-        (and_parts (is_some_and (call_in e) (λ (c : Call). has_ended journal c.callee || is_abnormal journal c.callee)) (is_open_at journal p e)
-        (then_some-some (is_to_fail journal p e) (Failed p) y gives).0).0 in
+    (and_parts (is_some_and (call_in e) (λ (c : Call). has_ended journal c.callee || is_abnormal journal c.callee)) (is_open_at journal p e)
+    (then_some-some (is_to_fail journal p e) (Failed p) y gives).0).0 in
     (c, says)
 
 pub failed_alike : (old new : List Event) (names : Renaming) → StandsIn old new names → IsOrderly old → IsOrderly new
@@ -154,7 +154,7 @@ met_alike old new names stands orderly also =
     let also_by : x.by ≡ pair.stand = wait_by new pair.stand q pair.holds x has in
     rw (
       pending_by old pair.task w.by p pair.held (held_in-wait pair.held.event w is),
-      pending_by new pair.stand x.by q pair.holds (held_in-wait pair.holds.event x has)
+      pending_by new pair.stand x.by q pair.holds (held_in-wait pair.holds.event x has),
     )
     (meetings_alike names p q (taken_call old w) (taken_call new x) pair.placed
     (taken_call_alike old new names w x stands orderly also (ap names.task by ∙ (pair.named ∙ ap Some (sym also_by))) same)))
@@ -193,8 +193,8 @@ to_cancel_call : (journal : List Event) (p : ℕ) (e y : Event) → then_some (i
 unfolding is_to_cancel
 to_cancel_call journal p e y gives =
     let (c, says, test) = option_map_or-true (λ (c : Call). is_conditional c.patience || is_due (moment journal) c.due) (call_in e)
-        (and_parts (is_some_and (call_in e) (λ (c : Call). is_conditional c.patience || is_due (moment journal) c.due)) (is_queued_at journal p e)
-        (then_some-some (is_to_cancel journal p e) (Cancelled p) y gives).0).0 in
+    (and_parts (is_some_and (call_in e) (λ (c : Call). is_conditional c.patience || is_due (moment journal) c.due)) (is_queued_at journal p e)
+    (then_some-some (is_to_cancel journal p e) (Cancelled p) y gives).0).0 in
     (c, says)
 
 pub cancelled_alike : (old new : List Event) (names : Renaming) → StandsIn old new names → IsOrderly old → IsOrderly new
@@ -233,7 +233,7 @@ passed_alike old new names stands orderly also =
     (λ p q pair w x is has same.
     rw (
       pending_by old pair.task w.by p pair.held (held_in-wait pair.held.event w is),
-      pending_by new pair.stand x.by q pair.holds (held_in-wait pair.holds.event x has)
+      pending_by new pair.stand x.by q pair.holds (held_in-wait pair.holds.event x has),
     )
     (passes_alike names p q (way_of (moment old) w.choices w.pick w.tail) (way_of (moment new) x.choices x.pick x.tail) pair.placed
     (rw (same.choices, same.tail, same.pick, stands.moments) refl)))
@@ -247,7 +247,7 @@ to_wake_alike old new names p q pair a b stands is has same =
       pending_by old pair.task a.by p pair.held (held_in-delay pair.held.event a is),
       pending_by new pair.stand b.by q pair.holds (held_in-delay pair.holds.event b has),
       same,
-      stands.moments
+      stands.moments,
     ) refl
 
 to_wake_pending : (journal : List Event) (p : ℕ) (d : Delay) → is_to_wake journal p d ≡ true → is_pending journal p d.by ≡ true
@@ -277,7 +277,7 @@ unfolding is_to_leave renamed_master
 to_leave_alike old new names p q pair a b stands orderly also is has same =
     rw (
       pending_by old pair.task a.by p pair.held (held_in-closing pair.held.event a is),
-      pending_by new pair.stand b.by q pair.holds (held_in-closing pair.holds.event b has)
+      pending_by new pair.stand b.by q pair.holds (held_in-closing pair.holds.event b has),
     )
     (all_terminated_alike old new names (Block a.block) (Block b.block) stands orderly also (ap (option_map Block) same))
 

@@ -86,7 +86,7 @@ to_halt_alike old new names u v stands orderly also named =
             ended_alike old new names u v stands named,
             active,
             (stands.active u v named active).abnormal,
-            caller_alike old new names u v stands orderly also named
+            caller_alike old new names u v stands orderly also named,
           ) refl
     ]
   where
@@ -127,7 +127,7 @@ to_go_alike old new names u v stands orderly also named live =
       (stands.same u v named).terminated,
       same.completed,
       same.abandoned,
-      all_terminated_alike old new names (Body (task_no u)) (Body (task_no v)) stands orderly also (body_named names u v named)
+      all_terminated_alike old new names (Body (task_no u)) (Body (task_no v)) stands orderly also (body_named names u v named),
     ) refl
 
 pub gone_alike : (old new : List Event) (names : Renaming) → StandsIn old new names → IsOrderly old → IsOrderly new
@@ -155,7 +155,7 @@ to_quit_lived : (journal : List Event) (x : Master) → IsOrderly journal → is
 unfolding is_to_quit
 to_quit_lived journal x orderly quit =
     let first = and_parts (is_complete journal x && not (all_terminated journal x))
-        (all_below (λ u. not (depends_on journal u x) || is_terminated journal u || is_ready_to_quit journal u) (task_count journal)) quit in
+    (all_below (λ u. not (depends_on journal u x) || is_terminated journal u || is_ready_to_quit journal u) (task_count journal)) quit in
     some_dependent journal x orderly
     (not-true (all_terminated journal x) (and_parts (is_complete journal x) (not (all_terminated journal x)) first.0).1)
 
@@ -167,15 +167,15 @@ to_quit_alike old new names x y stands orderly also lived is =
       complete_alike old new names x y stands lived is,
       all_terminated_alike old new names x y stands orderly also is,
       all_alike old new names (λ u. not (depends_on old u x) || is_terminated old u || is_ready_to_quit old u)
-      (λ v. not (depends_on new v y) || is_terminated new v || is_ready_to_quit new v) stands
-      (λ u v named live.
-      rw (
-        depends_alike old new names u v x y stands orderly also named live is,
-        (stands.same u v named).terminated,
-        ready_alike old new names u v stands orderly also named
-      ) refl)
-      (λ u fail. still (not (depends_on old u x)) (is_terminated old u) (is_ready_to_quit old u) fail)
-      (λ v fail. still (not (depends_on new v y)) (is_terminated new v) (is_ready_to_quit new v) fail)
+          (λ v. not (depends_on new v y) || is_terminated new v || is_ready_to_quit new v) stands
+          (λ u v named live.
+          rw (
+            depends_alike old new names u v x y stands orderly also named live is,
+            (stands.same u v named).terminated,
+            ready_alike old new names u v stands orderly also named,
+          ) refl)
+          (λ u fail. still (not (depends_on old u x)) (is_terminated old u) (is_ready_to_quit old u) fail)
+          (λ v fail. still (not (depends_on new v y)) (is_terminated new v) (is_ready_to_quit new v) fail),
     ) refl
   where
     still : (a b c : Bool) → (a || b || c) ≡ false → b ≡ false

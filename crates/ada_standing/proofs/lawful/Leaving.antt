@@ -66,7 +66,7 @@ next_unleft event before lawful left =
     elim (or_cases (is_number (suc (length before)) (left_in event)) (list_any (λ (e : Event). is_number (suc (length before)) (left_in e)) before) left) [
       | inl now ↦
           let within : suc (length before) ≤ length before =
-              leaving_within event before (suc (length before)) lawful.1 (is_number-some (suc (length before)) (left_in event) now) in
+          leaving_within event before (suc (length before)) lawful.1 (is_number-some (suc (length before)) (left_in event) now) in
           omega arith
       | inr was ↦
           let within : suc (length before) ≤ length before = left_within before (suc (length before)) lawful.0 was in
@@ -100,7 +100,7 @@ pub left_cases : (event : Event) (before : List Event) (p : ℕ) → IsLawful (e
 unfolding is_left is_left_close
 left_cases event before p lawful left =
     let (q, e, at, passes) = any_event-found (λ q e. is_some_and (closing_in e) (λ (c : Closing). eqb c.block p) && is_left_close (event ∷ before) q)
-        (event ∷ before) left in
+    (event ∷ before) left in
     let both = and_parts (is_some_and (closing_in e) (λ (c : Closing). eqb c.block p)) (is_left_close (event ∷ before) q) passes in
     let (k, says, closes) = option_map_or-true (λ (c : Closing). eqb c.block p) (closing_in e) both.0 in
     elim (event_at-cases event before q e at) [

@@ -53,7 +53,7 @@ block_reaches_own (event ∷ before) task p lawful block =
           let says = ap opening_in newest.1 ∙ block.says in
           let asked = opening_asked event before block.opening lawful.1 says in
           let under : parent_in before event (Block p) ≡ frame before task =
-              parent_in-opened event before p block.opening says newest.0 ∙ (asked.within ∙ ap (frame before) block.by) in
+          parent_in-opened event before p block.opening says newest.0 ∙ (asked.within ∙ ap (frame before) block.by) in
           or_right (same_master (Block p) (Body (task_no task))) (reaches before (parent_in before event (Block p)) (Body (task_no task)))
           (rw under (own_frame before task (λ q inner. block_reaches_own before task q lawful.0 inner)))
       | inr older ↦
@@ -71,7 +71,7 @@ depends_further (event ∷ before) u x y lawful depends further =
       | inl made ↦
           let by = creation_asked event before made.creation lawful.1 made.says in
           let known = reaches_known before lawful.0 (frame before made.creation.by) made.creation.master (frame_known before made.creation.by by.asked.exists)
-              by.reached in
+          by.reached in
           let there = reaches_known before lawful.0 made.creation.master x known made.reached in
           depends_on-made event before u y made.creation made.says made.newest
           (reaches_trans before lawful.0 made.creation.master x y known made.reached (reaches_down event before x y there further))
@@ -97,8 +97,8 @@ own_reaches journal task b x lawful (IsClimb.up m w parent climb) (IsOwn.own_blo
     let block = own.block in
     let known : IsKnown journal (Block p) = record { event = block.event; opening = block.opening; stands = block.stands; says = block.says } in
     let ways : (same_master (Block p) (Block b) || reaches journal w (Block b)) ≡ true =
-        ap (λ (o : Option Master). same_master (Block p) (Block b) || option_map_or (λ (z : Master). reaches journal z (Block b)) o false) (sym parent)
-        ∙ (sym (masters_reach_by_parents journal (Block p) (Block b) lawful known) ∙ reached) in
+    ap (λ (o : Option Master). same_master (Block p) (Block b) || option_map_or (λ (z : Master). reaches journal z (Block b)) o false) (sym parent)
+    ∙ (sym (masters_reach_by_parents journal (Block p) (Block b) lawful known) ∙ reached) in
     elim (or_cases (eqb p b) (reaches journal w (Block b)) ways) [
       | inl here ↦ inl (subst (IsOwnBlock journal task) (eqb-true p b here) own)
       | inr further ↦ own_reaches journal task b w lawful climb (subst (IsOwn journal task) same (as_own z outer)) further
@@ -159,7 +159,7 @@ holder_live : (journal : List Event) (u : ℕ) (t : TaskNo) → IsLawful journal
 holder_live journal u t lawful live depends =
     let parts = live_parts journal u live in
     let below : t.0 < task_count journal =
-        reaches_known journal lawful (Body (task_no u)) (Body t) parts.0 (depends_reaches journal (task_no u) (Body t) depends) in
+    reaches_known journal lawful (Body (task_no u)) (Body t) parts.0 (depends_reaches journal (task_no u) (Body t) depends) in
     live_from journal t.0 below
     (false_from_ne_true (is_terminated journal t.0) (λ ended.
     true≢false (sym (a_terminated_body_has_no_live_dependent journal lawful t u ended depends) ∙ parts.1)))
@@ -171,13 +171,13 @@ masters_lived_in journal u (Body t) lawful live depends = IsLivedIn.body t (hold
 masters_lived_in journal u (Block b) lawful live depends =
     let parts = live_parts journal u live in
     let known : IsKnown journal (Block b) =
-        reaches_known journal lawful (Body (task_no u)) (Block b) parts.0 (depends_reaches journal (task_no u) (Block b) depends) in
+    reaches_known journal lawful (Body (task_no u)) (Block b) parts.0 (depends_reaches journal (task_no u) (Block b) depends) in
     let holder = known.opening.by in
     let block : IsBlockOf journal holder b =
-        record { event = known.event; opening = known.opening; stands = known.stands; says = known.says; by = refl } in
+    record { event = known.event; opening = known.opening; stands = known.stands; says = known.says; by = refl } in
     let on_body = depends_further journal u (Block b) (Body (task_no holder)) lawful depends (block_reaches_own journal holder b lawful block) in
     let unleft : is_left journal b ≡ false =
-        false_from_ne_true (is_left journal b) (λ left. true≢false (sym (left_dependents journal b u lawful left depends) ∙ parts.1)) in
+    false_from_ne_true (is_left journal b) (λ left. true≢false (sym (left_dependents journal b u lawful left depends) ∙ parts.1)) in
     IsLivedIn.block holder b (holder_live journal u (task_no holder) lawful live on_body)
     (own_nested journal holder b (record { block = block; unleft = unleft }))
 

@@ -247,7 +247,7 @@ closed_last (event ∷ before) c e k lawful at says unreleased live =
           let free = is_released-before event before c unreleased in
           let lives = has_ended-before event before k.by live in
           let suspended = is_suspended-from before k.by c
-              (record { event = e; stands = older; holds = held_in-closing e k says; unreleased = free; live = lives }) in
+          (record { event = e; stands = older; holds = held_in-closing e k says; unreleased = free; live = lives }) in
           still_last event before k.by k.block (closed_last before c e k lawful.0 older says free lives)
           (λ o opens by.
           let runs = (opening_asked event before o lawful.1 opens).runs in
@@ -298,10 +298,10 @@ unfolding is_to_leave
 outer_stays event before task p q lawful own less outer leaves =
     let gone = leaves.gone in
     let pending = pending_parts before leaves.close gone.closing.by
-        (and_parts (is_pending before leaves.close gone.closing.by) (all_terminated before (BlockMaster gone.closing.block)) gone.leave).0 in
+    (and_parts (is_pending before leaves.close gone.closing.by) (all_terminated before (BlockMaster gone.closing.block)) gone.leave).0 in
     let last = closed_last before leaves.close gone.closed gone.closing lawful.0 gone.stands gone.says pending.0 pending.1 in
     let by : gone.closing.by ≡ task =
-        one_opener before gone.closing.by task q (subst (IsBlockOf before gone.closing.by) leaves.block last.own) outer.block in
+    one_opener before gone.closing.by task q (subst (IsBlockOf before gone.closing.by) leaves.block last.own) outer.block in
     let below : p ≤ gone.closing.block = last.last p (subst (λ (n : ℕ). IsOwnBlock before n p) (sym by) own) in
     let block : gone.closing.block ≡ q = leaves.block in
     omega arith
@@ -330,12 +330,14 @@ outer_own (event ∷ before) task p lawful own =
           let o = own.block.opening in
           let says : opening_in event ≡ Some o = ap opening_in newest.1 ∙ own.block.says in
           let asked = opening_asked event before o lawful.1 says in
-          let frame_is : o.under ≡ frame before task = asked.within ∙ ap (frame before) own.block.by in
-          (o.under, parent_newest event before p o newest.0 says,
-          outer_newest event before task p o o.under lawful newest.0 says (subst (IsOwn before task) (sym frame_is) (frame_own before task)))
+          let frame_is : o.under ≡ frame before task = asked.within ∙ ap (frame before) own.block.by in (
+            o.under,
+            parent_newest event before p o newest.0 says,
+            outer_newest event before task p o o.under lawful newest.0 says (subst (IsOwn before task) (sym frame_is) (frame_own before task)),
+          )
       | inr older ↦
           let was : IsOwnBlock before task p =
-              record { block = block_older before task p event own.block older; unleft = unleft_before event before p own.unleft } in
+          record { block = block_older before task p event own.block older; unleft = unleft_before event before p own.unleft } in
           let (z, is, outer) = outer_own before task p lawful.0 was in
           (z, parent_older event before p own.block.event older ∙ is, outer_later event before task p z lawful was outer)
     ]

@@ -39,7 +39,7 @@ unfolding asked_event start_in names_unknown_task named_tasks
 asked_exist journal (request.Activate by tasks) s u accepted says among =
     let known = (is_accepted journal (request.Activate by tasks) accepted).tasks_known in
     let both = or_parts (is_some_and (asker (request.Activate by tasks)) (λ t. not (has_task journal t)))
-        (list_any (λ (t : TaskNo). not (has_task journal t.0)) tasks) known in
+    (list_any (λ (t : TaskNo). not (has_task journal t.0)) tasks) known in
     all_exist journal tasks u both.1 (ap (λ (x : Start). lists_task u x.tasks) (same_Some _ s says) ∙ among)
 asked_exist journal _ s u accepted says among = absurd (none-some s says)
 
