@@ -1,0 +1,2 @@
+-- What is asked of two journals of which one stands in for the other: questions and requests.
+pub mod Answering
