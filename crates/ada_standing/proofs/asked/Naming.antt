@@ -2,7 +2,7 @@
 use Rattle.std.proofs.Common.{◌≡◌, ℕ, ◌≤◌, true, false, not, ◌||◌, eqb, Option, Some, None, List, [], ◌∷◌, map, refl, sym, ap, ◌∙◌, inl, inr}
 use Rattle.std.specs.Option.{option_map, option_map_or, unwrap_or, is_some}
 use Rattle.std.specs.List.{list_any, list_all}
-use Rattle.std.proofs.lemmas.Bool.{and_parts, or_cases, or_parts, le-ltb, not-true, not-false, true≢false, false≢true}
+use Rattle.std.proofs.lemmas.Bool.{and_parts, or_cases, or_parts, le-ltb, ltb-true, not-true, not-false, true≢false, false≢true}
 use Rattle.ada_events.specs.declared.event.Event.{Event}
 use Rattle.ada_events.specs.declared.request.Request.{Request}
 use Rattle.ada_events.specs.declared.request.Request.TheVariants.{Open, Create}
@@ -17,8 +17,9 @@ use Rattle.ada_events.specs.Refusals.{names_unknown_task, asker_not_running, has
 use Rattle.ada_laws.proofs.Searching.{option_map_or-false}
 use Rattle.ada_laws.proofs.Accepting.{running_live}
 use Rattle.ada_standing.specs.Renaming.{Renaming}
-use Rattle.ada_standing.specs.StandsIn.{StandsIn}
+use Rattle.ada_standing.specs.StandsIn.{StandsIn, is_live}
 use Rattle.ada_standing.specs.Asking.{nobody, asked_task, asked_master, renamed_request, is_kept, names_kept}
+use Rattle.ada_standing.proofs.alike.Pairs.{live_from, active_parts}
 use Rattle.ada_standing.proofs.alike.Phases.{running_alike}
 use Rattle.ada_standing.proofs.alike.Calling.{same_task_alike}
 
@@ -39,6 +40,10 @@ pub record IsAsker (old : List Event) (names : Renaming) (u : ℕ) : Type 0 wher
   pub stand : ℕ
   pub named : names.task u ≡ Some stand
   pub active : has_ended old u ≡ false
+
+pub asker_live : (old new : List Event) (names : Renaming) (u : ℕ) → StandsIn old new names → IsAsker old names u → is_live old u ≡ true
+asker_live old new names u stands asker =
+    live_from old u (ltb-true u (task_count old) (stands.same u asker.stand asker.named).existed) (active_parts old u asker.active).1
 
 -- the task that asks has a name, and hasn't ended, and the others that the request names have names
 pub record IsAsking (old : List Event) (names : Renaming) (request : Request) : Type 0 where
