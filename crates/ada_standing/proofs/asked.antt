@@ -3,3 +3,6 @@ pub mod Answering
 mod Naming
 mod Nested
 mod ByName
+mod ByEntry
+mod ByNest
+mod ByMoment
