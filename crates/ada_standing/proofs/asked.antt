@@ -6,3 +6,4 @@ mod ByName
 mod ByEntry
 mod ByNest
 mod ByMoment
+pub mod Refusing

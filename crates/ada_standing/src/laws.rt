@@ -1,5 +1,5 @@
 //! Laws of two lawful journals of which the second stands in for the first.
-ghost use Rattle.ada_standing.specs.Laws.{AnsweredAlike, ForcedAlike};
+ghost use Rattle.ada_standing.specs.Laws.{AcceptedWithoutLimits, AnsweredAlike, ForcedAlike, LimitsRefuseAtLast, RefusedAlike};
 
 /// The second journal forces what stands for the step that the first one forces: the same step of the tasks, masters
 /// and positions that stand for those it names. It forces none where the first one forces none.
@@ -13,4 +13,23 @@ pub fn forced_alike()
 #[tactic(auto, using(crate::proofs::asked::Answering::answered_alike))]
 pub fn answered_alike()
     ensures { AnsweredAlike }
+{}
+
+/// Requests are refused alike, where tasks, slots and events have no limit: of a request whose tasks have names or don't
+/// exist, what stands for it is refused for the same cause, or not at all.
+#[tactic(auto, using(crate::proofs::asked::Refusing::refused_alike))]
+pub fn refused_alike()
+    ensures { RefusedAlike }
+{}
+
+/// A request is refused for a limit of tasks, slots or events only where there is no other cause.
+#[tactic(auto, using(crate::proofs::asked::Refusing::limits_refuse_at_last))]
+pub fn limits_refuse_at_last()
+    ensures { LimitsRefuseAtLast }
+{}
+
+/// What isn't refused isn't refused where tasks, slots and events have no limit.
+#[tactic(auto, using(crate::proofs::asked::Refusing::accepted_without_limits))]
+pub fn accepted_without_limits()
+    ensures { AcceptedWithoutLimits }
 {}
