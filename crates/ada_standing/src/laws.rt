@@ -1,5 +1,6 @@
 //! Laws of two lawful journals of which the second stands in for the first.
-ghost use Rattle.ada_standing.specs.Laws.{AcceptedWithoutLimits, AnsweredAlike, ForcedAlike, LimitsRefuseAtLast, RefusedAlike};
+ghost use Rattle.ada_standing.specs.Laws.{AcceptedWithoutLimits, AnsweredAlike, ForcedAlike};
+ghost use Rattle.ada_standing.specs.Laws.{LimitsRefuseAtLast, RefusedAlike};
 
 /// The second journal forces what stands for the step that the first one forces: the same step of the tasks, masters
 /// and positions that stand for those it names. It forces none where the first one forces none.
@@ -15,8 +16,8 @@ pub fn answered_alike()
     ensures { AnsweredAlike }
 {}
 
-/// Requests are refused alike, where tasks, slots and events have no limit: of a request whose tasks have names or don't
-/// exist, what stands for it is refused for the same cause, or not at all.
+/// Requests are refused alike, where tasks, slots and events have no limit: what stands for a request is refused for
+/// the same cause, or isn't refused either, provided that each task that the request names has a name or doesn't exist.
 #[tactic(auto, using(crate::proofs::asked::Refusing::refused_alike))]
 pub fn refused_alike()
     ensures { RefusedAlike }

@@ -9,7 +9,7 @@ use Rattle.ada_events.specs.Refusals.{lacks_family, is_outside}
 use Rattle.ada_events.specs.Attributes.{is_finished, count_refusal, own_count}
 use Rattle.ada_standing.specs.Renaming.{Renaming}
 use Rattle.ada_standing.specs.StandsIn.{StandsIn}
-use Rattle.ada_standing.specs.Asking.{AnswerAlike}
+use Rattle.ada_standing.specs.Asking.{AnswerAlike, AnswersAlike}
 use Rattle.ada_standing.specs.Laws.{AnsweredAlike}
 use Rattle.ada_standing.proofs.alike.Orderly.{IsOrderly}
 use Rattle.ada_standing.proofs.alike.Phases.{running_alike, callable_alike}
@@ -37,7 +37,7 @@ count_refused_alike old new names u v entry stands named =
       same.existed,
       running_alike old new names u v stands named,
       lacks_alike old new names u v entry stands named,
-      outside_alike old new names u v entry stands named
+      outside_alike old new names u v entry stands named,
     ) refl
 
 answers_same : (o p : Option Refusal) (m n : ℕ) → o ≡ p → m ≡ n
@@ -67,13 +67,13 @@ answer_alike old new names u v stands orderly also named = record {
   own_count = λ entry. own_count_alike old new names u v entry stands orderly also named;
 }
 
-pub answered_alike : AnsweredAlike
+pub answers_alike : (old new : List Event) (names : Renaming) → StandsIn old new names → IsOrderly old → IsOrderly new → AnswersAlike old new names
 unfolding is_finished
-answered_alike old new names stands lawful lawful_too =
-    let orderly = lawful_orderly old lawful in
-    let also = lawful_orderly new lawful_too in
-    record {
-      moments = stands.moments;
-      finished = (stands.same 0 0 stands.tasks.main).terminated;
-      tasks = λ u v named. answer_alike old new names u v stands orderly also named;
-    }
+answers_alike old new names stands orderly also = record {
+  moments = stands.moments;
+  finished = (stands.same 0 0 stands.tasks.main).terminated;
+  tasks = λ u v named. answer_alike old new names u v stands orderly also named;
+}
+
+pub answered_alike : AnsweredAlike
+answered_alike old new names stands lawful lawful_too = answers_alike old new names stands (lawful_orderly old lawful) (lawful_orderly new lawful_too)

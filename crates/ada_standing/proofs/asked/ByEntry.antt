@@ -1,5 +1,5 @@
 -- The causes that have to do with activation and entries apply alike.
-use Rattle.std.proofs.Common.{◌≡◌, ℕ, Bool, true, false, not, ◌&&◌, ◌||◌, eqb, Option, Some, None, List, [], ◌∷◌, map, refl, sym, ap, ◌∙◌, subst}
+use Rattle.std.proofs.Common.{◌≡◌, ℕ, Bool, true, false, not, ◌&&◌, eqb, Option, Some, None, List, [], ◌∷◌, map, refl, sym, ap, ◌∙◌, subst}
 use Rattle.std.proofs.Common.{inl, inr, ◌≢◌}
 use Rattle.std.specs.Option.{option_and_then}
 use Rattle.std.specs.Bool.{then_some}
@@ -16,7 +16,7 @@ use Rattle.ada_events.specs.Says.{Creation}
 use Rattle.ada_events.specs.Tasks.{creation_of}
 use Rattle.ada_events.specs.Phases.{has_start, is_terminated}
 use Rattle.ada_events.specs.Asks.{asker, named_tasks}
-use Rattle.ada_events.specs.Refusals.{may_activate, has_double_task, is_not_your_task, has_no_accept, lacks_family, names_no_family, is_outside, breaks_constraint}
+use Rattle.ada_events.specs.Refusals.{may_activate, is_not_your_task, has_no_accept, lacks_family, names_no_family, is_outside, breaks_constraint}
 use Rattle.ada_standing.specs.Renaming.{Renaming}
 use Rattle.ada_standing.specs.StandsIn.{StandsIn, activator_of}
 use Rattle.ada_standing.specs.Asking.{asked_task, renamed_request}
@@ -82,7 +82,7 @@ may_all_alike old new names u (t ∷ rest) stands asker have =
     rw (
       have.0.1,
       may_alike old new names u t.0 have.0.0 stands asker have.0.1,
-      may_all_alike old new names u rest stands asker have.1
+      may_all_alike old new names u rest stands asker have.1,
     ) refl
 
 pub not_your_task_alike : (old new : List Event) (names : Renaming) (request : Request) → StandsIn old new names → IsAsking old names request
@@ -93,7 +93,7 @@ not_your_task_alike old new names (Activate by tasks) stands asking =
     rw (
       asker.named,
       may_all_alike old new names by.0 tasks stands asker asking.tasks,
-      double_alike old new names tasks stands asking.tasks
+      double_alike old new names tasks stands asking.tasks,
     ) refl
 not_your_task_alike old new names _ stands asking = refl
 

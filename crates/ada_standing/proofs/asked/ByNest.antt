@@ -9,7 +9,8 @@ use Rattle.ada_events.specs.declared.names.Choice.{Choice}
 use Rattle.ada_events.specs.Nests.{nest}
 use Rattle.ada_events.specs.Asks.{asker}
 use Rattle.ada_events.specs.Limits.{is_too_deep}
-use Rattle.ada_events.specs.Refusals.{is_rendezvous, is_rendezvous_for, nests_same_family, terminates_in_accept, is_not_in_accept, has_no_block, is_still_nested}
+use Rattle.ada_events.specs.Refusals.{is_rendezvous, is_rendezvous_for, nests_same_family, terminates_in_accept, is_not_in_accept, has_no_block}
+use Rattle.ada_events.specs.Refusals.{is_still_nested}
 use Rattle.ada_standing.specs.Renaming.{Renaming}
 use Rattle.ada_standing.specs.StandsIn.{StandsIn}
 use Rattle.ada_standing.specs.Asking.{renamed_request}

@@ -1,5 +1,5 @@
 -- The tasks that a request names: which of them exist, and which have names.
-use Rattle.std.proofs.Common.{◌≡◌, ℕ, ◌≤◌, true, false, not, ◌||◌, eqb, Option, Some, None, List, [], ◌∷◌, map, refl, sym, ap, ◌∙◌, inl, inr}
+use Rattle.std.proofs.Common.{◌≡◌, ℕ, ◌≤◌, true, false, not, Option, Some, None, List, [], ◌∷◌, map, refl, sym, ap, ◌∙◌, inl, inr}
 use Rattle.std.specs.Option.{option_map, option_map_or, unwrap_or, is_some}
 use Rattle.std.specs.List.{list_any, list_all}
 use Rattle.std.proofs.lemmas.Bool.{and_parts, or_cases, or_parts, le-ltb, ltb-true, not-true, not-false, true≢false, false≢true}
@@ -11,7 +11,6 @@ use Rattle.ada_events.specs.declared.names.Master.TheVariants.{Body, Block}
 use Rattle.ada_events.specs.Search.{is_some_and}
 use Rattle.ada_events.specs.Tasks.{has_task, task_count}
 use Rattle.ada_events.specs.Phases.{lists_task, has_ended, is_running}
-use Rattle.ada_events.specs.Forced.{task_no}
 use Rattle.ada_events.specs.Asks.{asker, named_tasks}
 use Rattle.ada_events.specs.Refusals.{names_unknown_task, asker_not_running, has_double_task}
 use Rattle.ada_laws.proofs.Searching.{option_map_or-false}
@@ -106,12 +105,12 @@ pub unknown_alike : (old new : List Event) (names : Renaming) (request : Request
 unfolding names_unknown_task names_kept
 unknown_alike old new names request stands few kept =
     let both = and_parts (option_map_or (is_kept names old) (asker request) true)
-        (list_all (λ (t : TaskNo). is_kept names old t.0) (named_tasks request)) kept in
+    (list_all (λ (t : TaskNo). is_kept names old t.0) (named_tasks request)) kept in
     rw (
       asker_renamed names request,
       tasks_renamed names request,
       asker_unknown old new names (asker request) stands few both.0,
-      tasks_unknown old new names (named_tasks request) stands few both.1
+      tasks_unknown old new names (named_tasks request) stands few both.1,
     ) refl
 
 -- where all tasks that a request names exist, they have names
@@ -136,9 +135,9 @@ pub asker_has_name : (old : List Event) (names : Renaming) (request : Request) (
 unfolding names_unknown_task names_kept
 asker_has_name old names request u kept known asks =
     let both = and_parts (option_map_or (is_kept names old) (asker request) true)
-        (list_all (λ (t : TaskNo). is_kept names old t.0) (named_tasks request)) kept in
+    (list_all (λ (t : TaskNo). is_kept names old t.0) (named_tasks request)) kept in
     let exist = or_parts (is_some_and (asker request) (λ t. not (has_task old t)))
-        (list_any (λ (t : TaskNo). not (has_task old t.0)) (named_tasks request)) known in
+    (list_any (λ (t : TaskNo). not (has_task old t.0)) (named_tasks request)) known in
     asker_named old names (asker request) u both.0 exist.0 asks
 
 tasks_have_names : (old : List Event) (names : Renaming) (request : Request) → names_kept names old request ≡ true
@@ -146,9 +145,9 @@ tasks_have_names : (old : List Event) (names : Renaming) (request : Request) →
 unfolding names_unknown_task names_kept
 tasks_have_names old names request kept known =
     let both = and_parts (option_map_or (is_kept names old) (asker request) true)
-        (list_all (λ (t : TaskNo). is_kept names old t.0) (named_tasks request)) kept in
+    (list_all (λ (t : TaskNo). is_kept names old t.0) (named_tasks request)) kept in
     let exist = or_parts (is_some_and (asker request) (λ t. not (has_task old t)))
-        (list_any (λ (t : TaskNo). not (has_task old t.0)) (named_tasks request)) known in
+    (list_any (λ (t : TaskNo). not (has_task old t.0)) (named_tasks request)) known in
     names_of old names (named_tasks request) both.1 exist.1
 
 -- and the task that asks runs or doesn't run alike
@@ -188,7 +187,7 @@ lists_alike old new names u v (t ∷ rest) stands named have =
     rw (
       have.0.1,
       ← same_task_alike old new names t.0 u have.0.0 v stands have.0.1 named,
-      lists_alike old new names u v rest stands named have.1
+      lists_alike old new names u v rest stands named have.1,
     ) refl
 
 pub double_alike : (old new : List Event) (names : Renaming) (tasks : List TaskNo) → StandsIn old new names → HaveNames names tasks
@@ -199,5 +198,5 @@ double_alike old new names (t ∷ rest) stands have =
     rw (
       have.0.1,
       lists_alike old new names t.0 have.0.0 rest stands have.0.1 have.1,
-      double_alike old new names rest stands have.1
+      double_alike old new names rest stands have.1,
     ) refl

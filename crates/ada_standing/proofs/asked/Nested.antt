@@ -41,7 +41,7 @@ members_alike names test there (x ∷ xs) (y ∷ ys) same alike =
     let head : Some y ≡ renamed_member names x = cc in
     rw (
       alike x y (Contains-first x xs) (sym head),
-      members_alike names test there xs ys (cc) (λ a b within is. alike a b (Contains-later x a xs within) is)
+      members_alike names test there xs ys (cc) (λ a b within is. alike a b (Contains-later x a xs within) is),
     ) refl
 
 -- the innermost members stand for one another
@@ -50,7 +50,8 @@ innermost_alike : (names : Renaming) (xs ys : List Member) → AreRenamed names 
 innermost_alike names xs ys same =
     sym (slice_get-map Some ys (length ys - 1))
     ∙ (ap (λ (l : List (Option Member)). slice_get l (length ys - 1)) same
-    ∙ (slice_get-map (renamed_member names) xs (length ys - 1) ∙ ap (λ n. option_map (renamed_member names) (slice_get xs (n - 1))) (same_lengths names xs ys same)))
+    ∙ (slice_get-map (renamed_member names) xs (length ys - 1)
+    ∙ ap (λ n. option_map (renamed_member names) (slice_get xs (n - 1))) (same_lengths names xs ys same)))
 
 -- renamed members are rendezvous alike
 pub rendezvous_alike : (names : Renaming) (x y : Member) → renamed_member names x ≡ Some y → is_rendezvous y ≡ is_rendezvous x

@@ -1,10 +1,10 @@
 -- Requests are refused alike but for the limits of tasks, slots and events, and for those only where there is no other cause.
-use Rattle.std.proofs.Common.{◌≡◌, ◌≤◌, Bool, true, false, cond, Option, Some, None, List, [], ◌∷◌, ◌++◌, drop, refl, ap, sym, ◌∙◌, arith}
+use Rattle.std.proofs.Common.{◌≡◌, ◌≤◌, Bool, true, false, cond, Option, Some, List, [], ◌∷◌, ◌++◌, drop, refl, sym, ◌∙◌, arith}
 use Rattle.std.specs.Option.{option_or}
 use Rattle.ada_events.specs.declared.event.Event.{Event}
 use Rattle.ada_events.specs.declared.limits.TheConstants.{MOST_TASKS}
 use Rattle.ada_events.specs.declared.request.Request.{Request}
-use Rattle.ada_events.specs.declared.request.Request.TheVariants.{Open, Create, Wait}
+use Rattle.ada_events.specs.declared.request.Request.TheVariants.{Create}
 use Rattle.ada_events.specs.declared.refusal.Refusal.{Refusal}
 use Rattle.ada_events.specs.declared.refusal.Refusal.TheVariants.{UnknownTask, NotRunning, MainTask, MomentBack, MomentTooLarge, TooManyTasks, TooManySlots}
 use Rattle.ada_events.specs.declared.refusal.Refusal.TheVariants.{TooDeep, JournalFull}
@@ -56,15 +56,17 @@ others_alike old new names request stands orderly also asking =
       aborts_main_alike old new names request stands asking,
       moves_back_alike old new names request stands,
       too_late_alike old new names request stands,
-      too_deep_alike old new names request stands asking
+      too_deep_alike old new names request stands asking,
     ) refl
 
-causes_alike : (old new : List Event) (names : Renaming) (request : Request) → StandsIn old new names → IsOrderly old → IsOrderly new
+-- the causes are the same, of journals that may have more tasks than the limit
+pub causes_alike : (old new : List Event) (names : Renaming) (request : Request) → StandsIn old new names → IsOrderly old → IsOrderly new
     → task_count new ≤ nobody → names_kept names old request ≡ true
-    → first_cause (causes_but_limits new (renamed_request names request)) ≡ first_cause (causes_but_limits old request)
-unfolding causes_but_limits
+    → refusal_but_limits new (renamed_request names request) ≡ refusal_but_limits old request
+unfolding refusal_but_limits causes_but_limits
 causes_alike old new names request stands orderly also few kept =
-    first_same (names_unknown_task new (renamed_request names request)) (names_unknown_task old request) UnknownTask _ _
+    first_same (names_unknown_task new (renamed_request names request)) (names_unknown_task old request) UnknownTask
+    (drop 1 (causes_but_limits new (renamed_request names request))) (drop 1 (causes_but_limits old request))
     (unknown_alike old new names request stands few kept)
     (λ known.
     first_same (asker_not_running new (renamed_request names request)) (asker_not_running old request) NotRunning
@@ -73,7 +75,6 @@ causes_alike old new names request stands orderly also few kept =
     (λ runs. others_alike old new names request stands orderly also (is_asking old names request kept known runs)))
 
 pub refused_alike : RefusedAlike
-unfolding refusal_but_limits
 refused_alike old new names request stands lawful lawful_too kept =
     let few : task_count new ≤ MOST_TASKS = tasks_are_few new lawful_too in
     causes_alike old new names request stands (lawful_orderly old lawful) (lawful_orderly new lawful_too) (omega arith) kept
@@ -84,14 +85,15 @@ onwards : (b : Bool) (name : Refusal) (x y o : Option Refusal) → x ≡ option_
 onwards true name x y o same = refl
 onwards false name x y o same = same
 
--- the same causes before both
+-- the same causes before others that give the same first
 first_after : (xs ys zs : List Cause) (o : Option Refusal) → first_cause ys ≡ option_or (first_cause zs) o
     → first_cause (xs ++ ys) ≡ option_or (first_cause (xs ++ zs)) o
 unfolding first_cause
 first_after [] ys zs o same = same
 first_after (c ∷ xs) ys zs o same = onwards c.applies c.name (first_cause (xs ++ ys)) (first_cause (xs ++ zs)) o (first_after xs ys zs o same)
 
--- where there is no limit of tasks and slots, or a nest can't be too deep
+-- a request that can't be too deep, and one that makes no task
+
 shallow : (m b l t s f : Bool)
     → first_cause (cause m MainTask ∷ cause b MomentBack ∷ cause l MomentTooLarge ∷ cause t TooManyTasks ∷ cause s TooManySlots ∷ cause false TooDeep
     ∷ cause f JournalFull ∷ [])
@@ -122,9 +124,6 @@ last_causes journal (Create by master families) =
     let request = Create by master families in
     shallow (aborts_main request) (moves_back journal request) (is_too_late journal request) (makes_too_many_tasks journal request)
     (makes_too_many_slots journal request) (is_full journal)
-last_causes journal (Open by) =
-    let request = Open by in
-    few (aborts_main request) (moves_back journal request) (is_too_late journal request) (is_too_deep journal request) (is_full journal)
 last_causes journal request =
     few (aborts_main request) (moves_back journal request) (is_too_late journal request) (is_too_deep journal request) (is_full journal)
 
