@@ -1,11 +1,14 @@
 -- Laws of two lawful journals of which the second stands in for the first.
-use Rattle.std.specs.Prelude.{◌≡◌, List, is_none}
-use Rattle.std.specs.Option.{option_and_then}
+use Rattle.std.specs.Prelude.{◌≡◌, true, None, List, is_none}
+use Rattle.std.specs.Option.{option_and_then, option_or}
 use Rattle.ada_events.specs.declared.event.Event.{Event}
+use Rattle.ada_events.specs.declared.request.Request.{Request}
 use Rattle.ada_events.specs.Forced.{forced}
+use Rattle.ada_events.specs.Refusals.{refusal}
 use Rattle.ada_events.specs.Lawful.{IsLawful}
 use Rattle.ada_standing.specs.Renaming.{Renaming, renamed_event}
 use Rattle.ada_standing.specs.StandsIn.{StandsIn}
+use Rattle.ada_standing.specs.Asking.{renamed_request, names_kept, refusal_but_limits, limit_refusal, AnswersAlike}
 
 -- the second journal forces what stands for the step that the first one forces, and none where that forces none
 pub record ForceAlike (old new : List Event) (names : Renaming) : Type 0 where
@@ -15,3 +18,23 @@ pub record ForceAlike (old new : List Event) (names : Renaming) : Type 0 where
 -- both journals force alike
 abbrev pub ForcedAlike : Type 0
 ForcedAlike = (old new : List Event) (names : Renaming) → StandsIn old new names → IsLawful old → IsLawful new → ForceAlike old new names
+
+-- both journals answer questions alike
+abbrev pub AnsweredAlike : Type 0
+AnsweredAlike = (old new : List Event) (names : Renaming) → StandsIn old new names → IsLawful old → IsLawful new → AnswersAlike old new names
+
+-- the second journal refuses what stands for a request as the first one refuses that, where tasks, slots and events
+-- have no limit, and each task that the request names has a name or doesn't exist
+abbrev pub RefusedAlike : Type 0
+RefusedAlike =
+    (old new : List Event) (names : Renaming) (request : Request) → StandsIn old new names → IsLawful old → IsLawful new
+    → names_kept names old request ≡ true → refusal_but_limits new (renamed_request names request) ≡ refusal_but_limits old request
+
+-- a request is refused for a limit of tasks, slots or events only where it isn't refused for another cause
+abbrev pub LimitsRefuseAtLast : Type 0
+LimitsRefuseAtLast =
+    (journal : List Event) (request : Request) → refusal journal request ≡ option_or (refusal_but_limits journal request) (limit_refusal journal request)
+
+-- what isn't refused isn't refused where tasks, slots and events have no limit
+abbrev pub AcceptedWithoutLimits : Type 0
+AcceptedWithoutLimits = (journal : List Event) (request : Request) → refusal journal request ≡ None → refusal_but_limits journal request ≡ None

@@ -2,4 +2,5 @@ pub mod Renaming
 pub mod Names
 pub mod Holds
 pub mod StandsIn
+pub mod Asking
 pub mod Laws

@@ -1,9 +1,36 @@
 //! Laws of two lawful journals of which the second stands in for the first.
-ghost use Rattle.ada_standing.specs.Laws.{ForcedAlike};
+ghost use Rattle.ada_standing.specs.Laws.{AcceptedWithoutLimits, AnsweredAlike, ForcedAlike};
+ghost use Rattle.ada_standing.specs.Laws.{LimitsRefuseAtLast, RefusedAlike};
 
 /// The second journal forces what stands for the step that the first one forces: the same step of the tasks, masters
 /// and positions that stand for those it names. It forces none where the first one forces none.
 #[tactic(auto, using(crate::proofs::lawful::Laws::forced_alike))]
 pub fn forced_alike()
     ensures { ForcedAlike }
+{}
+
+/// Questions are answered alike: what the moment is, whether the main program is terminated, and of each task that has
+/// a name whether it is terminated, callable or running, its outcome, and the queues and COUNT of its entries.
+#[tactic(auto, using(crate::proofs::asked::Answering::answered_alike))]
+pub fn answered_alike()
+    ensures { AnsweredAlike }
+{}
+
+/// Requests are refused alike, where tasks, slots and events have no limit: what stands for a request is refused for
+/// the same cause, or isn't refused either, provided that each task that the request names has a name or doesn't exist.
+#[tactic(auto, using(crate::proofs::asked::Refusing::refused_alike))]
+pub fn refused_alike()
+    ensures { RefusedAlike }
+{}
+
+/// A request is refused for a limit of tasks, slots or events only where there is no other cause.
+#[tactic(auto, using(crate::proofs::asked::Refusing::limits_refuse_at_last))]
+pub fn limits_refuse_at_last()
+    ensures { LimitsRefuseAtLast }
+{}
+
+/// What isn't refused isn't refused where tasks, slots and events have no limit.
+#[tactic(auto, using(crate::proofs::asked::Refusing::accepted_without_limits))]
+pub fn accepted_without_limits()
+    ensures { AcceptedWithoutLimits }
 {}
