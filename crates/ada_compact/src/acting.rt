@@ -24,7 +24,7 @@ fn pauses_up_to(open: u8) -> Pauses {
 }
 
 impl Walk<'_> {
-    // Accepts the helper's call, and ends the rendezvous. A call whose rendezvous isn't over was accepted with the nest.
+    // Accepts the helper's call, and ends the rendezvous. One that isn't over was begun with the nest.
     fn serve_again(&mut self, task: TaskNo, by: TaskNo) -> Result<(), NotCompacted> {
         let Some(call) = self.old.call_over(task) else {
             return Ok(());

@@ -4,3 +4,4 @@ pub mod Holds
 pub mod StandsIn
 pub mod Asking
 pub mod Laws
+pub mod internal

@@ -1,5 +1,5 @@
 -- What a second journal has for what a first one names.
-use Rattle.std.specs.Prelude.{ℕ, suc, ◌==◌, ◌&&◌, if◌then◌else◌, Option, Some, None, List, [], ◌∷◌, length, is_some}
+use Rattle.std.specs.Prelude.{ℕ, Option, Some, None, List, [], ◌∷◌}
 use Rattle.std.specs.Option.{option_map, option_and_then}
 use Rattle.ada_events.specs.declared.event.Event.{Event}
 use Rattle.ada_events.specs.declared.event.Event.TheVariants.{Opened, Created, Started, Elaborated, Called, Waiting, Paused, Ended, Closed, Completed, Aborted}
@@ -11,8 +11,6 @@ use Rattle.ada_events.specs.declared.names.Member.{Member}
 use Rattle.ada_events.specs.declared.names.Member.TheVariants.{Block as BlockMember, Rendezvous}
 use Rattle.ada_events.specs.declared.outcome.Outcome.{Outcome}
 use Rattle.ada_events.specs.declared.outcome.Outcome.TheVariants.{Accepted}
-use Rattle.ada_events.specs.Says.{creation_in}
-use Rattle.ada_events.specs.Tasks.{task_count}
 use Rattle.ada_events.specs.Forced.{task_no}
 use Rattle.ada_laws.specs.Masters.{parent_of}
 
@@ -76,10 +74,3 @@ renamed_event names (Activated start ok) = option_map (λ s. Activated s ok) (na
 renamed_event names (Gone task) = option_map Gone (renamed_task names task)
 renamed_event names (Quit master) = option_map Quit (renamed_master names master)
 renamed_event names (Left close) = option_map Left (names.position close)
-
--- the names after one more event of both: a task that it makes, and its position, stand for their like
-abbrev pub next_names : List Event → List Event → Event → Renaming → Renaming
-next_names old new event names = record {
-  task = λ u. if is_some (creation_in event) && u == task_count old then Some (task_count new) else names.task u;
-  position = λ p. if p == suc (length old) then Some (suc (length new)) else names.position p;
-}

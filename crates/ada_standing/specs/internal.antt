@@ -1,0 +1,2 @@
+-- What only proofs cite: no caller meets it.
+pub mod Next
