@@ -12,3 +12,5 @@ mod outcomes;
 mod playing;
 #[cfg(test)]
 mod states;
+#[cfg(test)]
+mod wrong;

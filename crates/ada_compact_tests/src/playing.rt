@@ -60,9 +60,15 @@ pub fn check<R: Abort + AllocGlobal>(rt: &R, old: &Kernel, kept: &[TaskNo]) -> R
     Ok(())
 }
 
+/// The kernel that a script comes to.
+pub fn played<R: AllocGlobal>(rt: &R, text: &[u8]) -> Result<Kernel, Fail> {
+    let mut kernel = Kernel::new(rt.alloc())?;
+    play(rt, &mut kernel, text)?;
+    Ok(kernel)
+}
+
 /// Shortens what a script comes to.
 pub fn check_state<R: Abort + AllocGlobal>(rt: &R, state: State) -> Result<(), Fail> {
-    let mut kernel = Kernel::new(rt.alloc())?;
-    play(rt, &mut kernel, state.script)?;
+    let kernel = played(rt, state.script)?;
     check(rt, &kernel, state.kept)
 }
