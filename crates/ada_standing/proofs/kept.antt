@@ -1,0 +1,2 @@
+-- One more event of both journals: what stood for the other's still does.
+pub mod Saying
