@@ -1,2 +1,5 @@
 -- One more event of both journals: what stood for the other's still does.
 pub mod Saying
+pub mod Fitting
+pub mod Naming
+pub mod Moments
