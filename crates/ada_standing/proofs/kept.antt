@@ -2,4 +2,7 @@
 pub mod Saying
 pub mod Fitting
 pub mod Naming
+pub mod Newness
 pub mod Moments
+pub mod Terminating
+pub mod Tasks
