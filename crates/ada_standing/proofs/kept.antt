@@ -6,3 +6,4 @@ pub mod Newness
 pub mod Moments
 pub mod Terminating
 pub mod Tasks
+pub mod Phases

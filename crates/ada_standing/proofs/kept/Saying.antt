@@ -54,13 +54,13 @@ pub data IsLike (names : Renaming) : Event → Event → Type 0 where
   quit : (x y : Master) → renamed_master names x ≡ Some y → IsLike names (event.Quit x) (event.Quit y)
   left : (p q : ℕ) → names.position p ≡ Some q → IsLike names (event.Left p) (event.Left q)
 
-from_both-some : {A B C : Type 0} (make : A → B → C) (a : Option A) (b : Option B) (z : C) → from_both make a b ≡ Some z
+pub from_both-some : {A B C : Type 0} (make : A → B → C) (a : Option A) (b : Option B) (z : C) → from_both make a b ≡ Some z
     → (x : A) × (y : B) × (a ≡ Some x) × (b ≡ Some y) × (make x y ≡ z)
 from_both-some make (Some x) (Some y) z same = (x, y, refl, refl, same_Some (make x y) z same)
 from_both-some make None b z same = absurd (none-some z same)
 from_both-some make (Some x) None z same = absurd (none-some z same)
 
-task-some : (names : Renaming) (t u : TaskNo) → renamed_task names t ≡ Some u → names.task t.0 ≡ Some u.0
+pub task-some : (names : Renaming) (t u : TaskNo) → renamed_task names t ≡ Some u → names.task t.0 ≡ Some u.0
 unfolding renamed_task
 task-some names t u is =
     let (v, named, same) = option_map-some task_no (names.task t.0) u is in

@@ -15,7 +15,7 @@ use Rattle.ada_standing.proofs.alike.Pairs.{live_from}
 use Rattle.ada_standing.proofs.alike.Mastering.{depends_alike}
 use Rattle.ada_standing.proofs.kept.Saying.{gone_said, quit_said, number_alike}
 use Rattle.ada_standing.proofs.kept.Naming.{AreNext, AreOld, AreMade, like, one_task, next_cases}
-use Rattle.ada_standing.proofs.kept.Newness.{fresh, fresh_made}
+use Rattle.ada_standing.proofs.kept.Newness.{IsFresh, fresh, fresh_made}
 
 -- what isn't terminated wasn't before
 pub unterminated_before : (event : Event) (before : List Event) (u : ℕ) → is_terminated (event ∷ before) u ≡ false → is_terminated before u ≡ false
@@ -32,7 +32,7 @@ passes_alike rename test there (Some x) None same alike = absurd (none-some (ren
 
 module _ (old new : List Event) (names : Renaming) (event other : Event) (next : AreNext old new names event other) where
   -- by the number of a task that goes, or by what it depends on
-  terminated_old : (u v : ℕ) → AreOld old new names u v → is_terminated (other ∷ new) v ≡ is_terminated (event ∷ old) u
+  pub terminated_old : (u v : ℕ) → AreOld old new names u v → is_terminated (other ∷ new) v ≡ is_terminated (event ∷ old) u
   unfolding is_terminated
   terminated_old u v was =
       let same = next.stands.same u v was.named in
@@ -49,10 +49,11 @@ module _ (old new : List Event) (names : Renaming) (event other : Event) (next :
             ) refl
       ]
 
-  pub made_terminated : (u v : ℕ) → AreMade old new names event other u v → (is_terminated (event ∷ old) u ≡ false) × (is_terminated (other ∷ new) v ≡ false)
-  made_terminated u v made = (
-    (fresh_made event old u made.creation made.says (fresh old event u next.fits made.newest)).unterminated,
-    (fresh_made other new v made.stand made.says_too (fresh new other v next.fits_too made.newest_too)).unterminated,
+  -- nothing became of new tasks
+  pub made_fresh : (u v : ℕ) → AreMade old new names event other u v → IsFresh (event ∷ old) u × IsFresh (other ∷ new) v
+  made_fresh u v made = (
+    fresh_made event old u made.creation made.says (fresh old event u next.fits made.newest),
+    fresh_made other new v made.stand made.says_too (fresh new other v next.fits_too made.newest_too),
   )
 
   pub terminated_kept : (u v : ℕ) → (next_names old new event names).task u ≡ Some v → is_terminated (other ∷ new) v ≡ is_terminated (event ∷ old) u
@@ -60,6 +61,6 @@ module _ (old new : List Event) (names : Renaming) (event other : Event) (next :
       elim (next_cases old new names event other next u v named) [
         | inl was ↦ terminated_old u v was
         | inr made ↦
-            let both = made_terminated u v made in
-            both.1 ∙ sym both.0
+            let both = made_fresh u v made in
+            both.1.unterminated ∙ sym both.0.unterminated
       ]
