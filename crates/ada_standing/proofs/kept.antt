@@ -7,3 +7,4 @@ pub mod Moments
 pub mod Terminating
 pub mod Tasks
 pub mod Phases
+pub mod Making
