@@ -8,3 +8,4 @@ pub mod Terminating
 pub mod Tasks
 pub mod Phases
 pub mod Making
+pub mod Depending

@@ -39,7 +39,7 @@ use Rattle.ada_standing.proofs.kept.Phases.{unnamed_before, named_more, starts_n
 -- the activator of a task, where its creation is known
 
 -- it may be activated: no start names it, and its maker isn't terminated
-abbrev is_waiting : List Event → ℕ → Creation → Bool
+abbrev pub is_waiting : List Event → ℕ → Creation → Bool
 is_waiting journal u c = not (has_start journal u) && not (is_terminated journal c.by)
 
 activator_is : (journal : List Event) (u : ℕ) (c : Creation) → creation_of journal u ≡ Some c
@@ -57,7 +57,7 @@ waiting_parts journal u c waits =
     let both = and_parts (not (has_start journal u)) (not (is_terminated journal c.by)) waits in
     (not-true (has_start journal u) both.0, not-true (is_terminated journal c.by) both.1)
 
-waiting_from : (journal : List Event) (u : ℕ) (c : Creation) → has_start journal u ≡ false → is_terminated journal c.by ≡ false
+pub waiting_from : (journal : List Event) (u : ℕ) (c : Creation) → has_start journal u ≡ false → is_terminated journal c.by ≡ false
     → is_waiting journal u c ≡ true
 waiting_from journal u c never still = rw (never, still) refl
 
@@ -78,7 +78,7 @@ if_alike to true d x y same named = rw same (sym (named refl))
 if_alike to false d x y same named = rw same refl
 
 -- an event that makes a task terminates nobody, and completes no master
-making_terminates_none : (event : Event) (before : List Event) (u : ℕ) (c : Creation) → creation_in event ≡ Some c
+pub making_terminates_none : (event : Event) (before : List Event) (u : ℕ) (c : Creation) → creation_in event ≡ Some c
     → is_terminated (event ∷ before) u ≡ is_terminated before u
 unfolding is_terminated
 making_terminates_none event before u c says =
@@ -102,7 +102,7 @@ opener_alike : (test there : ℕ → Bool) (o : Option Opening) → ((u : ℕ) �
 opener_alike test there None same = refl
 opener_alike test there (Some x) same = same x.by
 
-making_keeps_complete : (event : Event) (before : List Event) (x : Master) (c : Creation) → creation_in event ≡ Some c → IsLivedIn before x
+pub making_keeps_complete : (event : Event) (before : List Event) (x : Master) (c : Creation) → creation_in event ≡ Some c → IsLivedIn before x
     → is_complete (event ∷ before) x ≡ is_complete before x
 unfolding is_complete is_complete_block
 making_keeps_complete event before (Body t) c says lived = making_completes_none event before t.0 c says
@@ -115,15 +115,15 @@ making_keeps_complete event before (Block p) c says lived =
     (opener_alike (has_ended (event ∷ before)) (has_ended before) (opening_at before p) (λ u. making_ends_none event before u c says)))
 
 -- a block is closed
-abbrev is_closed : List Event → ℕ → Bool
+abbrev pub is_closed : List Event → ℕ → Bool
 is_closed journal p = list_any (λ (e : Event). is_some_and (closing_in e) (λ (c : Closing). eqb c.block p)) journal
 
 -- a block that a task opened is complete where it is closed, or the task has ended
-block_complete : (journal : List Event) (task p : ℕ) → IsBlockOf journal task p → is_complete journal (Block p) ≡ (is_closed journal p || has_ended journal task)
+pub block_complete : (journal : List Event) (task p : ℕ) → IsBlockOf journal task p → is_complete journal (Block p) ≡ (is_closed journal p || has_ended journal task)
 unfolding is_complete is_complete_block
 block_complete journal task p block = rw (block.stands, block.says, block.by) refl
 
-block_later : (event : Event) (before : List Event) (task p : ℕ) → IsBlockOf before task p → IsBlockOf (event ∷ before) task p
+pub block_later : (event : Event) (before : List Event) (task p : ℕ) → IsBlockOf before task p → IsBlockOf (event ∷ before) task p
 block_later event before task p block = record {
   event = block.event;
   opening = block.opening;
@@ -133,7 +133,7 @@ block_later event before task p block = record {
 }
 
 -- what is complete stays so, of what a task was made within
-complete_more : (event : Event) (before : List Event) (c : Creation) → IsMaker before c → is_complete before c.under ≡ true
+pub complete_more : (event : Event) (before : List Event) (c : Creation) → IsMaker before c → is_complete before c.under ≡ true
     → is_complete (event ∷ before) c.under ≡ true
 unfolding is_complete
 complete_more event before c maker complete =
@@ -150,7 +150,7 @@ complete_more event before c maker complete =
     ]
 
 -- the task is abandoned, where its creation is known and no start names it
-abandoned_is : (journal : List Event) (u : ℕ) (c : Creation) → creation_of journal u ≡ Some c → has_start journal u ≡ false
+pub abandoned_is : (journal : List Event) (u : ℕ) (c : Creation) → creation_of journal u ≡ Some c → has_start journal u ≡ false
     → is_abandoned journal u ≡ (is_complete journal c.under || is_terminated journal c.by)
 unfolding is_abandoned
 abandoned_is journal u c is never = rw (is, never) (and_true (is_complete journal c.under || is_terminated journal c.by))
@@ -159,19 +159,19 @@ abandoned_is journal u c is never = rw (is, never) (and_true (is_complete journa
     and_true true = refl
     and_true false = refl
 
-never_abandoned : (journal : List Event) (u : ℕ) → has_start journal u ≡ true → is_abandoned journal u ≡ false
+pub never_abandoned : (journal : List Event) (u : ℕ) → has_start journal u ≡ true → is_abandoned journal u ≡ false
 unfolding is_abandoned
 never_abandoned journal u named =
     and_right (is_some_and (creation_of journal u) (λ (c : Creation). is_complete journal c.under || is_terminated journal c.by)) (not (has_start journal u))
     (not_from_true (has_start journal u) named)
 
-no_abandoned : (journal : List Event) (u : ℕ) → creation_of journal u ≡ None → is_abandoned journal u ≡ false
+pub no_abandoned : (journal : List Event) (u : ℕ) → creation_of journal u ≡ None → is_abandoned journal u ≡ false
 unfolding is_abandoned
 no_abandoned journal u none = rw none refl
 
 module _ (old new : List Event) (names : Renaming) (event other : Event) (next : AreNext old new names event other) where
   -- both were made, or neither was
-  creations_forth : (u v : ℕ) (c : Creation) → AreOld old new names u v → creation_of old u ≡ Some c → (d : Creation) × (creation_of new v ≡ Some d)
+  pub creations_forth : (u v : ℕ) (c : Creation) → AreOld old new names u v → creation_of old u ≡ Some c → (d : Creation) × (creation_of new v ≡ Some d)
   creations_forth u v c was is =
       elim (main_or_made new v was.below_too) [
         | inr made ↦ made
@@ -181,7 +181,7 @@ module _ (old new : List Event) (names : Renaming) (event other : Event) (next :
             absurd (omega (arith, zero_is, positive))
       ]
 
-  creations_none : (u v : ℕ) → AreOld old new names u v → creation_of old u ≡ None → creation_of new v ≡ None
+  pub creations_none : (u v : ℕ) → AreOld old new names u v → creation_of old u ≡ None → creation_of new v ≡ None
   creations_none u v was none =
       elim (main_or_made old u was.below) [
         | inr (c, is) ↦ absurd (none-some c (sym none ∙ is))
@@ -197,7 +197,7 @@ module _ (old new : List Event) (names : Renaming) (event other : Event) (next :
           absurd (omega (arith, zero_is, positive))
 
   -- who may still activate a task stands for who may activate the other
-  makers_named : (u v : ℕ) (c d : Creation) → AreOld old new names u v → creation_of old u ≡ Some c → creation_of new v ≡ Some d
+  pub makers_named : (u v : ℕ) (c d : Creation) → AreOld old new names u v → creation_of old u ≡ Some c → creation_of new v ≡ Some d
       → is_waiting old u c ≡ true → AreOld old new names c.by d.by × (is_waiting new v d ≡ true)
   makers_named u v c d was is has waits =
       let parts = waiting_parts old u c waits in
