@@ -9,3 +9,5 @@ pub mod Tasks
 pub mod Phases
 pub mod Making
 pub mod Depending
+pub mod Outcomes
+pub mod Becoming

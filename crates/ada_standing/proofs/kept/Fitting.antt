@@ -6,7 +6,7 @@ use Rattle.ada_events.specs.Search.{event_at}
 use Rattle.ada_events.specs.Says.{Creation, creation_in, started_in, elaborated_in, failed_in, completed_in, gone_in, held_in, released_in}
 use Rattle.ada_events.specs.Tasks.{task_count, creation_of}
 use Rattle.ada_events.specs.Phases.{lists_task, is_released, is_suspended}
-use Rattle.ada_events.specs.Outcomes.{raised_in}
+use Rattle.ada_events.specs.Outcomes.{raised_in, became, last_given, outcome_at}
 use Rattle.ada_events.specs.Forced.{task_no}
 use Rattle.ada_laws.specs.Suspension.{IsSuspendedAt}
 use Rattle.ada_laws.proofs.Framing.{IsBlockOf}
@@ -36,6 +36,7 @@ pub record IsMaking (journal : List Event) (c : Creation) : Type 0 where
 pub record Fits (journal : List Event) (event : Event) : Type 0 where
   pub makers : (u : ℕ) (c : Creation) → creation_of journal u ≡ Some c → IsMaker journal c
   pub told : (p : ℕ) (e : Event) → event_at journal p ≡ Some e → TellsBelow (task_count journal) e
+  pub latest : (all : List Event) (t p : ℕ) → IsSuspendedAt journal t p → last_given (outcome_at all t) journal ≡ Some (became all p)
   pub unreleased : is_released journal (suc (length journal)) ≡ false
   pub making : (c : Creation) → creation_in event ≡ Some c → IsMaking journal c
   pub releases : (x : ℕ) → released_in event ≡ Some x → (t : ℕ) × IsSuspendedAt journal t x
