@@ -5,7 +5,7 @@ use Rattle.ada_events.specs.declared.names.Master.TheVariants.{Body, Block}
 use Rattle.ada_events.specs.Search.{event_at}
 use Rattle.ada_events.specs.Says.{Creation, creation_in, started_in, elaborated_in, failed_in, completed_in, gone_in, held_in, released_in}
 use Rattle.ada_events.specs.Tasks.{task_count, creation_of}
-use Rattle.ada_events.specs.Phases.{lists_task, is_released, is_suspended}
+use Rattle.ada_events.specs.Phases.{lists_task, is_released}
 use Rattle.ada_events.specs.Outcomes.{raised_in, became, last_given, outcome_at}
 use Rattle.ada_events.specs.Forced.{task_no}
 use Rattle.ada_laws.specs.Suspension.{IsSuspendedAt}
@@ -40,4 +40,3 @@ pub record Fits (journal : List Event) (event : Event) : Type 0 where
   pub unreleased : is_released journal (suc (length journal)) ≡ false
   pub making : (c : Creation) → creation_in event ≡ Some c → IsMaking journal c
   pub releases : (x : ℕ) → released_in event ≡ Some x → (t : ℕ) × IsSuspendedAt journal t x
-  pub free : (t : ℕ) → (held_in event ≡ Some t) ⊎ (raised_in event ≡ Some t) → is_suspended journal t ≡ false
