@@ -9,3 +9,4 @@ mod worked
 pub mod alike
 pub mod lawful
 pub mod asked
+pub mod kept

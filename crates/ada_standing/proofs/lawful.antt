@@ -5,4 +5,5 @@ pub mod Climbing
 pub mod Living
 pub mod Starting
 pub mod Orderly
+pub mod Fitting
 pub mod Laws
