@@ -8,3 +8,4 @@ mod Unmatched
 mod worked
 pub mod alike
 pub mod lawful
+pub mod held

@@ -1,0 +1,5 @@
+-- What holds tasks up, what they are within, and positions: alike after one more event of both journals.
+pub mod Renamed
+pub mod Saying
+pub mod Fitting
+pub mod Setting
