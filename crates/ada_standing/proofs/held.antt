@@ -3,3 +3,5 @@ pub mod Renamed
 pub mod Saying
 pub mod Fitting
 pub mod Setting
+pub mod Positions
+pub mod Phases
