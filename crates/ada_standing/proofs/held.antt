@@ -5,3 +5,5 @@ pub mod Fitting
 pub mod Setting
 pub mod Positions
 pub mod Phases
+pub mod Starting
+pub mod Suspending

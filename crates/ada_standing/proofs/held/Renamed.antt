@@ -46,7 +46,7 @@ pub data IsRenamed (names : Renaming) : Event → Event → Type 0 where
   quits : (m n : Master) → renamed_master names m ≡ Some n → IsRenamed names (Quit m) (Quit n)
   leaves : (p q : ℕ) → names.position p ≡ Some q → IsRenamed names (Left p) (Left q)
 
-from_both-some : {A B C : Type 0} (make : A → B → C) (a : Option A) (b : Option B) (y : C) → from_both make a b ≡ Some y
+pub from_both-some : {A B C : Type 0} (make : A → B → C) (a : Option A) (b : Option B) (y : C) → from_both make a b ≡ Some y
     → (x : A) × (z : B) × (a ≡ Some x) × (b ≡ Some z) × (make x z ≡ y)
 from_both-some make (Some a) (Some b) y same = (a, b, refl, refl, same_Some (make a b) y same)
 from_both-some make (Some a) None y same = absurd (none-some y same)
