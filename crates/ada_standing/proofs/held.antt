@@ -7,3 +7,4 @@ pub mod Positions
 pub mod Phases
 pub mod Starting
 pub mod Suspending
+pub mod Remaining
