@@ -8,3 +8,6 @@ pub mod Phases
 pub mod Starting
 pub mod Suspending
 pub mod Remaining
+pub mod Leaving
+pub mod Members
+pub mod Nests

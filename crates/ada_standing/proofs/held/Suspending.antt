@@ -105,7 +105,7 @@ module _ (old new : List Event) (names : Renaming) (event copy : Event) (next : 
   ]
 
   -- who stands for a task that the event holds up is its own
-  kept_one : (t u v : ℕ) → names.task t ≡ Some v → (next_names old new event names).task u ≡ Some v → t ≡ u
+  pub kept_one : (t u v : ℕ) → names.task t ≡ Some v → (next_names old new event names).task u ≡ Some v → t ≡ u
   kept_one t u v was named = elim (task_cases old new names event copy next u v named) [
     | inl made ↦
         let below : v < task_count new = task_exists old new names event copy next t v was in
