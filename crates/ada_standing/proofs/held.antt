@@ -11,3 +11,4 @@ pub mod Remaining
 pub mod Leaving
 pub mod Members
 pub mod Nests
+pub mod Blocks
