@@ -5,4 +5,5 @@ pub mod Climbing
 pub mod Living
 pub mod Starting
 pub mod Orderly
+pub mod FittingHeld
 pub mod Laws
