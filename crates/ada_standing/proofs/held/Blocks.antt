@@ -1,28 +1,26 @@
 -- The blocks of nests are alike after one more event of both journals, and their order is kept.
 use Rattle.std.proofs.Common.{◌≡◌, ℕ, suc, ◌<◌, ◌≤◌, ◌+◌, Bool, true, false, ◌||◌, eqb, Option, Some, None, List, [], ◌∷◌, length, map, refl, sym, ap, ◌∙◌}
-use Rattle.std.proofs.Common.{inl, inr, arith, subst}
+use Rattle.std.proofs.Common.{inl, inr, arith}
 use Rattle.std.specs.Option.{option_map, option_len, option_and_then}
 use Rattle.std.specs.List.{list_any}
 use Rattle.std.proofs.Math.Bool.{or-true}
 use Rattle.std.proofs.lemmas.Bool.{cases_eq, or_cases, or_left, or_right, eqb-true, eq-eqb, false_from_ne_true, true≢false, false≢true}
 use Rattle.std.proofs.lemmas.Option.{none-some, same_Some}
 use Rattle.ada_events.specs.declared.event.Event.{Event}
-use Rattle.ada_events.specs.declared.names.Master.{Master}
 use Rattle.ada_events.specs.declared.names.Master.TheVariants.{Block}
 use Rattle.ada_events.specs.declared.names.Member.{Member}
 use Rattle.ada_events.specs.declared.names.Member.TheVariants.{Block as BlockMember, Rendezvous}
-use Rattle.ada_events.specs.Search.{is_some_and, event_at}
+use Rattle.ada_events.specs.Search.{event_at}
 use Rattle.ada_events.specs.Says.{Creation, Opening, creation_in, opening_in}
 use Rattle.ada_events.specs.Tasks.{task_count}
 use Rattle.ada_events.specs.Phases.{is_terminated, has_ended}
 use Rattle.ada_events.specs.Nests.{nest}
 use Rattle.ada_events.specs.Termination.{is_complete, is_complete_block}
 use Rattle.ada_laws.specs.Masters.{parent_of}
-use Rattle.ada_laws.proofs.Searching.{event_at-newest, event_at-older, event_at-other, event_at-within, option_map-some}
+use Rattle.ada_laws.proofs.Searching.{event_at-newest, event_at-older, event_at-other, event_at-within}
 use Rattle.ada_laws.proofs.Growing.{is_terminated-more, has_ended-more}
-use Rattle.ada_laws.proofs.Framing.{IsBlockOf}
-use Rattle.ada_standing.specs.Renaming.{Renaming, renamed_master, renamed_member, renamed_parent, next_names}
-use Rattle.ada_standing.specs.StandsIn.{IsSameBlock, IsSameNest, is_live, is_block}
+use Rattle.ada_standing.specs.Renaming.{Renaming, renamed_master, renamed_member, next_names}
+use Rattle.ada_standing.specs.StandsIn.{IsSameBlock, IsSameNest, KeepsPositions, is_live, is_block}
 use Rattle.ada_standing.proofs.alike.Kinds.{AreBoth}
 use Rattle.ada_standing.proofs.alike.Pairs.{ended_alike, live_from, live_parts}
 use Rattle.ada_standing.proofs.lawful.Leaving.{unleft_before}
@@ -31,7 +29,7 @@ use Rattle.ada_standing.proofs.held.Saying.{openings_both, closings_both}
 use Rattle.ada_standing.proofs.held.Fitting.{FitsHeld, closes_block}
 use Rattle.ada_standing.proofs.held.Setting.{AreNext, TerminatedKept, CompletedKept, is_like, task_later, task_cases, position_existed, position_cases}
 use Rattle.ada_standing.proofs.held.Setting.{master_later}
-use Rattle.ada_standing.proofs.held.Positions.{order_kept}
+use Rattle.ada_standing.proofs.held.Positions.{order_kept, within_kept, one_kept, holds_kept}
 use Rattle.ada_standing.proofs.held.Phases.{positions_alike, ended_kept}
 use Rattle.ada_standing.proofs.held.Nests.{members_kept}
 
@@ -133,6 +131,14 @@ module _ (old new : List Event) (names : Renaming) (event copy : Event) (next : 
       let there = own_nested old t q (own_earlier event old t q within other) in
       next.stands.positions.blocks s t p q a b (live_before event old s p next.fits live here) (live_before event old t q next.fits lives there)
       here there was kept less)
+
+  pub positions_kept : KeepsPositions (event ∷ old) (copy ∷ new) (next_names old new event names)
+  positions_kept = record {
+    within = λ p a placed. within_kept old new names event copy next p a placed;
+    one = λ p q a first second. one_kept old new names event copy next p q a first second;
+    holds = λ s t p q a b d e kind first second less. holds_kept old new names event copy next s t p q a b d e kind first second less;
+    blocks = λ s t p q a b live lives inside also first second less. blocks_kept s t p q a b live lives inside also first second less;
+  }
 
   module _ (terminated_kept : TerminatedKept old new names event copy) (completed_kept : CompletedKept old new names event copy) where
     -- a block that is opened now

@@ -1,10 +1,9 @@
 -- Blocks are left alike by one more event of both journals.
-use Rattle.std.proofs.Common.{◌≡◌, ℕ, suc, Bool, true, false, ◌&&◌, ◌||◌, eqb, Some, None, List, ◌∷◌, length, refl, sym, ap, ◌∙◌, inl, inr, subst}
-use Rattle.std.specs.List.{list_any}
+use Rattle.std.proofs.Common.{◌≡◌, ℕ, true, false, ◌&&◌, eqb, Some, List, ◌∷◌, sym, ap, ◌∙◌, inl, inr}
 use Rattle.std.proofs.lemmas.Bool.{and_parts, and_from, or_cases, or_left, eqb-true, eq-eqb, true≢false}
 use Rattle.std.proofs.lemmas.Option.{none-some, same_Some}
 use Rattle.ada_events.specs.declared.event.Event.{Event}
-use Rattle.ada_events.specs.Search.{is_number, is_some_and, any_event, event_at}
+use Rattle.ada_events.specs.Search.{is_number, event_at}
 use Rattle.ada_events.specs.Says.{Closing, closing_in, left_in}
 use Rattle.ada_events.specs.Nests.{is_left_close, is_left}
 use Rattle.ada_events.specs.Calls.{is_pending}
@@ -18,7 +17,7 @@ use Rattle.ada_laws.proofs.Stepping.{pending_parts}
 use Rattle.ada_laws.proofs.Parents.{same_truth}
 use Rattle.ada_standing.specs.Renaming.{Renaming}
 use Rattle.ada_standing.proofs.alike.Kinds.{AreBoth, closes_alike}
-use Rattle.ada_standing.proofs.alike.Pairs.{IsPair, pair_forth}
+use Rattle.ada_standing.proofs.alike.Pairs.{pair_forth}
 use Rattle.ada_standing.proofs.lawful.Leaving.{IsLeaving, Leaves}
 use Rattle.ada_standing.proofs.held.Saying.{left_both}
 use Rattle.ada_standing.proofs.held.Fitting.{FitsHeld, closes_block}

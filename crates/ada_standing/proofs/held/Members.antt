@@ -1,17 +1,16 @@
 -- Members of nests stay, and are put in, alike by one more event of both journals.
-use Rattle.std.proofs.Common.{◌≡◌, ℕ, suc, Bool, true, false, not, ◌&&◌, eqb, Option, Some, None, List, [], ◌∷◌, ◌++◌, length, map, filter, option_to_list}
+use Rattle.std.proofs.Common.{◌≡◌, ℕ, suc, Bool, true, false, not, ◌&&◌, eqb, Some, None, List, [], ◌∷◌, length}
 use Rattle.std.proofs.Common.{refl, sym, ap, ◌∙◌, inl, inr, subst}
 use Rattle.std.specs.Bool.{then_some}
 use Rattle.std.specs.Option.{option_map}
 use Rattle.std.specs.List.{Contains, list_any}
-use Rattle.std.proofs.lemmas.Bool.{and_parts, or_left, or_right, eqb-true, eq-eqb, true≢false, false≢true, false_from_ne_true}
+use Rattle.std.proofs.lemmas.Bool.{and_parts, or_left, or_right, eqb-true, eq-eqb, true≢false, false_from_ne_true}
 use Rattle.std.proofs.lemmas.Option.{none-some, same_Some}
 use Rattle.ada_events.specs.declared.event.Event.{Event}
 use Rattle.ada_events.specs.declared.names.Member.{Member}
 use Rattle.ada_events.specs.declared.names.Member.TheVariants.{Block as BlockMember, Rendezvous}
-use Rattle.ada_events.specs.Search.{is_some_and, any_event, event_at}
-use Rattle.ada_events.specs.Says.{Call, Wait, Opening, Meeting, call_in, wait_in, opening_in, meeting_in}
-use Rattle.ada_events.specs.Phases.{is_released, has_ended}
+use Rattle.ada_events.specs.Search.{event_at}
+use Rattle.ada_events.specs.Says.{Call, Wait, Meeting, call_in, wait_in, meeting_in}
 use Rattle.ada_events.specs.Calls.{is_pending, is_open_at, is_open_call}
 use Rattle.ada_events.specs.Nests.{is_left_close, is_left, is_wait_of, member_at, nest}
 use Rattle.ada_laws.specs.Suspension.{IsSuspendedAt}
@@ -19,7 +18,6 @@ use Rattle.ada_laws.proofs.Searching.{event_at-older, event_at-cases, any_event-
 use Rattle.ada_laws.proofs.Saying.{held_in-wait}
 use Rattle.ada_laws.proofs.Stepping.{pending_parts}
 use Rattle.ada_laws.proofs.Queueing.{is_open_at-from}
-use Rattle.ada_laws.proofs.Gathering.{Contains-first, Contains-later}
 use Rattle.ada_laws.proofs.Meeting.{IsTaking, taken_queued}
 use Rattle.ada_laws.proofs.Members.{nest_open}
 use Rattle.ada_laws.proofs.Parents.{same_truth}
@@ -30,7 +28,7 @@ use Rattle.ada_standing.proofs.alike.Calling.{open_held, call_by, wait_by}
 use Rattle.ada_standing.proofs.lawful.Nesting.{own_member}
 use Rattle.ada_standing.proofs.held.Saying.{openings_both, meetings_both}
 use Rattle.ada_standing.proofs.held.Fitting.{FitsHeld, closes_block}
-use Rattle.ada_standing.proofs.held.Setting.{AreNext, TerminatedKept, CompletedKept, is_like, task_later, member_later, position_later, position_newest}
+use Rattle.ada_standing.proofs.held.Setting.{AreNext, TerminatedKept, CompletedKept, is_like, task_later, position_later, position_newest}
 use Rattle.ada_standing.proofs.held.Phases.{released_kept, ended_kept}
 use Rattle.ada_standing.proofs.held.Suspending.{kept_one}
 use Rattle.ada_standing.proofs.held.Remaining.{remains, opened_member, met_member, no_member}

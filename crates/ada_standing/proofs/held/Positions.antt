@@ -1,6 +1,5 @@
 -- Positions after one more event: each stands for one, and the order of those at which tasks are held up is kept.
-use Rattle.std.proofs.Common.{◌≡◌, ℕ, suc, ◌<◌, ◌≤◌, true, Some, List, ◌∷◌, length, refl, sym, ap, ◌∙◌, arith, inl, inr, subst}
-use Rattle.std.proofs.lemmas.Option.{same_Some}
+use Rattle.std.proofs.Common.{◌≡◌, ℕ, suc, ◌<◌, ◌≤◌, true, Some, List, ◌∷◌, length, refl, sym, ◌∙◌, arith, inl, inr}
 use Rattle.ada_events.specs.declared.event.Event.{Event}
 use Rattle.ada_laws.specs.Suspension.{IsSuspendedAt}
 use Rattle.ada_laws.proofs.Searching.{event_at-within, event_at-other}

@@ -1,10 +1,10 @@
 -- A nest after one more event: the members that are still there, followed by what the event itself puts in.
 use Rattle.std.proofs.Common.{◌≡◌, ℕ, suc, ◌≤◌, Bool, true, false, not, ◌&&◌, eqb, Option, Some, None, List, [], ◌∷◌, ◌++◌, length, filter, option_to_list}
-use Rattle.std.proofs.Common.{refl, sym, ap, ◌∙◌, inl, inr, arith, append-nil}
+use Rattle.std.proofs.Common.{refl, sym, ap, ◌∙◌, arith}
 use Rattle.std.specs.Bool.{then_some}
 use Rattle.std.specs.Option.{option_or, option_and_then}
-use Rattle.std.proofs.lemmas.Bool.{true≢false, false≢true, or_right, not-true, not_from_false}
-use Rattle.std.proofs.lemmas.Option.{none-some, same_Some}
+use Rattle.std.proofs.lemmas.Bool.{false≢true, not-true, not_from_false}
+use Rattle.std.proofs.lemmas.Option.{none-some}
 use Rattle.std.proofs.lemmas.List.Elements.{filter-append}
 use Rattle.ada_events.specs.declared.event.Event.{Event}
 use Rattle.ada_events.specs.declared.event.Event.TheVariants as event
@@ -12,7 +12,6 @@ use Rattle.ada_events.specs.declared.names.Member.{Member}
 use Rattle.ada_events.specs.declared.names.Member.TheVariants.{Block as BlockMember, Rendezvous}
 use Rattle.ada_events.specs.Search.{is_some_and, gathered, event_at}
 use Rattle.ada_events.specs.Says.{Opening, Meeting, Wait, opening_in, meeting_in, wait_in}
-use Rattle.ada_events.specs.Phases.{is_released, has_ended}
 use Rattle.ada_events.specs.Calls.{is_open_at, is_open_call}
 use Rattle.ada_events.specs.Nests.{is_left, is_wait_of, member_at, nest}
 use Rattle.ada_laws.specs.Calls.{IsOpenCallAt}
@@ -27,11 +26,11 @@ abbrev pub remains : List Event → Member → Bool
 remains journal (BlockMember p) = not (is_left journal p)
 remains journal (Rendezvous call) = is_open_call journal call
 
--- what passes
-abbrev passed : (Member → Bool) → Option Member → Option Member
-passed test o = option_and_then (λ (x : Member). then_some (test x) x) o
+-- the member, where it passes
+abbrev narrow : (Member → Bool) → Option Member → Option Member
+narrow test o = option_and_then (λ (x : Member). then_some (test x) x) o
 
-filter_one : (test : Member → Bool) (o : Option Member) → option_to_list (passed test o) ≡ filter test (option_to_list o)
+filter_one : (test : Member → Bool) (o : Option Member) → option_to_list (narrow test o) ≡ filter test (option_to_list o)
 filter_one test None = refl
 filter_one test (Some x) = by_test (test x) refl
   where
@@ -41,7 +40,7 @@ filter_one test (Some x) = by_test (test x) refl
 
 -- what is gathered where each event gives less
 gathered_less : (give there : ℕ → Event → Option Member) (test : Member → Bool) (journal : List Event)
-    → ((p : ℕ) (d : Event) → event_at journal p ≡ Some d → there p d ≡ passed test (give p d)) → gathered there journal ≡ filter test (gathered give journal)
+    → ((p : ℕ) (d : Event) → event_at journal p ≡ Some d → there p d ≡ narrow test (give p d)) → gathered there journal ≡ filter test (gathered give journal)
 unfolding gathered
 gathered_less give there test [] less = refl
 gathered_less give there test (event ∷ before) less =
@@ -102,7 +101,7 @@ wait_later event before u wait within =
     (event_at-other event before wait (λ same. omega (arith, same, within)))
 
 narrowed : (x : Member) (test : Member → Bool) (b a c : Bool) → test x ≡ c → (c ≡ true → a ≡ true)
-    → then_some (b && c) x ≡ passed test (then_some (b && a) x)
+    → then_some (b && c) x ≡ narrow test (then_some (b && a) x)
 narrowed x test false a c is less = refl
 narrowed x test true true c is less = ap (λ b. then_some b x) (sym is)
 narrowed x test true false false is less = refl
@@ -110,11 +109,11 @@ narrowed x test true false true is less = absurd (false≢true (less refl))
 
 module _ (event : Event) (before : List Event) (fits : FitsHeld before event) where
   member_less : (u p : ℕ) (d : Event) → event_at before p ≡ Some d
-      → member_at (event ∷ before) u p d ≡ passed (remains (event ∷ before)) (member_at before u p d)
+      → member_at (event ∷ before) u p d ≡ narrow (remains (event ∷ before)) (member_at before u p d)
   member_less u p d at = by_opening (opening_in d) refl (meeting_in d) refl
     where
       by_opening : (o : Option Opening) → opening_in d ≡ o → (m : Option Meeting) → meeting_in d ≡ m
-          → member_at (event ∷ before) u p d ≡ passed (remains (event ∷ before)) (member_at before u p d)
+          → member_at (event ∷ before) u p d ≡ narrow (remains (event ∷ before)) (member_at before u p d)
       by_opening (Some o) says m tells =
           rw (opened_member (event ∷ before) u p d o says, opened_member before u p d o says)
           (narrowed (BlockMember p) (remains (event ∷ before)) (eqb o.by u) (not (is_left before p)) (not (is_left (event ∷ before) p)) refl

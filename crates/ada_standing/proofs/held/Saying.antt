@@ -1,8 +1,7 @@
 -- What an event says, and what the one that stands for it says: of the tasks, masters and positions that stand for those of the first.
 use Rattle.std.proofs.Common.{◌≡◌, ℕ, true, false, Some, refl}
 use Rattle.ada_events.specs.declared.event.Event.{Event}
-use Rattle.ada_events.specs.declared.names.TaskNo.{TaskNo}
-use Rattle.ada_events.specs.Says.{Creation, Opening, Start, Call, Wait, Delay, Closing, Meeting, creation_in, opening_in, start_in, call_in, wait_in}
+use Rattle.ada_events.specs.Says.{Creation, Opening, Start, Call, Closing, Meeting, creation_in, opening_in, start_in, call_in, wait_in}
 use Rattle.ada_events.specs.Says.{delay_in, closing_in, meeting_in, failed_in, held_in, released_in, left_in}
 use Rattle.ada_standing.specs.Renaming.{Renaming, renamed_master, renamed_tasks}
 use Rattle.ada_standing.specs.Holds.{IsSameWait}

@@ -1,5 +1,5 @@
 -- What holds tasks up is alike after one more event of both journals.
-use Rattle.std.proofs.Common.{◌≡◌, ℕ, suc, ◌<◌, ◌≤◌, true, false, Some, None, List, ◌∷◌, length, refl, sym, ap, ◌∙◌, inl, inr, arith, subst}
+use Rattle.std.proofs.Common.{◌≡◌, ℕ, suc, ◌<◌, ◌≤◌, true, false, Some, None, List, ◌∷◌, length, sym, ap, ◌∙◌, inl, inr, arith, subst}
 use Rattle.std.proofs.Common.{eqb}
 use Rattle.std.specs.List.{list_any}
 use Rattle.std.proofs.lemmas.Bool.{or_parts}
@@ -9,7 +9,7 @@ use Rattle.ada_events.specs.declared.event.Event.TheVariants as event
 use Rattle.ada_events.specs.Search.{is_some_and, event_at}
 use Rattle.ada_events.specs.Says.{Meeting, call_in, wait_in, delay_in, start_in, closing_in, held_in, meeting_in}
 use Rattle.ada_events.specs.Tasks.{task_count}
-use Rattle.ada_events.specs.Phases.{has_ended, is_released, is_suspended}
+use Rattle.ada_events.specs.Phases.{has_ended, is_suspended}
 use Rattle.ada_events.specs.Calls.{is_met}
 use Rattle.ada_events.specs.Forced.{is_conditional}
 use Rattle.ada_laws.specs.Suspension.{IsSuspendedAt}
@@ -20,7 +20,7 @@ use Rattle.ada_standing.specs.Renaming.{Renaming, next_names}
 use Rattle.ada_standing.specs.Holds.{IsSameHold}
 use Rattle.ada_standing.specs.StandsIn.{IsHeldAlike}
 use Rattle.ada_standing.proofs.alike.Kinds.{AreBoth}
-use Rattle.ada_standing.proofs.alike.Pairs.{IsPair, pair_back}
+use Rattle.ada_standing.proofs.alike.Pairs.{pair_back}
 use Rattle.ada_standing.proofs.held.Saying.{calls_both, waits_both, delays_both, starts_both, closings_both, held_both}
 use Rattle.ada_standing.proofs.held.Setting.{AreNext, TerminatedKept, CompletedKept, is_like, task_later, task_cases, task_exists}
 use Rattle.ada_standing.proofs.held.Setting.{position_later, position_newest}
@@ -104,7 +104,7 @@ module _ (old new : List Event) (names : Renaming) (event copy : Event) (next : 
     | AreBoth.neither is has ↦ absurd (none-some u (sym is ∙ holds))
   ]
 
-  -- who stands for a task that the event holds up is its own
+  -- who stood for a task before the event stands for no other after it
   pub kept_one : (t u v : ℕ) → names.task t ≡ Some v → (next_names old new event names).task u ≡ Some v → t ≡ u
   kept_one t u v was named = elim (task_cases old new names event copy next u v named) [
     | inl made ↦

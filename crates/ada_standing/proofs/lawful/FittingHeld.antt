@@ -1,5 +1,5 @@
 -- What may follow a lawful journal fits it, where it comes to what holds tasks up and what they are within.
-use Rattle.std.proofs.Common.{◌≡◌, ℕ, zero, suc, ◌-◌, ◌<◌, ◌≤◌, Bool, true, false, not, ◌&&◌, ◌||◌, eqb, Option, Some, None, List, [], ◌∷◌, length, refl, sym}
+use Rattle.std.proofs.Common.{◌≡◌, ℕ, suc, ◌-◌, ◌<◌, ◌≤◌, Bool, true, false, not, eqb, Option, Some, None, List, [], ◌∷◌, length, refl, sym}
 use Rattle.std.proofs.Common.{ap, ◌∙◌, subst, arith, inl, inr}
 use Rattle.std.specs.Option.{option_map_or}
 use Rattle.std.specs.List.{Contains, list_any}
@@ -13,13 +13,13 @@ use Rattle.ada_events.specs.declared.names.TaskNo.{TaskNo}
 use Rattle.ada_events.specs.declared.names.Member.{Member}
 use Rattle.ada_events.specs.declared.names.Member.TheVariants.{Block, Rendezvous}
 use Rattle.ada_events.specs.Search.{is_number, is_some_and, event_at}
-use Rattle.ada_events.specs.Says.{Creation, Opening, Start, Closing, Meeting, Wait, opening_in, start_in, closing_in, meeting_in, wait_in, failed_in, started_in}
-use Rattle.ada_events.specs.Says.{held_in, released_in, left_in}
+use Rattle.ada_events.specs.Says.{Creation, Opening, Start, Closing, Meeting, Wait, opening_in, start_in, closing_in, meeting_in, wait_in}
+use Rattle.ada_events.specs.Says.{failed_in, started_in, held_in, released_in, left_in}
 use Rattle.ada_events.specs.Tasks.{task_count, creation_of}
 use Rattle.ada_events.specs.Phases.{lists_task, has_start, is_elaborated, is_started, has_failed, has_ended, is_released}
-use Rattle.ada_events.specs.Calls.{is_open_at, is_queued_at, is_open_call, is_met}
+use Rattle.ada_events.specs.Calls.{is_open_at, is_open_call, is_met}
 use Rattle.ada_events.specs.Nests.{is_left_close, is_wait_of, nest, innermost}
-use Rattle.ada_events.specs.Forced.{is_done_activating, task_no, is_to_fail, is_to_cancel}
+use Rattle.ada_events.specs.Forced.{is_done_activating, task_no}
 use Rattle.ada_events.specs.Asks.{asker, asked_event, member_position}
 use Rattle.ada_events.specs.Refusals.{refusal, is_rendezvous, has_no_block, is_not_activating, may_activate, is_not_your_task, has_double_task}
 use Rattle.ada_events.specs.Lawful.{IsLawful, MayFollow}
@@ -38,7 +38,11 @@ use Rattle.ada_laws.proofs.Rows.{IsRow, forced-row}
 use Rattle.ada_laws.proofs.Rows.IsRow.{halts, fails, meets, cancels, passes, wakes, activates, leaves}
 use Rattle.ada_standing.proofs.lawful.Leaving.{leaving}
 use Rattle.ada_standing.proofs.lawful.Nesting.{own_member}
+use Rattle.ada_standing.specs.Renaming.{Renaming, renamed_event}
+use Rattle.ada_standing.specs.StandsIn.{StandsIn}
+use Rattle.ada_standing.proofs.lawful.Orderly.{lawful_orderly}
 use Rattle.ada_standing.proofs.held.Fitting.{FitsHeld, closes_block}
+use Rattle.ada_standing.proofs.held.Setting.{AreNext}
 
 -- of events that speak only of positions before their own, none of a lawful journal, nor what may follow it, speaks of the next position
 
@@ -315,4 +319,16 @@ fits_held journal event lawful follows = record {
   meets = λ m says. met_taking journal event m follows says;
   failing = λ t says. failing_undone event journal t follows says;
   starting = λ s t says among. starts_unfailed event journal s t lawful follows says among;
+}
+
+-- one more event of two lawful journals
+pub lawful_next : (old new : List Event) (names : Renaming) (event copy : Event) → StandsIn old new names → IsLawful old → IsLawful new
+    → MayFollow old event → MayFollow new copy → renamed_event names event ≡ Some copy → AreNext old new names event copy
+lawful_next old new names event copy stands lawful also follows copied renamed = record {
+  stands = stands;
+  orderly = lawful_orderly old lawful;
+  also = lawful_orderly new also;
+  fits = fits_held old event lawful follows;
+  fitted = fits_held new copy also copied;
+  renamed = renamed;
 }
