@@ -10,3 +10,4 @@ pub mod alike
 pub mod lawful
 pub mod asked
 pub mod kept
+pub mod held

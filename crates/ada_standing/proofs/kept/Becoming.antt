@@ -17,7 +17,8 @@ use Rattle.ada_laws.specs.Suspension.{IsSuspendedAt}
 use Rattle.ada_laws.proofs.Searching.{is_number-some}
 use Rattle.ada_laws.proofs.Growing.{has_ended-before}
 use Rattle.ada_laws.proofs.Suspending.{is_suspended-from, is_suspended-at}
-use Rattle.ada_standing.specs.Renaming.{Renaming, renamed_outcome, next_names}
+use Rattle.ada_standing.specs.Renaming.{Renaming, renamed_outcome}
+use Rattle.ada_standing.specs.internal.Next.{next_names}
 use Rattle.ada_standing.specs.StandsIn.{IsSameTask}
 use Rattle.ada_standing.proofs.alike.Kinds.{AreBoth, waits_alike}
 use Rattle.ada_standing.proofs.alike.Pairs.{IsPair}

@@ -17,7 +17,8 @@ use Rattle.ada_laws.specs.Masters.{parent_of}
 use Rattle.ada_laws.proofs.Searching.{option_map-some}
 use Rattle.ada_laws.proofs.Growing.{is_terminated-more}
 use Rattle.ada_laws.proofs.Framing.{IsBlockOf}
-use Rattle.ada_standing.specs.Renaming.{Renaming, renamed_master, renamed_parent, next_names}
+use Rattle.ada_standing.specs.Renaming.{Renaming, renamed_master, renamed_parent}
+use Rattle.ada_standing.specs.internal.Next.{next_names}
 use Rattle.ada_standing.specs.StandsIn.{IsSameDependent, made_within}
 use Rattle.ada_standing.proofs.alike.Kinds.{AreBoth}
 use Rattle.ada_standing.proofs.alike.Orderly.{IsLivedIn}

@@ -21,7 +21,8 @@ use Rattle.ada_laws.proofs.Searching.{event_at-older, event_at-other, event_at-w
 use Rattle.ada_laws.proofs.Growing.{is_completed-more, is_terminated-more, has_ended-more}
 use Rattle.ada_laws.proofs.Framing.{IsBlockOf}
 use Rattle.ada_laws.proofs.Depending.{created_positive}
-use Rattle.ada_standing.specs.Renaming.{Renaming, renamed_master, renamed_parent, next_names}
+use Rattle.ada_standing.specs.Renaming.{Renaming, renamed_master, renamed_parent}
+use Rattle.ada_standing.specs.internal.Next.{next_names}
 use Rattle.ada_standing.specs.StandsIn.{activator_of, made_within, is_live}
 use Rattle.ada_standing.proofs.alike.Kinds.{AreBoth}
 use Rattle.ada_standing.proofs.alike.Orderly.{IsLivedIn}

@@ -12,7 +12,8 @@ use Rattle.ada_events.specs.Tasks.{has_task}
 use Rattle.ada_events.specs.Masters.{depends_on}
 use Rattle.ada_events.specs.Phases.{lists_task, has_start, is_elaborated, has_failed, is_completed, is_terminated, has_ended, is_abnormal, is_started}
 use Rattle.ada_laws.proofs.Growing.{has_ended-before, has_ended-terminated}
-use Rattle.ada_standing.specs.Renaming.{Renaming, renamed_master, renamed_task, renamed_tasks, next_names}
+use Rattle.ada_standing.specs.Renaming.{Renaming, renamed_master, renamed_task, renamed_tasks}
+use Rattle.ada_standing.specs.internal.Next.{next_names}
 use Rattle.ada_standing.proofs.alike.Pairs.{live_from, active_parts, ended_alike}
 use Rattle.ada_standing.proofs.alike.Mastering.{depends_alike, eqb_alike}
 use Rattle.ada_standing.proofs.kept.Saying.{from_both-some, task-some, started_said, aborted_said, elaborated_said, failed_said, completed_said, number_alike}

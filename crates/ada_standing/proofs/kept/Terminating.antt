@@ -10,7 +10,8 @@ use Rattle.ada_events.specs.Says.{gone_in, quit_in}
 use Rattle.ada_events.specs.Masters.{depends_on}
 use Rattle.ada_events.specs.Phases.{is_terminated}
 use Rattle.ada_laws.proofs.Growing.{is_terminated-more}
-use Rattle.ada_standing.specs.Renaming.{Renaming, renamed_master, next_names}
+use Rattle.ada_standing.specs.Renaming.{Renaming, renamed_master}
+use Rattle.ada_standing.specs.internal.Next.{next_names}
 use Rattle.ada_standing.proofs.alike.Pairs.{live_from}
 use Rattle.ada_standing.proofs.alike.Mastering.{depends_alike}
 use Rattle.ada_standing.proofs.kept.Saying.{gone_said, quit_said, number_alike}
