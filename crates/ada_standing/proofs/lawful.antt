@@ -5,9 +5,6 @@ pub mod Climbing
 pub mod Living
 pub mod Starting
 pub mod Orderly
-<<<<<<< HEAD
 pub mod Fitting
-=======
 pub mod FittingHeld
->>>>>>> held
 pub mod Laws
