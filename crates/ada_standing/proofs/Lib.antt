@@ -8,4 +8,4 @@ mod Unmatched
 mod worked
 pub mod alike
 pub mod lawful
-pub mod kept
+mod kept

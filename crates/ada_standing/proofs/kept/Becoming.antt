@@ -1,17 +1,14 @@
 -- The outcomes of tasks are alike after one more event, and so is all that tasks that may be named have in common.
-use Rattle.std.proofs.Common.{◌≡◌, ℕ, Bool, true, false, Option, Some, None, List, ◌∷◌, refl, sym, ap, ◌∙◌, subst, inl, inr}
-use Rattle.std.specs.Option.{option_and_then, unwrap_or}
-use Rattle.std.proofs.lemmas.Bool.{cases_Bool, or_from, true≢false, false_from_ne_true}
-use Rattle.std.proofs.lemmas.Option.{none-some, same_Some}
+use Rattle.std.proofs.Common.{◌≡◌, ℕ, true, false, Some, List, ◌∷◌, refl, sym, ap, ◌∙◌, inl, inr}
+use Rattle.std.proofs.lemmas.Bool.{cases_Bool, or_from, true≢false}
+use Rattle.std.proofs.lemmas.Option.{same_Some}
 use Rattle.ada_events.specs.declared.event.Event.{Event}
-use Rattle.ada_events.specs.declared.event.Event.TheVariants as event
 use Rattle.ada_events.specs.declared.event.Way.TheVariants as way
 use Rattle.ada_events.specs.declared.outcome.Outcome.{Outcome}
-use Rattle.ada_events.specs.declared.outcome.Outcome.TheVariants.{Dead, Done, Held, Raised, Nothing, Accepted}
+use Rattle.ada_events.specs.declared.outcome.Outcome.TheVariants.{Dead, Done, Held, Raised, Nothing}
 use Rattle.ada_events.specs.Search.{is_number}
-use Rattle.ada_events.specs.Says.{Wait, held_in, released_in, wait_in, wait_at}
+use Rattle.ada_events.specs.Says.{held_in, released_in}
 use Rattle.ada_events.specs.Phases.{is_completed, is_terminated, has_ended, is_suspended}
-use Rattle.ada_events.specs.Waits.{taken_choice}
 use Rattle.ada_events.specs.Outcomes.{raised_in, choice_met, released_to, outcome_of}
 use Rattle.ada_laws.specs.Suspension.{IsSuspendedAt}
 use Rattle.ada_laws.proofs.Searching.{is_number-some}
@@ -24,7 +21,7 @@ use Rattle.ada_standing.proofs.alike.Pairs.{IsPair}
 use Rattle.ada_standing.proofs.alike.Calling.{wait_by}
 use Rattle.ada_standing.proofs.alike.Queueing.{taken_choice_alike}
 use Rattle.ada_standing.proofs.kept.Saying.{IsLike, held_said, raised_said, released_said, number_alike}
-use Rattle.ada_standing.proofs.kept.Naming.{AreNext, AreOld, AreMade, like, one_task, next_cases, outcome_later}
+use Rattle.ada_standing.proofs.kept.Naming.{AreNext, AreOld, like, one_task, next_cases, outcome_later}
 use Rattle.ada_standing.proofs.kept.Terminating.{unterminated_before, terminated_kept, terminated_old}
 use Rattle.ada_standing.proofs.kept.Tasks.{existed_kept, families_kept}
 use Rattle.ada_standing.proofs.kept.Phases.{completed_old, ended_old}

@@ -1,9 +1,8 @@
 -- What a task depends on, what it was made within, and whether it is abandoned, alike after one more event.
-use Rattle.std.proofs.Common.{◌≡◌, ℕ, Bool, true, false, not, ◌&&◌, ◌||◌, eqb, Option, Some, None, List, ◌∷◌, refl, sym, ap, ◌∙◌, subst, ◌⊎◌, inl, inr}
+use Rattle.std.proofs.Common.{◌≡◌, ℕ, Bool, true, false, ◌||◌, eqb, Option, Some, None, List, ◌∷◌, refl, sym, ap, ◌∙◌, subst, inl, inr}
 use Rattle.std.specs.Option.{option_map, option_and_then}
-use Rattle.std.specs.List.{list_any}
 use Rattle.std.proofs.lemmas.Bool.{cases_Bool, or_cases, or_left, or_right, or_parts}
-use Rattle.std.proofs.lemmas.Option.{none-some, same_Some}
+use Rattle.std.proofs.lemmas.Option.{same_Some}
 use Rattle.ada_events.specs.declared.event.Event.{Event}
 use Rattle.ada_events.specs.declared.names.Master.{Master}
 use Rattle.ada_events.specs.declared.names.Master.TheVariants.{Body, Block}
@@ -29,7 +28,7 @@ use Rattle.ada_standing.proofs.kept.Naming.{AreNext, AreOld, AreMade, like, old_
 use Rattle.ada_standing.proofs.kept.Terminating.{unterminated_before, made_fresh, terminated_old}
 use Rattle.ada_standing.proofs.kept.Phases.{unnamed_before, completed_old, completed_kept, ended_old, named_kept}
 use Rattle.ada_standing.proofs.kept.Making.{is_closed, block_complete, block_later, complete_more, abandoned_is, never_abandoned, no_abandoned, waiting_from}
-use Rattle.ada_standing.proofs.kept.Making.{making_terminates_none, making_keeps_complete, creations_forth, creations_none, makers_named}
+use Rattle.ada_standing.proofs.kept.Making.{making_keeps_complete, creations_forth, creations_none, makers_named}
 
 -- what a task was made within is complete, or its maker is terminated
 abbrev is_over : List Event → Creation → Bool

@@ -1,40 +1,36 @@
 -- Who made a task and within what, alike after one more event: who may still activate it, and whether it is abandoned.
-use Rattle.std.proofs.Common.{◌≡◌, ℕ, suc, ◌<◌, ◌≤◌, Bool, true, false, not, ◌&&◌, ◌||◌, eqb, Option, Some, None, List, ◌∷◌, length, refl, sym, ap, ◌∙◌}
-use Rattle.std.proofs.Common.{arith, subst, ◌⊎◌, inl, inr}
-use Rattle.std.specs.Option.{option_map, option_map_or, option_and_then}
+use Rattle.std.proofs.Common.{◌≡◌, ℕ, ◌<◌, ◌≤◌, Bool, true, false, not, ◌&&◌, ◌||◌, eqb, Option, Some, None, List, ◌∷◌, length, refl, sym, ap, ◌∙◌}
+use Rattle.std.proofs.Common.{arith, inl, inr}
+use Rattle.std.specs.Option.{option_and_then}
 use Rattle.std.specs.Bool.{then_some}
 use Rattle.std.specs.List.{list_any}
-use Rattle.std.proofs.lemmas.Bool.{cases_Bool, and_parts, and_from, or_cases, or_left, or_right, or_parts, not-true, not_from_false, not_from_true, true≢false}
+use Rattle.std.proofs.lemmas.Bool.{cases_Bool, and_parts, or_cases, or_left, or_right, not-true, not_from_true, true≢false}
 use Rattle.std.proofs.lemmas.Bool.{and_right}
 use Rattle.std.proofs.lemmas.Option.{none-some, same_Some}
 use Rattle.ada_events.specs.declared.event.Event.{Event}
 use Rattle.ada_events.specs.declared.names.Master.{Master}
 use Rattle.ada_events.specs.declared.names.Master.TheVariants.{Body, Block}
-use Rattle.ada_events.specs.Search.{is_number, is_some_and, event_at}
-use Rattle.ada_events.specs.Says.{Creation, Opening, Closing, creation_in, opening_in, opening_at, closing_in}
-use Rattle.ada_events.specs.Tasks.{task_count, creation_of}
-use Rattle.ada_events.specs.Phases.{lists_task, has_start, is_completed, is_terminated, has_ended}
+use Rattle.ada_events.specs.Search.{is_some_and}
+use Rattle.ada_events.specs.Says.{Creation, Opening, Closing, creation_in, opening_at, closing_in}
+use Rattle.ada_events.specs.Tasks.{creation_of}
+use Rattle.ada_events.specs.Phases.{has_start, is_completed, is_terminated, has_ended}
 use Rattle.ada_events.specs.Termination.{is_complete_block, is_complete, is_abandoned}
-use Rattle.ada_events.specs.Forced.{task_no}
-use Rattle.ada_laws.specs.Masters.{parent_of}
-use Rattle.ada_laws.proofs.Searching.{event_at-older, event_at-other, event_at-within, then_some-some, option_map-some}
-use Rattle.ada_laws.proofs.Growing.{is_completed-more, is_terminated-more, has_ended-more}
+use Rattle.ada_laws.proofs.Searching.{event_at-older, event_at-other, event_at-within, then_some-some}
+use Rattle.ada_laws.proofs.Growing.{is_completed-more, has_ended-more}
 use Rattle.ada_laws.proofs.Framing.{IsBlockOf}
 use Rattle.ada_laws.proofs.Depending.{created_positive}
-use Rattle.ada_standing.specs.Renaming.{Renaming, renamed_master, renamed_parent, next_names}
-use Rattle.ada_standing.specs.StandsIn.{activator_of, made_within, is_live}
-use Rattle.ada_standing.proofs.alike.Kinds.{AreBoth}
+use Rattle.ada_standing.specs.Renaming.{Renaming, next_names}
+use Rattle.ada_standing.specs.StandsIn.{activator_of}
 use Rattle.ada_standing.proofs.alike.Orderly.{IsLivedIn}
 use Rattle.ada_standing.proofs.alike.Pairs.{live_from, live_parts}
-use Rattle.ada_standing.proofs.alike.Mastering.{eqb_alike, lived_forth, lived_known, parent_lived, complete_alike}
+use Rattle.ada_standing.proofs.alike.Mastering.{lived_known}
 use Rattle.ada_standing.proofs.kept.Fitting.{IsMaker}
-use Rattle.ada_standing.proofs.kept.Saying.{IsSameClosing, closing_said}
-use Rattle.ada_standing.proofs.kept.Naming.{AreNext, AreOld, AreMade, like, one_task, old_task, next_cases, task_later, master_later, creation_older}
+use Rattle.ada_standing.proofs.kept.Naming.{AreNext, AreOld, one_task, old_task, next_cases, task_later, creation_older}
 use Rattle.ada_standing.proofs.kept.Naming.{creation_newest}
-use Rattle.ada_standing.proofs.kept.Newness.{IsMakingOnly, making_only}
+use Rattle.ada_standing.proofs.kept.Newness.{making_only}
 use Rattle.ada_standing.proofs.kept.Tasks.{main_or_made}
-use Rattle.ada_standing.proofs.kept.Terminating.{unterminated_before, made_fresh, terminated_old, terminated_kept}
-use Rattle.ada_standing.proofs.kept.Phases.{unnamed_before, named_more, starts_now, completed_old, ended_old, named_kept, named_old}
+use Rattle.ada_standing.proofs.kept.Terminating.{unterminated_before, made_fresh, terminated_old}
+use Rattle.ada_standing.proofs.kept.Phases.{unnamed_before, starts_now}
 
 -- the activator of a task, where its creation is known
 
@@ -119,7 +115,8 @@ abbrev pub is_closed : List Event → ℕ → Bool
 is_closed journal p = list_any (λ (e : Event). is_some_and (closing_in e) (λ (c : Closing). eqb c.block p)) journal
 
 -- a block that a task opened is complete where it is closed, or the task has ended
-pub block_complete : (journal : List Event) (task p : ℕ) → IsBlockOf journal task p → is_complete journal (Block p) ≡ (is_closed journal p || has_ended journal task)
+pub block_complete : (journal : List Event) (task p : ℕ) → IsBlockOf journal task p
+    → is_complete journal (Block p) ≡ (is_closed journal p || has_ended journal task)
 unfolding is_complete is_complete_block
 block_complete journal task p block = rw (block.stands, block.says, block.by) refl
 

@@ -46,7 +46,8 @@ pub outcome_done : (journal : List Event) (u : ℕ) → is_terminated journal u 
 unfolding outcome_of
 outcome_done journal u still completed = rw (still, completed) refl
 
-outcome_active : (journal : List Event) (u : ℕ) → has_ended journal u ≡ false → outcome_of journal u ≡ unwrap_or (last_given (outcome_at journal u) journal) Nothing
+outcome_active : (journal : List Event) (u : ℕ) → has_ended journal u ≡ false
+    → outcome_of journal u ≡ unwrap_or (last_given (outcome_at journal u) journal) Nothing
 unfolding outcome_of
 outcome_active journal u active =
     let both = active_parts journal u active in

@@ -1,23 +1,22 @@
 -- Tasks are completed, named by starts, started, elaborated, abnormal and failed alike after one more event.
-use Rattle.std.proofs.Common.{◌≡◌, ℕ, Bool, true, false, not, ◌&&◌, ◌||◌, eqb, Option, Some, None, List, [], ◌∷◌, refl, sym, ap, ◌∙◌, inl, inr}
+use Rattle.std.proofs.Common.{◌≡◌, ℕ, Bool, true, false, ◌||◌, eqb, Some, List, [], ◌∷◌, refl, sym, ◌∙◌, inl, inr}
 use Rattle.std.specs.List.{list_any}
-use Rattle.std.proofs.lemmas.Bool.{cases_Bool, or_left, or_right, or_parts, false_from_ne_true, true≢false}
-use Rattle.std.proofs.lemmas.Option.{none-some, same_Some}
+use Rattle.std.proofs.lemmas.Bool.{cases_Bool, or_right, or_parts}
+use Rattle.std.proofs.lemmas.Option.{same_Some}
 use Rattle.ada_events.specs.declared.event.Event.{Event}
 use Rattle.ada_events.specs.declared.names.TaskNo.{TaskNo}
 use Rattle.ada_events.specs.declared.names.Master.TheVariants.{Body}
 use Rattle.ada_events.specs.Search.{is_number}
 use Rattle.ada_events.specs.Says.{started_in, aborted_in, elaborated_in, failed_in, completed_in}
-use Rattle.ada_events.specs.Tasks.{has_task}
 use Rattle.ada_events.specs.Masters.{depends_on}
 use Rattle.ada_events.specs.Phases.{lists_task, has_start, is_elaborated, has_failed, is_completed, is_terminated, has_ended, is_abnormal, is_started}
-use Rattle.ada_laws.proofs.Growing.{has_ended-before, has_ended-terminated}
+use Rattle.ada_laws.proofs.Growing.{has_ended-before}
 use Rattle.ada_standing.specs.Renaming.{Renaming, renamed_master, renamed_task, renamed_tasks, next_names}
 use Rattle.ada_standing.proofs.alike.Pairs.{live_from, active_parts, ended_alike}
 use Rattle.ada_standing.proofs.alike.Mastering.{depends_alike, eqb_alike}
 use Rattle.ada_standing.proofs.kept.Saying.{from_both-some, task-some, started_said, aborted_said, elaborated_said, failed_said, completed_said, number_alike}
-use Rattle.ada_standing.proofs.kept.Naming.{AreNext, AreOld, AreMade, like, one_task, next_cases}
-use Rattle.ada_standing.proofs.kept.Terminating.{unterminated_before, made_fresh, terminated_old, terminated_kept}
+use Rattle.ada_standing.proofs.kept.Naming.{AreNext, AreOld, like, one_task, next_cases}
+use Rattle.ada_standing.proofs.kept.Terminating.{unterminated_before, made_fresh, terminated_old}
 
 -- some task of a list passes as some task of the renamed list does
 pub any_alike : (names : Renaming) (test there : TaskNo → Bool) (ts us : List TaskNo) → renamed_tasks names ts ≡ Some us
@@ -28,7 +27,7 @@ any_alike names test there (t ∷ rest) us is alike =
     let (u, them, first, later, made) = from_both-some (λ u us. u ∷ us) (renamed_task names t) (renamed_tasks names rest) us is in
     rw (← made, alike t u (task-some names t u first), any_alike names test there rest them later alike) refl
 
--- a start after which no start names the task
+-- whom no start names, none named before
 pub unnamed_before : (event : Event) (before : List Event) (u : ℕ) → has_start (event ∷ before) u ≡ false → has_start before u ≡ false
 unfolding has_start
 unnamed_before event before u never =

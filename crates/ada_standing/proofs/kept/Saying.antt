@@ -1,6 +1,6 @@
 -- What the event that stands for another says: the same, of the tasks, masters and positions that stand for the other's.
-use Rattle.std.proofs.Common.{◌≡◌, ℕ, ℤ, Bool, true, false, Option, Some, None, List, [], ◌∷◌, refl, sym, ap, ◌∙◌, eqb}
-use Rattle.std.specs.Option.{option_map, option_and_then}
+use Rattle.std.proofs.Common.{◌≡◌, ℕ, ℤ, Bool, true, false, Option, Some, None, List, refl, sym, ap, ◌∙◌}
+use Rattle.std.specs.Option.{option_map}
 use Rattle.std.proofs.lemmas.Option.{none-some, same_Some}
 use Rattle.ada_events.specs.declared.event.Event.{Event}
 use Rattle.ada_events.specs.declared.event.Event.TheVariants as event
@@ -13,7 +13,7 @@ use Rattle.ada_events.specs.declared.names.Family.{Family}
 use Rattle.ada_events.specs.declared.names.Choice.{Choice}
 use Rattle.ada_events.specs.declared.names.Patience.{Patience}
 use Rattle.ada_events.specs.Search.{is_number}
-use Rattle.ada_events.specs.Says.{Creation, Opening, Closing, creation_in, opening_in, closing_in, moment_in, started_in, aborted_in, elaborated_in, failed_in}
+use Rattle.ada_events.specs.Says.{Creation, Closing, creation_in, closing_in, moment_in, started_in, aborted_in, elaborated_in, failed_in}
 use Rattle.ada_events.specs.Says.{completed_in, gone_in, quit_in, held_in, released_in}
 use Rattle.ada_events.specs.Outcomes.{raised_in}
 use Rattle.ada_events.specs.Forced.{task_no}

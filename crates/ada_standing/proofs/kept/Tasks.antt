@@ -1,8 +1,8 @@
 -- The tasks that aren't terminated are kept after one more event, in the order of their numbers; they exist, and have the same entries.
 use Rattle.std.proofs.Common.{◌≡◌, ℕ, ◌<◌, ◌≤◌, true, Option, Some, None, List, [], ◌∷◌, refl, sym, ap, ◌∙◌, arith, ◌⊎◌, inl, inr}
-use Rattle.std.specs.Option.{option_len, option_map_or}
+use Rattle.std.specs.Option.{option_len}
 use Rattle.std.proofs.lemmas.Bool.{cases_eq, lt-ltb}
-use Rattle.std.proofs.lemmas.Option.{none-some, same_Some}
+use Rattle.std.proofs.lemmas.Option.{none-some}
 use Rattle.ada_events.specs.declared.event.Event.{Event}
 use Rattle.ada_events.specs.Says.{Creation, creation_in}
 use Rattle.ada_events.specs.Tasks.{task_count, has_task, creation_of, families_of}
@@ -12,7 +12,7 @@ use Rattle.ada_standing.specs.StandsIn.{KeepsTasks, is_live}
 use Rattle.ada_standing.proofs.alike.Pairs.{live_from, live_parts}
 use Rattle.ada_standing.proofs.alike.Kinds.{AreBoth}
 use Rattle.ada_standing.proofs.kept.Saying.{creation_said}
-use Rattle.ada_standing.proofs.kept.Naming.{AreNext, AreOld, AreMade, like, next_cases, task_later, made_named, creation_older, creation_newest}
+use Rattle.ada_standing.proofs.kept.Naming.{AreNext, like, next_cases, task_later, made_named, creation_older, creation_newest}
 use Rattle.ada_standing.proofs.kept.Terminating.{unterminated_before}
 
 -- a task existed before the event, or the event makes it
