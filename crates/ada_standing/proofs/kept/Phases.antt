@@ -195,6 +195,17 @@ module _ (old new : List Event) (names : Renaming) (event other : Event) (next :
       number_alike names.task (failed_in event) (failed_in other) u v (one_task old new names event other next)
       (failed_said names event other (like old new names event other next)) named
 
-  pub failed_kept : (u v : ℕ) → names.task u ≡ Some v → has_failed new v ≡ has_failed old u → has_failed (other ∷ new) v ≡ has_failed (event ∷ old) u
+  failed_old : (u v : ℕ) → names.task u ≡ Some v → has_failed new v ≡ has_failed old u → has_failed (other ∷ new) v ≡ has_failed (event ∷ old) u
   unfolding has_failed
-  failed_kept u v named same = rw (fails_now u v named, same) refl
+  failed_old u v named same = rw (fails_now u v named, same) refl
+
+  -- where they had failed alike before
+  pub failed_kept : (u v : ℕ) → (next_names old new event names).task u ≡ Some v → (names.task u ≡ Some v → has_failed new v ≡ has_failed old u)
+      → has_failed (other ∷ new) v ≡ has_failed (event ∷ old) u
+  failed_kept u v named same =
+      elim (next_cases old new names event other next u v named) [
+        | inl was ↦ failed_old u v was.named (same was.named)
+        | inr made ↦
+            let both = made_fresh old new names event other next u v made in
+            both.1.unfailed ∙ sym both.0.unfailed
+      ]
