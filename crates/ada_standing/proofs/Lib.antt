@@ -11,3 +11,4 @@ pub mod lawful
 pub mod asked
 pub mod kept
 pub mod held
+pub mod led

@@ -11,3 +11,4 @@ pub mod Making
 pub mod Depending
 pub mod Outcomes
 pub mod Becoming
+pub mod Standing

@@ -70,7 +70,7 @@ block_there names p q (BlockMember r ∷ xs) (y ∷ ys) placed same has =
     elim (or_cases (eqb r p) (list_any (is_block p) xs) has) [
       | inl here ↦
           let block : Some y ≡ Some (BlockMember q) = head ∙ (ap (λ n. option_map BlockMember (names.position n)) (eqb-true r p here)
-              ∙ ap (option_map BlockMember) placed) in
+          ∙ ap (option_map BlockMember) placed) in
           or_left (is_block q y) (list_any (is_block q) ys) (ap (is_block q) (same_Some y (BlockMember q) block) ∙ eq-eqb q q refl)
       | inr later ↦ or_right (is_block q y) (list_any (is_block q) ys) (block_there names p q xs ys placed tail later)
     ]
@@ -147,17 +147,17 @@ module _ (old new : List Event) (names : Renaming) (event copy : Event) (next : 
         → IsSameBlock (event ∷ old) (copy ∷ new) (next_names old new event names) (suc (length old)) (suc (length new))
     block_newest o opens = elim (openings_both names event copy (is_like old new names event copy next)) [
       | AreBoth.both x y is has same ↦ record {
-          within =
-              parent_is (copy ∷ new) (suc (length new)) copy y (event_at-newest copy new) has
-              ∙ (sym (master_later old new names event copy next x.under y.under same.under)
-              ∙ ap (option_and_then (renamed_master (next_names old new event names)))
-              (sym (parent_is (event ∷ old) (suc (length old)) event x (event_at-newest event old) is)));
-          complete =
-              complete_is (copy ∷ new) (suc (length new)) copy y (event_at-newest copy new) has
-              ∙ ((λ i. (next.fitted.unclosed ∙ sym next.fits.unclosed) i || ended_kept old new names event copy next terminated_kept completed_kept x.by y.by
-              (task_later old new names event copy next x.by y.by same.by) i)
-              ∙ sym (complete_is (event ∷ old) (suc (length old)) event x (event_at-newest event old) is));
-        }
+        within =
+            parent_is (copy ∷ new) (suc (length new)) copy y (event_at-newest copy new) has
+            ∙ (sym (master_later old new names event copy next x.under y.under same.under)
+            ∙ ap (option_and_then (renamed_master (next_names old new event names)))
+            (sym (parent_is (event ∷ old) (suc (length old)) event x (event_at-newest event old) is)));
+        complete =
+            complete_is (copy ∷ new) (suc (length new)) copy y (event_at-newest copy new) has
+            ∙ ((λ i. (next.fitted.unclosed ∙ sym next.fits.unclosed) i || ended_kept old new names event copy next terminated_kept completed_kept x.by y.by
+            (task_later old new names event copy next x.by y.by same.by) i)
+            ∙ sym (complete_is (event ∷ old) (suc (length old)) event x (event_at-newest event old) is));
+      }
       | AreBoth.neither is has ↦ absurd (none-some o (sym is ∙ opens))
     ]
 
@@ -174,13 +174,13 @@ module _ (old new : List Event) (names : Renaming) (event copy : Event) (next : 
         let at = event_at-older event old p own.block.event own.block.stands in
         let at_q = event_at-older copy new q there.block.event there.block.stands in
         let under : renamed_master names o.under ≡ Some r.under =
-            ap (option_and_then (renamed_master names)) (sym (parent_is old p own.block.event o own.block.stands own.block.says))
-            ∙ (sym same.within ∙ parent_is new q there.block.event r there.block.stands there.block.says) in
+        ap (option_and_then (renamed_master names)) (sym (parent_is old p own.block.event o own.block.stands own.block.says))
+        ∙ (sym same.within ∙ parent_is new q there.block.event r there.block.stands there.block.says) in
         let by : names.task o.by ≡ Some r.by = ap names.task own.block.by ∙ (kept ∙ ap Some (sym there.block.by)) in
         let before : (list_any (closes_block q) new || has_ended old o.by) ≡ (list_any (closes_block p) old || has_ended old o.by) =
-            ap (λ b. list_any (closes_block q) new || b) (sym (ended_alike old new names o.by r.by next.stands by))
-            ∙ (sym (complete_is new q there.block.event r there.block.stands there.block.says)
-            ∙ (same.complete ∙ complete_is old p own.block.event o own.block.stands own.block.says)) in
+        ap (λ b. list_any (closes_block q) new || b) (sym (ended_alike old new names o.by r.by next.stands by))
+        ∙ (sym (complete_is new q there.block.event r there.block.stands there.block.says)
+        ∙ (same.complete ∙ complete_is old p own.block.event o own.block.stands own.block.says)) in
         record {
           within =
               parent_is (copy ∷ new) q there.block.event r at_q there.block.says
@@ -204,7 +204,7 @@ module _ (old new : List Event) (names : Renaming) (event copy : Event) (next : 
         elim (position_cases old new names event copy next p q placed) [
           | inl newest ↦
               let at : event ≡ own.block.event = same_Some event own.block.event
-                  (sym (event_at-newest event old) ∙ (ap (event_at (event ∷ old)) (sym newest.0) ∙ own.block.stands)) in
+              (sym (event_at-newest event old) ∙ (ap (event_at (event ∷ old)) (sym newest.0) ∙ own.block.stands)) in
               rw (newest.0, newest.1) (block_newest own.block.opening (ap opening_in at ∙ own.block.says))
           | inr was ↦
               let within : p ≤ length old = position_existed old new names event copy next p q was in

@@ -81,7 +81,7 @@ module _ (old new : List Event) (names : Renaming) (event copy : Event) (next : 
       let at : a ≡ q = same_Some a q (sym pair.placed ∙ placed) in
       let one : pair.held.event ≡ gone.closed = same_Some pair.held.event gone.closed (sym pair.held.stands ∙ gone.stands) in
       let other : pair.holds.event ≡ left.closed =
-          same_Some pair.holds.event left.closed (sym pair.holds.stands ∙ (ap (event_at new) at ∙ left.stands)) in
+      same_Some pair.holds.event left.closed (sym pair.holds.stands ∙ (ap (event_at new) at ∙ left.stands)) in
       elim (closes_alike old new names p a pair.held.event pair.holds.event pair.alike) [
         | AreBoth.both k l is has same ↦
             let first : k ≡ gone.closing = same_Some k gone.closing (sym is ∙ (ap closing_in one ∙ gone.says)) in

@@ -105,7 +105,7 @@ module _ (old new : List Event) (names : Renaming) (event copy : Event) (next : 
         | AreBoth.both c b is has like ↦
             let released = released_kept old new names event copy next p a pair.placed (pair.holds.unreleased ∙ sym pair.held.unreleased) in
             let ended = ended_kept old new names event copy next terminated_kept completed_kept pair.task pair.stand
-                (task_later old new names event copy next pair.task pair.stand pair.named) in
+            (task_later old new names event copy next pair.task pair.stand pair.named) in
             let by : b.by ≡ pair.stand = call_by new pair.stand a pair.holds b has in
             let caller : c.by ≡ pair.task = call_by old pair.task p pair.held c is in
             open_is copy new a pair.holds.event b pair.holds.stands has
@@ -148,13 +148,13 @@ module _ (old new : List Event) (names : Renaming) (event copy : Event) (next : 
       let (a, pair) = pair_forth old new names taking.wait.by m.wait next.stands next.orderly held in
       let same : a ≡ n.wait = same_Some a n.wait (sym pair.placed ∙ placed) in
       let one : taking.stands.event ≡ pair.held.event =
-          same_Some taking.stands.event pair.held.event (sym taking.stands.stands ∙ pair.held.stands) in
+      same_Some taking.stands.event pair.held.event (sym taking.stands.stands ∙ pair.held.stands) in
       let other : took.stands.event ≡ pair.holds.event =
-          same_Some took.stands.event pair.holds.event (sym took.stands.stands ∙ (ap (event_at new) (sym same) ∙ pair.holds.stands)) in
+      same_Some took.stands.event pair.holds.event (sym took.stands.stands ∙ (ap (event_at new) (sym same) ∙ pair.holds.stands)) in
       let by : taking.wait.by ≡ pair.task =
-          wait_by old pair.task m.wait pair.held taking.wait (ap wait_in (sym one) ∙ taking.stands.says) in
+      wait_by old pair.task m.wait pair.held taking.wait (ap wait_in (sym one) ∙ taking.stands.says) in
       let stand : took.wait.by ≡ pair.stand =
-          wait_by new pair.stand a pair.holds took.wait (ap wait_in (sym other) ∙ took.stands.says) in
+      wait_by new pair.stand a pair.holds took.wait (ap wait_in (sym other) ∙ took.stands.says) in
       wait_is copy new v n.wait took.stands.event took.wait took.stands.stands took.stands.says
       ∙ (by_alike taking.wait.by took.wait.by u v (ap names.task by ∙ (pair.named ∙ ap Some (sym stand))) named
       ∙ sym (wait_is event old u m.wait taking.stands.event taking.wait taking.stands.stands taking.stands.says))
@@ -169,26 +169,26 @@ module _ (old new : List Event) (names : Renaming) (event copy : Event) (next : 
           opened_member (copy ∷ new) v (suc (length new)) copy p has,
           newest_unleft event old next.fits,
           newest_unleft copy new next.fitted,
-          by_alike o.by p.by u v same.by named
+          by_alike o.by p.by u v same.by named,
         )
         (given (eqb o.by u && not false) (BlockMember (suc (length old))) (BlockMember (suc (length new)))
         (unfold renamed_member in ap (option_map BlockMember) (position_newest old new names event copy next)))
     | AreBoth.neither no_opening none ↦ elim (meetings_both names event copy (is_like old new names event copy next)) [
-          | AreBoth.both m n is has same ↦
-              rw (
-                met_member (event ∷ old) u (suc (length old)) event m is,
-                met_member (copy ∷ new) v (suc (length new)) copy n has,
-                waits_own u v m n named is has same.wait,
-                open_alike m.call n.call same.call (taking_opens old m.call m.wait (next.fits.meets m is))
-              )
-              (given (is_wait_of (event ∷ old) u m.wait && is_open_call (event ∷ old) m.call) (Rendezvous m.call) (Rendezvous n.call)
-              (unfold renamed_member in ap (option_map Rendezvous) (position_later old new names event copy next m.call n.call same.call)))
-          | AreBoth.neither no_meeting without ↦
-              rw (
-                no_member (event ∷ old) u (suc (length old)) event no_opening no_meeting,
-                no_member (copy ∷ new) v (suc (length new)) copy none without
-              ) refl
-        ]
+      | AreBoth.both m n is has same ↦
+          rw (
+            met_member (event ∷ old) u (suc (length old)) event m is,
+            met_member (copy ∷ new) v (suc (length new)) copy n has,
+            waits_own u v m n named is has same.wait,
+            open_alike m.call n.call same.call (taking_opens old m.call m.wait (next.fits.meets m is)),
+          )
+          (given (is_wait_of (event ∷ old) u m.wait && is_open_call (event ∷ old) m.call) (Rendezvous m.call) (Rendezvous n.call)
+          (unfold renamed_member in ap (option_map Rendezvous) (position_later old new names event copy next m.call n.call same.call)))
+      | AreBoth.neither no_meeting without ↦
+          rw (
+            no_member (event ∷ old) u (suc (length old)) event no_opening no_meeting,
+            no_member (copy ∷ new) v (suc (length new)) copy none without,
+          ) refl
+    ]
   ]
     where
       given : (b : Bool) (x y : Member) → renamed_member (next_names old new event names) x ≡ Some y

@@ -69,11 +69,11 @@ module _ (old new : List Event) (names : Renaming) (event copy : Event) (next : 
       let added = member_at (event ∷ old) u (suc (length old)) event in
       let more = member_at (copy ∷ new) v (suc (length new)) copy in
       let stays : map Some there ≡ map to here =
-          filter_alike (renamed_member names) to (remains (event ∷ old)) (remains (copy ∷ new)) (nest old u) (nest new v) (before_alike u v named still)
-          (λ x y same. member_later old new names event copy next x y same)
-          (λ x y inside within same. member_stays old new names event copy next terminated_kept completed_kept u v x y inside within same) in
+      filter_alike (renamed_member names) to (remains (event ∷ old)) (remains (copy ∷ new)) (nest old u) (nest new v) (before_alike u v named still)
+      (λ x y same. member_later old new names event copy next x y same)
+      (λ x y inside within same. member_stays old new names event copy next terminated_kept completed_kept u v x y inside within same) in
       let comes : map Some (option_to_list more) ≡ map to (option_to_list added) =
-          one_alike to added more (added_alike old new names event copy next terminated_kept completed_kept u v named) in
+      one_alike to added more (added_alike old new names event copy next terminated_kept completed_kept u v named) in
       ap (map Some) (nest_next copy new next.fitted v)
       ∙ (map-append Some there (option_to_list more)
       ∙ ((λ i. stays i ++ comes i)

@@ -39,17 +39,17 @@ module _ (old new : List Event) (names : Renaming) (event copy : Event) (next : 
   pub one_kept : (p q a : ℕ) → (next_names old new event names).position p ≡ Some a → (next_names old new event names).position q ≡ Some a → p ≡ q
   one_kept p q a first second = elim (position_cases old new names event copy next p a first) [
     | inl newest ↦ elim (position_cases old new names event copy next q a second) [
-          | inl also ↦ newest.0 ∙ sym also.0
-          | inr kept ↦
-              let low : a ≤ length new = position_exists old new names event copy next q a kept in
-              absurd (omega (arith, low, newest.1))
-        ]
+      | inl also ↦ newest.0 ∙ sym also.0
+      | inr kept ↦
+          let low : a ≤ length new = position_exists old new names event copy next q a kept in
+          absurd (omega (arith, low, newest.1))
+    ]
     | inr was ↦ elim (position_cases old new names event copy next q a second) [
-          | inl newest ↦
-              let low : a ≤ length new = position_exists old new names event copy next p a was in
-              absurd (omega (arith, low, newest.1))
-          | inr kept ↦ next.stands.positions.one p q a was kept
-        ]
+      | inl newest ↦
+          let low : a ≤ length new = position_exists old new names event copy next p a was in
+          absurd (omega (arith, low, newest.1))
+      | inr kept ↦ next.stands.positions.one p q a was kept
+    ]
   ]
 
   -- the newest position is the last of all; between older ones what decides is what was so before

@@ -84,7 +84,7 @@ unfolding renamed_event
 is_renamed names (Opened b m) e same = of_two names _ e Opened b (renamed_master names m) (λ c n is has. opens b c m n is has) same
 is_renamed names (Created b m x families) e same =
     let (c, is, rest) = option_and_then-some
-        (λ c. from_both (λ n y. Created c n y families) (renamed_master names m) (renamed_master names x)) (renamed_task names b) e same in
+    (λ c. from_both (λ n y. Created c n y families) (renamed_master names m) (renamed_master names x)) (renamed_task names b) e same in
     let (n, y, has, also, made) = from_both-some (λ n y. Created c n y families) (renamed_master names m) (renamed_master names x) e rest in
     subst (IsRenamed names (Created b m x families)) made (creates b c m n x y families (renamed_task-is names b c is) has also)
 is_renamed names (Started b s) e same = of_two names _ e Started b (renamed_tasks names s) (λ c t is has. starts b c s t is has) same

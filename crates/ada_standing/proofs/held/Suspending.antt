@@ -73,27 +73,27 @@ module _ (old new : List Event) (names : Renaming) (event copy : Event) (next : 
       let like = is_like old new names event copy next in
       elim (calls_both names event copy like) [
         | AreBoth.both c b says tells same ↦ IsSameHold.call c b says tells (record {
-            callee = task_later old new names event copy next c.callee b.callee same.callee;
-            entry = same.entry;
-            met = next.fitted.unmet ∙ sym next.fits.unmet;
-            conditional = λ unmet. ap is_conditional same.patience;
-            due = λ unmet. same.due;
-          })
+          callee = task_later old new names event copy next c.callee b.callee same.callee;
+          entry = same.entry;
+          met = next.fitted.unmet ∙ sym next.fits.unmet;
+          conditional = λ unmet. ap is_conditional same.patience;
+          due = λ unmet. same.due;
+        })
         | AreBoth.neither no_call none ↦ elim (waits_both names event copy like) [
-              | AreBoth.both w v says tells same ↦ IsSameHold.wait w v says tells same
-              | AreBoth.neither no_wait none ↦ elim (delays_both names event copy like) [
-                    | AreBoth.both a b says tells same ↦ IsSameHold.pause a b says tells same
-                    | AreBoth.neither no_delay none ↦ elim (starts_both names event copy like) [
-                          | AreBoth.both s r says tells same ↦
-                              IsSameHold.start s r says tells (start_newest old new names event copy next s r says tells same)
-                          | AreBoth.neither no_start none ↦ elim (closings_both names event copy like) [
-                                | AreBoth.both a b says tells same ↦
-                                    IsSameHold.close a b says tells (position_later old new names event copy next a.block b.block same.block)
-                                | AreBoth.neither no_close none ↦ absurd (holds_by_kind event u holds no_call no_wait no_delay no_start no_close)
-                              ]
-                        ]
-                  ]
+          | AreBoth.both w v says tells same ↦ IsSameHold.wait w v says tells same
+          | AreBoth.neither no_wait none ↦ elim (delays_both names event copy like) [
+            | AreBoth.both a b says tells same ↦ IsSameHold.pause a b says tells same
+            | AreBoth.neither no_delay none ↦ elim (starts_both names event copy like) [
+              | AreBoth.both s r says tells same ↦
+                  IsSameHold.start s r says tells (start_newest old new names event copy next s r says tells same)
+              | AreBoth.neither no_start none ↦ elim (closings_both names event copy like) [
+                | AreBoth.both a b says tells same ↦
+                    IsSameHold.close a b says tells (position_later old new names event copy next a.block b.block same.block)
+                | AreBoth.neither no_close none ↦ absurd (holds_by_kind event u holds no_call no_wait no_delay no_start no_close)
+              ]
             ]
+          ]
+        ]
       ]
 
   -- the event holds up alike whom it holds up
@@ -128,7 +128,7 @@ module _ (old new : List Event) (names : Renaming) (event copy : Event) (next : 
         → IsHeldAlike (event ∷ old) (copy ∷ new) (next_names old new event names) v p held.event
     held_kept u v named p held =
         let live : has_ended (copy ∷ new) v ≡ false =
-            ended_kept old new names event copy next terminated_kept completed_kept u v named ∙ held.live in
+        ended_kept old new names event copy next terminated_kept completed_kept u v named ∙ held.live in
         elim (event_at-cases event old p held.event held.stands) [
           | inl newest ↦
               let holds : held_in event ≡ Some u = ap held_in newest.1 ∙ held.holds in
@@ -186,7 +186,7 @@ module _ (old new : List Event) (names : Renaming) (event copy : Event) (next : 
           let (p, pair) = pair_back old new names v q next.stands next.orderly next.also older in
           let event_is : pair.holds.event ≡ older.event = same_Some pair.holds.event older.event (sym pair.holds.stands ∙ older.stands) in
           let stand_is : pair.stand ≡ v =
-              same_Some pair.stand v (sym pair.holds.holds ∙ (ap held_in event_is ∙ older.holds)) in
+          same_Some pair.stand v (sym pair.holds.holds ∙ (ap held_in event_is ∙ older.holds)) in
           let task_is : pair.task ≡ u = kept_one pair.task u v (pair.named ∙ ap Some stand_is) named in
           is_suspended-from (event ∷ old) u p (record {
             event = pair.held.event;

@@ -1,17 +1,14 @@
 -- The outcomes of tasks are alike after one more event, and so is all that tasks that may be named have in common.
-use Rattle.std.proofs.Common.{◌≡◌, ℕ, Bool, true, false, Option, Some, None, List, ◌∷◌, refl, sym, ap, ◌∙◌, subst, inl, inr}
-use Rattle.std.specs.Option.{option_and_then, unwrap_or}
-use Rattle.std.proofs.lemmas.Bool.{cases_Bool, or_from, true≢false, false_from_ne_true}
-use Rattle.std.proofs.lemmas.Option.{none-some, same_Some}
+use Rattle.std.proofs.Common.{◌≡◌, ℕ, true, false, Some, List, ◌∷◌, refl, sym, ap, ◌∙◌, inl, inr}
+use Rattle.std.proofs.lemmas.Bool.{cases_Bool, or_from, true≢false}
+use Rattle.std.proofs.lemmas.Option.{same_Some}
 use Rattle.ada_events.specs.declared.event.Event.{Event}
-use Rattle.ada_events.specs.declared.event.Event.TheVariants as event
 use Rattle.ada_events.specs.declared.event.Way.TheVariants as way
 use Rattle.ada_events.specs.declared.outcome.Outcome.{Outcome}
-use Rattle.ada_events.specs.declared.outcome.Outcome.TheVariants.{Dead, Done, Held, Raised, Nothing, Accepted}
+use Rattle.ada_events.specs.declared.outcome.Outcome.TheVariants.{Dead, Done, Held, Raised, Nothing}
 use Rattle.ada_events.specs.Search.{is_number}
-use Rattle.ada_events.specs.Says.{Wait, held_in, released_in, wait_in, wait_at}
+use Rattle.ada_events.specs.Says.{held_in, released_in}
 use Rattle.ada_events.specs.Phases.{is_completed, is_terminated, has_ended, is_suspended}
-use Rattle.ada_events.specs.Waits.{taken_choice}
 use Rattle.ada_events.specs.Outcomes.{raised_in, choice_met, released_to, outcome_of}
 use Rattle.ada_laws.specs.Suspension.{IsSuspendedAt}
 use Rattle.ada_laws.proofs.Searching.{is_number-some}
@@ -25,7 +22,7 @@ use Rattle.ada_standing.proofs.alike.Pairs.{IsPair}
 use Rattle.ada_standing.proofs.alike.Calling.{wait_by}
 use Rattle.ada_standing.proofs.alike.Queueing.{taken_choice_alike}
 use Rattle.ada_standing.proofs.kept.Saying.{IsLike, held_said, raised_said, released_said, number_alike}
-use Rattle.ada_standing.proofs.kept.Naming.{AreNext, AreOld, AreMade, like, one_task, next_cases, outcome_later}
+use Rattle.ada_standing.proofs.kept.Naming.{AreNext, AreOld, like, one_task, next_cases, outcome_later}
 use Rattle.ada_standing.proofs.kept.Terminating.{unterminated_before, terminated_kept, terminated_old}
 use Rattle.ada_standing.proofs.kept.Tasks.{existed_kept, families_kept}
 use Rattle.ada_standing.proofs.kept.Phases.{completed_old, ended_old}
@@ -67,13 +64,13 @@ choices_alike old new names event other p q next pair =
     elim (waits_alike old new names p q pair.held.event pair.holds.event pair.alike) [
       | AreBoth.both w x is has same ↦
           let by : names.task w.by ≡ Some x.by =
-              ap names.task (wait_by old pair.task p pair.held w is) ∙ (pair.named ∙ ap Some (sym (wait_by new pair.stand q pair.holds x has))) in
+          ap names.task (wait_by old pair.task p pair.held w is) ∙ (pair.named ∙ ap Some (sym (wait_by new pair.stand q pair.holds x has))) in
           rw (
             pair.held.stands,
             pair.holds.stands,
             is,
             has,
-            taken_choice_alike old new names w x next.stands next.orderly next.also by same
+            taken_choice_alike old new names w x next.stands next.orderly next.also by same,
           ) refl
       | AreBoth.neither is has ↦ rw (pair.held.stands, pair.holds.stands, is, has) refl
     ]
@@ -147,9 +144,9 @@ module _ (old new : List Event) (names : Renaming) (event other : Event) (next :
   active_outcome u v was active =
       let active_too : has_ended (other ∷ new) v ≡ false = ended_old old new names event other next u v was ∙ active in
       let raises = number_alike names.task (raised_in event) (raised_in other) u v (one_task old new names event other next)
-          (raised_said names event other (like old new names event other next)) was.named in
+      (raised_said names event other (like old new names event other next)) was.named in
       let holds = number_alike names.task (held_in event) (held_in other) u v (one_task old new names event other next)
-          (held_said names event other (like old new names event other next)) was.named in
+      (held_said names event other (like old new names event other next)) was.named in
       elim (cases_Bool (is_number u (raised_in event))) [
         | inl now ↦
             outcomes_are names (outcome_of (event ∷ old) u) (outcome_of (other ∷ new) v) Raised Raised (outcome_raised event old u active now)

@@ -1,9 +1,8 @@
 -- What a task depends on, what it was made within, and whether it is abandoned, alike after one more event.
-use Rattle.std.proofs.Common.{◌≡◌, ℕ, Bool, true, false, not, ◌&&◌, ◌||◌, eqb, Option, Some, None, List, ◌∷◌, refl, sym, ap, ◌∙◌, subst, ◌⊎◌, inl, inr}
+use Rattle.std.proofs.Common.{◌≡◌, ℕ, Bool, true, false, ◌||◌, eqb, Option, Some, None, List, ◌∷◌, refl, sym, ap, ◌∙◌, subst, inl, inr}
 use Rattle.std.specs.Option.{option_map, option_and_then}
-use Rattle.std.specs.List.{list_any}
 use Rattle.std.proofs.lemmas.Bool.{cases_Bool, or_cases, or_left, or_right, or_parts}
-use Rattle.std.proofs.lemmas.Option.{none-some, same_Some}
+use Rattle.std.proofs.lemmas.Option.{same_Some}
 use Rattle.ada_events.specs.declared.event.Event.{Event}
 use Rattle.ada_events.specs.declared.names.Master.{Master}
 use Rattle.ada_events.specs.declared.names.Master.TheVariants.{Body, Block}
@@ -30,7 +29,7 @@ use Rattle.ada_standing.proofs.kept.Naming.{AreNext, AreOld, AreMade, like, old_
 use Rattle.ada_standing.proofs.kept.Terminating.{unterminated_before, made_fresh, terminated_old}
 use Rattle.ada_standing.proofs.kept.Phases.{unnamed_before, completed_old, completed_kept, ended_old, named_kept}
 use Rattle.ada_standing.proofs.kept.Making.{is_closed, block_complete, block_later, complete_more, abandoned_is, never_abandoned, no_abandoned, waiting_from}
-use Rattle.ada_standing.proofs.kept.Making.{making_terminates_none, making_keeps_complete, creations_forth, creations_none, makers_named}
+use Rattle.ada_standing.proofs.kept.Making.{making_keeps_complete, creations_forth, creations_none, makers_named}
 
 -- what a task was made within is complete, or its maker is terminated
 abbrev is_over : List Event → Creation → Bool
@@ -93,7 +92,7 @@ module _ (old new : List Event) (names : Renaming) (event other : Event) (next :
         | inr made ↦
             rw (
               creation_newest other new v made.stand made.says_too made.newest_too,
-              creation_newest event old u made.creation made.says made.newest
+              creation_newest event old u made.creation made.says made.newest,
             )
             (sym (master_later old new names event other next made.creation.master made.stand.master made.same.master))
       ]
@@ -103,10 +102,10 @@ module _ (old new : List Event) (names : Renaming) (event other : Event) (next :
       → creation_of new v ≡ Some d → renamed_master names c.under ≡ Some d.under
   under_named u v c d was still never is has =
       let within : option_map under_of (creation_of new v) ≡ option_and_then (renamed_master names) (option_map under_of (creation_of old u)) =
-          (next.stands.dependents u v was.named still).within never in
+      (next.stands.dependents u v was.named still).within never in
       let there : option_map under_of (creation_of new v) ≡ Some d.under = ap (option_map under_of) has in
       let here : option_and_then (renamed_master names) (option_map under_of (creation_of old u)) ≡ renamed_master names c.under =
-          ap (λ (o : Option Creation). option_and_then (renamed_master names) (option_map under_of o)) is in
+      ap (λ (o : Option Creation). option_and_then (renamed_master names) (option_map under_of o)) is in
       sym here ∙ (sym within ∙ there)
 
   within_old : (u v : ℕ) (o : Option Creation) → AreOld old new names u v → is_terminated old u ≡ false → has_start old u ≡ false → creation_of old u ≡ o
@@ -116,7 +115,7 @@ module _ (old new : List Event) (names : Renaming) (event other : Event) (next :
         creation_older other new v was.below_too,
         creation_older event old u was.below,
         creations_none old new names event other next u v was none,
-        none
+        none,
       ) refl
   within_old u v (Some c) was still never is =
       let (d, has) = creations_forth old new names event other next u v c was is in
@@ -131,7 +130,7 @@ module _ (old new : List Event) (names : Renaming) (event other : Event) (next :
         | inr made ↦
             rw (
               creation_newest other new v made.stand made.says_too made.newest_too,
-              creation_newest event old u made.creation made.says made.newest
+              creation_newest event old u made.creation made.says made.newest,
             )
             (sym (master_later old new names event other next made.creation.under made.stand.under made.same.under))
       ]
@@ -189,7 +188,7 @@ module _ (old new : List Event) (names : Renaming) (event other : Event) (next :
       let maker = next.fits.makers u c is in
       let maker_too = next.fits_too.makers v d has in
       let same : is_over new d ≡ is_over old c =
-          sym (abandoned_is new v d has never_too) ∙ ((next.stands.dependents u v was.named still).abandoned ∙ abandoned_is old u c is never) in
+      sym (abandoned_is new v d has never_too) ∙ ((next.stands.dependents u v was.named still).abandoned ∙ abandoned_is old u c is never) in
       elim (cases_Bool (is_over old c)) [
         | inl over ↦ over_more other new d maker_too (same ∙ over) ∙ sym (over_more event old c maker over)
         | inr goes_on ↦
@@ -198,7 +197,7 @@ module _ (old new : List Event) (names : Renaming) (event other : Event) (next :
             let makers = (makers_named old new names event other next u v c d was is has (waiting_from old u c never here.1)).0 in
             rw (
               terminated_old old new names event other next c.by d.by makers,
-              under_complete c d makers here.1 maker maker_too (under_named u v c d was still never is has) here.0 there.0
+              under_complete c d makers here.1 maker maker_too (under_named u v c d was still never is has) here.0 there.0,
             ) refl
       ]
 
@@ -222,9 +221,9 @@ module _ (old new : List Event) (names : Renaming) (event other : Event) (next :
       let making_too = next.fits_too.making d made.says_too in
       let makers = old_task old new names event other next c.by d.by made.same.by in
       let complete : is_complete (other ∷ new) d.under ≡ is_complete (event ∷ old) c.under =
-          making_keeps_complete other new d.under d made.says_too making_too.within
-          ∙ (complete_alike old new names c.under d.under next.stands making.within made.same.under
-          ∙ sym (making_keeps_complete event old c.under c made.says making.within)) in
+      making_keeps_complete other new d.under d made.says_too making_too.within
+      ∙ (complete_alike old new names c.under d.under next.stands making.within made.same.under
+      ∙ sym (making_keeps_complete event old c.under c made.says making.within)) in
       abandoned_is (other ∷ new) v d (creation_newest other new v d made.says_too made.newest_too) both.1.unnamed
       ∙ (rw (terminated_old old new names event other next c.by d.by makers, complete) refl
       ∙ sym (abandoned_is (event ∷ old) u c (creation_newest event old u c made.says made.newest) both.0.unnamed))

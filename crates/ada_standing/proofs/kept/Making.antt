@@ -1,41 +1,37 @@
 -- Who made a task and within what, alike after one more event: who may still activate it, and whether it is abandoned.
-use Rattle.std.proofs.Common.{◌≡◌, ℕ, suc, ◌<◌, ◌≤◌, Bool, true, false, not, ◌&&◌, ◌||◌, eqb, Option, Some, None, List, ◌∷◌, length, refl, sym, ap, ◌∙◌}
-use Rattle.std.proofs.Common.{arith, subst, ◌⊎◌, inl, inr}
-use Rattle.std.specs.Option.{option_map, option_map_or, option_and_then}
+use Rattle.std.proofs.Common.{◌≡◌, ℕ, ◌<◌, ◌≤◌, Bool, true, false, not, ◌&&◌, ◌||◌, eqb, Option, Some, None, List, ◌∷◌, length, refl, sym, ap, ◌∙◌}
+use Rattle.std.proofs.Common.{arith, inl, inr}
+use Rattle.std.specs.Option.{option_and_then}
 use Rattle.std.specs.Bool.{then_some}
 use Rattle.std.specs.List.{list_any}
-use Rattle.std.proofs.lemmas.Bool.{cases_Bool, and_parts, and_from, or_cases, or_left, or_right, or_parts, not-true, not_from_false, not_from_true, true≢false}
+use Rattle.std.proofs.lemmas.Bool.{cases_Bool, and_parts, or_cases, or_left, or_right, not-true, not_from_true, true≢false}
 use Rattle.std.proofs.lemmas.Bool.{and_right}
 use Rattle.std.proofs.lemmas.Option.{none-some, same_Some}
 use Rattle.ada_events.specs.declared.event.Event.{Event}
 use Rattle.ada_events.specs.declared.names.Master.{Master}
 use Rattle.ada_events.specs.declared.names.Master.TheVariants.{Body, Block}
-use Rattle.ada_events.specs.Search.{is_number, is_some_and, event_at}
-use Rattle.ada_events.specs.Says.{Creation, Opening, Closing, creation_in, opening_in, opening_at, closing_in}
-use Rattle.ada_events.specs.Tasks.{task_count, creation_of}
-use Rattle.ada_events.specs.Phases.{lists_task, has_start, is_completed, is_terminated, has_ended}
+use Rattle.ada_events.specs.Search.{is_some_and}
+use Rattle.ada_events.specs.Says.{Creation, Opening, Closing, creation_in, opening_at, closing_in}
+use Rattle.ada_events.specs.Tasks.{creation_of}
+use Rattle.ada_events.specs.Phases.{has_start, is_completed, is_terminated, has_ended}
 use Rattle.ada_events.specs.Termination.{is_complete_block, is_complete, is_abandoned}
-use Rattle.ada_events.specs.Forced.{task_no}
-use Rattle.ada_laws.specs.Masters.{parent_of}
-use Rattle.ada_laws.proofs.Searching.{event_at-older, event_at-other, event_at-within, then_some-some, option_map-some}
-use Rattle.ada_laws.proofs.Growing.{is_completed-more, is_terminated-more, has_ended-more}
+use Rattle.ada_laws.proofs.Searching.{event_at-older, event_at-other, event_at-within, then_some-some}
+use Rattle.ada_laws.proofs.Growing.{is_completed-more, has_ended-more}
 use Rattle.ada_laws.proofs.Framing.{IsBlockOf}
 use Rattle.ada_laws.proofs.Depending.{created_positive}
-use Rattle.ada_standing.specs.Renaming.{Renaming, renamed_master, renamed_parent}
+use Rattle.ada_standing.specs.Renaming.{Renaming}
 use Rattle.ada_standing.specs.internal.Next.{next_names}
-use Rattle.ada_standing.specs.StandsIn.{activator_of, made_within, is_live}
-use Rattle.ada_standing.proofs.alike.Kinds.{AreBoth}
+use Rattle.ada_standing.specs.StandsIn.{activator_of}
 use Rattle.ada_standing.proofs.alike.Orderly.{IsLivedIn}
 use Rattle.ada_standing.proofs.alike.Pairs.{live_from, live_parts}
-use Rattle.ada_standing.proofs.alike.Mastering.{eqb_alike, lived_forth, lived_known, parent_lived, complete_alike}
+use Rattle.ada_standing.proofs.alike.Mastering.{lived_known}
 use Rattle.ada_standing.proofs.kept.Fitting.{IsMaker}
-use Rattle.ada_standing.proofs.kept.Saying.{IsSameClosing, closing_said}
-use Rattle.ada_standing.proofs.kept.Naming.{AreNext, AreOld, AreMade, like, one_task, old_task, next_cases, task_later, master_later, creation_older}
+use Rattle.ada_standing.proofs.kept.Naming.{AreNext, AreOld, one_task, old_task, next_cases, task_later, creation_older}
 use Rattle.ada_standing.proofs.kept.Naming.{creation_newest}
-use Rattle.ada_standing.proofs.kept.Newness.{IsMakingOnly, making_only}
+use Rattle.ada_standing.proofs.kept.Newness.{making_only}
 use Rattle.ada_standing.proofs.kept.Tasks.{main_or_made}
-use Rattle.ada_standing.proofs.kept.Terminating.{unterminated_before, made_fresh, terminated_old, terminated_kept}
-use Rattle.ada_standing.proofs.kept.Phases.{unnamed_before, named_more, starts_now, completed_old, ended_old, named_kept, named_old}
+use Rattle.ada_standing.proofs.kept.Terminating.{unterminated_before, made_fresh, terminated_old}
+use Rattle.ada_standing.proofs.kept.Phases.{unnamed_before, starts_now}
 
 -- the activator of a task, where its creation is known
 
@@ -120,7 +116,8 @@ abbrev pub is_closed : List Event → ℕ → Bool
 is_closed journal p = list_any (λ (e : Event). is_some_and (closing_in e) (λ (c : Closing). eqb c.block p)) journal
 
 -- a block that a task opened is complete where it is closed, or the task has ended
-pub block_complete : (journal : List Event) (task p : ℕ) → IsBlockOf journal task p → is_complete journal (Block p) ≡ (is_closed journal p || has_ended journal task)
+pub block_complete : (journal : List Event) (task p : ℕ) → IsBlockOf journal task p
+    → is_complete journal (Block p) ≡ (is_closed journal p || has_ended journal task)
 unfolding is_complete is_complete_block
 block_complete journal task p block = rw (block.stands, block.says, block.by) refl
 
@@ -204,8 +201,8 @@ module _ (old new : List Event) (names : Renaming) (event other : Event) (next :
       let parts = waiting_parts old u c waits in
       let (w, named) = next.stands.tasks.live c.by (live_from old c.by (next.fits.makers u c is).exists parts.1) in
       let there : then_some (is_waiting new v d) d.by ≡ Some w =
-          sym (activator_is new v d has) ∙ ((next.stands.same u v was.named).activator
-          ∙ (ap (option_and_then names.task) (activator_is old u c is ∙ ap (λ (b : Bool). then_some b c.by) waits) ∙ named)) in
+      sym (activator_is new v d has) ∙ ((next.stands.same u v was.named).activator
+      ∙ (ap (option_and_then names.task) (activator_is old u c is ∙ ap (λ (b : Bool). then_some b c.by) waits) ∙ named)) in
       let found = then_some-some (is_waiting new v d) d.by w there in
       (old_task old new names event other next c.by d.by (named ∙ ap Some (sym found.1)), found.0)
 
@@ -217,7 +214,7 @@ module _ (old new : List Event) (names : Renaming) (event other : Event) (next :
         terminated_old old new names event other next c.by d.by makers,
         (waiting_parts old u c here).0,
         (waiting_parts new v d there).0,
-        starts_now old new names event other next u v was.named
+        starts_now old new names event other next u v was.named,
       ) refl
 
   activator_made : (u v : ℕ) (c d : Creation) → AreOld old new names u v → creation_of old u ≡ Some c → creation_of new v ≡ Some d
@@ -231,8 +228,8 @@ module _ (old new : List Event) (names : Renaming) (event other : Event) (next :
             (waits_now u v c d was there.0 waits there.1) (λ on. task_later old new names event other next c.by d.by there.0.named)
         | inr never ↦
             let gone : then_some (is_waiting new v d) d.by ≡ None =
-                sym (activator_is new v d has) ∙ ((next.stands.same u v was.named).activator
-                ∙ ap (option_and_then names.task) (activator_is old u c is ∙ ap (λ (b : Bool). then_some b c.by) never)) in
+            sym (activator_is new v d has) ∙ ((next.stands.same u v was.named).activator
+            ∙ ap (option_and_then names.task) (activator_is old u c is ∙ ap (λ (b : Bool). then_some b c.by) never)) in
             rw (no_waiting event old u c never, no_waiting other new v d (not_given (is_waiting new v d) d.by gone)) refl
       ]
     where
@@ -245,13 +242,13 @@ module _ (old new : List Event) (names : Renaming) (event other : Event) (next :
   activator_old u v None was none =
       rw (
         activator_none (other ∷ new) v (creation_older other new v was.below_too ∙ creations_none u v was none),
-        activator_none (event ∷ old) u (creation_older event old u was.below ∙ none)
+        activator_none (event ∷ old) u (creation_older event old u was.below ∙ none),
       ) refl
   activator_old u v (Some c) was is =
       let (d, has) = creations_forth u v c was is in
       rw (
         activator_is (other ∷ new) v d (creation_older other new v was.below_too ∙ has),
-        activator_is (event ∷ old) u c (creation_older event old u was.below ∙ is)
+        activator_is (event ∷ old) u c (creation_older event old u was.below ∙ is),
       )
       (activator_made u v c d was is has)
 
@@ -267,10 +264,10 @@ module _ (old new : List Event) (names : Renaming) (event other : Event) (next :
             let live = live_parts old c.by (next.fits.making c made.says).live in
             let makers = old_task old new names event other next c.by d.by made.same.by in
             let here : is_waiting (event ∷ old) u c ≡ true =
-                waiting_from (event ∷ old) u c both.0.unnamed (making_terminates_none event old c.by c made.says ∙ live.1) in
+            waiting_from (event ∷ old) u c both.0.unnamed (making_terminates_none event old c.by c made.says ∙ live.1) in
             let there : is_waiting (other ∷ new) v d ≡ true =
-                waiting_from (other ∷ new) v d both.1.unnamed
-                (terminated_old old new names event other next c.by d.by makers ∙ (making_terminates_none event old c.by c made.says ∙ live.1)) in
+            waiting_from (other ∷ new) v d both.1.unnamed
+            (terminated_old old new names event other next c.by d.by makers ∙ (making_terminates_none event old c.by c made.says ∙ live.1)) in
             activator_is (other ∷ new) v d (creation_newest other new v d made.says_too made.newest_too)
             ∙ (if_alike (next_names old new event names).task (is_waiting (event ∷ old) u c) (is_waiting (other ∷ new) v d) c.by d.by (there ∙ sym here)
             (λ on. task_later old new names event other next c.by d.by made.same.by)

@@ -1,12 +1,11 @@
 -- One more event of two journals, the one of which stands for the other; and the names after it: what stood for something
 -- still does, and a new task stands for a new one.
-use Rattle.std.proofs.Common.{◌≡◌, ℕ, suc, ◌<◌, ◌≤◌, Bool, true, false, cond, ◌&&◌, Option, Some, None, List, [], ◌∷◌, length, refl, sym, ap, ◌∙◌, eqb, arith}
-use Rattle.std.proofs.Common.{◌⊎◌, inl, inr, ◌≢◌, subst}
-use Rattle.std.specs.Option.{option_len, is_some}
+use Rattle.std.proofs.Common.{◌≡◌, ℕ, suc, ◌<◌, Bool, true, false, cond, ◌&&◌, Option, Some, None, List, ◌∷◌, length, refl, sym, ap, ◌∙◌, eqb, arith}
+use Rattle.std.proofs.Common.{◌⊎◌, inl, inr, ◌≢◌}
+use Rattle.std.specs.Option.{is_some}
 use Rattle.std.proofs.lemmas.Bool.{cases_eq, eq-eqb, ne_eqb, ltb-true}
 use Rattle.std.proofs.lemmas.Option.{none-some, same_Some}
 use Rattle.ada_events.specs.declared.event.Event.{Event}
-use Rattle.ada_events.specs.declared.names.TaskNo.{TaskNo}
 use Rattle.ada_events.specs.declared.names.Master.{Master}
 use Rattle.ada_events.specs.declared.names.Master.TheVariants.{Body, Block}
 use Rattle.ada_events.specs.declared.outcome.Outcome.{Outcome}

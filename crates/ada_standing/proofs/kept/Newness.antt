@@ -1,17 +1,16 @@
 -- Nothing became of a task that wasn't made yet, and an event that makes a task does nothing else.
-use Rattle.std.proofs.Common.{◌≡◌, ℕ, zero, suc, ◌<◌, ◌≤◌, Bool, true, false, not, ◌&&◌, ◌||◌, Option, Some, None, List, [], ◌∷◌, length, refl, sym, ap, ◌∙◌}
-use Rattle.std.proofs.Common.{eqb, arith, ◌⊎◌, inl, inr}
+use Rattle.std.proofs.Common.{◌≡◌, ℕ, suc, ◌<◌, ◌≤◌, Bool, true, false, not, ◌&&◌, ◌||◌, Some, None, List, [], ◌∷◌, length, refl}
+use Rattle.std.proofs.Common.{eqb, arith, inl, inr}
 use Rattle.std.specs.List.{list_any}
-use Rattle.std.proofs.lemmas.Bool.{or_cases, and_parts, false_from_ne_true, false≢true, ltb-true, ne_eqb, eqb-true}
+use Rattle.std.proofs.lemmas.Bool.{or_cases, and_parts, false_from_ne_true, false≢true, ltb-true, eqb-true}
 use Rattle.std.proofs.lemmas.Option.{none-some}
 use Rattle.ada_events.specs.declared.event.Event.{Event}
 use Rattle.ada_events.specs.declared.event.Event.TheVariants as event
 use Rattle.ada_events.specs.declared.names.TaskNo.{TaskNo}
-use Rattle.ada_events.specs.declared.names.Master.{Master}
 use Rattle.ada_events.specs.declared.names.Master.TheVariants.{Body}
 use Rattle.ada_events.specs.Search.{is_number, event_at}
-use Rattle.ada_events.specs.Says.{Creation, creation_in, opening_in, closing_in, started_in, aborted_in, elaborated_in, failed_in, completed_in, gone_in, quit_in}
-use Rattle.ada_events.specs.Says.{held_in, released_in}
+use Rattle.ada_events.specs.Says.{Creation, creation_in, opening_in, closing_in, started_in, aborted_in, elaborated_in, failed_in, completed_in, gone_in}
+use Rattle.ada_events.specs.Says.{quit_in, held_in, released_in}
 use Rattle.ada_events.specs.Tasks.{task_count, has_task}
 use Rattle.ada_events.specs.Masters.{depends_on}
 use Rattle.ada_events.specs.Phases.{lists_task, has_start, is_elaborated, has_failed, is_completed, is_terminated, has_ended, is_abnormal, is_started}
@@ -96,8 +95,8 @@ abnormal_below (event ∷ before) u abnormal =
     elim (or_cases (named && has_task before u && not (is_terminated before u)) (is_abnormal before u) abnormal) [
       | inl now ↦
           let below : u < task_count before =
-              ltb-true u (task_count before)
-              (and_parts named (has_task before u) (and_parts (named && has_task before u) (not (is_terminated before u)) now).0).1 in
+          ltb-true u (task_count before)
+          (and_parts named (has_task before u) (and_parts (named && has_task before u) (not (is_terminated before u)) now).0).1 in
           omega arith
       | inr was ↦
           let below : u < task_count before = abnormal_below before u was in

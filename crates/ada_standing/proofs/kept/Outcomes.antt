@@ -27,7 +27,7 @@ last_same give there [] same = refl
 last_same give there (event ∷ before) same =
     rw (
       same (suc (length before)) event (event_at-newest event before),
-      last_same give there before (λ p e at. same p e (event_at-older event before p e at))
+      last_same give there before (λ p e at. same p e (event_at-older event before p e at)),
     ) refl
 
 last_none : {A : Type 0} (give : ℕ → Event → Option A) (journal : List Event) → ((p : ℕ) (e : Event) → event_at journal p ≡ Some e → give p e ≡ None)
@@ -46,7 +46,8 @@ pub outcome_done : (journal : List Event) (u : ℕ) → is_terminated journal u 
 unfolding outcome_of
 outcome_done journal u still completed = rw (still, completed) refl
 
-outcome_active : (journal : List Event) (u : ℕ) → has_ended journal u ≡ false → outcome_of journal u ≡ unwrap_or (last_given (outcome_at journal u) journal) Nothing
+outcome_active : (journal : List Event) (u : ℕ) → has_ended journal u ≡ false
+    → outcome_of journal u ≡ unwrap_or (last_given (outcome_at journal u) journal) Nothing
 unfolding outcome_of
 outcome_active journal u active =
     let both = active_parts journal u active in

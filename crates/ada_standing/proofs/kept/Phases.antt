@@ -1,24 +1,23 @@
 -- Tasks are completed, named by starts, started, elaborated, abnormal and failed alike after one more event.
-use Rattle.std.proofs.Common.{◌≡◌, ℕ, Bool, true, false, not, ◌&&◌, ◌||◌, eqb, Option, Some, None, List, [], ◌∷◌, refl, sym, ap, ◌∙◌, inl, inr}
+use Rattle.std.proofs.Common.{◌≡◌, ℕ, Bool, true, false, ◌||◌, eqb, Some, List, [], ◌∷◌, refl, sym, ◌∙◌, inl, inr}
 use Rattle.std.specs.List.{list_any}
-use Rattle.std.proofs.lemmas.Bool.{cases_Bool, or_left, or_right, or_parts, false_from_ne_true, true≢false}
-use Rattle.std.proofs.lemmas.Option.{none-some, same_Some}
+use Rattle.std.proofs.lemmas.Bool.{cases_Bool, or_right, or_parts}
+use Rattle.std.proofs.lemmas.Option.{same_Some}
 use Rattle.ada_events.specs.declared.event.Event.{Event}
 use Rattle.ada_events.specs.declared.names.TaskNo.{TaskNo}
 use Rattle.ada_events.specs.declared.names.Master.TheVariants.{Body}
 use Rattle.ada_events.specs.Search.{is_number}
 use Rattle.ada_events.specs.Says.{started_in, aborted_in, elaborated_in, failed_in, completed_in}
-use Rattle.ada_events.specs.Tasks.{has_task}
 use Rattle.ada_events.specs.Masters.{depends_on}
 use Rattle.ada_events.specs.Phases.{lists_task, has_start, is_elaborated, has_failed, is_completed, is_terminated, has_ended, is_abnormal, is_started}
-use Rattle.ada_laws.proofs.Growing.{has_ended-before, has_ended-terminated}
+use Rattle.ada_laws.proofs.Growing.{has_ended-before}
 use Rattle.ada_standing.specs.Renaming.{Renaming, renamed_master, renamed_task, renamed_tasks}
 use Rattle.ada_standing.specs.internal.Next.{next_names}
 use Rattle.ada_standing.proofs.alike.Pairs.{live_from, active_parts, ended_alike}
 use Rattle.ada_standing.proofs.alike.Mastering.{depends_alike, eqb_alike}
 use Rattle.ada_standing.proofs.kept.Saying.{from_both-some, task-some, started_said, aborted_said, elaborated_said, failed_said, completed_said, number_alike}
-use Rattle.ada_standing.proofs.kept.Naming.{AreNext, AreOld, AreMade, like, one_task, next_cases}
-use Rattle.ada_standing.proofs.kept.Terminating.{unterminated_before, made_fresh, terminated_old, terminated_kept}
+use Rattle.ada_standing.proofs.kept.Naming.{AreNext, AreOld, like, one_task, next_cases}
+use Rattle.ada_standing.proofs.kept.Terminating.{unterminated_before, made_fresh, terminated_old}
 
 -- some task of a list passes as some task of the renamed list does
 pub any_alike : (names : Renaming) (test there : TaskNo → Bool) (ts us : List TaskNo) → renamed_tasks names ts ≡ Some us
@@ -29,7 +28,7 @@ any_alike names test there (t ∷ rest) us is alike =
     let (u, them, first, later, made) = from_both-some (λ u us. u ∷ us) (renamed_task names t) (renamed_tasks names rest) us is in
     rw (← made, alike t u (task-some names t u first), any_alike names test there rest them later alike) refl
 
--- a start after which no start names the task
+-- whom no start names, none named before
 pub unnamed_before : (event : Event) (before : List Event) (u : ℕ) → has_start (event ∷ before) u ≡ false → has_start before u ≡ false
 unfolding has_start
 unnamed_before event before u never =
@@ -71,7 +70,7 @@ module _ (old new : List Event) (names : Renaming) (event other : Event) (next :
       rw (
         number_alike names.task (completed_in event) (completed_in other) u v (one_task old new names event other next)
             (completed_said names event other (like old new names event other next)) was.named,
-        (next.stands.dependents u v was.named still).completed
+        (next.stands.dependents u v was.named still).completed,
       ) refl
 
   pub completed_kept : (u v : ℕ) → (next_names old new event names).task u ≡ Some v → is_terminated (event ∷ old) u ≡ false
@@ -141,7 +140,7 @@ module _ (old new : List Event) (names : Renaming) (event other : Event) (next :
         elaborated_more event old u,
         number_alike names.task (elaborated_in event) (elaborated_in other) u v (one_task old new names event other next)
             (elaborated_said names event other (like old new names event other next)) was.named,
-        (next.stands.active u v was.named active).elaborated
+        (next.stands.active u v was.named active).elaborated,
       ) refl
 
   pub elaborated_kept : (u v : ℕ) → (next_names old new event names).task u ≡ Some v → has_ended (event ∷ old) u ≡ false
@@ -165,7 +164,7 @@ module _ (old new : List Event) (names : Renaming) (event other : Event) (next :
       rw (
         eqb_alike names.task t.0 u w.0 v (one_task old new names event other next) also was.named,
         depends_alike old new names u v (Body t) (Body w) next.stands next.orderly next.also was.named (live_from old u was.below still)
-            (body_is names t w also)
+            (body_is names t w also),
       ) refl)
 
   abnormal_old : (u v : ℕ) → AreOld old new names u v → has_ended old u ≡ false → is_abnormal (other ∷ new) v ≡ is_abnormal (event ∷ old) u
@@ -178,7 +177,7 @@ module _ (old new : List Event) (names : Renaming) (event other : Event) (next :
         same.existed,
         same.exists,
         same.terminated,
-        (next.stands.active u v was.named active).abnormal
+        (next.stands.active u v was.named active).abnormal,
       ) refl
 
   pub abnormal_kept : (u v : ℕ) → (next_names old new event names).task u ≡ Some v → has_ended (event ∷ old) u ≡ false
@@ -197,6 +196,17 @@ module _ (old new : List Event) (names : Renaming) (event other : Event) (next :
       number_alike names.task (failed_in event) (failed_in other) u v (one_task old new names event other next)
       (failed_said names event other (like old new names event other next)) named
 
-  pub failed_kept : (u v : ℕ) → names.task u ≡ Some v → has_failed new v ≡ has_failed old u → has_failed (other ∷ new) v ≡ has_failed (event ∷ old) u
+  failed_old : (u v : ℕ) → names.task u ≡ Some v → has_failed new v ≡ has_failed old u → has_failed (other ∷ new) v ≡ has_failed (event ∷ old) u
   unfolding has_failed
-  failed_kept u v named same = rw (fails_now u v named, same) refl
+  failed_old u v named same = rw (fails_now u v named, same) refl
+
+  -- where they had failed alike before
+  pub failed_kept : (u v : ℕ) → (next_names old new event names).task u ≡ Some v → (names.task u ≡ Some v → has_failed new v ≡ has_failed old u)
+      → has_failed (other ∷ new) v ≡ has_failed (event ∷ old) u
+  failed_kept u v named same =
+      elim (next_cases old new names event other next u v named) [
+        | inl was ↦ failed_old u v was.named (same was.named)
+        | inr made ↦
+            let both = made_fresh old new names event other next u v made in
+            both.1.unfailed ∙ sym both.0.unfailed
+      ]

@@ -1,6 +1,6 @@
 -- What the event that stands for another says: the same, of the tasks, masters and positions that stand for the other's.
-use Rattle.std.proofs.Common.{◌≡◌, ℕ, ℤ, Bool, true, false, Option, Some, None, List, [], ◌∷◌, refl, sym, ap, ◌∙◌, eqb}
-use Rattle.std.specs.Option.{option_map, option_and_then}
+use Rattle.std.proofs.Common.{◌≡◌, ℕ, ℤ, Bool, true, false, Option, Some, None, List, refl, sym, ap, ◌∙◌}
+use Rattle.std.specs.Option.{option_map}
 use Rattle.std.proofs.lemmas.Option.{none-some, same_Some}
 use Rattle.ada_events.specs.declared.event.Event.{Event}
 use Rattle.ada_events.specs.declared.event.Event.TheVariants as event
@@ -13,7 +13,7 @@ use Rattle.ada_events.specs.declared.names.Family.{Family}
 use Rattle.ada_events.specs.declared.names.Choice.{Choice}
 use Rattle.ada_events.specs.declared.names.Patience.{Patience}
 use Rattle.ada_events.specs.Search.{is_number}
-use Rattle.ada_events.specs.Says.{Creation, Opening, Closing, creation_in, opening_in, closing_in, moment_in, started_in, aborted_in, elaborated_in, failed_in}
+use Rattle.ada_events.specs.Says.{Creation, Closing, creation_in, closing_in, moment_in, started_in, aborted_in, elaborated_in, failed_in}
 use Rattle.ada_events.specs.Says.{completed_in, gone_in, quit_in, held_in, released_in}
 use Rattle.ada_events.specs.Outcomes.{raised_in}
 use Rattle.ada_events.specs.Forced.{task_no}
@@ -94,7 +94,7 @@ like_of names (event.Opened by x) f is =
     by_both names by (renamed_master names x) event.Opened (event.Opened by x) f is (λ to y named also. IsLike.opened by to x y named also)
 like_of names (event.Created by x m families) f is =
     let (to, first, both) = option_and_then-some (λ b. from_both (λ u n. event.Created b u n families) (renamed_master names x) (renamed_master names m))
-        (renamed_task names by) f is in
+    (renamed_task names by) f is in
     let (y, n, second, third, made) = from_both-some (λ u n. event.Created to u n families) (renamed_master names x) (renamed_master names m) f both in
     rw (← made) (IsLike.created by to x y m n families (task-some names by to first) second third)
 like_of names (event.Started by ts) f is =

@@ -1,8 +1,8 @@
 -- The tasks that aren't terminated are kept after one more event, in the order of their numbers; they exist, and have the same entries.
 use Rattle.std.proofs.Common.{◌≡◌, ℕ, ◌<◌, ◌≤◌, true, Option, Some, None, List, [], ◌∷◌, refl, sym, ap, ◌∙◌, arith, ◌⊎◌, inl, inr}
-use Rattle.std.specs.Option.{option_len, option_map_or}
+use Rattle.std.specs.Option.{option_len}
 use Rattle.std.proofs.lemmas.Bool.{cases_eq, lt-ltb}
-use Rattle.std.proofs.lemmas.Option.{none-some, same_Some}
+use Rattle.std.proofs.lemmas.Option.{none-some}
 use Rattle.ada_events.specs.declared.event.Event.{Event}
 use Rattle.ada_events.specs.Says.{Creation, creation_in}
 use Rattle.ada_events.specs.Tasks.{task_count, has_task, creation_of, families_of}
@@ -13,7 +13,7 @@ use Rattle.ada_standing.specs.StandsIn.{KeepsTasks, is_live}
 use Rattle.ada_standing.proofs.alike.Pairs.{live_from, live_parts}
 use Rattle.ada_standing.proofs.alike.Kinds.{AreBoth}
 use Rattle.ada_standing.proofs.kept.Saying.{creation_said}
-use Rattle.ada_standing.proofs.kept.Naming.{AreNext, AreOld, AreMade, like, next_cases, task_later, made_named, creation_older, creation_newest}
+use Rattle.ada_standing.proofs.kept.Naming.{AreNext, like, next_cases, task_later, made_named, creation_older, creation_newest}
 use Rattle.ada_standing.proofs.kept.Terminating.{unterminated_before}
 
 -- a task existed before the event, or the event makes it
@@ -107,13 +107,13 @@ module _ (old new : List Event) (names : Renaming) (event other : Event) (next :
       let more_too : task_count new ≤ task_count (other ∷ new) = task_count-more other new in
       elim (next_cases old new names event other next u v named) [
         | inl was ↦ (
-              lt-ltb u (task_count (event ∷ old)) (omega (arith, was.below)),
-              lt-ltb v (task_count (other ∷ new)) (omega (arith, was.below_too)),
-            )
+          lt-ltb u (task_count (event ∷ old)) (omega (arith, was.below)),
+          lt-ltb v (task_count (other ∷ new)) (omega (arith, was.below_too)),
+        )
         | inr made ↦ (
-              lt-ltb u (task_count (event ∷ old)) (made_exists event old u made.creation made.says made.newest),
-              lt-ltb v (task_count (other ∷ new)) (made_exists other new v made.stand made.says_too made.newest_too),
-            )
+          lt-ltb u (task_count (event ∷ old)) (made_exists event old u made.creation made.says made.newest),
+          lt-ltb v (task_count (other ∷ new)) (made_exists other new v made.stand made.says_too made.newest_too),
+        )
       ]
 
   pub families_kept : (u v : ℕ) → (next_names old new event names).task u ≡ Some v → families_of (other ∷ new) v ≡ families_of (event ∷ old) u
@@ -124,6 +124,6 @@ module _ (old new : List Event) (names : Renaming) (event other : Event) (next :
         | inr made ↦
             rw (
               creation_newest other new v made.stand made.says_too made.newest_too,
-              creation_newest event old u made.creation made.says made.newest
+              creation_newest event old u made.creation made.says made.newest,
             ) made.same.families
       ]

@@ -1,11 +1,10 @@
 -- Tasks are terminated alike after one more event.
-use Rattle.std.proofs.Common.{◌≡◌, ℕ, Bool, true, false, ◌||◌, Option, Some, None, List, ◌∷◌, refl, sym, ap, ◌∙◌, inl, inr}
+use Rattle.std.proofs.Common.{◌≡◌, ℕ, Bool, false, Option, Some, None, List, ◌∷◌, refl, sym, ◌∙◌, inl, inr}
 use Rattle.std.specs.Option.{option_map}
-use Rattle.std.proofs.lemmas.Bool.{cases_Bool, false_from_ne_true, true≢false, or_parts}
+use Rattle.std.proofs.lemmas.Bool.{cases_Bool, false_from_ne_true, true≢false}
 use Rattle.std.proofs.lemmas.Option.{none-some, same_Some}
 use Rattle.ada_events.specs.declared.event.Event.{Event}
-use Rattle.ada_events.specs.declared.names.Master.{Master}
-use Rattle.ada_events.specs.Search.{is_number, is_some_and}
+use Rattle.ada_events.specs.Search.{is_some_and}
 use Rattle.ada_events.specs.Says.{gone_in, quit_in}
 use Rattle.ada_events.specs.Masters.{depends_on}
 use Rattle.ada_events.specs.Phases.{is_terminated}
@@ -46,7 +45,7 @@ module _ (old new : List Event) (names : Renaming) (event other : Event) (next :
                   (gone_said names event other (like old new names event other next)) was.named,
               passes_alike (renamed_master names) (depends_on old u) (depends_on new v) (quit_in event) (quit_in other)
                   (quit_said names event other (like old new names event other next))
-                  (λ x y is. depends_alike old new names u v x y next.stands next.orderly next.also was.named (live_from old u was.below still) is)
+                  (λ x y is. depends_alike old new names u v x y next.stands next.orderly next.also was.named (live_from old u was.below still) is),
             ) refl
       ]
 

@@ -1,16 +1,15 @@
 -- An event that may follow a lawful journal fits it.
-use Rattle.std.proofs.Common.{◌≡◌, ℕ, suc, ◌<◌, ◌≤◌, true, false, Some, None, List, [], ◌∷◌, length, refl, sym, ap, ◌∙◌, arith, subst, ◌⊎◌, inl, inr}
+use Rattle.std.proofs.Common.{◌≡◌, ℕ, suc, ◌<◌, ◌≤◌, true, false, Some, None, List, [], ◌∷◌, length, refl, sym, ap, ◌∙◌, arith, subst, inl, inr}
 use Rattle.std.specs.List.{list_any}
-use Rattle.std.proofs.lemmas.Bool.{and_parts, or_cases, false_from_ne_true, false≢true, eq-eqb, eqb-true}
+use Rattle.std.proofs.lemmas.Bool.{and_parts, or_cases, false_from_ne_true, false≢true}
 use Rattle.std.proofs.lemmas.Option.{none-some, same_Some}
 use Rattle.std.specs.Prelude.{if◌then◌else◌, ◌==◌}
 use Rattle.ada_events.specs.declared.event.Event.{Event}
 use Rattle.ada_events.specs.declared.event.Event.TheVariants as event
 use Rattle.ada_events.specs.declared.request.Request.{Request}
 use Rattle.ada_events.specs.declared.request.Request.TheVariants as request
-use Rattle.ada_events.specs.declared.names.TaskNo.{TaskNo}
 use Rattle.ada_events.specs.declared.names.Master.{Master}
-use Rattle.ada_events.specs.declared.names.Master.TheVariants.{Body, Block}
+use Rattle.ada_events.specs.declared.names.Master.TheVariants.{Body}
 use Rattle.ada_events.specs.Search.{is_number, event_at}
 use Rattle.ada_events.specs.Says.{Creation, Start, creation_in, start_in, started_in, elaborated_in, failed_in, completed_in, gone_in, held_in, released_in}
 use Rattle.ada_events.specs.Tasks.{task_count, creation_of}
@@ -35,10 +34,14 @@ use Rattle.ada_laws.proofs.Stepping.{forced-step, pending_parts, queued_open}
 use Rattle.ada_laws.proofs.OutcomeLaws.{row-raises_none, raised_in-asked, suspended_given}
 use Rattle.ada_laws.proofs.Rows.{IsRow, forced-row}
 use Rattle.ada_laws.proofs.Rows.IsRow.{halts, fails, meets, cancels, passes, wakes, activates, goes, leaves}
+use Rattle.ada_standing.specs.Renaming.{Renaming, renamed_event}
+use Rattle.ada_standing.specs.StandsIn.{StandsIn}
 use Rattle.ada_standing.proofs.alike.Orderly.{IsLivedIn}
 use Rattle.ada_standing.proofs.alike.Pairs.{live_from, active_parts}
 use Rattle.ada_standing.proofs.lawful.Nesting.{IsOwn, frame_own, own_nested}
 use Rattle.ada_standing.proofs.lawful.Starting.{start_exist}
+use Rattle.ada_standing.proofs.lawful.Orderly.{lawful_orderly}
+use Rattle.ada_standing.proofs.kept.Naming.{AreNext}
 use Rattle.ada_standing.proofs.kept.Fitting.{TellsBelow, IsMaker, IsMaking, Fits}
 
 -- what an event tells of, of tasks that exist
@@ -163,7 +166,7 @@ block_more event before task p block = record {
 maker_more : (event : Event) (before : List Event) (c : Creation) → IsMaker before c → IsMaker (event ∷ before) c
 maker_more event before c maker = record {
   exists = at_most c.by (task_count before) (task_count (event ∷ before)) maker.exists (task_count-more event before);
-  within = elim maker.within [ | inl body ↦ inl body | inr (p, block, is) ↦ inr (p, block_more event before c.by p block, is) ];
+  within = elim maker.within [ inl body ↦ inl body | inr (p, block, is) ↦ inr (p, block_more event before c.by p block, is) ];
 }
 
 maker_now : (event : Event) (before : List Event) (c : Creation) → MayFollow before event → creation_in event ≡ Some c → IsMaker before c
@@ -171,7 +174,7 @@ maker_now event before c follows says =
     let by = (creation_asked event before c follows says).asked in
     record {
       exists = by.exists;
-      within = elim (frame_is before c.by) [ | inl body ↦ inl (by.within ∙ body) | inr (p, block, is) ↦ inr (p, block, by.within ∙ is) ];
+      within = elim (frame_is before c.by) [ inl body ↦ inl (by.within ∙ body) | inr (p, block, is) ↦ inr (p, block, by.within ∙ is) ];
     }
 
 all_makers : (journal : List Event) (u : ℕ) (c : Creation) → IsLawful journal → creation_of journal u ≡ Some c → IsMaker journal c
@@ -284,4 +287,16 @@ follows_fits event before lawful follows = record {
   releases = λ x frees.
       let held = releases_held event before x follows frees in
       (held.task, held.held);
+}
+
+-- two lawful journals, of which the second stands in for the first, and an event that may follow each
+pub next_of : (old new : List Event) (names : Renaming) (event other : Event) → StandsIn old new names → IsLawful old → IsLawful new → MayFollow old event
+    → MayFollow new other → renamed_event names event ≡ Some other → AreNext old new names event other
+next_of old new names event other stands lawful lawful_too follows follows_too renamed = record {
+  stands = stands;
+  orderly = lawful_orderly old lawful;
+  also = lawful_orderly new lawful_too;
+  fits = follows_fits event old lawful follows;
+  fits_too = follows_fits other new lawful_too follows_too;
+  renamed = renamed;
 }

@@ -134,7 +134,7 @@ block_within journal task (Some (Rendezvous call)) is block = absurd (true≢fal
 block_within journal task (Some (Block b)) is block =
     let place = length (nest journal task) - 1 in
     let among : Contains (nest journal task) (Block b) =
-        (place, slice_get_within (nest journal task) place (Block b) is, get_or_from_slice_get (nest journal task) place (Block b) (Block b) is) in
+    (place, slice_get_within (nest journal task) place (Block b) is, get_or_from_slice_get (nest journal task) place (Block b) (Block b) is) in
     let own = (own_member journal task b among).block in
     event_at-within journal b own.event own.stands
 
@@ -158,9 +158,10 @@ closes_within event before x lawful (inr asked) speaks =
 meetings_within : (journal : List Event) (p : ℕ) (d : Event) (m : Meeting) → IsLawful journal → event_at journal p ≡ Some d → meeting_in d ≡ Some m
     → (m.call ≤ length journal) × (m.wait ≤ length journal)
 meetings_within journal p d m lawful at says =
-    let meeting = meeting_at journal m.call m.wait p lawful (at ∙ ap Some (meeting_in-met d m says)) in
-    (event_at-within journal m.call meeting.call_stands.event meeting.call_stands.stands,
-    event_at-within journal m.wait meeting.wait_stands.event meeting.wait_stands.stands)
+    let meeting = meeting_at journal m.call m.wait p lawful (at ∙ ap Some (meeting_in-met d m says)) in (
+      event_at-within journal m.call meeting.call_stands.event meeting.call_stands.stands,
+      event_at-within journal m.wait meeting.wait_stands.event meeting.wait_stands.stands,
+    )
 
 -- who is within something exists
 
@@ -177,8 +178,8 @@ holders_exist (event ∷ before) p task e lawful at holds =
             | inl forces ↦ absurd (none-some task (sym (forced-step before event forces).holds_none ∙ now))
             | inr asked ↦
                 let below : task < task_count before =
-                    asker_exists before asked.request task asked.accepted
-                    (held_in-asked before asked.request task (ap held_in (sym asked.becomes) ∙ now)) in
+                asker_exists before asked.request task asked.accepted
+                (held_in-asked before asked.request task (ap held_in (sym asked.becomes) ∙ now)) in
                 omega (arith, below, more)
           ]
       | inr older ↦
@@ -222,7 +223,7 @@ nest_empty journal lawful = by_first (nest journal (task_count journal)) refl
     by_first (x ∷ xs) is =
         let among : Contains (nest journal (task_count journal)) x = subst (λ (l : List Member). Contains l x) (sym is) (Contains-first x xs) in
         let below : task_count journal < task_count journal =
-            member_exists journal (task_count journal) x lawful (nest_member journal (task_count journal) x among) in
+        member_exists journal (task_count journal) x lawful (nest_member journal (task_count journal) x among) in
         absurd (omega (arith, below))
 
 -- who fails in its activation is being activated

@@ -1,0 +1,3 @@
+-- What a request leads two journals to, of which the second stands in for the first.
+pub mod Standing
+pub mod Asked
