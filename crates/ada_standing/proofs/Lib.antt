@@ -9,3 +9,6 @@ mod worked
 pub mod alike
 pub mod lawful
 pub mod asked
+pub mod kept
+pub mod held
+pub mod led

@@ -5,4 +5,6 @@ pub mod Climbing
 pub mod Living
 pub mod Starting
 pub mod Orderly
+pub mod Fitting
+pub mod FittingHeld
 pub mod Laws

@@ -5,10 +5,11 @@ use Rattle.ada_events.specs.declared.event.Event.{Event}
 use Rattle.ada_events.specs.declared.request.Request.{Request}
 use Rattle.ada_events.specs.Forced.{forced}
 use Rattle.ada_events.specs.Refusals.{refusal}
-use Rattle.ada_events.specs.Lawful.{IsLawful}
+use Rattle.ada_events.specs.Lawful.{IsLawful, IsSettled, After}
 use Rattle.ada_standing.specs.Renaming.{Renaming, renamed_event}
 use Rattle.ada_standing.specs.StandsIn.{StandsIn}
 use Rattle.ada_standing.specs.Asking.{renamed_request, names_kept, refusal_but_limits, limit_refusal, AnswersAlike}
+use Rattle.ada_standing.specs.Leading.{LedAlike}
 
 -- the second journal forces what stands for the step that the first one forces, and none where that forces none
 pub record ForceAlike (old new : List Event) (names : Renaming) : Type 0 where
@@ -38,3 +39,12 @@ LimitsRefuseAtLast =
 -- what isn't refused isn't refused where tasks, slots and events have no limit
 abbrev pub AcceptedWithoutLimits : Type 0
 AcceptedWithoutLimits = (journal : List Event) (request : Request) → refusal journal request ≡ None → refusal_but_limits journal request ≡ None
+
+-- a request that neither journal refuses leads both, where nothing is forced, to journals that grew alike, provided
+-- that each task that the request names has a name or doesn't exist
+abbrev pub LeadsAlike : Type 0
+LeadsAlike =
+    (old new : List Event) (names : Renaming) (request : Request) (old_after new_after : List Event) → StandsIn old new names
+    → IsLawful old → IsLawful new → IsSettled old → names_kept names old request ≡ true → refusal old request ≡ None
+    → refusal new (renamed_request names request) ≡ None → After old request old_after → After new (renamed_request names request) new_after
+    → LedAlike old new names old_after new_after

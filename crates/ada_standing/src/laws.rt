@@ -1,6 +1,6 @@
 //! Laws of two lawful journals of which the second stands in for the first.
 ghost use Rattle.ada_standing.specs.Laws.{AcceptedWithoutLimits, AnsweredAlike, ForcedAlike};
-ghost use Rattle.ada_standing.specs.Laws.{LimitsRefuseAtLast, RefusedAlike};
+ghost use Rattle.ada_standing.specs.Laws.{LeadsAlike, LimitsRefuseAtLast, RefusedAlike};
 
 /// The second journal forces what stands for the step that the first one forces: the same step of the tasks, masters
 /// and positions that stand for those it names. It forces none where the first one forces none.
@@ -33,4 +33,12 @@ pub fn limits_refuse_at_last()
 #[tactic(auto, using(crate::proofs::asked::Refusing::accepted_without_limits))]
 pub fn accepted_without_limits()
     ensures { AcceptedWithoutLimits }
+{}
+
+/// A request leads to journals of which the second stands in for the first again, where nothing is forced and neither
+/// journal refuses it: what stood for a task or a position still does, each event that the second journal grows by
+/// stands for one that the first grows by, in their order, and new tasks and positions stand for one another.
+#[tactic(auto, using(crate::proofs::led::Leading::leads_alike))]
+pub fn leads_alike()
+    ensures { LeadsAlike }
 {}

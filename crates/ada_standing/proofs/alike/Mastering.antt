@@ -2,7 +2,7 @@
 use Rattle.std.proofs.Common.{◌≡◌, ℕ, ◌<◌, Bool, true, false, not, ◌||◌, eqb, Option, Some, None, List, [], ◌∷◌, map, refl, sym, ap, ◌∙◌}
 use Rattle.std.proofs.Common.{subst, inl, inr, arith}
 use Rattle.std.specs.Option.{option_map, option_map_or, option_and_then}
-use Rattle.std.specs.List.{list_any, Contains}
+use Rattle.std.specs.List.{list_any}
 use Rattle.std.proofs.lemmas.Bool.{cases_order, or_cases, or_left, or_right, or_parts, eq-eqb, eqb-true, true≢false, false≢true}
 use Rattle.std.proofs.lemmas.Bool.{true_from_ne_false}
 use Rattle.std.proofs.lemmas.Option.{same_Some}
@@ -20,7 +20,6 @@ use Rattle.ada_events.specs.Termination.{all_terminated, is_complete}
 use Rattle.ada_events.specs.Forced.{task_no}
 use Rattle.ada_laws.specs.Masters.{parent_of, IsKnown}
 use Rattle.ada_laws.proofs.Searching.{all_below-fails, all_below-holds, option_map-some}
-use Rattle.ada_laws.proofs.Gathering.{Contains-first, Contains-later}
 use Rattle.ada_laws.proofs.Reaching.{reaches-same}
 use Rattle.ada_laws.proofs.Parents.{same_truth}
 use Rattle.ada_standing.specs.Renaming.{Renaming, renamed_master, renamed_member, renamed_parent}

@@ -1,8 +1,8 @@
 -- Phases of tasks: running, callable, elaborated and started alike.
-use Rattle.std.proofs.Common.{◌≡◌, ℕ, Bool, true, false, not, ◌&&◌, ◌||◌, Some, List, refl, inl, inr}
+use Rattle.std.proofs.Common.{◌≡◌, ℕ, Bool, true, false, not, ◌&&◌, Some, List, refl, inl, inr}
 use Rattle.std.proofs.lemmas.Bool.{cases_Bool}
 use Rattle.ada_events.specs.declared.event.Event.{Event}
-use Rattle.ada_events.specs.Phases.{has_ended, is_abnormal, is_started, is_suspended, is_running}
+use Rattle.ada_events.specs.Phases.{has_ended, is_started, is_suspended, is_running}
 use Rattle.ada_events.specs.Attributes.{is_callable}
 use Rattle.ada_standing.specs.Renaming.{Renaming}
 use Rattle.ada_standing.specs.StandsIn.{StandsIn}

@@ -73,7 +73,7 @@ reached_lived journal x z orderly (IsClimb.up m w is climb) lived reached =
 
 -- a block without a name is reached by nobody, nor is a block at a position that is none
 
-block_unreached : (old new : List Event) (names : Renaming) (x : Master) (p : ℕ) → StandsIn old new names → IsOrderly old → IsLivedIn old x
+pub block_unreached : (old new : List Event) (names : Renaming) (x : Master) (p : ℕ) → StandsIn old new names → IsOrderly old → IsLivedIn old x
     → names.position p ≡ None → reaches old x (Block p) ≡ false
 unfolding renamed_master
 block_unreached old new names x p stands orderly lived unnamed =

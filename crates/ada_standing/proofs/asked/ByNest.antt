@@ -20,7 +20,7 @@ use Rattle.ada_standing.proofs.asked.Naming.{IsAsker, IsAsking}
 use Rattle.ada_standing.proofs.asked.Nested.{AreRenamed, same_lengths, members_alike, rendezvous_alike, innermost_rendezvous, family_alike}
 use Rattle.ada_standing.proofs.asked.ByEntry.{any_same}
 
-nests_alike : (old new : List Event) (names : Renaming) (u : ℕ) → StandsIn old new names → (asker : IsAsker old names u)
+pub nests_alike : (old new : List Event) (names : Renaming) (u : ℕ) → StandsIn old new names → (asker : IsAsker old names u)
     → AreRenamed names (nest old u) (nest new asker.stand)
 nests_alike old new names u stands asker = (stands.nests u asker.stand asker.named (active_parts old u asker.active).1).members
 

@@ -45,7 +45,7 @@ members_alike names test there (x ∷ xs) (y ∷ ys) same alike =
     ) refl
 
 -- the innermost members stand for one another
-innermost_alike : (names : Renaming) (xs ys : List Member) → AreRenamed names xs ys
+pub innermost_alike : (names : Renaming) (xs ys : List Member) → AreRenamed names xs ys
     → option_map Some (innermost ys) ≡ option_map (renamed_member names) (innermost xs)
 innermost_alike names xs ys same =
     sym (slice_get-map Some ys (length ys - 1))

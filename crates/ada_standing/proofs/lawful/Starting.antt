@@ -43,7 +43,7 @@ asked_exist journal (request.Activate by tasks) s u accepted says among =
     all_exist journal tasks u both.1 (ap (λ (x : Start). lists_task u x.tasks) (same_Some _ s says) ∙ among)
 asked_exist journal _ s u accepted says among = absurd (none-some s says)
 
-start_exist : (event : Event) (before : List Event) (s : Start) (u : ℕ) → MayFollow before event → start_in event ≡ Some s → lists_task u s.tasks ≡ true
+pub start_exist : (event : Event) (before : List Event) (s : Start) (u : ℕ) → MayFollow before event → start_in event ≡ Some s → lists_task u s.tasks ≡ true
     → u < task_count before
 start_exist event before s u (inl forces) says among =
     absurd (none-some s.by (sym (forced-step before event forces).holds_none ∙ held_in-start event s says))

@@ -1,5 +1,5 @@
 -- Names after one more event of two journals.
-use Rattle.std.specs.Prelude.{ℕ, suc, ◌==◌, ◌&&◌, if◌then◌else◌, Some, List, length, is_some}
+use Rattle.std.specs.Prelude.{suc, ◌==◌, ◌&&◌, if◌then◌else◌, Some, List, length, is_some}
 use Rattle.ada_events.specs.declared.event.Event.{Event}
 use Rattle.ada_events.specs.Says.{creation_in}
 use Rattle.ada_events.specs.Tasks.{task_count}
