@@ -160,8 +160,8 @@ const ALL_UP: Case = Case {
     wrong_places: &[Place { old: 2, new: 2 }],
 };
 
-// X is gone, and main, which made it, may still name it in an activation. In the wrong one a helper made it, and is gone
-// too; it is task 2 there.
+// X is gone, and main, which made it, may still name it in an activation. In the wrong one a helper made it, and is
+// gone too; X is task 2 there.
 const NOT_TO_ACTIVATE: Case = Case {
     old: b"main: create H under main
 main: activate H

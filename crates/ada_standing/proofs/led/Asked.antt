@@ -55,9 +55,9 @@ frame_renamed : (old new : List Event) (names : Renaming) (u : ℕ) → StandsIn
 frame_renamed old new names u stands asker =
     rw asker.named (frame_alike names old new u asker.stand asker.named (nests_alike old new names u stands asker))
 
--- the position of a member, where there is one
-
-place_renamed : (names : Renaming) (x y : Member) → renamed_member names x ≡ Some y → names.position (member_position (Some x)) ≡ Some (member_position (Some y))
+-- the position of a member is renamed with it
+place_renamed : (names : Renaming) (x y : Member) → renamed_member names x ≡ Some y
+    → names.position (member_position (Some x)) ≡ Some (member_position (Some y))
 unfolding renamed_member
 place_renamed names (BlockMember p) y is =
     let (q, placed, made) = option_map-some BlockMember (names.position p) y is in
