@@ -12,8 +12,6 @@ mod chains;
 #[cfg(test)]
 mod checked_tables;
 #[cfg(test)]
-mod compacting;
-#[cfg(test)]
 mod creation;
 #[cfg(test)]
 mod crowd;
@@ -34,8 +32,6 @@ mod names;
 #[cfg(test)]
 mod nests;
 #[cfg(test)]
-mod pair;
-#[cfg(test)]
 mod plain;
 #[cfg(test)]
 mod queries;
@@ -43,10 +39,6 @@ mod queries;
 mod queues;
 #[cfg(test)]
 mod random;
-#[cfg(test)]
-mod renamed;
-#[cfg(test)]
-mod renamed_events;
 #[cfg(test)]
 mod requests;
 #[cfg(test)]
