@@ -1,0 +1,4 @@
+-- Journals that stand in for others: one after the other, and with fewer names.
+pub mod Names
+pub mod Holds
+pub mod Chain
