@@ -2,3 +2,5 @@
 pub mod Names
 pub mod Holds
 pub mod Chain
+pub mod Enough
+pub mod Fewer

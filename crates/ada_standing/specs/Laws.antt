@@ -8,6 +8,7 @@ use Rattle.ada_events.specs.Refusals.{refusal}
 use Rattle.ada_events.specs.Lawful.{IsLawful, IsSettled, After}
 use Rattle.ada_standing.specs.Renaming.{Renaming, chained, renamed_event}
 use Rattle.ada_standing.specs.StandsIn.{StandsIn}
+use Rattle.ada_standing.specs.Fewer.{AreEnough}
 use Rattle.ada_standing.specs.Asking.{renamed_request, names_kept, refusal_but_limits, limit_refusal, AnswersAlike}
 use Rattle.ada_standing.specs.Leading.{LedAlike}
 
@@ -55,3 +56,9 @@ abbrev pub StandInsChain : Type 0
 StandInsChain =
     (first second third : List Event) (names more : Renaming) → StandsIn first second names → StandsIn second third more → IsLawful first
     → StandsIn first third (chained names more)
+
+-- the second journal stands in for the first, where nothing is forced in that, with fewer names too, if they are enough
+abbrev pub FewerNamesStandIn : Type 0
+FewerNamesStandIn =
+    (old new : List Event) (names fewer : Renaming) → StandsIn old new names → AreEnough old names fewer → IsLawful old → IsSettled old
+    → StandsIn old new fewer
