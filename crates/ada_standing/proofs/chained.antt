@@ -4,3 +4,5 @@ pub mod Holds
 pub mod Chain
 pub mod Enough
 pub mod Fewer
+pub mod Closing
+pub mod Quiet
