@@ -12,3 +12,4 @@ pub mod asked
 pub mod kept
 pub mod held
 pub mod led
+pub mod chained

@@ -6,8 +6,9 @@ use Rattle.ada_events.specs.declared.request.Request.{Request}
 use Rattle.ada_events.specs.Forced.{forced}
 use Rattle.ada_events.specs.Refusals.{refusal}
 use Rattle.ada_events.specs.Lawful.{IsLawful, IsSettled, After}
-use Rattle.ada_standing.specs.Renaming.{Renaming, renamed_event}
+use Rattle.ada_standing.specs.Renaming.{Renaming, chained, renamed_event}
 use Rattle.ada_standing.specs.StandsIn.{StandsIn}
+use Rattle.ada_standing.specs.Fewer.{AreEnough}
 use Rattle.ada_standing.specs.Asking.{renamed_request, names_kept, refusal_but_limits, limit_refusal, AnswersAlike}
 use Rattle.ada_standing.specs.Leading.{LedAlike}
 
@@ -48,3 +49,16 @@ LeadsAlike =
     → IsLawful old → IsLawful new → IsSettled old → names_kept names old request ≡ true → refusal old request ≡ None
     → refusal new (renamed_request names request) ≡ None → After old request old_after → After new (renamed_request names request) new_after
     → LedAlike old new names old_after new_after
+
+-- what stands in for a journal that stands in for a first one stands in for that too: it has what stands for what
+-- stands for each
+abbrev pub StandInsChain : Type 0
+StandInsChain =
+    (first second third : List Event) (names more : Renaming) → StandsIn first second names → StandsIn second third more → IsLawful first
+    → StandsIn first third (chained names more)
+
+-- the second journal stands in for the first, where nothing is forced in that, with fewer names too, if they are enough
+abbrev pub FewerNamesStandIn : Type 0
+FewerNamesStandIn =
+    (old new : List Event) (names fewer : Renaming) → StandsIn old new names → AreEnough old names fewer → IsLawful old → IsSettled old
+    → StandsIn old new fewer

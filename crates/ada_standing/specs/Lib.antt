@@ -2,6 +2,7 @@ pub mod Renaming
 pub mod Names
 pub mod Holds
 pub mod StandsIn
+pub mod Fewer
 pub mod Asking
 pub mod Leading
 pub mod Laws

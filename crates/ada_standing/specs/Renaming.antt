@@ -20,6 +20,13 @@ pub record Renaming : Type 0 where
   pub task : ℕ → Option ℕ
   pub position : ℕ → Option ℕ
 
+-- the names of both, one after the other
+abbrev pub chained : Renaming → Renaming → Renaming
+chained names more = record {
+  task = λ u. option_and_then more.task (names.task u);
+  position = λ p. option_and_then more.position (names.position p);
+}
+
 unfoldable pub renamed_master : Renaming → Master → Option Master
 renamed_master names (Body t) = option_map (λ v. Body (task_no v)) (names.task t.0)
 renamed_master names (Block p) = option_map Block (names.position p)

@@ -1,6 +1,6 @@
 //! Laws of two lawful journals of which the second stands in for the first.
-ghost use Rattle.ada_standing.specs.Laws.{AcceptedWithoutLimits, AnsweredAlike, ForcedAlike};
-ghost use Rattle.ada_standing.specs.Laws.{LeadsAlike, LimitsRefuseAtLast, RefusedAlike};
+ghost use Rattle.ada_standing.specs.Laws.{AcceptedWithoutLimits, AnsweredAlike, FewerNamesStandIn, ForcedAlike};
+ghost use Rattle.ada_standing.specs.Laws.{LeadsAlike, LimitsRefuseAtLast, RefusedAlike, StandInsChain};
 
 /// The second journal forces what stands for the step that the first one forces: the same step of the tasks, masters
 /// and positions that stand for those it names. It forces none where the first one forces none.
@@ -41,4 +41,16 @@ pub fn accepted_without_limits()
 #[tactic(auto, using(crate::proofs::led::Leading::leads_alike))]
 pub fn leads_alike()
     ensures { LeadsAlike }
+{}
+
+/// Journals that stand in for others chain: what stands in for a journal that stands in for a first one stands in for
+/// the first one too, with what stands for what stands for each task and position.
+pub fn stand_ins_chain()
+    ensures { StandInsChain }
+{}
+
+/// A journal stands in for a settled one with fewer names too, as long as they are enough: the main program, the tasks
+/// that aren't terminated, where these are suspended and what they are within keep their names.
+pub fn fewer_names_stand_in()
+    ensures { FewerNamesStandIn }
 {}

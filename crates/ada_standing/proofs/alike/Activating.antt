@@ -41,7 +41,8 @@ all_holds test (x ∷ rest) t all among =
       | inr later ↦ all_holds test rest t both.1 later
     ]
 
-done_one : (old new : List Event) (names : Renaming) (u v : ℕ) → StandsIn old new names → names.task u ≡ Some v
+-- a task is done with its activation as the one that stands for it is
+pub done_one : (old new : List Event) (names : Renaming) (u v : ℕ) → StandsIn old new names → names.task u ≡ Some v
     → is_done_activating old (task_no u) ≡ is_done_activating new (task_no v)
 unfolding is_done_activating
 done_one old new names u v stands named =

@@ -65,7 +65,7 @@ taking_opens journal call wait taking =
     let queued = (taken_queued journal call wait taking).1 in
     rw queued.opened.stands.stands (is_open_at-from journal queued.call call queued.opened)
 
-list_any-at : (test : Event → Bool) (journal : List Event) (q : ℕ) (e : Event) → event_at journal q ≡ Some e → test e ≡ true → list_any test journal ≡ true
+pub list_any-at : (test : Event → Bool) (journal : List Event) (q : ℕ) (e : Event) → event_at journal q ≡ Some e → test e ≡ true → list_any test journal ≡ true
 unfolding event_at
 list_any-at test [] q e at passes = absurd (none-some e at)
 list_any-at test (event ∷ before) q e at passes =

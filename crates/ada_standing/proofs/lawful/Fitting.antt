@@ -177,7 +177,7 @@ maker_now event before c follows says =
       within = elim (frame_is before c.by) [ inl body ↦ inl (by.within ∙ body) | inr (p, block, is) ↦ inr (p, block, by.within ∙ is) ];
     }
 
-all_makers : (journal : List Event) (u : ℕ) (c : Creation) → IsLawful journal → creation_of journal u ≡ Some c → IsMaker journal c
+pub all_makers : (journal : List Event) (u : ℕ) (c : Creation) → IsLawful journal → creation_of journal u ≡ Some c → IsMaker journal c
 unfolding creation_of
 all_makers [] u c lawful says = absurd (none-some c says)
 all_makers (event ∷ before) u c lawful says =

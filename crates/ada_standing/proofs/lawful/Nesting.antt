@@ -44,7 +44,7 @@ pub record IsOwnBlock (journal : List Event) (task p : ℕ) : Type 0 where
   pub block : IsBlockOf journal task p
   pub unleft : is_left journal p ≡ false
 
-contained : {A : Type 0} (xs : List A) (k : ℕ) (x : A) → slice_get xs k ≡ Some x → Contains xs x
+pub contained : {A : Type 0} (xs : List A) (k : ℕ) (x : A) → slice_get xs k ≡ Some x → Contains xs x
 contained xs k x found = (k, slice_get_within xs k x found, get_or_from_slice_get xs k x x found)
 
 -- such blocks are those of the task's nest
@@ -274,7 +274,7 @@ unfolding opening_in left_in
 opening_leaves_none (event.Opened by under) o says = refl
 opening_leaves_none _ o says = absurd (none-some o says)
 
-own_later : (event : Event) (before : List Event) (task p : ℕ) → IsLawful (event ∷ before) → (Leaves event before p → ⊥) → IsOwnBlock before task p
+pub own_later : (event : Event) (before : List Event) (task p : ℕ) → IsLawful (event ∷ before) → (Leaves event before p → ⊥) → IsOwnBlock before task p
     → IsOwnBlock (event ∷ before) task p
 own_later event before task p lawful stays own = record {
   block = block_later event before task p own.block;
@@ -285,7 +285,7 @@ own_later event before task p lawful stays own = record {
       ]);
 }
 
-one_opener : (journal : List Event) (s t p : ℕ) → IsBlockOf journal s p → IsBlockOf journal t p → s ≡ t
+pub one_opener : (journal : List Event) (s t p : ℕ) → IsBlockOf journal s p → IsBlockOf journal t p → s ≡ t
 one_opener journal s t p one other =
     let event : one.event ≡ other.event = same_Some one.event other.event (sym one.stands ∙ other.stands) in
     let opening : one.opening ≡ other.opening = same_Some one.opening other.opening (sym one.says ∙ (ap opening_in event ∙ other.says)) in
