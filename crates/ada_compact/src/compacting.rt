@@ -28,7 +28,8 @@ pub fn stands_in(old: &Kernel, new: &Kernel, names: &Renaming) -> bool
 
 /// A second kernel whose journal stands in for that of a first one, and the names that lead to it. Its journal was made
 /// by requests, and is about as long as what still matters of the first one. Each task that isn't terminated may still
-/// be named, and of the terminated ones those that are kept. The memory of the second kernel is of `alloc`.
+/// be named, and of the terminated ones those that are kept: tests say so, no clause does. The memory of the second
+/// kernel is of `alloc`.
 ///
 /// # Errors
 ///

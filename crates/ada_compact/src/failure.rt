@@ -10,7 +10,7 @@ pub enum NotCompacted {
     /// A growth was refused.
     #[error("out of memory")]
     OutOfMemory,
-    /// The new kernel refused a request, since there is no room for a helper or its entry.
+    /// The new kernel refused a request: it is meant to do so only where there is no room for a helper or its entry.
     #[error("no room for helpers: {0}")]
     NoRoom(Refusal),
     /// What a request would have to name has no name in the new journal, or the names have no order.

@@ -1,8 +1,7 @@
 -- What holds of a request that isn't refused: none of the causes applies.
-use Rattle.std.proofs.Common.{◌≡◌, ℕ, ◌+◌, ◌<◌, ◌≤◌, Bool, true, false, not, Some, None, List, [], ◌∷◌, length, sym, refl, ◌∙◌, arith}
+use Rattle.std.proofs.Common.{◌≡◌, ℕ, ◌+◌, ◌<◌, ◌≤◌, true, false, not, Some, None, List, ◌∷◌, length, arith}
 use Rattle.std.specs.List.{list_any}
 use Rattle.std.proofs.lemmas.Bool.{ltb-true, ltb-false, leb-false, not-false, or_parts}
-use Rattle.std.proofs.lemmas.Option.{none-some}
 use Rattle.ada_events.specs.declared.event.Event.{Event}
 use Rattle.ada_events.specs.declared.request.Request.{Request}
 use Rattle.ada_events.specs.declared.request.Request.TheVariants as request
@@ -14,27 +13,13 @@ use Rattle.ada_events.specs.Says.{creation_in}
 use Rattle.ada_events.specs.Asks.{asker, asked_event, named_tasks}
 use Rattle.ada_events.specs.Refusals.{names_unknown_task, asker_not_running, is_during_activation, is_not_activating, is_not_your_master, has_empty_list}
 use Rattle.ada_events.specs.Refusals.{is_not_your_task, has_no_accept, names_no_family, breaks_constraint, nests_same_family, terminates_in_accept}
-use Rattle.ada_events.specs.Refusals.{is_not_in_accept, has_no_block, is_still_nested, aborts_main, Cause, first_cause, causes, refusal}
+use Rattle.ada_events.specs.Refusals.{is_not_in_accept, has_no_block, is_still_nested, aborts_main, causes, refusal}
 use Rattle.ada_events.specs.declared.limits.TheConstants.{MOST_EVENTS, MOST_APPENDED, MOST_TASKS}
 use Rattle.ada_events.specs.Limits.{moves_back, is_too_late, makes_too_many_tasks, makes_too_many_slots, is_too_deep, is_full}
+use Rattle.ada_laws.specs.Unlimited.{refusal_but_limits}
+use Rattle.ada_laws.proofs.Limitless.{accepted_without_limits, is_accepted-unlimited}
 use Rattle.ada_laws.proofs.Searching.{three_parts, option_map_or-false}
-
--- no cause of the list applies
-abbrev pub NoneApplies : List Cause → Type 0
-NoneApplies [] = Unit {0}
-NoneApplies (c ∷ rest) = (c.applies ≡ false) × NoneApplies rest
-
-none_of_one : (applies : Bool) (c : Cause) (rest : List Cause) → applies ≡ c.applies → first_cause (c ∷ rest) ≡ None → (c.applies ≡ false)
-    × (first_cause rest ≡ None)
-unfolding first_cause
-none_of_one true c rest same none = absurd (none-some c.name (sym none ∙ rw (← same) refl))
-none_of_one false c rest same none = (sym same, rw (← same) at none)
-
-pub none_applies : (causes : List Cause) → first_cause causes ≡ None → NoneApplies causes
-none_applies [] none = tt
-none_applies (c ∷ rest) none =
-    let both : (c.applies ≡ false) × (first_cause rest ≡ None) = none_of_one c.applies c rest refl none in
-    (both.0, none_applies rest both.1)
+use Rattle.ada_laws.proofs.CauseParts.{NoneApplies, none_applies}
 
 -- that a request isn't refused, cause by cause
 pub record IsAccepted (journal : List Event) (r : Request) : Type 0 where
@@ -91,19 +76,28 @@ is_accepted journal r accepted =
     }
 
 -- the task that asks exists, is started, hasn't ended, and isn't suspended
-pub asker_exists : (journal : List Event) (r : Request) (task : ℕ) → refusal journal r ≡ None → asker r ≡ Some task → task < task_count journal
+pub asker_exists-unlimited : (journal : List Event) (r : Request) (task : ℕ) → refusal_but_limits journal r ≡ None → asker r ≡ Some task
+    → task < task_count journal
 unfolding names_unknown_task
-asker_exists journal r task accepted asks =
-    let known = (is_accepted journal r accepted).tasks_known in
+asker_exists-unlimited journal r task accepted asks =
+    let known = (is_accepted-unlimited journal r accepted).tasks_known in
     let fails = (or_parts (is_some_and (asker r) (λ t. not (has_task journal t))) (list_any (λ (t : TaskNo). not (has_task journal t.0)) (named_tasks r))
     known).0 in
     let known_one = option_map_or-false (λ t. not (has_task journal t)) (asker r) task fails asks in
     ltb-true task (task_count journal) (not-false (has_task journal task) known_one)
 
-pub asker_runs : (journal : List Event) (r : Request) (task : ℕ) → refusal journal r ≡ None → asker r ≡ Some task → is_running journal task ≡ true
+pub asker_exists : (journal : List Event) (r : Request) (task : ℕ) → refusal journal r ≡ None → asker r ≡ Some task → task < task_count journal
+asker_exists journal r task accepted asks = asker_exists-unlimited journal r task (accepted_without_limits journal r accepted) asks
+
+pub asker_runs-unlimited : (journal : List Event) (r : Request) (task : ℕ) → refusal_but_limits journal r ≡ None → asker r ≡ Some task
+    → is_running journal task ≡ true
 unfolding asker_not_running
-asker_runs journal r task accepted asks =
-    not-false (is_running journal task) (option_map_or-false (λ t. not (is_running journal t)) (asker r) task (is_accepted journal r accepted).running asks)
+asker_runs-unlimited journal r task accepted asks =
+    not-false (is_running journal task)
+    (option_map_or-false (λ t. not (is_running journal t)) (asker r) task (is_accepted-unlimited journal r accepted).running asks)
+
+pub asker_runs : (journal : List Event) (r : Request) (task : ℕ) → refusal journal r ≡ None → asker r ≡ Some task → is_running journal task ≡ true
+asker_runs journal r task accepted asks = asker_runs-unlimited journal r task (accepted_without_limits journal r accepted) asks
 
 pub running_started : (journal : List Event) (task : ℕ) → is_running journal task ≡ true → is_started journal task ≡ true
 unfolding is_running

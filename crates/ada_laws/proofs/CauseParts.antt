@@ -1,7 +1,8 @@
--- The first cause, from the four parts of the causes.
-use Rattle.std.proofs.Common.{◌≡◌, Bool, true, false, Option, Some, List, [], ◌∷◌, ◌++◌, refl, ap, ◌∙◌}
+-- The first cause, from the four parts of the causes, and causes none of which applies.
+use Rattle.std.proofs.Common.{◌≡◌, Bool, true, false, Option, Some, None, List, [], ◌∷◌, ◌++◌, refl, sym, ap, ◌∙◌}
 use Rattle.std.specs.Prelude.{if◌then◌else◌}
 use Rattle.std.specs.Option.{option_or}
+use Rattle.std.proofs.lemmas.Option.{none-some}
 use Rattle.ada_events.specs.declared.event.Event.{Event}
 use Rattle.ada_events.specs.declared.refusal.Refusal.{Refusal}
 use Rattle.ada_events.specs.declared.request.Request.{Request}
@@ -27,3 +28,20 @@ first_cause_in_parts journal request =
     ∙ ap (option_or (first_cause (causes_by_name journal request)))
     (first_cause-append (causes_by_entry journal request) (causes_by_nest journal request ++ causes_by_limit journal request)
     ∙ ap (option_or (first_cause (causes_by_entry journal request))) (first_cause-append (causes_by_nest journal request) (causes_by_limit journal request)))
+
+-- no cause of the list applies
+abbrev pub NoneApplies : List Cause → Type 0
+NoneApplies [] = Unit {0}
+NoneApplies (c ∷ rest) = (c.applies ≡ false) × NoneApplies rest
+
+none_of_one : (applies : Bool) (c : Cause) (rest : List Cause) → applies ≡ c.applies → first_cause (c ∷ rest) ≡ None → (c.applies ≡ false)
+    × (first_cause rest ≡ None)
+unfolding first_cause
+none_of_one true c rest same none = absurd (none-some c.name (sym none ∙ rw (← same) refl))
+none_of_one false c rest same none = (sym same, rw (← same) at none)
+
+pub none_applies : (causes : List Cause) → first_cause causes ≡ None → NoneApplies causes
+none_applies [] none = tt
+none_applies (c ∷ rest) none =
+    let both : (c.applies ≡ false) × (first_cause rest ≡ None) = none_of_one c.applies c rest refl none in
+    (both.0, none_applies rest both.1)

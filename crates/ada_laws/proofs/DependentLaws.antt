@@ -18,15 +18,18 @@ use Rattle.ada_events.specs.Masters.{depends_on}
 use Rattle.ada_events.specs.Phases.{has_start, is_completed, is_terminated}
 use Rattle.ada_events.specs.Forced.{is_to_go}
 use Rattle.ada_events.specs.Termination.{all_terminated, is_complete, is_abandoned}
-use Rattle.ada_events.specs.Lawful.{IsLawful, MayFollow}
+use Rattle.ada_events.specs.Lawful.{MayFollow}
 use Rattle.ada_laws.specs.Laws.{OfLawful}
 use Rattle.ada_laws.specs.Dependents.{ATerminatedBodyHasNoLiveDependent}
+use Rattle.ada_laws.specs.Unlimited.{IsLawfulUnlimited, MayFollowUnlimited}
+use Rattle.ada_laws.proofs.Limitless.{lawful_unlimited, may_follow_unlimited}
 use Rattle.ada_laws.proofs.Searching.{is_number-some, option_map_or-true, all_below-holds}
 use Rattle.ada_laws.proofs.Growing.{is_terminated-more, is_terminated-quit, has_ended-terminated}
 use Rattle.ada_laws.proofs.Accepting.{running_live}
 use Rattle.ada_laws.proofs.Rows.{IsRow, forced-row}
 use Rattle.ada_laws.proofs.Rows.IsRow.{goes}
-use Rattle.ada_laws.proofs.Depending.{IsMadeUnder, depends_on-cases, depends_exists, depends_trans, maker_of_dependent, dependents_started, started_named}
+use Rattle.ada_laws.proofs.Depending.{IsMadeUnder, depends_on-cases, depends_exists, started_named, dependents_started-unlimited}
+use Rattle.ada_laws.proofs.Depending.{depends_trans-unlimited, maker_of_dependent-unlimited}
 use Rattle.ada_laws.proofs.Depending.{created_positive}
 
 -- by what a task is terminated: the newest event terminates it by itself, or together with all that
@@ -73,10 +76,14 @@ unfolding gone_in asked_event
 gone_in-asked journal (request.Open by) = refl
 gone_in-asked journal _ = refl
 
-pub going : (event : Event) (before : List Event) (task : ℕ) → MayFollow before event → gone_in event ≡ Some task → is_to_go before task ≡ true
-going event before task (inl forces) says = row_going before event task (forced-row before event forces) says
-going event before task (inr asked) says =
+pub going-unlimited : (event : Event) (before : List Event) (task : ℕ) → MayFollowUnlimited before event → gone_in event ≡ Some task
+    → is_to_go before task ≡ true
+going-unlimited event before task (inl forces) says = row_going before event task (forced-row before event forces) says
+going-unlimited event before task (inr asked) says =
     absurd (none-some task (sym (gone_in-asked before asked.request) ∙ (ap gone_in (sym asked.becomes) ∙ says)))
+
+pub going : (event : Event) (before : List Event) (task : ℕ) → MayFollow before event → gone_in event ≡ Some task → is_to_go before task ≡ true
+going event before task follows says = going-unlimited event before task (may_follow_unlimited before event follows) says
 
 pub abandoned_parts : (journal : List Event) (task : ℕ) → is_abandoned journal task ≡ true → (c : Creation) × (creation_of journal task ≡ Some c)
     × (has_start journal task ≡ false)
@@ -89,11 +96,12 @@ abandoned_parts journal task abandoned =
     (c, says, not-true (has_start journal task) both.1)
 
 -- nobody depends on the body of an abandoned task
-abandoned_alone : (journal : List Event) (u : ℕ) (t : TaskNo) → IsLawful journal → is_abandoned journal t.0 ≡ true → depends_on journal u (Body t) ≡ true → ⊥
-abandoned_alone journal u t lawful abandoned depends =
+abandoned_alone-unlimited : (journal : List Event) (u : ℕ) (t : TaskNo) → IsLawfulUnlimited journal → is_abandoned journal t.0 ≡ true
+    → depends_on journal u (Body t) ≡ true → ⊥
+abandoned_alone-unlimited journal u t lawful abandoned depends =
     let (c, says, never) = abandoned_parts journal t.0 abandoned in
     let positive : 0 < t.0 = created_positive journal t.0 c says in
-    elim (started_named journal t.0 (dependents_started journal u t lawful depends)) [
+    elim (started_named journal t.0 (dependents_started-unlimited journal u t lawful depends)) [
       | inl main ↦ absurd (omega arith)
       | inr named ↦ true≢false (sym named ∙ never)
     ]
@@ -109,21 +117,22 @@ all_terminated_at journal m u all depends =
     ]
 
 -- a dependent of a task that goes is terminated
-gone_dependent : (journal : List Event) (u : ℕ) (t : TaskNo) → IsLawful journal → is_to_go journal t.0 ≡ true → depends_on journal u (Body t) ≡ true
-    → is_terminated journal u ≡ true
+gone_dependent-unlimited : (journal : List Event) (u : ℕ) (t : TaskNo) → IsLawfulUnlimited journal → is_to_go journal t.0 ≡ true
+    → depends_on journal u (Body t) ≡ true → is_terminated journal u ≡ true
 unfolding is_to_go
-gone_dependent journal u t lawful go depends =
+gone_dependent-unlimited journal u t lawful go depends =
     let ways = (and_parts (not (is_terminated journal t.0)) (is_completed journal t.0 && all_terminated journal (Body t) || is_abandoned journal t.0) go).1 in
     elim (or_cases (is_completed journal t.0 && all_terminated journal (Body t)) (is_abandoned journal t.0) ways) [
       | inl both ↦ all_terminated_at journal (Body t) u (and_parts (is_completed journal t.0) (all_terminated journal (Body t)) both).1 depends
-      | inr abandoned ↦ absurd (abandoned_alone journal u t lawful abandoned depends)
+      | inr abandoned ↦ absurd (abandoned_alone-unlimited journal u t lawful abandoned depends)
     ]
 
 -- where a task is terminated no further task is made that depends on its body
-no_late_dependent : (event : Event) (before : List Event) (u : ℕ) (t : TaskNo) → IsLawful (event ∷ before) → is_terminated before t.0 ≡ true
+no_late_dependent-unlimited : (event : Event) (before : List Event) (u : ℕ) (t : TaskNo) → IsLawfulUnlimited (event ∷ before)
+    → is_terminated before t.0 ≡ true
     → ((v : ℕ) → depends_on before v (Body t) ≡ true → is_terminated before v ≡ true) → IsMadeUnder event before u (Body t) → ⊥
-no_late_dependent event before u t lawful ended dependents made =
-    let maker = maker_of_dependent event before u t lawful made in
+no_late_dependent-unlimited event before u t lawful ended dependents made =
+    let maker = maker_of_dependent-unlimited event before u t lawful made in
     let by_ended : is_terminated before made.creation.by ≡ true =
     elim maker.1 [
       | inl same ↦ subst (λ (n : ℕ). is_terminated before n ≡ true) (sym same) ended
@@ -132,25 +141,30 @@ no_late_dependent event before u t lawful ended dependents made =
     true≢false (sym (has_ended-terminated before made.creation.by by_ended) ∙ running_live before made.creation.by maker.0)
 
 -- the dependents of a task, after it was terminated
-end_dependents : (event : Event) (before : List Event) (u : ℕ) (t : TaskNo) → IsLawful (event ∷ before)
+end_dependents-unlimited : (event : Event) (before : List Event) (u : ℕ) (t : TaskNo) → IsLawfulUnlimited (event ∷ before)
     → ((v : ℕ) → is_terminated before t.0 ≡ true → depends_on before v (Body t) ≡ true → is_terminated before v ≡ true) → IsEnd event before t.0
     → depends_on before u (Body t) ≡ true → is_terminated (event ∷ before) u ≡ true
-end_dependents event before u t lawful dependents (alone gone) depends =
-    is_terminated-more event before u (gone_dependent before u t lawful.0 (going event before t.0 lawful.1 gone) depends)
-end_dependents event before u t lawful dependents (together m says on_m) depends =
-    is_terminated-quit event before u m says (depends_trans before (record { 0 = u }) t m lawful.0 depends on_m)
-end_dependents event before u t lawful dependents (earlier was) depends =
+end_dependents-unlimited event before u t lawful dependents (alone gone) depends =
+    is_terminated-more event before u (gone_dependent-unlimited before u t lawful.0 (going-unlimited event before t.0 lawful.1 gone) depends)
+end_dependents-unlimited event before u t lawful dependents (together m says on_m) depends =
+    is_terminated-quit event before u m says (depends_trans-unlimited before (record { 0 = u }) t m lawful.0 depends on_m)
+end_dependents-unlimited event before u t lawful dependents (earlier was) depends =
     is_terminated-more event before u (dependents u was depends)
 
-pub a_terminated_body_has_no_live_dependent : OfLawful ATerminatedBodyHasNoLiveDependent
+pub a_terminated_body_has_no_live_dependent-unlimited : (journal : List Event) → IsLawfulUnlimited journal → ATerminatedBodyHasNoLiveDependent journal
 unfolding is_terminated
-a_terminated_body_has_no_live_dependent [] lawful t u ended depends = absurd (false≢true ended)
-a_terminated_body_has_no_live_dependent (event ∷ before) lawful t u ended depends =
+a_terminated_body_has_no_live_dependent-unlimited [] lawful t u ended depends = absurd (false≢true ended)
+a_terminated_body_has_no_live_dependent-unlimited (event ∷ before) lawful t u ended depends =
     let way = is_terminated-cases event before t.0 ended in
     elim (depends_on-cases event before u (Body t) depends) [
       | inl made ↦
           let was = terminated_before event before t.0 made.creation made.says way in
-          absurd (no_late_dependent event before u t lawful was (λ v on. a_terminated_body_has_no_live_dependent before lawful.0 t v was on) made)
+          absurd (no_late_dependent-unlimited event before u t lawful was
+          (λ v on. a_terminated_body_has_no_live_dependent-unlimited before lawful.0 t v was on) made)
       | inr older ↦
-          end_dependents event before u t lawful (λ v was on. a_terminated_body_has_no_live_dependent before lawful.0 t v was on) way older
+          end_dependents-unlimited event before u t lawful
+          (λ v was on. a_terminated_body_has_no_live_dependent-unlimited before lawful.0 t v was on) way older
     ]
+
+pub a_terminated_body_has_no_live_dependent : OfLawful ATerminatedBodyHasNoLiveDependent
+a_terminated_body_has_no_live_dependent journal lawful = a_terminated_body_has_no_live_dependent-unlimited journal (lawful_unlimited journal lawful)

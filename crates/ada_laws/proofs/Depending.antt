@@ -16,11 +16,14 @@ use Rattle.ada_events.specs.Masters.{same_master, parent_in, reaches, depends_on
 use Rattle.ada_events.specs.Phases.{lists_task, has_start, has_ended, is_started, is_running}
 use Rattle.ada_events.specs.Nests.{frame}
 use Rattle.ada_events.specs.Lawful.{IsLawful}
+use Rattle.ada_laws.specs.Unlimited.{IsLawfulUnlimited}
+use Rattle.ada_laws.proofs.Limitless.{lawful_unlimited}
 use Rattle.ada_laws.proofs.Searching.{option_map_or-true, option_or-some, if_some, event_at-cases}
 use Rattle.ada_laws.proofs.Accepting.{running_started}
 use Rattle.ada_laws.proofs.Framing.{IsBlockOf, frame_is}
-use Rattle.ada_laws.proofs.Reaching.{same_master-true, reaches_up, reaches_known, reaches_trans, parent_in-known, parent_in-other, parent_in-created}
-use Rattle.ada_laws.proofs.Reaching.{parent_in-opened, parent_in-uncreated, creation_asked, opening_asked, frame_known}
+use Rattle.ada_laws.proofs.Reaching.{same_master-true, reaches_up, parent_in-known, parent_in-other, parent_in-created, creation_asked-unlimited}
+use Rattle.ada_laws.proofs.Reaching.{opening_asked-unlimited, reaches_known-unlimited, reaches_trans-unlimited}
+use Rattle.ada_laws.proofs.Reaching.{parent_in-opened, parent_in-uncreated, frame_known}
 
 -- a task depends on a master by its creation, or did before the newest event
 pub record IsMadeUnder (event : Event) (before : List Event) (task : ℕ) (master : Master) : Type 0 where
@@ -122,34 +125,45 @@ reaches_from_body (event ∷ before) t master reached =
     ]
 
 -- a dependent of a task's body was made after the task
-pub depends_after : (journal : List Event) (task : ℕ) (t : TaskNo) → IsLawful journal → depends_on journal task (Body t) ≡ true → t.0 < task
+pub depends_after-unlimited : (journal : List Event) (task : ℕ) (t : TaskNo) → IsLawfulUnlimited journal → depends_on journal task (Body t) ≡ true
+    → t.0 < task
 unfolding depends_on
-depends_after [] task t lawful depends = absurd (false≢true depends)
-depends_after (event ∷ before) task t lawful depends =
+depends_after-unlimited [] task t lawful depends = absurd (false≢true depends)
+depends_after-unlimited (event ∷ before) task t lawful depends =
     elim (depends_on-cases event before task (Body t) depends) [
       | inl made ↦
-          let by = creation_asked event before made.creation lawful.1 made.says in
-          let known = reaches_known before lawful.0 (frame before made.creation.by) made.creation.master (frame_known before made.creation.by by.asked.exists)
+          let by = creation_asked-unlimited event before made.creation lawful.1 made.says in
+          let known = reaches_known-unlimited before lawful.0 (frame before made.creation.by) made.creation.master
+          (frame_known before made.creation.by by.asked.exists)
           by.reached in
-          let below : t.0 < task_count before = reaches_known before lawful.0 made.creation.master (Body t) known made.reached in
+          let below : t.0 < task_count before = reaches_known-unlimited before lawful.0 made.creation.master (Body t) known made.reached in
           let newest : task ≡ task_count before = made.newest in
           omega arith
-      | inr older ↦ depends_after before task t lawful.0 older
+      | inr older ↦ depends_after-unlimited before task t lawful.0 older
     ]
 
+pub depends_after : (journal : List Event) (task : ℕ) (t : TaskNo) → IsLawful journal → depends_on journal task (Body t) ≡ true → t.0 < task
+depends_after journal task t lawful depends = depends_after-unlimited journal task t (lawful_unlimited journal lawful) depends
+
 -- who depends on a task's body depends on what the task depends on
-pub depends_trans : (journal : List Event) (u t : TaskNo) (master : Master) → IsLawful journal → depends_on journal u.0 (Body t) ≡ true
-    → depends_on journal t.0 master ≡ true → depends_on journal u.0 master ≡ true
-depends_trans journal u t master lawful first second =
-    let all = reaches_trans journal lawful (Body u) (Body t) master (depends_exists journal u.0 (Body t) first) (depends_reaches journal u (Body t) first)
+pub depends_trans-unlimited : (journal : List Event) (u t : TaskNo) (master : Master) → IsLawfulUnlimited journal
+    → depends_on journal u.0 (Body t) ≡ true → depends_on journal t.0 master ≡ true → depends_on journal u.0 master ≡ true
+depends_trans-unlimited journal u t master lawful first second =
+    let all = reaches_trans-unlimited journal lawful (Body u) (Body t) master (depends_exists journal u.0 (Body t) first)
+    (depends_reaches journal u (Body t) first)
     (depends_reaches journal t master second) in
     elim (reaches_from_body journal u master all) [
       | inl same ↦
-          let after : t.0 < u.0 = depends_after journal u.0 t lawful first in
-          let before : u.0 < t.0 = depends_after journal t.0 u lawful (subst (λ (m : Master). depends_on journal t.0 m ≡ true) (sym same) second) in
+          let after : t.0 < u.0 = depends_after-unlimited journal u.0 t lawful first in
+          let before : u.0 < t.0 = depends_after-unlimited journal t.0 u lawful
+          (subst (λ (m : Master). depends_on journal t.0 m ≡ true) (sym same) second) in
           absurd (omega arith)
       | inr depends ↦ depends
     ]
+
+pub depends_trans : (journal : List Event) (u t : TaskNo) (master : Master) → IsLawful journal → depends_on journal u.0 (Body t) ≡ true
+    → depends_on journal t.0 master ≡ true → depends_on journal u.0 master ≡ true
+depends_trans journal u t master lawful first second = depends_trans-unlimited journal u t master (lawful_unlimited journal lawful) first second
 
 -- whose body is reached from the frame of a task: the task's own, or one on which it depends
 frame_reaches_from : (journal : List Event) (task t : TaskNo)
@@ -170,45 +184,49 @@ still : (event : Event) (before : List Event) (task t : TaskNo) → (task ≡ t)
 still event before task t (inl same) = inl same
 still event before task t (inr depends) = inr (depends_on-later event before task.0 (Body t) depends)
 
-pub block_reaches : (journal : List Event) (task t : TaskNo) (p : ℕ) → IsLawful journal → IsBlockOf journal task.0 p → reaches journal (Block p) (Body t) ≡ true
-    → (task ≡ t) ⊎ (depends_on journal task.0 (Body t) ≡ true)
+pub block_reaches-unlimited : (journal : List Event) (task t : TaskNo) (p : ℕ) → IsLawfulUnlimited journal → IsBlockOf journal task.0 p
+    → reaches journal (Block p) (Body t) ≡ true → (task ≡ t) ⊎ (depends_on journal task.0 (Body t) ≡ true)
 unfolding reaches event_at
-block_reaches [] task t p lawful block reached = absurd (none-some block.event block.stands)
-block_reaches (event ∷ before) task t p lawful block reached =
+block_reaches-unlimited [] task t p lawful block reached = absurd (none-some block.event block.stands)
+block_reaches-unlimited (event ∷ before) task t p lawful block reached =
     elim (or_cases (same_master (Block p) (Body t)) (reaches before (parent_in before event (Block p)) (Body t)) reached) [
       | inl same ↦ absurd (false≢true same)
       | inr further ↦
           elim (event_at-cases event before p block.event block.stands) [
             | inl newest ↦
                 let says : opening_in event ≡ Some block.opening = ap opening_in newest.1 ∙ block.says in
-                let asked = opening_asked event before block.opening lawful.1 says in
+                let asked = opening_asked-unlimited event before block.opening lawful.1 says in
                 let under : parent_in before event (Block p) ≡ frame before task.0 =
                 parent_in-opened event before p block.opening says newest.0 ∙ (asked.within ∙ ap (frame before) block.by) in
                 still event before task t
-                (frame_reaches_from before task t (λ q inner reached. block_reaches before task t q lawful.0 inner reached) (rw under at further))
+                (frame_reaches_from before task t (λ q inner reached. block_reaches-unlimited before task t q lawful.0 inner reached)
+                (rw under at further))
             | inr older ↦
                 let same : parent_in before event (Block p) ≡ Block p =
                 parent_in-known event before (Block p) (record { event = block.event; opening = block.opening; stands = older; says = block.says }) in
                 still event before task t
-                (block_reaches before task t p lawful.0
+                (block_reaches-unlimited before task t p lawful.0
                 (record { event = block.event; opening = block.opening; stands = older; says = block.says; by = block.by })
                 (rw same at further))
           ]
     ]
 
-pub frame_reaches : (journal : List Event) (task t : TaskNo) → IsLawful journal → reaches journal (frame journal task.0) (Body t) ≡ true → (task ≡ t)
-    ⊎ (depends_on journal task.0 (Body t) ≡ true)
-frame_reaches journal task t lawful reached = frame_reaches_from journal task t (λ p block further. block_reaches journal task t p lawful block further) reached
+pub frame_reaches-unlimited : (journal : List Event) (task t : TaskNo) → IsLawfulUnlimited journal
+    → reaches journal (frame journal task.0) (Body t) ≡ true → (task ≡ t) ⊎ (depends_on journal task.0 (Body t) ≡ true)
+frame_reaches-unlimited journal task t lawful reached =
+    frame_reaches_from journal task t (λ p block further. block_reaches-unlimited journal task t p lawful block further) reached
 
 -- whoever makes a task that depends on a task's body is that task, or depends on its body
-pub maker_of_dependent : (event : Event) (before : List Event) (u : ℕ) (t : TaskNo) → IsLawful (event ∷ before) → (made : IsMadeUnder event before u (Body t))
+pub maker_of_dependent-unlimited : (event : Event) (before : List Event) (u : ℕ) (t : TaskNo) → IsLawfulUnlimited (event ∷ before)
+    → (made : IsMadeUnder event before u (Body t))
     → (is_running before made.creation.by ≡ true) × ((made.creation.by ≡ t.0) ⊎ (depends_on before made.creation.by (Body t) ≡ true))
-maker_of_dependent event before u t lawful made =
+maker_of_dependent-unlimited event before u t lawful made =
     let c = made.creation in
-    let by = creation_asked event before c lawful.1 made.says in
-    let reached = reaches_trans before lawful.0 (frame before c.by) c.master (Body t) (frame_known before c.by by.asked.exists) by.reached made.reached in (
+    let by = creation_asked-unlimited event before c lawful.1 made.says in
+    let reached = reaches_trans-unlimited before lawful.0 (frame before c.by) c.master (Body t)
+    (frame_known before c.by by.asked.exists) by.reached made.reached in (
       by.asked.runs,
-      elim (frame_reaches before (record { 0 = c.by }) t lawful.0 reached) [
+      elim (frame_reaches-unlimited before (record { 0 = c.by }) t lawful.0 reached) [
         | inl same ↦ inl (ap (λ (x : TaskNo). x.0) same)
         | inr depends ↦ inr depends
       ],
@@ -219,18 +237,19 @@ unfolding is_started
 is_started-more event before task was = or_right (lists_task task (started_in event) && not (has_ended before task)) (is_started before task) was
 
 -- a task on whose body another depends was started
-pub dependents_started : (journal : List Event) (u : ℕ) (t : TaskNo) → IsLawful journal → depends_on journal u (Body t) ≡ true → is_started journal t.0 ≡ true
-dependents_started [] u t lawful depends = absurd (false≢true (unfold depends_on in depends))
-dependents_started (event ∷ before) u t lawful depends =
+pub dependents_started-unlimited : (journal : List Event) (u : ℕ) (t : TaskNo) → IsLawfulUnlimited journal → depends_on journal u (Body t) ≡ true
+    → is_started journal t.0 ≡ true
+dependents_started-unlimited [] u t lawful depends = absurd (false≢true (unfold depends_on in depends))
+dependents_started-unlimited (event ∷ before) u t lawful depends =
     is_started-more event before t.0
     (elim (depends_on-cases event before u (Body t) depends) [
       | inl made ↦
-          let maker = maker_of_dependent event before u t lawful made in
+          let maker = maker_of_dependent-unlimited event before u t lawful made in
           elim maker.1 [
             | inl same ↦ subst (λ (n : ℕ). is_started before n ≡ true) same (running_started before made.creation.by maker.0)
-            | inr older ↦ dependents_started before made.creation.by t lawful.0 older
+            | inr older ↦ dependents_started-unlimited before made.creation.by t lawful.0 older
           ]
-      | inr older ↦ dependents_started before u t lawful.0 older
+      | inr older ↦ dependents_started-unlimited before u t lawful.0 older
     ])
 
 -- a task that was started is the main program, or a start names it

@@ -5,6 +5,7 @@ use Rattle.ada_events.specs.declared.event.Event.{Event}
 use Rattle.ada_events.specs.Forced.{forced}
 use Rattle.ada_events.specs.Lawful.{IsLawful, Forces}
 use Rattle.ada_events.specs.Lawful.Forces.{nothing, one_more}
+use Rattle.ada_laws.specs.Unlimited.{IsLawfulUnlimited}
 
 -- nothing follows from a settled journal
 pub settled_ends : (from to : List Event) → Forces from to → forced from ≡ None → to ≡ from
@@ -58,6 +59,10 @@ forces_keeps from to (one_more {journal = journal} {event = event} before step) 
     (event ∷ steps, ap (λ (j : List Event). event ∷ j) same)
 
 -- what follows from a lawful journal is lawful
+pub forces_lawful-unlimited : (from to : List Event) → Forces from to → IsLawfulUnlimited from → IsLawfulUnlimited to
+forces_lawful-unlimited from to nothing lawful = lawful
+forces_lawful-unlimited from to (one_more {journal = journal} before step) lawful = (forces_lawful-unlimited from journal before lawful, inl step)
+
 pub forces_lawful : (from to : List Event) → Forces from to → IsLawful from → IsLawful to
 forces_lawful from to nothing lawful = lawful
 forces_lawful from to (one_more {journal = journal} before step) lawful = (forces_lawful from journal before lawful, inl step)

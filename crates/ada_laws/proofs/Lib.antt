@@ -3,6 +3,8 @@ pub mod RequestLaws
 pub mod Searching
 pub mod Saying
 pub mod Growing
+pub mod CauseParts
+pub mod Limitless
 pub mod Accepting
 pub mod Rows
 pub mod Stepping
@@ -32,4 +34,3 @@ pub mod SlotOrder
 pub mod OutcomeLaws
 pub mod KeepingLaws
 pub mod Publishing
-pub mod CauseParts

@@ -11,11 +11,13 @@ use Rattle.ada_events.specs.Lawful.{IsLawful, IsSettled, Forces}
 use Rattle.ada_events.specs.Lawful.Forces.{nothing, one_more}
 use Rattle.ada_laws.specs.Work.{work_left}
 use Rattle.ada_laws.specs.Limits.{TasksAreFew, WorkIsThreeForEachTask, StepsLessenTheWork, AppendsFew, LeadsToAJournal, LeadsToFewEvents, EventsAreFew}
+use Rattle.ada_laws.specs.Unlimited.{IsLawfulUnlimited, LeadsOnUnlimited, refusal_but_limits}
+use Rattle.ada_laws.proofs.Limitless.{accepted_without_limits, lawful_unlimited}
 use Rattle.ada_laws.proofs.Forcing.{forces_on, forces_lawful}
 use Rattle.ada_laws.proofs.Growing.{task_count-same}
 use Rattle.ada_laws.proofs.Accepting.{creates_within, accepted_has_room}
 use Rattle.ada_laws.proofs.Stepping.{forced-step}
-use Rattle.ada_laws.proofs.Working.{work_left-three, work_left-forced}
+use Rattle.ada_laws.proofs.Working.{work_left-three, work_left-forced, work_left-forced-unlimited}
 
 pub work_is_three_for_each_task : WorkIsThreeForEachTask
 work_is_three_for_each_task journal lawful = work_left-three journal
@@ -41,6 +43,11 @@ work_left-most journal lawful =
     omega arith
 
 -- a journal with an accepted request's event is lawful
+asked_lawful-unlimited : (old : List Event) (request : Request) → IsLawfulUnlimited old → IsSettled old → refusal_but_limits old request ≡ None
+    → IsLawfulUnlimited (asked_event old request ∷ old)
+asked_lawful-unlimited old request lawful settled accepted =
+    (lawful, inr (record { settled = settled; request = request; accepted = accepted; becomes = refl }))
+
 pub asked_lawful : (old : List Event) (request : Request) → IsLawful old → IsSettled old → refusal old request ≡ None → IsLawful (asked_event old request ∷ old)
 asked_lawful old request lawful settled accepted =
     (lawful, inr (record { settled = settled; request = request; accepted = accepted; becomes = refl }))
@@ -98,18 +105,24 @@ settle_from journal (Some event) step further =
     let (new, forces, settled) = further event step in
     (new, forces_on journal (event ∷ journal) new forces (one_more nothing step), settled)
 
-pub settles : (work : ℕ) (journal : List Event) → IsLawful journal → work_left journal ≤ work → (new : List Event) × Forces journal new × (forced new ≡ None)
-settles zero journal lawful enough =
+settles-unlimited : (work : ℕ) (journal : List Event) → IsLawfulUnlimited journal → work_left journal ≤ work
+    → (new : List Event) × Forces journal new × (forced new ≡ None)
+settles-unlimited zero journal lawful enough =
     settle_from journal (forced journal) refl (λ event step.
-    let less : work_left (event ∷ journal) < work_left journal = work_left-forced event journal lawful step in
+    let less : work_left (event ∷ journal) < work_left journal = work_left-forced-unlimited event journal lawful step in
     absurd (omega arith))
-settles (suc work) journal lawful enough =
+settles-unlimited (suc work) journal lawful enough =
     settle_from journal (forced journal) refl (λ event step.
-    let less : work_left (event ∷ journal) < work_left journal = work_left-forced event journal lawful step in
-    settles work (event ∷ journal) (lawful, inl step) (omega arith))
+    let less : work_left (event ∷ journal) < work_left journal = work_left-forced-unlimited event journal lawful step in
+    settles-unlimited work (event ∷ journal) (lawful, inl step) (omega arith))
+
+-- what a request leads to exists wherever the request isn't refused, where tasks, slots and events have no limit
+pub leads_on-unlimited : LeadsOnUnlimited
+leads_on-unlimited old request lawful settled accepted =
+    let next = asked_event old request ∷ old in
+    let (new, forces, ends) = settles-unlimited (work_left next) next (asked_lawful-unlimited old request lawful settled accepted) (omega arith) in
+    (new, record { forces = forces; settled = ends })
 
 pub leads_to_a_journal : LeadsToAJournal
 leads_to_a_journal old request lawful settled accepted =
-    let next = asked_event old request ∷ old in
-    let (new, forces, ends) = settles (work_left next) next (asked_lawful old request lawful settled accepted) (omega arith) in
-    (new, record { forces = forces; settled = ends })
+    leads_on-unlimited old request (lawful_unlimited old lawful) settled (accepted_without_limits old request accepted)

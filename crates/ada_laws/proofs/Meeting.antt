@@ -17,6 +17,8 @@ use Rattle.ada_events.specs.Calls.{is_met, queue, is_pending}
 use Rattle.ada_events.specs.Waits.{front_of, taken_choice, taken_call}
 use Rattle.ada_events.specs.Lawful.{IsLawful, MayFollow}
 use Rattle.ada_laws.specs.Calls.{IsCallAt, IsWaitAt, IsFrontFor, events_before}
+use Rattle.ada_laws.specs.Unlimited.{IsLawfulUnlimited, MayFollowUnlimited}
+use Rattle.ada_laws.proofs.Limitless.{lawful_unlimited, may_follow_unlimited}
 use Rattle.ada_laws.proofs.Searching.{if_some, option_map_or-true, option_and_then-some, event_at-cases, event_at-newest, event_at-older, event_at-within}
 use Rattle.ada_laws.proofs.Rows.{IsRow, forced-row}
 use Rattle.ada_laws.proofs.Rows.IsRow.{meets}
@@ -43,10 +45,15 @@ meeting_in-asked journal (request.Open by) = refl
 meeting_in-asked journal _ = refl
 
 -- a rendezvous begins only where a wait takes its call
-pub met_taking : (journal : List Event) (event : Event) (m : Meeting) → MayFollow journal event → meeting_in event ≡ Some m → IsTaking journal m.call m.wait
-met_taking journal event m (inl forces) meeting = row_taking journal event m (forced-row journal event forces) meeting
-met_taking journal event m (inr asked) meeting =
+pub met_taking-unlimited : (journal : List Event) (event : Event) (m : Meeting) → MayFollowUnlimited journal event → meeting_in event ≡ Some m
+    → IsTaking journal m.call m.wait
+met_taking-unlimited journal event m (inl forces) meeting = row_taking journal event m (forced-row journal event forces) meeting
+met_taking-unlimited journal event m (inr asked) meeting =
     absurd (none-some m (sym (meeting_in-asked journal asked.request) ∙ (ap meeting_in (sym asked.becomes) ∙ meeting)))
+
+pub met_taking : (journal : List Event) (event : Event) (m : Meeting) → MayFollow journal event → meeting_in event ≡ Some m
+    → IsTaking journal m.call m.wait
+met_taking journal event m follows meeting = met_taking-unlimited journal event m (may_follow_unlimited journal event follows) meeting
 
 -- what is in a list at some place is among its items
 contained_at : {A : Type 0} (xs : List A) (k : ℕ) (x : A) → slice_get xs k ≡ Some x → Contains xs x
@@ -176,17 +183,22 @@ meeting_later event before call position meeting = record {
 }
 
 -- what is met is a call, by a wait of the task called
-pub meeting_at : (journal : List Event) (call position p : ℕ) → IsLawful journal → event_at journal p ≡ Some (Met call position)
+pub meeting_at-unlimited : (journal : List Event) (call position p : ℕ) → IsLawfulUnlimited journal → event_at journal p ≡ Some (Met call position)
     → IsMeetingOf journal call position
 unfolding event_at meeting_in
-meeting_at [] call position p lawful at = absurd (none-some _ at)
-meeting_at (event ∷ before) call position p lawful at =
+meeting_at-unlimited [] call position p lawful at = absurd (none-some _ at)
+meeting_at-unlimited (event ∷ before) call position p lawful at =
     elim (event_at-cases event before p (Met call position) at) [
       | inl newest ↦
           meeting_later event before call position
-          (taking_meeting before call position (met_taking before event (record { call = call; wait = position }) lawful.1 (ap meeting_in newest.1)))
-      | inr older ↦ meeting_later event before call position (meeting_at before call position p lawful.0 older)
+          (taking_meeting before call position
+          (met_taking-unlimited before event (record { call = call; wait = position }) lawful.1 (ap meeting_in newest.1)))
+      | inr older ↦ meeting_later event before call position (meeting_at-unlimited before call position p lawful.0 older)
     ]
+
+pub meeting_at : (journal : List Event) (call position p : ℕ) → IsLawful journal → event_at journal p ≡ Some (Met call position)
+    → IsMeetingOf journal call position
+meeting_at journal call position p lawful at = meeting_at-unlimited journal call position p (lawful_unlimited journal lawful) at
 
 events_before-newest : (event : Event) (before : List Event) (p : ℕ) → p ≡ suc (length before) → events_before (event ∷ before) p ≡ before
 unfolding events_before

@@ -20,7 +20,8 @@ use Rattle.ada_events.specs.Nests.{is_left, is_wait_of, member_at, nest, innermo
 use Rattle.ada_events.specs.Refusals.{refusal, is_rendezvous, is_not_in_accept}
 use Rattle.ada_events.specs.Search.{is_some_and, event_at}
 use Rattle.ada_events.specs.Says.{Opening, Meeting, opening_in, meeting_in}
-use Rattle.ada_laws.proofs.Accepting.{is_accepted}
+use Rattle.ada_laws.specs.Unlimited.{refusal_but_limits}
+use Rattle.ada_laws.proofs.Limitless.{accepted_without_limits, is_accepted-unlimited}
 use Rattle.ada_laws.proofs.Gathering.{gathered-found}
 use Rattle.ada_laws.proofs.Meeting.{meeting_in-met, is_met-from}
 use Rattle.ada_laws.proofs.Rows.{IsRow, forced-row}
@@ -91,12 +92,16 @@ innermost_within journal task (Some (Rendezvous call)) is served =
     )
 
 -- who may end a rendezvous is within it
-pub end_within : (journal : List Event) (by : TaskNo) (raised : Bool) → refusal journal (request.End by raised) ≡ None
+pub end_within-unlimited : (journal : List Event) (by : TaskNo) (raised : Bool) → refusal_but_limits journal (request.End by raised) ≡ None
     → Contains (nest journal by.0) (Rendezvous (member_position (innermost (nest journal by.0))))
 unfolding is_not_in_accept
-end_within journal by raised accepted =
+end_within-unlimited journal by raised accepted =
     innermost_within journal by.0 (innermost (nest journal by.0)) refl
-    (not-false (is_some_and (innermost (nest journal by.0)) is_rendezvous) (is_accepted journal (request.End by raised) accepted).in_accept)
+    (not-false (is_some_and (innermost (nest journal by.0)) is_rendezvous) (is_accepted-unlimited journal (request.End by raised) accepted).in_accept)
+
+pub end_within : (journal : List Event) (by : TaskNo) (raised : Bool) → refusal journal (request.End by raised) ≡ None
+    → Contains (nest journal by.0) (Rendezvous (member_position (innermost (nest journal by.0))))
+end_within journal by raised accepted = end_within-unlimited journal by raised (accepted_without_limits journal (request.End by raised) accepted)
 
 -- who ends a rendezvous, and with which call
 abbrev ending : Event → Option (ℕ × ℕ)

@@ -19,10 +19,12 @@ use Rattle.ada_events.specs.Outcomes.{raised_in, released_to, became, last_given
 use Rattle.ada_events.specs.Lawful.{IsLawful}
 use Rattle.ada_laws.specs.Suspension.{IsSuspendedAt}
 use Rattle.ada_laws.specs.Outcomes.{SuspendedTasksAreHeld, HeldTasksAreSuspended}
+use Rattle.ada_laws.specs.Unlimited.{IsLawfulUnlimited}
+use Rattle.ada_laws.proofs.Limitless.{lawful_unlimited}
 use Rattle.ada_laws.proofs.Searching.{is_number-some, is_number-from, event_at-older, event_at-newest, option_or-some}
 use Rattle.ada_laws.proofs.Saying.{held_in-asked}
 use Rattle.ada_laws.proofs.Suspending.{is_suspended-at, is_suspended-from, suspended_cases}
-use Rattle.ada_laws.proofs.Accepting.{asker_runs, running_free}
+use Rattle.ada_laws.proofs.Accepting.{running_free, asker_runs-unlimited}
 use Rattle.ada_laws.proofs.Rows.{IsRow, forced-row}
 use Rattle.ada_laws.proofs.Rows.IsRow.{halts}
 use Rattle.ada_laws.proofs.Stepping.{forced-step}
@@ -53,44 +55,57 @@ raised_in-asked journal (request.End by false) task raises = absurd (none-some t
 raised_in-asked journal _ task raises = absurd (none-some task raises)
 
 -- neither does a suspended task end a rendezvous by an exception, nor is it held up anew
-pub unraised : (e : Event) (before : List Event) (task position : ℕ) → IsLawful (e ∷ before) → IsSuspendedAt before task position
+pub unraised-unlimited : (e : Event) (before : List Event) (task position : ℕ) → IsLawfulUnlimited (e ∷ before) → IsSuspendedAt before task position
     → is_number task (raised_in e) ≡ false
-unraised e before task position lawful h =
+unraised-unlimited e before task position lawful h =
     false_from_ne_true (is_number task (raised_in e)) (λ yes.
     let raises = is_number-some task (raised_in e) yes in
     elim lawful.1 [
       | inl forces ↦ none-some task (sym (row-raises_none before e (forced-row before e forces)) ∙ raises)
       | inr asked ↦
-          let runs = asker_runs before asked.request task asked.accepted
+          let runs = asker_runs-unlimited before asked.request task asked.accepted
           (raised_in-asked before asked.request task (ap raised_in (sym asked.becomes) ∙ raises)) in
           true≢false (sym (is_suspended-from before task position h) ∙ running_free before task runs)
     ])
 
-pub unheld : (e : Event) (before : List Event) (task position : ℕ) → IsLawful (e ∷ before) → IsSuspendedAt before task position
+pub unraised : (e : Event) (before : List Event) (task position : ℕ) → IsLawful (e ∷ before) → IsSuspendedAt before task position
+    → is_number task (raised_in e) ≡ false
+unraised e before task position lawful h = unraised-unlimited e before task position (lawful_unlimited (e ∷ before) lawful) h
+
+pub unheld-unlimited : (e : Event) (before : List Event) (task position : ℕ) → IsLawfulUnlimited (e ∷ before) → IsSuspendedAt before task position
     → is_number task (held_in e) ≡ false
-unheld e before task position lawful h =
+unheld-unlimited e before task position lawful h =
     false_from_ne_true (is_number task (held_in e)) (λ yes.
     let holds = is_number-some task (held_in e) yes in
     elim lawful.1 [
       | inl forces ↦ none-some task (sym (forced-step before e forces).holds_none ∙ holds)
       | inr asked ↦
-          let runs = asker_runs before asked.request task asked.accepted (held_in-asked before asked.request task (ap held_in (sym asked.becomes) ∙ holds)) in
+          let runs = asker_runs-unlimited before asked.request task asked.accepted
+          (held_in-asked before asked.request task (ap held_in (sym asked.becomes) ∙ holds)) in
           true≢false (sym (is_suspended-from before task position h) ∙ running_free before task runs)
     ])
 
+pub unheld : (e : Event) (before : List Event) (task position : ℕ) → IsLawful (e ∷ before) → IsSuspendedAt before task position
+    → is_number task (held_in e) ≡ false
+unheld e before task position lawful h = unheld-unlimited e before task position (lawful_unlimited (e ∷ before) lawful) h
+
 -- the latest doing of a suspended task is what it is suspended at
-pub suspended_given : (all journal : List Event) (task position : ℕ) → IsLawful journal → IsSuspendedAt journal task position
+pub suspended_given-unlimited : (all journal : List Event) (task position : ℕ) → IsLawfulUnlimited journal → IsSuspendedAt journal task position
     → last_given (outcome_at all task) journal ≡ Some (became all position)
 unfolding last_given outcome_at event_at
-suspended_given all [] task position lawful h = absurd (none-some h.event h.stands)
-suspended_given all (e ∷ before) task position lawful h =
+suspended_given-unlimited all [] task position lawful h = absurd (none-some h.event h.stands)
+suspended_given-unlimited all (e ∷ before) task position lawful h =
     elim (suspended_cases e before task position h) [
       | inl newest ↦
           rw (raises_none e task newest.1, is_number-from task (held_in e) newest.1) (ap (λ p. Some (became all p)) (sym newest.0))
       | inr older ↦
-          rw (unraised e before task position lawful older, unheld e before task position lawful older)
-          (suspended_given all before task position lawful.0 older)
+          rw (unraised-unlimited e before task position lawful older, unheld-unlimited e before task position lawful older)
+          (suspended_given-unlimited all before task position lawful.0 older)
     ]
+
+pub suspended_given : (all journal : List Event) (task position : ℕ) → IsLawful journal → IsSuspendedAt journal task position
+    → last_given (outcome_at all task) journal ≡ Some (became all position)
+suspended_given all journal task position lawful h = suspended_given-unlimited all journal task position (lawful_unlimited journal lawful) h
 
 pub suspended_tasks_are_held : SuspendedTasksAreHeld
 unfolding outcome_of has_ended

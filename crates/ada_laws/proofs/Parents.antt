@@ -17,10 +17,12 @@ use Rattle.ada_events.specs.Masters.{same_master, reaches, depends_on}
 use Rattle.ada_events.specs.Nests.{frame}
 use Rattle.ada_events.specs.Lawful.{IsLawful}
 use Rattle.ada_laws.specs.Masters.{parent_of, IsKnown, MastersReachByParents, TasksDependByParents}
+use Rattle.ada_laws.specs.Unlimited.{IsLawfulUnlimited}
+use Rattle.ada_laws.proofs.Limitless.{lawful_unlimited}
 use Rattle.ada_laws.proofs.Depending.{depends_exists}
 use Rattle.ada_laws.proofs.Searching.{option_or-some, if_some, event_at-cases, event_at-newest, event_at-other, event_at-within}
-use Rattle.ada_laws.proofs.Reaching.{reaches-same, known_later, parent_in-known, parent_in-created, parent_in-opened, reaches_up, reaches_down, frame_known}
-use Rattle.ada_laws.proofs.Reaching.{creation_asked, opening_asked, reaches_known}
+use Rattle.ada_laws.proofs.Reaching.{reaches-same, known_later, parent_in-known, parent_in-created, parent_in-opened, reaches_up, reaches_down}
+use Rattle.ada_laws.proofs.Reaching.{frame_known, creation_asked-unlimited, opening_asked-unlimited, reaches_known-unlimited}
 
 pub same_truth : (a b : Bool) → (a ≡ true → b ≡ true) → (b ≡ true → a ≡ true) → a ≡ b
 same_truth true b forth back = sym (forth refl)
@@ -74,57 +76,64 @@ parent_of-block : (event : Event) (before : List Event) (p : ℕ) (o : Opening) 
     → parent_of (event ∷ before) (Block p) ≡ Some o.under
 parent_of-block event before p o says same = rw (same, event_at-newest event before, says) refl
 
-creation_known : (event : Event) (before : List Event) (c : Creation) → IsLawful (event ∷ before) → creation_in event ≡ Some c → IsKnown before c.master
-creation_known event before c lawful says =
-    let by = creation_asked event before c lawful.1 says in
-    reaches_known before lawful.0 (frame before c.by) c.master (frame_known before c.by by.asked.exists) by.reached
+creation_known-unlimited : (event : Event) (before : List Event) (c : Creation) → IsLawfulUnlimited (event ∷ before) → creation_in event ≡ Some c
+    → IsKnown before c.master
+creation_known-unlimited event before c lawful says =
+    let by = creation_asked-unlimited event before c lawful.1 says in
+    reaches_known-unlimited before lawful.0 (frame before c.by) c.master (frame_known before c.by by.asked.exists) by.reached
 
-opening_known : (event : Event) (before : List Event) (o : Opening) → IsLawful (event ∷ before) → opening_in event ≡ Some o → IsKnown before o.under
-opening_known event before o lawful says =
-    let by = opening_asked event before o lawful.1 says in
+opening_known-unlimited : (event : Event) (before : List Event) (o : Opening) → IsLawfulUnlimited (event ∷ before) → opening_in event ≡ Some o
+    → IsKnown before o.under
+opening_known-unlimited event before o lawful says =
+    let by = opening_asked-unlimited event before o lawful.1 says in
     subst (λ (x : Master). IsKnown before x) (sym by.within) (frame_known before o.by by.exists)
 
 abbrev by_parent : List Event → Master → Master → Bool
 by_parent journal x y = same_master x y || is_some_and (parent_of journal x) (λ (z : Master). reaches journal z y)
 
-older_parent : (event : Event) (before : List Event) (x y : Master) (o : Option Master) → IsLawful before → IsKnown before x
+older_parent-unlimited : (event : Event) (before : List Event) (x y : Master) (o : Option Master) → IsLawfulUnlimited before → IsKnown before x
     → ((z : Master) → reaches before x z ≡ by_parent before x z) → parent_of before x ≡ o
     → option_map_or (λ (z : Master). reaches (event ∷ before) z y) o false ≡ option_map_or (λ (z : Master). reaches before z y) o false
-older_parent event before x y None lawful known older is = refl
-older_parent event before x y (Some z) lawful known older is =
+older_parent-unlimited event before x y None lawful known older is = refl
+older_parent-unlimited event before x y (Some z) lawful known older is =
     let reached : reaches before x z ≡ true = older z ∙ rw (is, reaches-same before z) (or-true (same_master x z)) in
-    reaches_later event before z y (reaches_known before lawful x z known reached)
+    reaches_later event before z y (reaches_known-unlimited before lawful x z known reached)
 
 or_twice : (a b : Bool) → (a || (a || b)) ≡ (a || b)
 or_twice true b = refl
 or_twice false b = refl
 
-by_making : (event : Event) (before : List Event) (x y : Master) → IsLawful (event ∷ before) → IsMade event before x
+by_making-unlimited : (event : Event) (before : List Event) (x y : Master) → IsLawfulUnlimited (event ∷ before) → IsMade event before x
     → (IsKnown before x → (z : Master) → reaches before x z ≡ by_parent before x z) → reaches (event ∷ before) x y ≡ by_parent (event ∷ before) x y
 unfolding reaches
-by_making event before x y lawful (earlier z known) older =
+by_making-unlimited event before x y lawful (earlier z known) older =
     rw (
       parent_in-known event before z known,
       parent_of-later event before z known,
-      older_parent event before z y (parent_of before z) lawful.0 known
+      older_parent-unlimited event before z y (parent_of before z) lawful.0 known
           (older known) refl,
       older known y,
     )
     (or_twice (same_master z y) (option_map_or (λ (m : Master). reaches before m y) (parent_of before z) false))
-by_making event before x y lawful (body t c says same) older =
+by_making-unlimited event before x y lawful (body t c says same) older =
     rw (parent_in-created event before t c says same, parent_of-body event before t c says same)
-    (ap (λ b. same_master (Body t) y || b) (sym (reaches_later event before c.master y (creation_known event before c lawful says))))
-by_making event before x y lawful (block p o says same) older =
+    (ap (λ b. same_master (Body t) y || b) (sym (reaches_later event before c.master y (creation_known-unlimited event before c lawful says))))
+by_making-unlimited event before x y lawful (block p o says same) older =
     rw (parent_in-opened event before p o says same, parent_of-block event before p o says same)
-    (ap (λ b. same_master (Block p) y || b) (sym (reaches_later event before o.under y (opening_known event before o lawful says))))
+    (ap (λ b. same_master (Block p) y || b) (sym (reaches_later event before o.under y (opening_known-unlimited event before o lawful says))))
 
 -- what is reached from a master is that master, or is reached from its parent
-pub masters_reach_by_parents : MastersReachByParents
+pub masters_reach_by_parents-unlimited : (journal : List Event) (from to : Master) → IsLawfulUnlimited journal → IsKnown journal from
+    → reaches journal from to ≡ (same_master from to || is_some_and (parent_of journal from) (λ (parent : Master). reaches journal parent to))
 unfolding reaches creation_of event_at
-masters_reach_by_parents [] (Body t) y lawful known = sym (or-false (same_master (Body t) y))
-masters_reach_by_parents [] (Block p) y lawful known = sym (or-false (same_master (Block p) y))
-masters_reach_by_parents (event ∷ before) x y lawful known =
-    by_making event before x y lawful (made_cases event before x known) (λ earlier z. masters_reach_by_parents before x z lawful.0 earlier)
+masters_reach_by_parents-unlimited [] (Body t) y lawful known = sym (or-false (same_master (Body t) y))
+masters_reach_by_parents-unlimited [] (Block p) y lawful known = sym (or-false (same_master (Block p) y))
+masters_reach_by_parents-unlimited (event ∷ before) x y lawful known =
+    by_making-unlimited event before x y lawful (made_cases event before x known)
+    (λ earlier z. masters_reach_by_parents-unlimited before x z lawful.0 earlier)
+
+pub masters_reach_by_parents : MastersReachByParents
+masters_reach_by_parents journal x y lawful known = masters_reach_by_parents-unlimited journal x y (lawful_unlimited journal lawful) known
 
 -- who isn't made yet depends on nothing
 nobody : (before : List Event) (u : ℕ) (y : Master) → u ≡ task_count before → depends_on before u y ≡ false
@@ -138,39 +147,48 @@ none_if true = refl
 none_if false = refl
 
 -- the master of a task is known
-pub master_known : (journal : List Event) (t : TaskNo) (c : Creation) → IsLawful journal → creation_of journal t.0 ≡ Some c → IsKnown journal c.master
+pub master_known-unlimited : (journal : List Event) (t : TaskNo) (c : Creation) → IsLawfulUnlimited journal → creation_of journal t.0 ≡ Some c
+    → IsKnown journal c.master
 unfolding creation_of
-master_known [] t c lawful says = absurd (none-some c says)
-master_known (event ∷ before) t c lawful says =
+master_known-unlimited [] t c lawful says = absurd (none-some c says)
+master_known-unlimited (event ∷ before) t c lawful says =
     known_later event before c.master
     (elim (option_or-some (if eqb t.0 (task_count before) then creation_in event else None) (creation_of before t.0) c says) [
-      | inl now ↦ creation_known event before c lawful (if_some (eqb t.0 (task_count before)) (creation_in event) c now).1
-      | inr was ↦ master_known before t c lawful.0 was
+      | inl now ↦ creation_known-unlimited event before c lawful (if_some (eqb t.0 (task_count before)) (creation_in event) c now).1
+      | inr was ↦ master_known-unlimited before t c lawful.0 was
     ])
 
-of_older : (event : Event) (before : List Event) (t : TaskNo) (y : Master) (o : Option Creation) → IsLawful before → creation_of before t.0 ≡ o
-    → option_map_or (λ (z : Master). reaches before z y) (option_map (λ (c : Creation). c.master) o) false
-    ≡ option_map_or (λ (z : Master). reaches (event ∷ before) z y) (option_map (λ (c : Creation). c.master) o) false
-of_older event before t y None lawful says = refl
-of_older event before t y (Some c) lawful says = sym (reaches_later event before c.master y (master_known before t c lawful says))
+pub master_known : (journal : List Event) (t : TaskNo) (c : Creation) → IsLawful journal → creation_of journal t.0 ≡ Some c → IsKnown journal c.master
+master_known journal t c lawful says = master_known-unlimited journal t c (lawful_unlimited journal lawful) says
 
-of_creation : (event : Event) (before : List Event) (t : TaskNo) (y : Master) → IsLawful (event ∷ before) → (o : Option Creation) → creation_in event ≡ o
-    → depends_on before t.0 y ≡ option_map_or (λ (z : Master). reaches before z y) (parent_of before (Body t)) false
+of_older-unlimited : (event : Event) (before : List Event) (t : TaskNo) (y : Master) (o : Option Creation) → IsLawfulUnlimited before
+    → creation_of before t.0 ≡ o → option_map_or (λ (z : Master). reaches before z y) (option_map (λ (c : Creation). c.master) o) false
+    ≡ option_map_or (λ (z : Master). reaches (event ∷ before) z y) (option_map (λ (c : Creation). c.master) o) false
+of_older-unlimited event before t y None lawful says = refl
+of_older-unlimited event before t y (Some c) lawful says = sym (reaches_later event before c.master y (master_known-unlimited before t c lawful says))
+
+of_creation-unlimited : (event : Event) (before : List Event) (t : TaskNo) (y : Master) → IsLawfulUnlimited (event ∷ before) → (o : Option Creation)
+    → creation_in event ≡ o → depends_on before t.0 y ≡ option_map_or (λ (z : Master). reaches before z y) (parent_of before (Body t)) false
     → depends_on (event ∷ before) t.0 y ≡ option_map_or (λ (z : Master). reaches (event ∷ before) z y) (parent_of (event ∷ before) (Body t)) false
 unfolding depends_on creation_of
-of_creation event before t y lawful None says older =
-    rw (says, none_if (eqb t.0 (task_count before)), older) (of_older event before t y (creation_of before t.0) lawful.0 refl)
-of_creation event before t y lawful (Some c) says older =
+of_creation-unlimited event before t y lawful None says older =
+    rw (says, none_if (eqb t.0 (task_count before)), older) (of_older-unlimited event before t y (creation_of before t.0) lawful.0 refl)
+of_creation-unlimited event before t y lawful (Some c) says older =
     elim (cases_eq t.0 (task_count before)) [
       | inl same ↦
           rw (says, eq-eqb t.0 (task_count before) same, nobody before t.0 y same)
-          (or-false (reaches before c.master y) ∙ sym (reaches_later event before c.master y (creation_known event before c lawful says)))
+          (or-false (reaches before c.master y) ∙ sym (reaches_later event before c.master y (creation_known-unlimited event before c lawful says)))
       | inr differs ↦
-          rw (says, ne_eqb t.0 (task_count before) differs, older) (of_older event before t y (creation_of before t.0) lawful.0 refl)
+          rw (says, ne_eqb t.0 (task_count before) differs, older) (of_older-unlimited event before t y (creation_of before t.0) lawful.0 refl)
     ]
 
 -- who depends on a master was made under it, or under one from which it is reached
-pub tasks_depend_by_parents : TasksDependByParents
+pub tasks_depend_by_parents-unlimited : (journal : List Event) (task : TaskNo) (master : Master) → IsLawfulUnlimited journal
+    → depends_on journal task.0 master ≡ is_some_and (parent_of journal (Body task)) (λ (parent : Master). reaches journal parent master)
 unfolding depends_on creation_of
-tasks_depend_by_parents [] t y lawful = refl
-tasks_depend_by_parents (event ∷ before) t y lawful = of_creation event before t y lawful (creation_in event) refl (tasks_depend_by_parents before t y lawful.0)
+tasks_depend_by_parents-unlimited [] t y lawful = refl
+tasks_depend_by_parents-unlimited (event ∷ before) t y lawful =
+    of_creation-unlimited event before t y lawful (creation_in event) refl (tasks_depend_by_parents-unlimited before t y lawful.0)
+
+pub tasks_depend_by_parents : TasksDependByParents
+tasks_depend_by_parents journal t y lawful = tasks_depend_by_parents-unlimited journal t y (lawful_unlimited journal lawful)

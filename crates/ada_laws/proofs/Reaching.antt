@@ -17,15 +17,17 @@ use Rattle.ada_events.specs.Masters.{same_master, parent_in, reaches}
 use Rattle.ada_events.specs.Phases.{is_running}
 use Rattle.ada_events.specs.Nests.{frame}
 use Rattle.ada_events.specs.Asks.{asker, asked_event}
-use Rattle.ada_events.specs.Refusals.{refusal, is_not_your_master}
+use Rattle.ada_events.specs.Refusals.{is_not_your_master}
 use Rattle.ada_events.specs.Lawful.{IsLawful, MayFollow}
 use Rattle.ada_laws.specs.Masters.{IsKnown}
+use Rattle.ada_laws.specs.Unlimited.{IsLawfulUnlimited, MayFollowUnlimited, refusal_but_limits}
+use Rattle.ada_laws.proofs.Limitless.{is_accepted-unlimited, lawful_unlimited, may_follow_unlimited}
 use Rattle.ada_laws.proofs.Searching.{event_at-cases, event_at-older, event_at-within}
 use Rattle.ada_laws.proofs.Growing.{task_count-more}
-use Rattle.ada_laws.proofs.Accepting.{is_accepted, asker_exists, asker_runs}
 use Rattle.ada_laws.proofs.Rows.{forced-row}
 use Rattle.ada_laws.proofs.Stepping.{forced-step, row-opens_none}
 use Rattle.ada_laws.proofs.Framing.{frame_is}
+use Rattle.ada_laws.proofs.Accepting.{asker_exists-unlimited, asker_runs-unlimited}
 
 pub same_master-true : (x y : Master) → same_master x y ≡ true → x ≡ y
 same_master-true (Body t) (Body u) same = ap (λ (n : ℕ). Body (record { 0 = n })) (eqb-true t.0 u.0 same)
@@ -115,45 +117,57 @@ pub record IsAskedBy (journal : List Event) (task : ℕ) (under : Master) : Type
   pub runs : is_running journal task ≡ true
   pub within : under ≡ frame journal task
 
-asked_opening : (journal : List Event) (r : Request) (o : Opening) → refusal journal r ≡ None → opening_in (asked_event journal r) ≡ Some o
-    → IsAskedBy journal o.by o.under
+asked_opening-unlimited : (journal : List Event) (r : Request) (o : Opening) → refusal_but_limits journal r ≡ None
+    → opening_in (asked_event journal r) ≡ Some o → IsAskedBy journal o.by o.under
 unfolding asked_event opening_in asker
-asked_opening journal (request.Open by) o accepted says =
+asked_opening-unlimited journal (request.Open by) o accepted says =
     let same = same_Some _ o says in
     subst (λ (x : Opening). IsAskedBy journal x.by x.under) same (record {
-      exists = asker_exists journal (request.Open by) by.0 accepted refl;
-      runs = asker_runs journal (request.Open by) by.0 accepted refl;
+      exists = asker_exists-unlimited journal (request.Open by) by.0 accepted refl;
+      runs = asker_runs-unlimited journal (request.Open by) by.0 accepted refl;
       within = refl;
     })
-asked_opening journal _ o accepted says = absurd (none-some o says)
+asked_opening-unlimited journal _ o accepted says = absurd (none-some o says)
+
+pub opening_asked-unlimited : (event : Event) (before : List Event) (o : Opening) → MayFollowUnlimited before event → opening_in event ≡ Some o
+    → IsAskedBy before o.by o.under
+opening_asked-unlimited event before o (inl forces) says =
+    absurd (none-some o (sym (row-opens_none before event (forced-row before event forces)) ∙ says))
+opening_asked-unlimited event before o (inr asked) says =
+    asked_opening-unlimited before asked.request o asked.accepted (ap opening_in (sym asked.becomes) ∙ says)
 
 pub opening_asked : (event : Event) (before : List Event) (o : Opening) → MayFollow before event → opening_in event ≡ Some o → IsAskedBy before o.by o.under
-opening_asked event before o (inl forces) says = absurd (none-some o (sym (row-opens_none before event (forced-row before event forces)) ∙ says))
-opening_asked event before o (inr asked) says = asked_opening before asked.request o asked.accepted (ap opening_in (sym asked.becomes) ∙ says)
+opening_asked event before o follows says = opening_asked-unlimited event before o (may_follow_unlimited before event follows) says
 
 -- a creation's master is reached from the frame of its maker
 pub record IsCreationBy (journal : List Event) (c : Creation) : Type 0 where
   pub asked : IsAskedBy journal c.by c.under
   pub reached : reaches journal (frame journal c.by) c.master ≡ true
 
-asked_creation : (journal : List Event) (r : Request) (c : Creation) → refusal journal r ≡ None → creation_in (asked_event journal r) ≡ Some c
-    → IsCreationBy journal c
+asked_creation-unlimited : (journal : List Event) (r : Request) (c : Creation) → refusal_but_limits journal r ≡ None
+    → creation_in (asked_event journal r) ≡ Some c → IsCreationBy journal c
 unfolding asked_event creation_in asker is_not_your_master
-asked_creation journal (request.Create by master families) c accepted says =
+asked_creation-unlimited journal (request.Create by master families) c accepted says =
     let same = same_Some _ c says in
     subst (λ (x : Creation). IsCreationBy journal x) same (record {
       asked = record {
-        exists = asker_exists journal (request.Create by master families) by.0 accepted refl;
-        runs = asker_runs journal (request.Create by master families) by.0 accepted refl;
+        exists = asker_exists-unlimited journal (request.Create by master families) by.0 accepted refl;
+        runs = asker_runs-unlimited journal (request.Create by master families) by.0 accepted refl;
         within = refl;
       };
-      reached = not-false (reaches journal (frame journal by.0) master) (is_accepted journal (request.Create by master families) accepted).your_master;
+      reached = not-false (reaches journal (frame journal by.0) master)
+          (is_accepted-unlimited journal (request.Create by master families) accepted).your_master;
     })
-asked_creation journal _ c accepted says = absurd (none-some c says)
+asked_creation-unlimited journal _ c accepted says = absurd (none-some c says)
+
+pub creation_asked-unlimited : (event : Event) (before : List Event) (c : Creation) → MayFollowUnlimited before event → creation_in event ≡ Some c
+    → IsCreationBy before c
+creation_asked-unlimited event before c (inl forces) says = absurd (none-some c (sym (forced-step before event forces).makes_none ∙ says))
+creation_asked-unlimited event before c (inr asked) says =
+    asked_creation-unlimited before asked.request c asked.accepted (ap creation_in (sym asked.becomes) ∙ says)
 
 pub creation_asked : (event : Event) (before : List Event) (c : Creation) → MayFollow before event → creation_in event ≡ Some c → IsCreationBy before c
-creation_asked event before c (inl forces) says = absurd (none-some c (sym (forced-step before event forces).makes_none ∙ says))
-creation_asked event before c (inr asked) says = asked_creation before asked.request c asked.accepted (ap creation_in (sym asked.becomes) ∙ says)
+creation_asked event before c follows says = creation_asked-unlimited event before c (may_follow_unlimited before event follows) says
 
 -- the frame of a task that exists is known
 pub frame_known : (journal : List Event) (task : ℕ) → task < task_count journal → IsKnown journal (frame journal task)
@@ -190,42 +204,56 @@ parent_known event before (Block p) made opened known =
     ]
 
 -- the parent of what is known was known before the event
+pub parent_was_known-unlimited : (event : Event) (before : List Event) (x : Master) → MayFollowUnlimited before event
+    → ((y z : Master) → IsKnown before y → reaches before y z ≡ true → IsKnown before z) → IsKnown (event ∷ before) x
+    → IsKnown before (parent_in before event x)
+parent_was_known-unlimited event before x follows known_before known =
+    parent_known event before x
+    (λ c says.
+    let made = creation_asked-unlimited event before c follows says in
+    known_before (frame before c.by) c.master (frame_known before c.by made.asked.exists) made.reached)
+    (λ o says.
+    let opened = opening_asked-unlimited event before o follows says in
+    subst (IsKnown before) (sym opened.within) (frame_known before o.by opened.exists))
+    known
+
 pub parent_was_known : (event : Event) (before : List Event) (x : Master) → MayFollow before event
     → ((y z : Master) → IsKnown before y → reaches before y z ≡ true → IsKnown before z) → IsKnown (event ∷ before) x
     → IsKnown before (parent_in before event x)
 parent_was_known event before x follows known_before known =
-    parent_known event before x
-    (λ c says.
-    let made = creation_asked event before c follows says in
-    known_before (frame before c.by) c.master (frame_known before c.by made.asked.exists) made.reached)
-    (λ o says.
-    let opened = opening_asked event before o follows says in
-    subst (IsKnown before) (sym opened.within) (frame_known before o.by opened.exists))
-    known
+    parent_was_known-unlimited event before x (may_follow_unlimited before event follows) known_before known
 
 -- what is reached from what is known is known
-pub reaches_known : (journal : List Event) → IsLawful journal → (x y : Master) → IsKnown journal x → reaches journal x y ≡ true → IsKnown journal y
+pub reaches_known-unlimited : (journal : List Event) → IsLawfulUnlimited journal → (x y : Master) → IsKnown journal x → reaches journal x y ≡ true
+    → IsKnown journal y
 unfolding reaches
-reaches_known [] lawful x y known reached = subst (IsKnown []) (same_master-true x y reached) known
-reaches_known (event ∷ before) lawful x y known reached =
+reaches_known-unlimited [] lawful x y known reached = subst (IsKnown []) (same_master-true x y reached) known
+reaches_known-unlimited (event ∷ before) lawful x y known reached =
     elim (or_cases (same_master x y) (reaches before (parent_in before event x) y) reached) [
       | inl same ↦ subst (IsKnown (event ∷ before)) (same_master-true x y same) known
       | inr further ↦
-          let parent = parent_was_known event before x lawful.1 (λ v w. reaches_known before lawful.0 v w) known in
-          known_later event before y (reaches_known before lawful.0 (parent_in before event x) y parent further)
+          let parent = parent_was_known-unlimited event before x lawful.1 (λ v w. reaches_known-unlimited before lawful.0 v w) known in
+          known_later event before y (reaches_known-unlimited before lawful.0 (parent_in before event x) y parent further)
     ]
 
+pub reaches_known : (journal : List Event) → IsLawful journal → (x y : Master) → IsKnown journal x → reaches journal x y ≡ true → IsKnown journal y
+reaches_known journal lawful x y known reached = reaches_known-unlimited journal (lawful_unlimited journal lawful) x y known reached
+
 -- what is reached from what is reached is reached
-pub reaches_trans : (journal : List Event) → IsLawful journal → (x y z : Master) → IsKnown journal x → reaches journal x y ≡ true → reaches journal y z ≡ true
-    → reaches journal x z ≡ true
+pub reaches_trans-unlimited : (journal : List Event) → IsLawfulUnlimited journal → (x y z : Master) → IsKnown journal x → reaches journal x y ≡ true
+    → reaches journal y z ≡ true → reaches journal x z ≡ true
 unfolding reaches
-reaches_trans [] lawful x y z known first second = subst (λ (w : Master). same_master x w ≡ true) (same_master-true y z second) first
-reaches_trans (event ∷ before) lawful x y z known first second =
+reaches_trans-unlimited [] lawful x y z known first second = subst (λ (w : Master). same_master x w ≡ true) (same_master-true y z second) first
+reaches_trans-unlimited (event ∷ before) lawful x y z known first second =
     elim (or_cases (same_master x y) (reaches before (parent_in before event x) y) first) [
       | inl same ↦ subst (λ (w : Master). reaches (event ∷ before) w z ≡ true) (sym (same_master-true x y same)) second
       | inr further ↦
-          let parent = parent_was_known event before x lawful.1 (reaches_known before lawful.0) known in
-          let known_y = reaches_known before lawful.0 (parent_in before event x) y parent further in
+          let parent = parent_was_known-unlimited event before x lawful.1 (reaches_known-unlimited before lawful.0) known in
+          let known_y = reaches_known-unlimited before lawful.0 (parent_in before event x) y parent further in
           or_right (same_master x z) (reaches before (parent_in before event x) z)
-          (reaches_trans before lawful.0 (parent_in before event x) y z parent further (reaches_down event before y z known_y second))
+          (reaches_trans-unlimited before lawful.0 (parent_in before event x) y z parent further (reaches_down event before y z known_y second))
     ]
+
+pub reaches_trans : (journal : List Event) → IsLawful journal → (x y z : Master) → IsKnown journal x → reaches journal x y ≡ true
+    → reaches journal y z ≡ true → reaches journal x z ≡ true
+reaches_trans journal lawful x y z known first second = reaches_trans-unlimited journal (lawful_unlimited journal lawful) x y z known first second

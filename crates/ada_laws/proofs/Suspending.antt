@@ -7,12 +7,14 @@ use Rattle.ada_events.specs.Search.{is_number, any_event, event_at}
 use Rattle.ada_events.specs.Says.{held_in}
 use Rattle.ada_events.specs.Tasks.{task_count}
 use Rattle.ada_events.specs.Phases.{has_ended, is_released, is_suspended}
-use Rattle.ada_events.specs.Lawful.{IsLawful, IsAsked}
+use Rattle.ada_events.specs.Lawful.{IsLawful}
 use Rattle.ada_laws.specs.Suspension.{IsSuspendedAt}
+use Rattle.ada_laws.specs.Unlimited.{IsAskedUnlimited, IsLawfulUnlimited}
+use Rattle.ada_laws.proofs.Limitless.{lawful_unlimited}
 use Rattle.ada_laws.proofs.Searching.{is_number-some, is_number-from, event_at-cases, event_at-within, any_event-found, any_event-from}
 use Rattle.ada_laws.proofs.Saying.{held_in-asked}
 use Rattle.ada_laws.proofs.Growing.{has_ended-before, is_released-before, task_count-more}
-use Rattle.ada_laws.proofs.Accepting.{asker_exists, asker_runs, running_free}
+use Rattle.ada_laws.proofs.Accepting.{running_free, asker_exists-unlimited, asker_runs-unlimited}
 use Rattle.ada_laws.proofs.Stepping.{forced-step}
 
 pub is_suspended-from : (journal : List Event) (task position : ℕ) → IsSuspendedAt journal task position → is_suspended journal task ≡ true
@@ -65,42 +67,49 @@ suspended_before event before task position none h =
     ]
 
 -- an asked event holds up only the task that asks
-asks : (journal : List Event) (event : Event) (task : ℕ) → IsAsked journal event → held_in event ≡ Some task → task < task_count journal
-asks journal event task asked holds =
-    asker_exists journal asked.request task asked.accepted (held_in-asked journal asked.request task (ap held_in (sym asked.becomes) ∙ holds))
+asks-unlimited : (journal : List Event) (event : Event) (task : ℕ) → IsAskedUnlimited journal event → held_in event ≡ Some task
+    → task < task_count journal
+asks-unlimited journal event task asked holds =
+    asker_exists-unlimited journal asked.request task asked.accepted
+    (held_in-asked journal asked.request task (ap held_in (sym asked.becomes) ∙ holds))
 
 -- and that task wasn't suspended
-asked_unsuspended : (journal : List Event) (event : Event) (task position : ℕ) → IsAsked journal event → held_in event ≡ Some task
+asked_unsuspended-unlimited : (journal : List Event) (event : Event) (task position : ℕ) → IsAskedUnlimited journal event → held_in event ≡ Some task
     → IsSuspendedAt journal task position → ⊥
-asked_unsuspended journal event task position asked holds h =
-    let runs = asker_runs journal asked.request task asked.accepted (held_in-asked journal asked.request task (ap held_in (sym asked.becomes) ∙ holds)) in
+asked_unsuspended-unlimited journal event task position asked holds h =
+    let runs = asker_runs-unlimited journal asked.request task asked.accepted
+    (held_in-asked journal asked.request task (ap held_in (sym asked.becomes) ∙ holds)) in
     true≢false (sym (is_suspended-from journal task position h) ∙ running_free journal task runs)
 
 -- only a task that exists is suspended
-pub suspended_exists : (journal : List Event) (task position : ℕ) → IsLawful journal → IsSuspendedAt journal task position → task < task_count journal
+pub suspended_exists-unlimited : (journal : List Event) (task position : ℕ) → IsLawfulUnlimited journal → IsSuspendedAt journal task position
+    → task < task_count journal
 unfolding event_at
-suspended_exists [] task position lawful h = absurd (none-some h.event h.stands)
-suspended_exists (event ∷ before) task position lawful h =
+suspended_exists-unlimited [] task position lawful h = absurd (none-some h.event h.stands)
+suspended_exists-unlimited (event ∷ before) task position lawful h =
     let more : task_count before ≤ task_count (event ∷ before) = task_count-more event before in
     elim (suspended_cases event before task position h) [
       | inl newest ↦
           elim lawful.1 [
             | inl forces ↦ absurd (none-some task (sym (forced-step before event forces).holds_none ∙ newest.1))
             | inr asked ↦
-                let below : task < task_count before = asks before event task asked newest.1 in
+                let below : task < task_count before = asks-unlimited before event task asked newest.1 in
                 omega arith
           ]
       | inr older ↦
-          let below : task < task_count before = suspended_exists before task position lawful.0 older in
+          let below : task < task_count before = suspended_exists-unlimited before task position lawful.0 older in
           omega arith
     ]
 
+pub suspended_exists : (journal : List Event) (task position : ℕ) → IsLawful journal → IsSuspendedAt journal task position → task < task_count journal
+suspended_exists journal task position lawful h = suspended_exists-unlimited journal task position (lawful_unlimited journal lawful) h
+
 -- a task is suspended at the latest of all that held it up
-pub suspended_latest : (journal : List Event) (task position other : ℕ) (e : Event) → IsLawful journal → IsSuspendedAt journal task position
-    → event_at journal other ≡ Some e → held_in e ≡ Some task → other ≤ position
+pub suspended_latest-unlimited : (journal : List Event) (task position other : ℕ) (e : Event) → IsLawfulUnlimited journal
+    → IsSuspendedAt journal task position → event_at journal other ≡ Some e → held_in e ≡ Some task → other ≤ position
 unfolding event_at
-suspended_latest [] task position other e lawful h at holds = absurd (none-some e at)
-suspended_latest (event ∷ before) task position other e lawful h at holds =
+suspended_latest-unlimited [] task position other e lawful h at holds = absurd (none-some e at)
+suspended_latest-unlimited (event ∷ before) task position other e lawful h at holds =
     elim (event_at-cases event before other e at) [
       | inl newest ↦
           let now : held_in event ≡ Some task = ap held_in newest.1 ∙ holds in
@@ -112,7 +121,7 @@ suspended_latest (event ∷ before) task position other e lawful h at holds =
             | inr older ↦
                 elim lawful.1 [
                   | inl forces ↦ absurd (none-some task (sym (forced-step before event forces).holds_none ∙ now))
-                  | inr asked ↦ absurd (asked_unsuspended before event task position asked now older)
+                  | inr asked ↦ absurd (asked_unsuspended-unlimited before event task position asked now older)
                 ]
           ]
       | inr there ↦
@@ -121,13 +130,22 @@ suspended_latest (event ∷ before) task position other e lawful h at holds =
                 let one : position ≡ suc (length before) = same.0 in
                 let within : other ≤ length before = event_at-within before other e there in
                 omega arith
-            | inr older ↦ suspended_latest before task position other e lawful.0 older there holds
+            | inr older ↦ suspended_latest-unlimited before task position other e lawful.0 older there holds
           ]
     ]
 
+pub suspended_latest : (journal : List Event) (task position other : ℕ) (e : Event) → IsLawful journal → IsSuspendedAt journal task position
+    → event_at journal other ≡ Some e → held_in e ≡ Some task → other ≤ position
+suspended_latest journal task position other e lawful h at holds =
+    suspended_latest-unlimited journal task position other e (lawful_unlimited journal lawful) h at holds
+
 -- a task is suspended at one position at most
-pub suspended_once : (journal : List Event) (task p q : ℕ) → IsLawful journal → IsSuspendedAt journal task p → IsSuspendedAt journal task q → p ≡ q
-suspended_once journal task p q lawful at_p at_q =
-    let below : q ≤ p = suspended_latest journal task p q at_q.event lawful at_p at_q.stands at_q.holds in
-    let above : p ≤ q = suspended_latest journal task q p at_p.event lawful at_q at_p.stands at_p.holds in
+pub suspended_once-unlimited : (journal : List Event) (task p q : ℕ) → IsLawfulUnlimited journal → IsSuspendedAt journal task p
+    → IsSuspendedAt journal task q → p ≡ q
+suspended_once-unlimited journal task p q lawful at_p at_q =
+    let below : q ≤ p = suspended_latest-unlimited journal task p q at_q.event lawful at_p at_q.stands at_q.holds in
+    let above : p ≤ q = suspended_latest-unlimited journal task q p at_p.event lawful at_q at_p.stands at_p.holds in
     omega arith
+
+pub suspended_once : (journal : List Event) (task p q : ℕ) → IsLawful journal → IsSuspendedAt journal task p → IsSuspendedAt journal task q → p ≡ q
+suspended_once journal task p q lawful at_p at_q = suspended_once-unlimited journal task p q (lawful_unlimited journal lawful) at_p at_q

@@ -8,12 +8,14 @@ use Rattle.ada_events.specs.Phases.{is_terminated, has_ended, is_released, is_su
 use Rattle.ada_events.specs.Forced.{forced}
 use Rattle.ada_events.specs.Lawful.{IsLawful}
 use Rattle.ada_laws.specs.Work.{work_of, work_left}
+use Rattle.ada_laws.specs.Unlimited.{IsLawfulUnlimited}
+use Rattle.ada_laws.proofs.Limitless.{lawful_unlimited}
 use Rattle.ada_laws.proofs.Sums.{one_if-one, one_if-le, one_if-lt, sum_below-lt, sum_below-bound}
 use Rattle.ada_laws.proofs.Growing.{has_ended-before, is_terminated-more, is_completed-now, has_ended-completed, is_released-now, task_count-same}
 use Rattle.ada_laws.proofs.Stepping.{Progress, IsStep, forced-step}
 use Rattle.ada_laws.proofs.Stepping.Progress.{completes, releases, terminates}
 use Rattle.ada_laws.specs.Suspension.{IsSuspendedAt}
-use Rattle.ada_laws.proofs.Suspending.{is_suspended-from, is_suspended-at, suspended_before, suspended_exists, suspended_once}
+use Rattle.ada_laws.proofs.Suspending.{is_suspended-from, is_suspended-at, suspended_before, suspended_exists-unlimited, suspended_once-unlimited}
 
 pub work_of-three : (journal : List Event) (task : ℕ) → work_of journal task ≤ 3
 unfolding work_of
@@ -86,33 +88,39 @@ work_of-released event before task none was now =
     omega arith
 
 -- the release of what a task is suspended at leaves it unsuspended
-released_free : (event : Event) (before : List Event) (task position : ℕ) → IsLawful before → held_in event ≡ None → IsSuspendedAt before task position
-    → released_in event ≡ Some position → is_suspended (event ∷ before) task ≡ false
-released_free event before task position lawful none held frees =
+released_free-unlimited : (event : Event) (before : List Event) (task position : ℕ) → IsLawfulUnlimited before → held_in event ≡ None
+    → IsSuspendedAt before task position → released_in event ≡ Some position → is_suspended (event ∷ before) task ≡ false
+released_free-unlimited event before task position lawful none held frees =
     false_from_ne_true (is_suspended (event ∷ before) task) (λ suspended.
     let (p, other) = is_suspended-at (event ∷ before) task suspended in
-    let same : p ≡ position = suspended_once before task p position lawful (suspended_before event before task p none other) held in
+    let same : p ≡ position = suspended_once-unlimited before task p position lawful (suspended_before event before task p none other) held in
     true≢false (sym (is_released-now event before position frees) ∙ (ap (is_released (event ∷ before)) (sym same) ∙ other.unreleased)))
 
 -- some task that exists has less work left
-progress_lessens : (event : Event) (before : List Event) → IsLawful before → held_in event ≡ None → Progress before event → (task : ℕ)
-    × (task < task_count before) × (work_of (event ∷ before) task < work_of before task)
-progress_lessens event before lawful none (completes task below live says) =
+progress_lessens-unlimited : (event : Event) (before : List Event) → IsLawfulUnlimited before → held_in event ≡ None → Progress before event
+    → (task : ℕ) × (task < task_count before) × (work_of (event ∷ before) task < work_of before task)
+progress_lessens-unlimited event before lawful none (completes task below live says) =
     (task, below, work_of-completed event before task none live (has_ended-completed (event ∷ before) task (is_completed-now event before task says)))
-progress_lessens event before lawful none (releases position task held frees) = (
+progress_lessens-unlimited event before lawful none (releases position task held frees) = (
   task,
-  suspended_exists before task position lawful held,
-  work_of-released event before task none (is_suspended-from before task position held) (released_free event before task position lawful none held frees),
+  suspended_exists-unlimited before task position lawful held,
+  work_of-released event before task none (is_suspended-from before task position held)
+      (released_free-unlimited event before task position lawful none held frees),
 )
-progress_lessens event before lawful none (terminates task below live now) =
+progress_lessens-unlimited event before lawful none (terminates task below live now) =
     (task, below, work_of-terminated event before task none live now)
 
-pub work_left-step : (event : Event) (before : List Event) → IsLawful before → IsStep before event → work_left (event ∷ before) < work_left before
+pub work_left-step-unlimited : (event : Event) (before : List Event) → IsLawfulUnlimited before → IsStep before event
+    → work_left (event ∷ before) < work_left before
 unfolding work_left
-work_left-step event before lawful step =
-    let (task, below, less) = progress_lessens event before lawful step.holds_none step.progress in
+work_left-step-unlimited event before lawful step =
+    let (task, below, less) = progress_lessens-unlimited event before lawful step.holds_none step.progress in
     rw (task_count-same event before step.makes_none)
     (sum_below-lt (work_of (event ∷ before)) (work_of before) (task_count before) task (λ u. work_of-le event before u step.holds_none) below less)
 
+pub work_left-forced-unlimited : (event : Event) (before : List Event) → IsLawfulUnlimited before → forced before ≡ Some event
+    → work_left (event ∷ before) < work_left before
+work_left-forced-unlimited event before lawful forces = work_left-step-unlimited event before lawful (forced-step before event forces)
+
 pub work_left-forced : (event : Event) (before : List Event) → IsLawful before → forced before ≡ Some event → work_left (event ∷ before) < work_left before
-work_left-forced event before lawful forces = work_left-step event before lawful (forced-step before event forces)
+work_left-forced event before lawful forces = work_left-forced-unlimited event before (lawful_unlimited before lawful) forces

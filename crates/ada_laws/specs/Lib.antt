@@ -1,6 +1,7 @@
 pub mod Requests
 pub mod Work
 pub mod Limits
+pub mod Unlimited
 pub mod Suspension
 pub mod Calls
 pub mod Dependents

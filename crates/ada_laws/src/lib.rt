@@ -16,3 +16,4 @@ pub mod requests;
 pub mod showing;
 pub mod slots;
 pub mod suspension;
+pub mod unlimited;

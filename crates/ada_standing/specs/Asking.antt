@@ -1,12 +1,10 @@
 -- Requests to two journals of which the second stands in for the first, and the answers to questions.
-use Rattle.std.specs.Prelude.{◌≡◌, ℕ, Bool, true, not, ◌&&◌, ◌||◌, Option, Some, List, [], ◌∷◌, ◌++◌, map}
+use Rattle.std.specs.Prelude.{◌≡◌, ℕ, Bool, true, not, ◌&&◌, ◌||◌, Some, List, map}
 use Rattle.std.specs.Option.{option_map_or, unwrap_or, is_some}
 use Rattle.std.specs.List.{list_all}
 use Rattle.ada_events.specs.declared.event.Event.{Event}
 use Rattle.ada_events.specs.declared.request.Request.{Request}
 use Rattle.ada_events.specs.declared.request.Request.TheVariants.{Open, Create, Activate, Elaborated, Call, Wait, Delay, End, Close, Complete, Abort, Tick}
-use Rattle.ada_events.specs.declared.refusal.Refusal.{Refusal}
-use Rattle.ada_events.specs.declared.refusal.Refusal.TheVariants.{MainTask, MomentBack, MomentTooLarge, TooManyTasks, TooManySlots, TooDeep, JournalFull}
 use Rattle.ada_events.specs.declared.names.TaskNo.{TaskNo}
 use Rattle.ada_events.specs.declared.names.Entry.{Entry}
 use Rattle.ada_events.specs.declared.names.Master.{Master}
@@ -16,8 +14,6 @@ use Rattle.ada_events.specs.Phases.{is_terminated, is_running}
 use Rattle.ada_events.specs.Calls.{queue, count_of}
 use Rattle.ada_events.specs.Forced.{task_no}
 use Rattle.ada_events.specs.Asks.{asker, named_tasks}
-use Rattle.ada_events.specs.Limits.{moves_back, is_too_late, makes_too_many_tasks, makes_too_many_slots, is_too_deep, is_full}
-use Rattle.ada_events.specs.Refusals.{Cause, cause, first_cause, causes_by_name, causes_by_entry, causes_by_nest, aborts_main}
 use Rattle.ada_events.specs.Outcomes.{outcome_of}
 use Rattle.ada_events.specs.Attributes.{is_callable, is_finished, count_refusal, own_count}
 use Rattle.ada_standing.specs.Renaming.{Renaming, renamed_outcome}
@@ -58,33 +54,6 @@ is_kept names journal task = not (has_task journal task) || is_some (names.task 
 unfoldable pub names_kept : Renaming → List Event → Request → Bool
 names_kept names journal request =
     option_map_or (is_kept names journal) (asker request) true && list_all (λ (t : TaskNo). is_kept names journal t.0) (named_tasks request)
-
--- the causes that have to do with the main program, the moment and nests, and not with how much there is
-abbrev pub causes_at_last : List Event → Request → List Cause
-causes_at_last journal request =
-    cause (aborts_main request) MainTask
-    ∷ cause (moves_back journal request) MomentBack
-    ∷ cause (is_too_late journal request) MomentTooLarge
-    ∷ cause (is_too_deep journal request) TooDeep
-    ∷ []
-
--- the causes but for the limits of tasks, slots and events
-unfoldable pub causes_but_limits : List Event → Request → List Cause
-causes_but_limits journal request =
-    causes_by_name journal request ++ causes_by_entry journal request ++ causes_by_nest journal request ++ causes_at_last journal request
-
--- the cause for which a request is refused, where tasks, slots and events have no limit
-unfoldable pub refusal_but_limits : List Event → Request → Option Refusal
-refusal_but_limits journal request = first_cause (causes_but_limits journal request)
-
--- the limit of tasks, slots or events that a request would pass
-unfoldable pub limit_refusal : List Event → Request → Option Refusal
-limit_refusal journal request =
-    first_cause
-    (cause (makes_too_many_tasks journal request) TooManyTasks
-    ∷ cause (makes_too_many_slots journal request) TooManySlots
-    ∷ cause (is_full journal) JournalFull
-    ∷ [])
 
 -- what is asked of the task u of the first journal, and of the task v of the second: the same answers
 pub record AnswerAlike (old new : List Event) (names : Renaming) (u v : ℕ) : Type 0 where

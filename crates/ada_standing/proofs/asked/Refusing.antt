@@ -1,23 +1,20 @@
--- Requests are refused alike but for the limits of tasks, slots and events, and for those only where there is no other cause.
-use Rattle.std.proofs.Common.{◌≡◌, ◌≤◌, Bool, true, false, cond, Option, Some, List, [], ◌∷◌, ◌++◌, drop, refl, sym, ◌∙◌, arith}
-use Rattle.std.specs.Option.{option_or}
+-- Requests are refused alike but for the limits of tasks, slots and events.
+use Rattle.std.proofs.Common.{◌≡◌, ◌≤◌, Bool, true, false, List, ◌∷◌, drop, refl, arith}
 use Rattle.ada_events.specs.declared.event.Event.{Event}
 use Rattle.ada_events.specs.declared.limits.TheConstants.{MOST_TASKS}
 use Rattle.ada_events.specs.declared.request.Request.{Request}
-use Rattle.ada_events.specs.declared.request.Request.TheVariants.{Create}
 use Rattle.ada_events.specs.declared.refusal.Refusal.{Refusal}
-use Rattle.ada_events.specs.declared.refusal.Refusal.TheVariants.{UnknownTask, NotRunning, MainTask, MomentBack, MomentTooLarge, TooManyTasks, TooManySlots}
-use Rattle.ada_events.specs.declared.refusal.Refusal.TheVariants.{TooDeep, JournalFull}
+use Rattle.ada_events.specs.declared.refusal.Refusal.TheVariants.{UnknownTask, NotRunning}
 use Rattle.ada_events.specs.Tasks.{task_count}
-use Rattle.ada_events.specs.Limits.{moves_back, is_too_late, makes_too_many_tasks, makes_too_many_slots, is_too_deep, is_full}
-use Rattle.ada_events.specs.Refusals.{Cause, cause, first_cause, causes_by_name, causes_by_entry, causes_by_nest, causes_by_limit, aborts_main, causes, refusal}
+use Rattle.ada_events.specs.Refusals.{Cause, cause, first_cause}
 use Rattle.ada_events.specs.Refusals.{names_unknown_task, asker_not_running}
+use Rattle.ada_laws.specs.Unlimited.{causes_but_limits, refusal_but_limits}
+use Rattle.ada_laws.proofs.Limitless.{lawful_unlimited}
 use Rattle.ada_laws.proofs.LimitLaws.{tasks_are_few}
-use Rattle.ada_laws.proofs.Searching.{option_or-none}
 use Rattle.ada_standing.specs.Renaming.{Renaming}
 use Rattle.ada_standing.specs.StandsIn.{StandsIn}
-use Rattle.ada_standing.specs.Asking.{nobody, renamed_request, names_kept, causes_at_last, causes_but_limits, refusal_but_limits, limit_refusal}
-use Rattle.ada_standing.specs.Laws.{RefusedAlike, LimitsRefuseAtLast, AcceptedWithoutLimits}
+use Rattle.ada_standing.specs.Asking.{nobody, renamed_request, names_kept}
+use Rattle.ada_standing.specs.Laws.{RefusedAlike}
 use Rattle.ada_standing.proofs.alike.Orderly.{IsOrderly}
 use Rattle.ada_standing.proofs.lawful.Orderly.{lawful_orderly}
 use Rattle.ada_standing.proofs.asked.Naming.{IsAsking, is_asking, unknown_alike, not_running_alike}
@@ -77,62 +74,4 @@ causes_alike old new names request stands orderly also few kept =
 pub refused_alike : RefusedAlike
 refused_alike old new names request stands lawful lawful_too kept =
     let few : task_count new ≤ MOST_TASKS = tasks_are_few new lawful_too in
-    causes_alike old new names request stands (lawful_orderly old lawful) (lawful_orderly new lawful_too) (omega arith) kept
-
--- limits come last
-
-onwards : (b : Bool) (name : Refusal) (x y o : Option Refusal) → x ≡ option_or y o → cond b (Some name) x ≡ option_or (cond b (Some name) y) o
-onwards true name x y o same = refl
-onwards false name x y o same = same
-
--- the same causes before others that give the same first
-first_after : (xs ys zs : List Cause) (o : Option Refusal) → first_cause ys ≡ option_or (first_cause zs) o
-    → first_cause (xs ++ ys) ≡ option_or (first_cause (xs ++ zs)) o
-unfolding first_cause
-first_after [] ys zs o same = same
-first_after (c ∷ xs) ys zs o same = onwards c.applies c.name (first_cause (xs ++ ys)) (first_cause (xs ++ zs)) o (first_after xs ys zs o same)
-
--- a request that can't be too deep, and one that makes no task
-
-shallow : (m b l t s f : Bool)
-    → first_cause (cause m MainTask ∷ cause b MomentBack ∷ cause l MomentTooLarge ∷ cause t TooManyTasks ∷ cause s TooManySlots ∷ cause false TooDeep
-    ∷ cause f JournalFull ∷ [])
-    ≡ option_or (first_cause (cause m MainTask ∷ cause b MomentBack ∷ cause l MomentTooLarge ∷ cause false TooDeep ∷ []))
-    (first_cause (cause t TooManyTasks ∷ cause s TooManySlots ∷ cause f JournalFull ∷ []))
-unfolding first_cause
-shallow true b l t s f = refl
-shallow false true l t s f = refl
-shallow false false true t s f = refl
-shallow false false false t s f = refl
-
-few : (m b l d f : Bool)
-    → first_cause (cause m MainTask ∷ cause b MomentBack ∷ cause l MomentTooLarge ∷ cause false TooManyTasks ∷ cause false TooManySlots ∷ cause d TooDeep
-    ∷ cause f JournalFull ∷ [])
-    ≡ option_or (first_cause (cause m MainTask ∷ cause b MomentBack ∷ cause l MomentTooLarge ∷ cause d TooDeep ∷ []))
-    (first_cause (cause false TooManyTasks ∷ cause false TooManySlots ∷ cause f JournalFull ∷ []))
-unfolding first_cause
-few true b l d f = refl
-few false true l d f = refl
-few false false true d f = refl
-few false false false true f = refl
-few false false false false f = refl
-
-last_causes : (journal : List Event) (request : Request)
-    → first_cause (causes_by_limit journal request) ≡ option_or (first_cause (causes_at_last journal request)) (limit_refusal journal request)
-unfolding limit_refusal makes_too_many_tasks makes_too_many_slots is_too_deep
-last_causes journal (Create by master families) =
-    let request = Create by master families in
-    shallow (aborts_main request) (moves_back journal request) (is_too_late journal request) (makes_too_many_tasks journal request)
-    (makes_too_many_slots journal request) (is_full journal)
-last_causes journal request =
-    few (aborts_main request) (moves_back journal request) (is_too_late journal request) (is_too_deep journal request) (is_full journal)
-
-pub limits_refuse_at_last : LimitsRefuseAtLast
-unfolding refusal causes refusal_but_limits causes_but_limits
-limits_refuse_at_last journal request =
-    first_after (causes_by_name journal request ++ causes_by_entry journal request ++ causes_by_nest journal request) (causes_by_limit journal request)
-    (causes_at_last journal request) (limit_refusal journal request) (last_causes journal request)
-
-pub accepted_without_limits : AcceptedWithoutLimits
-accepted_without_limits journal request accepted =
-    (option_or-none (refusal_but_limits journal request) (limit_refusal journal request) (sym (limits_refuse_at_last journal request) ∙ accepted)).0
+    causes_alike old new names request stands (lawful_orderly old lawful) (lawful_orderly new (lawful_unlimited new lawful_too)) (omega arith) kept

@@ -16,18 +16,18 @@ use Rattle.ada_events.specs.Phases.{is_released, has_ended}
 use Rattle.ada_events.specs.Calls.{is_pending}
 use Rattle.ada_events.specs.Nests.{nest, innermost}
 use Rattle.ada_events.specs.Asks.{asked_event, member_position}
-use Rattle.ada_events.specs.Refusals.{refusal, has_no_block, is_rendezvous}
+use Rattle.ada_events.specs.Refusals.{has_no_block, is_rendezvous}
 use Rattle.ada_events.specs.Termination.{all_terminated}
 use Rattle.ada_events.specs.Forced.{is_to_leave}
-use Rattle.ada_events.specs.Lawful.{IsLawful, MayFollow}
 use Rattle.ada_laws.specs.Suspension.{IsSuspendedAt}
-use Rattle.ada_laws.proofs.Accepting.{is_accepted}
+use Rattle.ada_laws.specs.Unlimited.{IsLawfulUnlimited, MayFollowUnlimited, refusal_but_limits}
+use Rattle.ada_laws.proofs.Limitless.{is_accepted-unlimited}
 use Rattle.ada_laws.proofs.Searching.{event_at-cases, is_number-from}
 use Rattle.ada_laws.proofs.Stepping.{forced-step, pending_parts}
 use Rattle.ada_laws.proofs.Saying.{held_in-closing}
-use Rattle.ada_laws.proofs.Suspending.{suspended_once}
 use Rattle.ada_laws.proofs.Growing.{is_released-before, has_ended-before}
 use Rattle.ada_laws.proofs.Framing.{IsBlockOf}
+use Rattle.ada_laws.proofs.Suspending.{suspended_once-unlimited}
 use Rattle.ada_standing.proofs.lawful.Nesting.{IsOwnBlock, own_member, contained, own_later, one_opener}
 
 innermost_own : (journal : List Event) (task : ℕ) (o : Option Member) → innermost (nest journal task) ≡ o → option_map_or is_rendezvous o true ≡ false
@@ -37,16 +37,17 @@ innermost_own journal task (Some (Rendezvous call)) is block = absurd (true≢fa
 innermost_own journal task (Some (Block b)) is block =
     own_member journal task b (contained (nest journal task) (length (nest journal task) - 1) (Block b) is)
 
-asked_close : (journal : List Event) (r : Request) (k : Closing) → refusal journal r ≡ None → closing_in (asked_event journal r) ≡ Some k
+asked_close : (journal : List Event) (r : Request) (k : Closing) → refusal_but_limits journal r ≡ None → closing_in (asked_event journal r) ≡ Some k
     → IsOwnBlock journal k.by k.block
 unfolding asked_event closing_in has_no_block
 asked_close journal (request.Close by) k accepted says =
     let same = same_Some _ k says in
     subst (λ (x : Closing). IsOwnBlock journal x.by x.block) same
-    (innermost_own journal by.0 (innermost (nest journal by.0)) refl (is_accepted journal (request.Close by) accepted).in_block)
+    (innermost_own journal by.0 (innermost (nest journal by.0)) refl (is_accepted-unlimited journal (request.Close by) accepted).in_block)
 asked_close journal _ k accepted says = absurd (none-some k says)
 
-new_close : (event : Event) (before : List Event) (k : Closing) → MayFollow before event → closing_in event ≡ Some k → IsOwnBlock before k.by k.block
+new_close : (event : Event) (before : List Event) (k : Closing) → MayFollowUnlimited before event → closing_in event ≡ Some k
+    → IsOwnBlock before k.by k.block
 new_close event before k (inl forces) says = absurd (none-some k.by (sym (forced-step before event forces).holds_none ∙ held_in-closing event k says))
 new_close event before k (inr asked) says = asked_close before asked.request k asked.accepted (ap closing_in (sym asked.becomes) ∙ says)
 
@@ -66,8 +67,8 @@ released_now event before c says =
     or_left (is_number c (released_in event)) (is_released before c) (is_number-from c (released_in event) (left_released event c says))
 
 -- a block whose close is pending hasn't been left
-pub closed_own : (journal : List Event) (c : ℕ) (e : Event) (k : Closing) → IsLawful journal → event_at journal c ≡ Some e → closing_in e ≡ Some k
-    → is_released journal c ≡ false → has_ended journal k.by ≡ false → IsOwnBlock journal k.by k.block
+pub closed_own : (journal : List Event) (c : ℕ) (e : Event) (k : Closing) → IsLawfulUnlimited journal → event_at journal c ≡ Some e
+    → closing_in e ≡ Some k → is_released journal c ≡ false → has_ended journal k.by ≡ false → IsOwnBlock journal k.by k.block
 unfolding event_at is_to_leave
 closed_own [] c e k lawful at says unreleased live = absurd (none-some e at)
 closed_own (event ∷ before) c e k lawful at says unreleased live =
@@ -96,7 +97,7 @@ closed_own (event ∷ before) c e k lawful at says unreleased live =
             live = subst (λ (n : ℕ). has_ended before n ≡ false) by pending.1;
           } in
           let other : IsSuspendedAt before k.by c = record { event = e; stands = older; holds = held_in-closing e k says; unreleased = free; live = lives } in
-          let same : leaves.close ≡ c = suspended_once before k.by leaves.close c lawful.0 one other in
+          let same : leaves.close ≡ c = suspended_once-unlimited before k.by leaves.close c lawful.0 one other in
           true≢false (sym (released_now event before c (leaves.leaves ∙ ap Some same)) ∙ unreleased))
           was
     ]

@@ -16,8 +16,9 @@ use Rattle.ada_events.specs.Phases.{has_start, is_completed, is_terminated, has_
 use Rattle.ada_events.specs.Nests.{is_left, is_left_close, nest}
 use Rattle.ada_events.specs.Termination.{all_terminated, is_complete, is_complete_block, is_abandoned}
 use Rattle.ada_events.specs.Forced.{task_no, is_to_go, gone}
-use Rattle.ada_events.specs.Lawful.{IsLawful, IsSettled}
+use Rattle.ada_events.specs.Lawful.{IsSettled}
 use Rattle.ada_laws.specs.Suspension.{IsSuspendedAt}
+use Rattle.ada_laws.specs.Unlimited.{IsLawfulUnlimited}
 use Rattle.ada_laws.proofs.Searching.{option_map-some, option_map_or-false, option_or-none, any_event-found}
 use Rattle.ada_laws.proofs.Saying.{held_in-call, held_in-closing}
 use Rattle.ada_laws.proofs.Rows.{settled_at_rest}
@@ -89,8 +90,8 @@ maker_lived journal c maker fails still =
           subst (IsLivedIn journal) (sym is) (IsLivedIn.block c.by p live (own_nested journal c.by p (record { block = block; unleft = unleft })))
     ]
 
-made_lived : (journal : List Event) (u : ℕ) (m : Master) → IsLawful journal → IsSettled journal → is_live journal u ≡ true → has_start journal u ≡ false
-    → made_within journal u ≡ Some m → IsLivedIn journal m
+made_lived : (journal : List Event) (u : ℕ) (m : Master) → IsLawfulUnlimited journal → IsSettled journal → is_live journal u ≡ true
+    → has_start journal u ≡ false → made_within journal u ≡ Some m → IsLivedIn journal m
 unfolding is_abandoned
 made_lived journal u m lawful settled live unstarted is =
     let (c, says, under) = option_map-some (λ (c : Creation). c.under) (creation_of journal u) m is in
@@ -114,15 +115,15 @@ open_callee journal u p held c settled says =
       live = subst (λ (n : ℕ). has_ended journal n ≡ false) by held.live;
     })).0).1
 
-closing_inside : (journal : List Event) (u p : ℕ) (held : IsSuspendedAt journal u p) (k : Closing) → IsLawful journal → closing_in held.event ≡ Some k
-    → (is_live journal u ≡ true) × (list_any (is_block k.block) (nest journal u) ≡ true)
+closing_inside : (journal : List Event) (u p : ℕ) (held : IsSuspendedAt journal u p) (k : Closing) → IsLawfulUnlimited journal
+    → closing_in held.event ≡ Some k → (is_live journal u ≡ true) × (list_any (is_block k.block) (nest journal u) ≡ true)
 closing_inside journal u p held k lawful says =
     let by : k.by ≡ u = same_Some k.by u (sym (held_in-closing held.event k says) ∙ held.holds) in
     let live = live_from journal u ((lawful_orderly journal lawful).exist u p held) (active_parts journal u held.live).1 in
     let own = closed_own journal p held.event k lawful held.stands says held.unreleased (subst (λ (n : ℕ). has_ended journal n ≡ false) (sym by) held.live) in
     (live, subst (λ (n : ℕ). list_any (is_block k.block) (nest journal n) ≡ true) by (own_nested journal k.by k.block own))
 
-settled_quiet : (journal : List Event) → IsLawful journal → IsSettled journal → IsQuiet journal
+settled_quiet : (journal : List Event) → IsLawfulUnlimited journal → IsSettled journal → IsQuiet journal
 settled_quiet journal lawful settled = record {
   orderly = lawful_orderly journal lawful;
   callees = λ u p held c says. open_callee journal u p held c settled says;

@@ -1,6 +1,7 @@
 -- One more event of two journals, the one of which stands for the other; and the names after it: what stood for something
 -- still does, and a new task stands for a new one.
-use Rattle.std.proofs.Common.{◌≡◌, ℕ, suc, ◌<◌, Bool, true, false, cond, ◌&&◌, Option, Some, None, List, ◌∷◌, length, refl, sym, ap, ◌∙◌, eqb, arith}
+use Rattle.std.proofs.Common.{◌≡◌, ℕ, suc, ◌<◌, ◌≤◌, Bool, true, false, cond, ◌&&◌, Option, Some, None, List, ◌∷◌, length, refl, sym, ap, ◌∙◌, eqb}
+use Rattle.std.proofs.Common.{arith}
 use Rattle.std.proofs.Common.{◌⊎◌, inl, inr, ◌≢◌}
 use Rattle.std.specs.Option.{is_some}
 use Rattle.std.proofs.lemmas.Bool.{cases_eq, eq-eqb, ne_eqb, ltb-true}
@@ -69,6 +70,16 @@ pub creation_newest : (event : Event) (before : List Event) (u : ℕ) (c : Creat
 unfolding creation_of
 creation_newest event before u c says same = rw (eq-eqb u (task_count before) same, says) refl
 
+-- what existed before the event has the name that it had, or none as before
+pub task_before : (old new : List Event) (names : Renaming) (event : Event) (u : ℕ) → u < task_count old
+    → (next_names old new event names).task u ≡ names.task u
+task_before old new names event u below =
+    some_other (is_some (creation_in event)) (task_count old) u (Some (task_count new)) (names.task u) (λ same. omega (arith, same, below))
+
+pub position_before : (old new : List Event) (names : Renaming) (event : Event) (p : ℕ) → p ≤ length old
+    → (next_names old new event names).position p ≡ names.position p
+position_before old new names event p within = rw (ne_eqb p (suc (length old)) (λ same. omega (arith, same, within))) refl
+
 module _ (old new : List Event) (names : Renaming) (event other : Event) (next : AreNext old new names event other) where
   pub like : IsLike names event other
   like = like_of names event other next.renamed
@@ -83,14 +94,10 @@ module _ (old new : List Event) (names : Renaming) (event other : Event) (next :
 
   -- what stood for a task, a position, a master or an outcome still does
   pub task_later : (u v : ℕ) → names.task u ≡ Some v → (next_names old new event names).task u ≡ Some v
-  task_later u v named =
-      let was = old_task u v named in
-      some_other (is_some (creation_in event)) (task_count old) u (Some (task_count new)) (names.task u) (λ same. omega (arith, same, was.below)) ∙ named
+  task_later u v named = task_before old new names event u (old_task u v named).below ∙ named
 
   pub position_later : (p q : ℕ) → names.position p ≡ Some q → (next_names old new event names).position p ≡ Some q
-  position_later p q placed =
-      let within = (next.stands.positions.within p q placed).0 in
-      rw (ne_eqb p (suc (length old)) (λ same. omega (arith, same, within))) placed
+  position_later p q placed = position_before old new names event p (next.stands.positions.within p q placed).0 ∙ placed
 
   pub master_later : (x y : Master) → renamed_master names x ≡ Some y → renamed_master (next_names old new event names) x ≡ Some y
   unfolding renamed_master

@@ -11,11 +11,11 @@ use Rattle.ada_events.specs.Says.{Creation, Opening, creation_in, opening_in}
 use Rattle.ada_events.specs.Tasks.{task_count, creation_of}
 use Rattle.ada_events.specs.Masters.{same_master, reaches}
 use Rattle.ada_events.specs.Nests.{frame}
-use Rattle.ada_events.specs.Lawful.{IsLawful}
 use Rattle.ada_laws.specs.Masters.{parent_of, IsKnown}
+use Rattle.ada_laws.specs.Unlimited.{IsLawfulUnlimited}
 use Rattle.ada_laws.proofs.Searching.{event_at-cases, event_at-newest, event_at-other, event_at-within}
-use Rattle.ada_laws.proofs.Reaching.{reaches-same, reaches_known, frame_known, creation_asked, opening_asked}
-use Rattle.ada_laws.proofs.Parents.{masters_reach_by_parents}
+use Rattle.ada_laws.proofs.Reaching.{reaches-same, frame_known, creation_asked-unlimited, opening_asked-unlimited, reaches_known-unlimited}
+use Rattle.ada_laws.proofs.Parents.{masters_reach_by_parents-unlimited}
 use Rattle.ada_standing.proofs.alike.Orderly.{IsClimb}
 
 -- the parent of what was known before stays the same
@@ -36,26 +36,31 @@ parent_opened : (event : Event) (before : List Event) (p : ℕ) (o : Opening) �
     → parent_of (event ∷ before) (Block p) ≡ Some o.under
 parent_opened event before p o says same = rw (same, event_at-newest event before, says) refl
 
-creation_known : (event : Event) (before : List Event) (c : Creation) → IsLawful (event ∷ before) → creation_in event ≡ Some c → IsKnown before c.master
+creation_known : (event : Event) (before : List Event) (c : Creation) → IsLawfulUnlimited (event ∷ before) → creation_in event ≡ Some c
+    → IsKnown before c.master
 creation_known event before c lawful says =
-    let by = creation_asked event before c lawful.1 says in
-    reaches_known before lawful.0 (frame before c.by) c.master (frame_known before c.by by.asked.exists) by.reached
+    let by = creation_asked-unlimited event before c lawful.1 says in
+    reaches_known-unlimited before lawful.0 (frame before c.by) c.master (frame_known before c.by by.asked.exists) by.reached
 
-opening_known : (event : Event) (before : List Event) (o : Opening) → IsLawful (event ∷ before) → opening_in event ≡ Some o → IsKnown before o.under
+opening_known : (event : Event) (before : List Event) (o : Opening) → IsLawfulUnlimited (event ∷ before) → opening_in event ≡ Some o
+    → IsKnown before o.under
 opening_known event before o lawful says =
-    let by = opening_asked event before o lawful.1 says in
+    let by = opening_asked-unlimited event before o lawful.1 says in
     subst (IsKnown before) (sym by.within) (frame_known before o.by by.exists)
 
 -- a parent is reached, and known
-pub parent_reached : (journal : List Event) (x z : Master) → IsLawful journal → IsKnown journal x → parent_of journal x ≡ Some z → reaches journal x z ≡ true
+pub parent_reached : (journal : List Event) (x z : Master) → IsLawfulUnlimited journal → IsKnown journal x → parent_of journal x ≡ Some z
+    → reaches journal x z ≡ true
 parent_reached journal x z lawful known is =
-    masters_reach_by_parents journal x z lawful known
+    masters_reach_by_parents-unlimited journal x z lawful known
     ∙ rw is (or_right (same_master x z) (reaches journal z z) (reaches-same journal z))
 
-parent_known : (journal : List Event) (x z : Master) → IsLawful journal → IsKnown journal x → parent_of journal x ≡ Some z → IsKnown journal z
-parent_known journal x z lawful known is = reaches_known journal lawful x z known (parent_reached journal x z lawful known is)
+parent_known : (journal : List Event) (x z : Master) → IsLawfulUnlimited journal → IsKnown journal x → parent_of journal x ≡ Some z
+    → IsKnown journal z
+parent_known journal x z lawful known is = reaches_known-unlimited journal lawful x z known (parent_reached journal x z lawful known is)
 
-climb_later : (event : Event) (before : List Event) (x : Master) → IsLawful before → IsKnown before x → IsClimb before x → IsClimb (event ∷ before) x
+climb_later : (event : Event) (before : List Event) (x : Master) → IsLawfulUnlimited before → IsKnown before x → IsClimb before x
+    → IsClimb (event ∷ before) x
 climb_later event before x lawful known (IsClimb.top m none) = IsClimb.top x (parent_later event before x known ∙ none)
 climb_later event before x lawful known (IsClimb.up m z is climb) =
     IsClimb.up x z (parent_later event before x known ∙ is) (climb_later event before z lawful (parent_known before x z lawful known is) climb)
@@ -65,7 +70,7 @@ data IsMade (event : Event) (before : List Event) (x : Master) : Type 0 where
   earlier : IsKnown before x → IsMade event before x
   newly : (z : Master) → parent_of (event ∷ before) x ≡ Some z → IsKnown before z → IsMade event before x
 
-made_body : (event : Event) (before : List Event) (t : TaskNo) (o : Option Creation) → IsLawful (event ∷ before) → creation_in event ≡ o
+made_body : (event : Event) (before : List Event) (t : TaskNo) (o : Option Creation) → IsLawfulUnlimited (event ∷ before) → creation_in event ≡ o
     → t.0 < task_count (event ∷ before) → IsMade event before (Body t)
 unfolding task_count
 made_body event before t None lawful none below = earlier (omega (arith, ap option_len none))
@@ -75,7 +80,8 @@ made_body event before t (Some c) lawful says below =
       | inr differs ↦ earlier (omega (arith, ap option_len says))
     ]
 
-made_cases : (event : Event) (before : List Event) (x : Master) → IsLawful (event ∷ before) → IsKnown (event ∷ before) x → IsMade event before x
+made_cases : (event : Event) (before : List Event) (x : Master) → IsLawfulUnlimited (event ∷ before) → IsKnown (event ∷ before) x
+    → IsMade event before x
 made_cases event before (Body t) lawful known = made_body event before t (creation_in event) lawful refl known
 made_cases event before (Block p) lawful known =
     elim (event_at-cases event before p known.event known.stands) [
@@ -85,7 +91,7 @@ made_cases event before (Block p) lawful known =
       | inr older ↦ earlier (record { event = known.event; opening = known.opening; stands = older; says = known.says })
     ]
 
-pub climb_of : (journal : List Event) (x : Master) → IsLawful journal → IsKnown journal x → IsClimb journal x
+pub climb_of : (journal : List Event) (x : Master) → IsLawfulUnlimited journal → IsKnown journal x → IsClimb journal x
 unfolding creation_of event_at
 climb_of [] (Body t) lawful known = IsClimb.top (Body t) refl
 climb_of [] (Block p) lawful known = IsClimb.top (Block p) refl

@@ -17,23 +17,22 @@ use Rattle.ada_events.specs.Phases.{lists_task, is_released}
 use Rattle.ada_events.specs.Calls.{is_pending, is_open_at, is_queued_at, is_open_call}
 use Rattle.ada_events.specs.Nests.{frame}
 use Rattle.ada_events.specs.Asks.{asker, asked_event}
-use Rattle.ada_events.specs.Refusals.{refusal}
 use Rattle.ada_events.specs.Outcomes.{raised_in}
 use Rattle.ada_events.specs.Forced.{task_no, is_to_fail, is_to_cancel, is_to_wake, is_to_leave}
-use Rattle.ada_events.specs.Lawful.{IsLawful, MayFollow}
 use Rattle.ada_laws.specs.Suspension.{IsSuspendedAt}
+use Rattle.ada_laws.specs.Unlimited.{IsLawfulUnlimited, MayFollowUnlimited, refusal_but_limits}
 use Rattle.ada_laws.proofs.Searching.{option_or-some, if_some, is_number-some, option_map_or-true, event_at-older, event_at-within, event_at-cases}
 use Rattle.ada_laws.proofs.Growing.{task_count-more}
-use Rattle.ada_laws.proofs.Accepting.{asker_exists, running_live}
+use Rattle.ada_laws.proofs.Accepting.{running_live, asker_exists-unlimited}
 use Rattle.ada_laws.proofs.Saying.{held_in-wait, held_in-delay, held_in-start, held_in-closing, held_in-asked}
 use Rattle.ada_laws.proofs.Framing.{IsBlockOf, frame_is}
 use Rattle.ada_laws.proofs.Queueing.{is_open_at-call, open_call_suspends}
-use Rattle.ada_laws.proofs.Members.{nest_open, end_within}
-use Rattle.ada_laws.proofs.Reaching.{creation_asked}
+use Rattle.ada_laws.proofs.Members.{nest_open, end_within-unlimited}
 use Rattle.ada_laws.proofs.Stepping.{forced-step, pending_parts, queued_open}
-use Rattle.ada_laws.proofs.OutcomeLaws.{row-raises_none, raised_in-asked, suspended_given}
+use Rattle.ada_laws.proofs.OutcomeLaws.{row-raises_none, raised_in-asked, suspended_given-unlimited}
 use Rattle.ada_laws.proofs.Rows.{IsRow, forced-row}
 use Rattle.ada_laws.proofs.Rows.IsRow.{halts, fails, meets, cancels, passes, wakes, activates, goes, leaves}
+use Rattle.ada_laws.proofs.Reaching.{creation_asked-unlimited}
 use Rattle.ada_standing.specs.Renaming.{Renaming, renamed_event}
 use Rattle.ada_standing.specs.StandsIn.{StandsIn}
 use Rattle.ada_standing.proofs.alike.Orderly.{IsLivedIn}
@@ -98,7 +97,7 @@ row_ends journal e u (goes t below go) says =
     omega (arith, same, below)
 row_ends journal e u _ says = absurd (none-some u says)
 
-tells : (event : Event) (before : List Event) → MayFollow before event → TellsBelow (task_count before) event
+tells : (event : Event) (before : List Event) → MayFollowUnlimited before event → TellsBelow (task_count before) event
 tells event before (inl forces) =
     let row = forced-row before event forces in
     record {
@@ -114,7 +113,7 @@ tells event before (inl forces) =
     }
 tells event before (inr asked) =
     let r = asked.request in
-    let exists : (u : ℕ) → asker r ≡ Some u → u < task_count before = λ u asks. asker_exists before r u asked.accepted asks in
+    let exists : (u : ℕ) → asker r ≡ Some u → u < task_count before = λ u asks. asker_exists-unlimited before r u asked.accepted asks in
     record {
       starts = λ u among.
           let (s, says, listed) = started_start event u among in
@@ -141,7 +140,7 @@ tells_more m n e more told = record {
   raises = λ u says. at_most u m n (told.raises u says) more;
 }
 
-all_told : (journal : List Event) (p : ℕ) (e : Event) → IsLawful journal → event_at journal p ≡ Some e → TellsBelow (task_count journal) e
+all_told : (journal : List Event) (p : ℕ) (e : Event) → IsLawfulUnlimited journal → event_at journal p ≡ Some e → TellsBelow (task_count journal) e
 unfolding event_at
 all_told [] p e lawful at = absurd (none-some e at)
 all_told (event ∷ before) p e lawful at =
@@ -169,15 +168,15 @@ maker_more event before c maker = record {
   within = elim maker.within [ inl body ↦ inl body | inr (p, block, is) ↦ inr (p, block_more event before c.by p block, is) ];
 }
 
-maker_now : (event : Event) (before : List Event) (c : Creation) → MayFollow before event → creation_in event ≡ Some c → IsMaker before c
+maker_now : (event : Event) (before : List Event) (c : Creation) → MayFollowUnlimited before event → creation_in event ≡ Some c → IsMaker before c
 maker_now event before c follows says =
-    let by = (creation_asked event before c follows says).asked in
+    let by = (creation_asked-unlimited event before c follows says).asked in
     record {
       exists = by.exists;
       within = elim (frame_is before c.by) [ inl body ↦ inl (by.within ∙ body) | inr (p, block, is) ↦ inr (p, block, by.within ∙ is) ];
     }
 
-pub all_makers : (journal : List Event) (u : ℕ) (c : Creation) → IsLawful journal → creation_of journal u ≡ Some c → IsMaker journal c
+pub all_makers : (journal : List Event) (u : ℕ) (c : Creation) → IsLawfulUnlimited journal → creation_of journal u ≡ Some c → IsMaker journal c
 unfolding creation_of
 all_makers [] u c lawful says = absurd (none-some c says)
 all_makers (event ∷ before) u c lawful says =
@@ -191,9 +190,9 @@ own_lived : (journal : List Event) (task : ℕ) (x : Master) → IsLivedIn journ
 own_lived journal task x (IsLivedIn.body t live) (IsOwn.own_body) = IsLivedIn.body t live
 own_lived journal task x (IsLivedIn.body t live) (IsOwn.own_block p own) = IsLivedIn.block task p live (own_nested journal task p own)
 
-making_now : (event : Event) (before : List Event) (c : Creation) → MayFollow before event → creation_in event ≡ Some c → IsMaking before c
+making_now : (event : Event) (before : List Event) (c : Creation) → MayFollowUnlimited before event → creation_in event ≡ Some c → IsMaking before c
 making_now event before c follows says =
-    let by = (creation_asked event before c follows says).asked in
+    let by = (creation_asked-unlimited event before c follows says).asked in
     let live = live_from before c.by by.exists (active_parts before c.by (running_live before c.by by.runs)).1 in
     record {
       live = live;
@@ -250,18 +249,19 @@ call_held journal call opened =
     let (e, at, here) = option_map_or-true (is_open_at journal call) (event_at journal call) opened in
     open_held journal call e at here
 
-asked_releases : (journal : List Event) (r : Request) (x : ℕ) → refusal journal r ≡ None → released_in (asked_event journal r) ≡ Some x → IsHeldUp journal x
+asked_releases : (journal : List Event) (r : Request) (x : ℕ) → refusal_but_limits journal r ≡ None → released_in (asked_event journal r) ≡ Some x
+    → IsHeldUp journal x
 unfolding asked_event released_in
 asked_releases journal (request.End by raised) x accepted frees =
-    subst (IsHeldUp journal) (same_Some _ x frees) (call_held journal _ (nest_open journal by.0 _ (end_within journal by raised accepted)))
+    subst (IsHeldUp journal) (same_Some _ x frees) (call_held journal _ (nest_open journal by.0 _ (end_within-unlimited journal by raised accepted)))
 asked_releases journal _ x accepted frees = absurd (none-some x frees)
 
-releases_held : (event : Event) (before : List Event) (x : ℕ) → MayFollow before event → released_in event ≡ Some x → IsHeldUp before x
+releases_held : (event : Event) (before : List Event) (x : ℕ) → MayFollowUnlimited before event → released_in event ≡ Some x → IsHeldUp before x
 releases_held event before x (inl forces) frees = row_releases before event x (forced-row before event forces) frees
 releases_held event before x (inr asked) frees = asked_releases before asked.request x asked.accepted (ap released_in (sym asked.becomes) ∙ frees)
 
 -- what is released is a position of the journal
-released_within : (journal : List Event) (x : ℕ) → IsLawful journal → is_released journal x ≡ true → x ≤ length journal
+released_within : (journal : List Event) (x : ℕ) → IsLawfulUnlimited journal → is_released journal x ≡ true → x ≤ length journal
 unfolding is_released
 released_within [] x lawful released = absurd (false≢true released)
 released_within (event ∷ before) x lawful released =
@@ -275,11 +275,11 @@ released_within (event ∷ before) x lawful released =
           omega (arith, within)
     ]
 
-pub follows_fits : (event : Event) (before : List Event) → IsLawful before → MayFollow before event → Fits before event
+pub follows_fits : (event : Event) (before : List Event) → IsLawfulUnlimited before → MayFollowUnlimited before event → Fits before event
 follows_fits event before lawful follows = record {
   makers = λ u c says. all_makers before u c lawful says;
   told = λ p e at. all_told before p e lawful at;
-  latest = λ all t p held. suspended_given all before t p lawful held;
+  latest = λ all t p held. suspended_given-unlimited all before t p lawful held;
   unreleased = false_from_ne_true (is_released before (suc (length before))) (λ released.
       let within : suc (length before) ≤ length before = released_within before (suc (length before)) lawful released in
       omega (arith, within));
@@ -290,8 +290,8 @@ follows_fits event before lawful follows = record {
 }
 
 -- two lawful journals, of which the second stands in for the first, and an event that may follow each
-pub next_of : (old new : List Event) (names : Renaming) (event other : Event) → StandsIn old new names → IsLawful old → IsLawful new → MayFollow old event
-    → MayFollow new other → renamed_event names event ≡ Some other → AreNext old new names event other
+pub next_of : (old new : List Event) (names : Renaming) (event other : Event) → StandsIn old new names → IsLawfulUnlimited old → IsLawfulUnlimited new
+    → MayFollowUnlimited old event → MayFollowUnlimited new other → renamed_event names event ≡ Some other → AreNext old new names event other
 next_of old new names event other stands lawful lawful_too follows follows_too renamed = record {
   stands = stands;
   orderly = lawful_orderly old lawful;

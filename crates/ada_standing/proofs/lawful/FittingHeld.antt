@@ -21,21 +21,22 @@ use Rattle.ada_events.specs.Calls.{is_open_at, is_open_call, is_met}
 use Rattle.ada_events.specs.Nests.{is_left_close, is_wait_of, nest, innermost}
 use Rattle.ada_events.specs.Forced.{is_done_activating, task_no}
 use Rattle.ada_events.specs.Asks.{asker, asked_event, member_position}
-use Rattle.ada_events.specs.Refusals.{refusal, is_rendezvous, has_no_block, is_not_activating, may_activate, is_not_your_task, has_double_task}
-use Rattle.ada_events.specs.Lawful.{IsLawful, MayFollow}
-use Rattle.ada_laws.proofs.Accepting.{is_accepted, asker_exists, asker_runs, running_live, running_started}
+use Rattle.ada_events.specs.Refusals.{is_rendezvous, has_no_block, is_not_activating, may_activate, is_not_your_task, has_double_task}
+use Rattle.ada_laws.specs.Unlimited.{IsLawfulUnlimited, MayFollowUnlimited, refusal_but_limits}
+use Rattle.ada_laws.proofs.Limitless.{is_accepted-unlimited}
+use Rattle.ada_laws.proofs.Accepting.{running_live, running_started, asker_exists-unlimited, asker_runs-unlimited}
 use Rattle.ada_laws.proofs.Searching.{event_at-cases, event_at-within, is_number-some, option_map_or-true, option_and_then-some}
 use Rattle.ada_laws.proofs.Saying.{held_in-asked, held_in-closing, held_in-start, held_in-wait}
 use Rattle.ada_laws.proofs.Growing.{task_count-more}
 use Rattle.ada_laws.proofs.Stepping.{forced-step}
 use Rattle.ada_laws.proofs.Depending.{started_named}
-use Rattle.ada_laws.proofs.Meeting.{met_taking, taken_queued, meeting_in-met, meeting_at}
-use Rattle.ada_laws.proofs.Members.{IsMember, nest_member, nest_open, end_within}
+use Rattle.ada_laws.proofs.Meeting.{taken_queued, meeting_in-met, meeting_at-unlimited, met_taking-unlimited}
+use Rattle.ada_laws.proofs.Members.{IsMember, nest_member, nest_open, end_within-unlimited}
 use Rattle.ada_laws.proofs.Members.IsMember.{block_in, rendezvous_in}
-use Rattle.ada_laws.proofs.Reaching.{opening_asked}
 use Rattle.ada_laws.proofs.Gathering.{Contains-first}
 use Rattle.ada_laws.proofs.Rows.{IsRow, forced-row}
 use Rattle.ada_laws.proofs.Rows.IsRow.{halts, fails, meets, cancels, passes, wakes, activates, leaves}
+use Rattle.ada_laws.proofs.Reaching.{opening_asked-unlimited}
 use Rattle.ada_standing.proofs.lawful.Leaving.{leaving}
 use Rattle.ada_standing.proofs.lawful.Nesting.{own_member}
 use Rattle.ada_standing.specs.Renaming.{Renaming, renamed_event}
@@ -47,9 +48,11 @@ use Rattle.ada_standing.proofs.held.Setting.{AreNext}
 -- of events that speak only of positions before their own, none of a lawful journal, nor what may follow it, speaks of the next position
 
 abbrev SpeaksWithin : (ℕ → Event → Bool) → Type 0
-SpeaksWithin speaks = (event : Event) (before : List Event) (x : ℕ) → IsLawful before → MayFollow before event → speaks x event ≡ true → x ≤ length before
+SpeaksWithin speaks =
+    (event : Event) (before : List Event) (x : ℕ) → IsLawfulUnlimited before → MayFollowUnlimited before event → speaks x event ≡ true
+    → x ≤ length before
 
-spoken_within : (speaks : ℕ → Event → Bool) → SpeaksWithin speaks → (journal : List Event) (x : ℕ) → IsLawful journal
+spoken_within : (speaks : ℕ → Event → Bool) → SpeaksWithin speaks → (journal : List Event) (x : ℕ) → IsLawfulUnlimited journal
     → list_any (speaks x) journal ≡ true → x ≤ length journal
 spoken_within speaks within [] x lawful spoken = absurd (false≢true spoken)
 spoken_within speaks within (event ∷ before) x lawful spoken =
@@ -62,8 +65,8 @@ spoken_within speaks within (event ∷ before) x lawful spoken =
           omega (arith, low)
     ]
 
-none_speaks : (speaks : ℕ → Event → Bool) → SpeaksWithin speaks → (event : Event) (before : List Event) → IsLawful before → MayFollow before event
-    → list_any (speaks (suc (length before))) (event ∷ before) ≡ false
+none_speaks : (speaks : ℕ → Event → Bool) → SpeaksWithin speaks → (event : Event) (before : List Event) → IsLawfulUnlimited before
+    → MayFollowUnlimited before event → list_any (speaks (suc (length before))) (event ∷ before) ≡ false
 none_speaks speaks within event before lawful follows =
     or_from (speaks (suc (length before)) event) (list_any (speaks (suc (length before))) before)
     (false_from_ne_true _ (λ now.
@@ -99,11 +102,12 @@ open_within journal call opened =
     let (e, at, here) = option_map_or-true (is_open_at journal call) (event_at journal call) opened in
     event_at-within journal call e at
 
-asked_releases : (journal : List Event) (r : Request) (x : ℕ) → refusal journal r ≡ None → released_in (asked_event journal r) ≡ Some x → x ≤ length journal
+asked_releases : (journal : List Event) (r : Request) (x : ℕ) → refusal_but_limits journal r ≡ None → released_in (asked_event journal r) ≡ Some x
+    → x ≤ length journal
 unfolding asked_event released_in
 asked_releases journal (request.End by raised) x accepted frees =
     subst (λ (n : ℕ). n ≤ length journal) (same_Some _ x frees)
-    (open_within journal _ (nest_open journal by.0 _ (end_within journal by raised accepted)))
+    (open_within journal _ (nest_open journal by.0 _ (end_within-unlimited journal by raised accepted)))
 asked_releases journal _ x accepted frees = absurd (none-some x frees)
 
 releases_within : SpeaksWithin (λ x e. is_number x (released_in e))
@@ -118,7 +122,7 @@ releases_within event before x lawful (inr asked) speaks =
 meets_within : SpeaksWithin (λ x e. is_some_and (meeting_in e) (λ (m : Meeting). eqb m.call x))
 meets_within event before x lawful follows speaks =
     let (m, says, same) = option_map_or-true (λ (m : Meeting). eqb m.call x) (meeting_in event) speaks in
-    let queued = (taken_queued before m.call m.wait (met_taking before event m follows says)).1 in
+    let queued = (taken_queued before m.call m.wait (met_taking-unlimited before event m follows says)).1 in
     subst (λ (n : ℕ). n ≤ length before) (eqb-true m.call x same)
     (event_at-within before m.call queued.opened.stands.event queued.opened.stands.stands)
 
@@ -138,12 +142,12 @@ block_within journal task (Some (Block b)) is block =
     let own = (own_member journal task b among).block in
     event_at-within journal b own.event own.stands
 
-asked_closes : (journal : List Event) (r : Request) (k : Closing) → refusal journal r ≡ None → closing_in (asked_event journal r) ≡ Some k
+asked_closes : (journal : List Event) (r : Request) (k : Closing) → refusal_but_limits journal r ≡ None → closing_in (asked_event journal r) ≡ Some k
     → k.block ≤ length journal
 unfolding asked_event closing_in has_no_block
 asked_closes journal (request.Close by) k accepted says =
     subst (λ (x : Closing). x.block ≤ length journal) (same_Some _ k says)
-    (block_within journal by.0 (innermost (nest journal by.0)) refl (is_accepted journal (request.Close by) accepted).in_block)
+    (block_within journal by.0 (innermost (nest journal by.0)) refl (is_accepted-unlimited journal (request.Close by) accepted).in_block)
 asked_closes journal _ k accepted says = absurd (none-some k says)
 
 closes_within : SpeaksWithin closes_block
@@ -155,17 +159,17 @@ closes_within event before x lawful (inr asked) speaks =
     subst (λ (n : ℕ). n ≤ length before) (eqb-true k.block x same)
     (asked_closes before asked.request k asked.accepted (ap closing_in (sym asked.becomes) ∙ says))
 
-meetings_within : (journal : List Event) (p : ℕ) (d : Event) (m : Meeting) → IsLawful journal → event_at journal p ≡ Some d → meeting_in d ≡ Some m
-    → (m.call ≤ length journal) × (m.wait ≤ length journal)
+meetings_within : (journal : List Event) (p : ℕ) (d : Event) (m : Meeting) → IsLawfulUnlimited journal → event_at journal p ≡ Some d
+    → meeting_in d ≡ Some m → (m.call ≤ length journal) × (m.wait ≤ length journal)
 meetings_within journal p d m lawful at says =
-    let meeting = meeting_at journal m.call m.wait p lawful (at ∙ ap Some (meeting_in-met d m says)) in (
+    let meeting = meeting_at-unlimited journal m.call m.wait p lawful (at ∙ ap Some (meeting_in-met d m says)) in (
       event_at-within journal m.call meeting.call_stands.event meeting.call_stands.stands,
       event_at-within journal m.wait meeting.wait_stands.event meeting.wait_stands.stands,
     )
 
 -- who is within something exists
 
-holders_exist : (journal : List Event) (p task : ℕ) (e : Event) → IsLawful journal → event_at journal p ≡ Some e → held_in e ≡ Some task
+holders_exist : (journal : List Event) (p task : ℕ) (e : Event) → IsLawfulUnlimited journal → event_at journal p ≡ Some e → held_in e ≡ Some task
     → task < task_count journal
 unfolding event_at
 holders_exist [] p task e lawful at holds = absurd (none-some e at)
@@ -178,7 +182,7 @@ holders_exist (event ∷ before) p task e lawful at holds =
             | inl forces ↦ absurd (none-some task (sym (forced-step before event forces).holds_none ∙ now))
             | inr asked ↦
                 let below : task < task_count before =
-                asker_exists before asked.request task asked.accepted
+                asker_exists-unlimited before asked.request task asked.accepted
                 (held_in-asked before asked.request task (ap held_in (sym asked.becomes) ∙ now)) in
                 omega (arith, below, more)
           ]
@@ -187,22 +191,22 @@ holders_exist (event ∷ before) p task e lawful at holds =
           omega (arith, below, more)
     ]
 
-openers_exist : (journal : List Event) (p : ℕ) (e : Event) (o : Opening) → IsLawful journal → event_at journal p ≡ Some e → opening_in e ≡ Some o
-    → o.by < task_count journal
+openers_exist : (journal : List Event) (p : ℕ) (e : Event) (o : Opening) → IsLawfulUnlimited journal → event_at journal p ≡ Some e
+    → opening_in e ≡ Some o → o.by < task_count journal
 unfolding event_at
 openers_exist [] p e o lawful at says = absurd (none-some e at)
 openers_exist (event ∷ before) p e o lawful at says =
     let more : task_count before ≤ task_count (event ∷ before) = task_count-more event before in
     elim (event_at-cases event before p e at) [
       | inl newest ↦
-          let below : o.by < task_count before = (opening_asked event before o lawful.1 (ap opening_in newest.1 ∙ says)).exists in
+          let below : o.by < task_count before = (opening_asked-unlimited event before o lawful.1 (ap opening_in newest.1 ∙ says)).exists in
           omega (arith, below, more)
       | inr older ↦
           let below : o.by < task_count before = openers_exist before p e o lawful.0 older says in
           omega (arith, below, more)
     ]
 
-waiter_exists : (journal : List Event) (task wait : ℕ) → IsLawful journal → is_wait_of journal task wait ≡ true → task < task_count journal
+waiter_exists : (journal : List Event) (task wait : ℕ) → IsLawfulUnlimited journal → is_wait_of journal task wait ≡ true → task < task_count journal
 unfolding is_wait_of
 waiter_exists journal task wait lawful waits =
     let (w, is, same) = option_map_or-true (λ (w : Wait). eqb w.by task) _ waits in
@@ -210,12 +214,12 @@ waiter_exists journal task wait lawful waits =
     subst (λ (n : ℕ). n < task_count journal) (eqb-true w.by task same)
     (holders_exist journal wait w.by e lawful at (held_in-wait e w says))
 
-member_exists : (journal : List Event) (task : ℕ) (x : Member) → IsLawful journal → IsMember journal task x → task < task_count journal
+member_exists : (journal : List Event) (task : ℕ) (x : Member) → IsLawfulUnlimited journal → IsMember journal task x → task < task_count journal
 member_exists journal task x lawful (block_in p e o at says by unleft) =
     subst (λ (n : ℕ). n < task_count journal) by (openers_exist journal p e o lawful at says)
 member_exists journal task x lawful (rendezvous_in call q e m same at says waits unended) = waiter_exists journal task m.wait lawful waits
 
-nest_empty : (journal : List Event) → IsLawful journal → nest journal (task_count journal) ≡ []
+nest_empty : (journal : List Event) → IsLawfulUnlimited journal → nest journal (task_count journal) ≡ []
 nest_empty journal lawful = by_first (nest journal (task_count journal)) refl
   where
     by_first : (xs : List Member) → nest journal (task_count journal) ≡ xs → xs ≡ []
@@ -239,23 +243,24 @@ record IsActivating (journal : List Event) (t : ℕ) : Type 0 where
   pub live : has_ended journal t ≡ false
   pub started : is_started journal t ≡ true
 
-asked_fails : (journal : List Event) (r : Request) (t : ℕ) → refusal journal r ≡ None → failed_in (asked_event journal r) ≡ Some t → IsActivating journal t
+asked_fails : (journal : List Event) (r : Request) (t : ℕ) → refusal_but_limits journal r ≡ None → failed_in (asked_event journal r) ≡ Some t
+    → IsActivating journal t
 unfolding asked_event failed_in is_not_activating asker
 asked_fails journal (request.Elaborated by false) t accepted says =
-    let runs = asker_runs journal (request.Elaborated by false) by.0 accepted refl in
+    let runs = asker_runs-unlimited journal (request.Elaborated by false) by.0 accepted refl in
     subst (IsActivating journal) (same_Some by.0 t says) (record {
-      unelaborated = (is_accepted journal (request.Elaborated by false) accepted).activating;
+      unelaborated = (is_accepted-unlimited journal (request.Elaborated by false) accepted).activating;
       live = running_live journal by.0 runs;
       started = running_started journal by.0 runs;
     })
 asked_fails journal (request.Elaborated by true) t accepted says = absurd (none-some t says)
 asked_fails journal _ t accepted says = absurd (none-some t says)
 
-fails_activating : (event : Event) (before : List Event) (t : ℕ) → MayFollow before event → failed_in event ≡ Some t → IsActivating before t
+fails_activating : (event : Event) (before : List Event) (t : ℕ) → MayFollowUnlimited before event → failed_in event ≡ Some t → IsActivating before t
 fails_activating event before t (inl forces) says = absurd (none-some t (sym (row_fails_none before event (forced-row before event forces)) ∙ says))
 fails_activating event before t (inr asked) says = asked_fails before asked.request t asked.accepted (ap failed_in (sym asked.becomes) ∙ says)
 
-failing_undone : (event : Event) (before : List Event) (t : ℕ) → MayFollow before event → failed_in event ≡ Some t
+failing_undone : (event : Event) (before : List Event) (t : ℕ) → MayFollowUnlimited before event → failed_in event ≡ Some t
     → is_done_activating before (task_no t) ≡ false
 unfolding is_done_activating
 failing_undone event before t follows says =
@@ -263,7 +268,7 @@ failing_undone event before t follows says =
     or_from (is_elaborated before t) (has_ended before t) is.unelaborated is.live
 
 -- who failed was named by a start
-failed_named : (journal : List Event) (t : ℕ) → IsLawful journal → has_failed journal t ≡ true → has_start journal t ≡ true
+failed_named : (journal : List Event) (t : ℕ) → IsLawfulUnlimited journal → has_failed journal t ≡ true → has_start journal t ≡ true
 unfolding has_failed has_start is_elaborated
 failed_named [] t lawful failed = absurd (false≢true failed)
 failed_named (event ∷ before) t lawful failed =
@@ -288,18 +293,18 @@ may_each journal by t (u ∷ rest) none among =
       | inr later ↦ may_each journal by t rest both.1 later
     ]
 
-asked_starts : (journal : List Event) (r : Request) (s : Start) (t : ℕ) → refusal journal r ≡ None → start_in (asked_event journal r) ≡ Some s
-    → lists_task t s.tasks ≡ true → has_start journal t ≡ false
+asked_starts : (journal : List Event) (r : Request) (s : Start) (t : ℕ) → refusal_but_limits journal r ≡ None
+    → start_in (asked_event journal r) ≡ Some s → lists_task t s.tasks ≡ true → has_start journal t ≡ false
 unfolding asked_event start_in is_not_your_task may_activate
 asked_starts journal (request.Activate by tasks) s t accepted says among =
-    let yours = (is_accepted journal (request.Activate by tasks) accepted).your_tasks in
+    let yours = (is_accepted-unlimited journal (request.Activate by tasks) accepted).your_tasks in
     let all = (or_parts (list_any (λ (u : TaskNo). not (may_activate journal by.0 u.0)) tasks) (has_double_task tasks) yours).0 in
     let may = may_each journal by.0 t tasks all (ap (λ (x : Start). lists_task t x.tasks) (same_Some _ s says) ∙ among) in
     not-true (has_start journal t) (and_parts (is_some_and (creation_of journal t) (λ (c : Creation). eqb c.by by.0)) (not (has_start journal t)) may).1
 asked_starts journal _ s t accepted says among = absurd (none-some s says)
 
-starts_unfailed : (event : Event) (before : List Event) (s : Start) (t : ℕ) → IsLawful before → MayFollow before event → start_in event ≡ Some s
-    → lists_task t s.tasks ≡ true → has_failed before t ≡ false
+starts_unfailed : (event : Event) (before : List Event) (s : Start) (t : ℕ) → IsLawfulUnlimited before → MayFollowUnlimited before event
+    → start_in event ≡ Some s → lists_task t s.tasks ≡ true → has_failed before t ≡ false
 starts_unfailed event before s t lawful (inl forces) says among =
     absurd (none-some s.by (sym (forced-step before event forces).holds_none ∙ held_in-start event s says))
 starts_unfailed event before s t lawful (inr asked) says among =
@@ -307,7 +312,7 @@ starts_unfailed event before s t lawful (inr asked) says among =
     true≢false (sym (failed_named before t lawful failed)
     ∙ asked_starts before asked.request s t asked.accepted (ap start_in (sym asked.becomes) ∙ says) among))
 
-pub fits_held : (journal : List Event) (event : Event) → IsLawful journal → MayFollow journal event → FitsHeld journal event
+pub fits_held : (journal : List Event) (event : Event) → IsLawfulUnlimited journal → MayFollowUnlimited journal event → FitsHeld journal event
 unfolding is_released is_met is_left_close
 fits_held journal event lawful follows = record {
   unreleased = none_speaks (λ x e. is_number x (released_in e)) releases_within event journal lawful follows;
@@ -317,14 +322,15 @@ fits_held journal event lawful follows = record {
   meetings = λ p d m at says. meetings_within journal p d m lawful at says;
   empty = nest_empty journal lawful;
   leaves = λ close says. leaving event journal close follows says;
-  meets = λ m says. met_taking journal event m follows says;
+  meets = λ m says. met_taking-unlimited journal event m follows says;
   failing = λ t says. failing_undone event journal t follows says;
   starting = λ s t says among. starts_unfailed event journal s t lawful follows says among;
 }
 
 -- one more event of two lawful journals
-pub lawful_next : (old new : List Event) (names : Renaming) (event copy : Event) → StandsIn old new names → IsLawful old → IsLawful new
-    → MayFollow old event → MayFollow new copy → renamed_event names event ≡ Some copy → AreNext old new names event copy
+pub lawful_next : (old new : List Event) (names : Renaming) (event copy : Event) → StandsIn old new names → IsLawfulUnlimited old
+    → IsLawfulUnlimited new → MayFollowUnlimited old event → MayFollowUnlimited new copy → renamed_event names event ≡ Some copy
+    → AreNext old new names event copy
 lawful_next old new names event copy stands lawful also follows copied renamed = record {
   stands = stands;
   orderly = lawful_orderly old lawful;

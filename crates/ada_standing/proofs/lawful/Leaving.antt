@@ -12,7 +12,7 @@ use Rattle.ada_events.specs.Says.{Closing, closing_in, left_in}
 use Rattle.ada_events.specs.Asks.{asked_event}
 use Rattle.ada_events.specs.Nests.{is_left_close, is_left}
 use Rattle.ada_events.specs.Forced.{is_to_leave}
-use Rattle.ada_events.specs.Lawful.{IsLawful, MayFollow}
+use Rattle.ada_laws.specs.Unlimited.{IsLawfulUnlimited, MayFollowUnlimited}
 use Rattle.ada_laws.proofs.Searching.{event_at-older, event_at-cases, event_at-within, any_event-found, any_event-from, is_number-some, option_map_or-true}
 use Rattle.ada_laws.proofs.Rows.{IsRow, forced-row}
 use Rattle.ada_laws.proofs.Rows.IsRow.{leaves}
@@ -36,17 +36,19 @@ unfolding left_in asked_event
 left_in-asked journal (request.Open by) = refl
 left_in-asked journal _ = refl
 
-pub leaving : (event : Event) (before : List Event) (close : ℕ) → MayFollow before event → left_in event ≡ Some close → IsLeaving before close
+pub leaving : (event : Event) (before : List Event) (close : ℕ) → MayFollowUnlimited before event → left_in event ≡ Some close
+    → IsLeaving before close
 leaving event before close (inl forces) is = row_leaving before event close (forced-row before event forces) is
 leaving event before close (inr asked) is =
     absurd (none-some close (sym (left_in-asked before asked.request) ∙ (ap left_in (sym asked.becomes) ∙ is)))
 
-leaving_within : (event : Event) (before : List Event) (close : ℕ) → MayFollow before event → left_in event ≡ Some close → close ≤ length before
+leaving_within : (event : Event) (before : List Event) (close : ℕ) → MayFollowUnlimited before event → left_in event ≡ Some close
+    → close ≤ length before
 leaving_within event before close follows is =
     let gone = leaving event before close follows is in
     event_at-within before close gone.closed gone.stands
 
-left_within : (journal : List Event) (close : ℕ) → IsLawful journal → is_left_close journal close ≡ true → close ≤ length journal
+left_within : (journal : List Event) (close : ℕ) → IsLawfulUnlimited journal → is_left_close journal close ≡ true → close ≤ length journal
 unfolding is_left_close
 left_within [] close lawful left = absurd (false≢true left)
 left_within (event ∷ before) close lawful left =
@@ -60,7 +62,8 @@ left_within (event ∷ before) close lawful left =
     ]
 
 -- what comes next is no close that is followed by leaving
-next_unleft : (event : Event) (before : List Event) → IsLawful (event ∷ before) → is_left_close (event ∷ before) (suc (length before)) ≡ true → ⊥
+next_unleft : (event : Event) (before : List Event) → IsLawfulUnlimited (event ∷ before) → is_left_close (event ∷ before) (suc (length before)) ≡ true
+    → ⊥
 unfolding is_left_close
 next_unleft event before lawful left =
     elim (or_cases (is_number (suc (length before)) (left_in event)) (list_any (λ (e : Event). is_number (suc (length before)) (left_in e)) before) left) [
@@ -95,7 +98,7 @@ pub record Leaves (event : Event) (before : List Event) (p : ℕ) : Type 0 where
   pub gone : IsLeaving before close
   pub block : gone.closing.block ≡ p
 
-pub left_cases : (event : Event) (before : List Event) (p : ℕ) → IsLawful (event ∷ before) → is_left (event ∷ before) p ≡ true
+pub left_cases : (event : Event) (before : List Event) (p : ℕ) → IsLawfulUnlimited (event ∷ before) → is_left (event ∷ before) p ≡ true
     → Leaves event before p ⊎ (is_left before p ≡ true)
 unfolding is_left is_left_close
 left_cases event before p lawful left =

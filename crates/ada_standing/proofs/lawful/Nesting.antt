@@ -20,12 +20,13 @@ use Rattle.ada_events.specs.Phases.{is_released, has_ended, is_suspended}
 use Rattle.ada_events.specs.Calls.{is_open_call, is_pending}
 use Rattle.ada_events.specs.Nests.{is_left, is_wait_of, member_at, nest, innermost, innermost_block, frame}
 use Rattle.ada_events.specs.Asks.{asked_event, member_position}
-use Rattle.ada_events.specs.Refusals.{refusal, has_no_block, is_rendezvous}
+use Rattle.ada_events.specs.Refusals.{has_no_block, is_rendezvous}
 use Rattle.ada_events.specs.Termination.{all_terminated}
 use Rattle.ada_events.specs.Forced.{is_to_leave}
-use Rattle.ada_events.specs.Lawful.{IsLawful, MayFollow}
 use Rattle.ada_laws.specs.Masters.{parent_of}
-use Rattle.ada_laws.proofs.Accepting.{is_accepted, running_free}
+use Rattle.ada_laws.specs.Unlimited.{IsLawfulUnlimited, MayFollowUnlimited, refusal_but_limits}
+use Rattle.ada_laws.proofs.Limitless.{is_accepted-unlimited}
+use Rattle.ada_laws.proofs.Accepting.{running_free}
 use Rattle.ada_laws.proofs.Searching.{event_at-older, event_at-newest, event_at-other, event_at-within, event_at-cases, then_some-some, option_or-some}
 use Rattle.ada_laws.proofs.Stepping.{forced-step, pending_parts}
 use Rattle.ada_laws.proofs.Saying.{held_in-closing}
@@ -35,7 +36,7 @@ use Rattle.ada_laws.proofs.Gathering.{Contains-first, Contains-later, gathered-f
 use Rattle.ada_laws.proofs.Members.{IsMember, nest_member}
 use Rattle.ada_laws.proofs.Members.IsMember.{block_in}
 use Rattle.ada_laws.proofs.Framing.{IsBlockOf}
-use Rattle.ada_laws.proofs.Reaching.{opening_asked}
+use Rattle.ada_laws.proofs.Reaching.{opening_asked-unlimited}
 use Rattle.ada_standing.specs.StandsIn.{is_block}
 use Rattle.ada_standing.proofs.lawful.Leaving.{Leaves, left_cases, unleft_before}
 
@@ -185,16 +186,17 @@ innermost_found journal task (Some (Block b)) is block = record {
       latest (member_at journal task) journal p b own.block.event (placed_member journal task) own.block.stands (member_given journal task p own) is;
 }
 
-asked_close : (journal : List Event) (r : Request) (k : Closing) → refusal journal r ≡ None → closing_in (asked_event journal r) ≡ Some k
+asked_close : (journal : List Event) (r : Request) (k : Closing) → refusal_but_limits journal r ≡ None → closing_in (asked_event journal r) ≡ Some k
     → IsInnermost journal k.by k.block
 unfolding asked_event closing_in has_no_block
 asked_close journal (request.Close by) k accepted says =
     let same = same_Some _ k says in
     subst (λ (x : Closing). IsInnermost journal x.by x.block) same
-    (innermost_found journal by.0 (innermost (nest journal by.0)) refl (is_accepted journal (request.Close by) accepted).in_block)
+    (innermost_found journal by.0 (innermost (nest journal by.0)) refl (is_accepted-unlimited journal (request.Close by) accepted).in_block)
 asked_close journal _ k accepted says = absurd (none-some k says)
 
-new_close : (event : Event) (before : List Event) (k : Closing) → MayFollow before event → closing_in event ≡ Some k → IsInnermost before k.by k.block
+new_close : (event : Event) (before : List Event) (k : Closing) → MayFollowUnlimited before event → closing_in event ≡ Some k
+    → IsInnermost before k.by k.block
 new_close event before k (inl forces) says = absurd (none-some k.by (sym (forced-step before event forces).holds_none ∙ held_in-closing event k says))
 new_close event before k (inr asked) says = asked_close before asked.request k asked.accepted (ap closing_in (sym asked.becomes) ∙ says)
 
@@ -233,8 +235,8 @@ still_last event before task b was opens = record {
 }
 
 -- where a close is pending, its block is the innermost of the task's own
-pub closed_last : (journal : List Event) (c : ℕ) (e : Event) (k : Closing) → IsLawful journal → event_at journal c ≡ Some e → closing_in e ≡ Some k
-    → is_released journal c ≡ false → has_ended journal k.by ≡ false → IsInnermost journal k.by k.block
+pub closed_last : (journal : List Event) (c : ℕ) (e : Event) (k : Closing) → IsLawfulUnlimited journal → event_at journal c ≡ Some e
+    → closing_in e ≡ Some k → is_released journal c ≡ false → has_ended journal k.by ≡ false → IsInnermost journal k.by k.block
 unfolding event_at
 closed_last [] c e k lawful at says unreleased live = absurd (none-some e at)
 closed_last (event ∷ before) c e k lawful at says unreleased live =
@@ -250,7 +252,7 @@ closed_last (event ∷ before) c e k lawful at says unreleased live =
           (record { event = e; stands = older; holds = held_in-closing e k says; unreleased = free; live = lives }) in
           still_last event before k.by k.block (closed_last before c e k lawful.0 older says free lives)
           (λ o opens by.
-          let runs = (opening_asked event before o lawful.1 opens).runs in
+          let runs = (opening_asked-unlimited event before o lawful.1 opens).runs in
           true≢false (sym suspended ∙ (ap (λ n. is_suspended before n) (sym by) ∙ running_free before o.by runs)))
     ]
 
@@ -274,8 +276,8 @@ unfolding opening_in left_in
 opening_leaves_none (event.Opened by under) o says = refl
 opening_leaves_none _ o says = absurd (none-some o says)
 
-pub own_later : (event : Event) (before : List Event) (task p : ℕ) → IsLawful (event ∷ before) → (Leaves event before p → ⊥) → IsOwnBlock before task p
-    → IsOwnBlock (event ∷ before) task p
+pub own_later : (event : Event) (before : List Event) (task p : ℕ) → IsLawfulUnlimited (event ∷ before) → (Leaves event before p → ⊥)
+    → IsOwnBlock before task p → IsOwnBlock (event ∷ before) task p
 own_later event before task p lawful stays own = record {
   block = block_later event before task p own.block;
   unleft = false_from_ne_true (is_left (event ∷ before) p) (λ left.
@@ -292,8 +294,8 @@ one_opener journal s t p one other =
     sym one.by ∙ (ap (λ (o : Opening). o.by) opening ∙ other.by)
 
 -- a block within which an own block was opened isn't left while that isn't
-outer_stays : (event : Event) (before : List Event) (task p q : ℕ) → IsLawful (event ∷ before) → IsOwnBlock before task p → q < p → IsOwnBlock before task q
-    → Leaves event before q → ⊥
+outer_stays : (event : Event) (before : List Event) (task p q : ℕ) → IsLawfulUnlimited (event ∷ before) → IsOwnBlock before task p → q < p
+    → IsOwnBlock before task q → Leaves event before q → ⊥
 unfolding is_to_leave
 outer_stays event before task p q lawful own less outer leaves =
     let gone = leaves.gone in
@@ -306,21 +308,21 @@ outer_stays event before task p q lawful own less outer leaves =
     let block : gone.closing.block ≡ q = leaves.block in
     omega arith
 
-outer_newest : (event : Event) (before : List Event) (task p : ℕ) (o : Opening) (z : Master) → IsLawful (event ∷ before) → p ≡ suc (length before)
-    → opening_in event ≡ Some o → IsOwn before task z → IsOuter (event ∷ before) task p z
+outer_newest : (event : Event) (before : List Event) (task p : ℕ) (o : Opening) (z : Master) → IsLawfulUnlimited (event ∷ before)
+    → p ≡ suc (length before) → opening_in event ≡ Some o → IsOwn before task z → IsOuter (event ∷ before) task p z
 outer_newest event before task p o z lawful same says (IsOwn.own_body) = IsOuter.in_body
 outer_newest event before task p o z lawful same says (IsOwn.own_block q own) =
     let within : q ≤ length before = event_at-within before q own.block.event own.block.stands in
     IsOuter.in_block q (omega arith)
     (own_later event before task q lawful (λ leaves. none-some leaves.close (sym (opening_leaves_none event o says) ∙ leaves.leaves)) own)
 
-outer_later : (event : Event) (before : List Event) (task p : ℕ) (z : Master) → IsLawful (event ∷ before) → IsOwnBlock before task p → IsOuter before task p z
-    → IsOuter (event ∷ before) task p z
+outer_later : (event : Event) (before : List Event) (task p : ℕ) (z : Master) → IsLawfulUnlimited (event ∷ before) → IsOwnBlock before task p
+    → IsOuter before task p z → IsOuter (event ∷ before) task p z
 outer_later event before task p z lawful own (IsOuter.in_body) = IsOuter.in_body
 outer_later event before task p z lawful own (IsOuter.in_block q less outer) =
     IsOuter.in_block q less (own_later event before task q lawful (λ leaves. outer_stays event before task p q lawful own less outer leaves) outer)
 
-pub outer_own : (journal : List Event) (task p : ℕ) → IsLawful journal → IsOwnBlock journal task p
+pub outer_own : (journal : List Event) (task p : ℕ) → IsLawfulUnlimited journal → IsOwnBlock journal task p
     → (z : Master) × (parent_of journal (BlockMaster p) ≡ Some z) × IsOuter journal task p z
 unfolding event_at
 outer_own [] task p lawful own = absurd (none-some own.block.event own.block.stands)
@@ -329,7 +331,7 @@ outer_own (event ∷ before) task p lawful own =
       | inl newest ↦
           let o = own.block.opening in
           let says : opening_in event ≡ Some o = ap opening_in newest.1 ∙ own.block.says in
-          let asked = opening_asked event before o lawful.1 says in
+          let asked = opening_asked-unlimited event before o lawful.1 says in
           let frame_is : o.under ≡ frame before task = asked.within ∙ ap (frame before) own.block.by in (
             o.under,
             parent_newest event before p o newest.0 says,

@@ -1,20 +1,20 @@
 -- Lawful journals are orderly.
 use Rattle.std.proofs.Common.{List}
 use Rattle.ada_events.specs.declared.event.Event.{Event}
-use Rattle.ada_events.specs.Lawful.{IsLawful}
-use Rattle.ada_laws.proofs.Suspending.{suspended_exists, suspended_once}
-use Rattle.ada_laws.proofs.Parents.{masters_reach_by_parents, tasks_depend_by_parents}
+use Rattle.ada_laws.specs.Unlimited.{IsLawfulUnlimited}
+use Rattle.ada_laws.proofs.Parents.{masters_reach_by_parents-unlimited, tasks_depend_by_parents-unlimited}
+use Rattle.ada_laws.proofs.Suspending.{suspended_exists-unlimited, suspended_once-unlimited}
 use Rattle.ada_standing.proofs.alike.Orderly.{IsOrderly}
 use Rattle.ada_standing.proofs.lawful.Climbing.{climb_of}
 use Rattle.ada_standing.proofs.lawful.Living.{masters_lived_in, parents_lived_in}
 use Rattle.ada_standing.proofs.lawful.Starting.{started_exist}
 
-pub lawful_orderly : (journal : List Event) → IsLawful journal → IsOrderly journal
+pub lawful_orderly : (journal : List Event) → IsLawfulUnlimited journal → IsOrderly journal
 lawful_orderly journal lawful = record {
-  exist = λ task position held. suspended_exists journal task position lawful held;
-  once = λ task p q one other. suspended_once journal task p q lawful one other;
-  reach = λ x y known. masters_reach_by_parents journal x y lawful known;
-  depend = λ t y. tasks_depend_by_parents journal t y lawful;
+  exist = λ task position held. suspended_exists-unlimited journal task position lawful held;
+  once = λ task p q one other. suspended_once-unlimited journal task p q lawful one other;
+  reach = λ x y known. masters_reach_by_parents-unlimited journal x y lawful known;
+  depend = λ t y. tasks_depend_by_parents-unlimited journal t y lawful;
   climb = λ x known. climb_of journal x lawful known;
   masters = λ u x live depends. masters_lived_in journal u x lawful live depends;
   parents = λ p z lived is. parents_lived_in journal p z lawful lived is;

@@ -12,12 +12,12 @@ use Rattle.ada_events.specs.Says.{Start, start_in}
 use Rattle.ada_events.specs.Tasks.{task_count, has_task}
 use Rattle.ada_events.specs.Phases.{lists_task}
 use Rattle.ada_events.specs.Asks.{asker, asked_event, named_tasks}
-use Rattle.ada_events.specs.Refusals.{refusal, names_unknown_task}
-use Rattle.ada_events.specs.Lawful.{IsLawful, MayFollow}
+use Rattle.ada_events.specs.Refusals.{names_unknown_task}
+use Rattle.ada_laws.specs.Unlimited.{IsLawfulUnlimited, MayFollowUnlimited, refusal_but_limits}
+use Rattle.ada_laws.proofs.Limitless.{is_accepted-unlimited}
 use Rattle.ada_laws.proofs.Searching.{event_at-cases}
 use Rattle.ada_laws.proofs.Saying.{held_in-start}
 use Rattle.ada_laws.proofs.Growing.{task_count-more}
-use Rattle.ada_laws.proofs.Accepting.{is_accepted}
 use Rattle.ada_laws.proofs.Stepping.{forced-step}
 
 all_exist : (journal : List Event) (tasks : List TaskNo) (u : ℕ) → list_any (λ (t : TaskNo). not (has_task journal t.0)) tasks ≡ false
@@ -33,25 +33,25 @@ all_exist journal (t ∷ rest) u none among =
       | inr later ↦ all_exist journal rest u both.1 later
     ]
 
-asked_exist : (journal : List Event) (r : Request) (s : Start) (u : ℕ) → refusal journal r ≡ None → start_in (asked_event journal r) ≡ Some s
-    → lists_task u s.tasks ≡ true → u < task_count journal
+asked_exist : (journal : List Event) (r : Request) (s : Start) (u : ℕ) → refusal_but_limits journal r ≡ None
+    → start_in (asked_event journal r) ≡ Some s → lists_task u s.tasks ≡ true → u < task_count journal
 unfolding asked_event start_in names_unknown_task named_tasks
 asked_exist journal (request.Activate by tasks) s u accepted says among =
-    let known = (is_accepted journal (request.Activate by tasks) accepted).tasks_known in
+    let known = (is_accepted-unlimited journal (request.Activate by tasks) accepted).tasks_known in
     let both = or_parts (is_some_and (asker (request.Activate by tasks)) (λ t. not (has_task journal t)))
     (list_any (λ (t : TaskNo). not (has_task journal t.0)) tasks) known in
     all_exist journal tasks u both.1 (ap (λ (x : Start). lists_task u x.tasks) (same_Some _ s says) ∙ among)
 asked_exist journal _ s u accepted says among = absurd (none-some s says)
 
-pub start_exist : (event : Event) (before : List Event) (s : Start) (u : ℕ) → MayFollow before event → start_in event ≡ Some s → lists_task u s.tasks ≡ true
-    → u < task_count before
+pub start_exist : (event : Event) (before : List Event) (s : Start) (u : ℕ) → MayFollowUnlimited before event → start_in event ≡ Some s
+    → lists_task u s.tasks ≡ true → u < task_count before
 start_exist event before s u (inl forces) says among =
     absurd (none-some s.by (sym (forced-step before event forces).holds_none ∙ held_in-start event s says))
 start_exist event before s u (inr asked) says among =
     asked_exist before asked.request s u asked.accepted (ap start_in (sym asked.becomes) ∙ says) among
 
-pub started_exist : (journal : List Event) (p u : ℕ) (e : Event) (s : Start) → IsLawful journal → event_at journal p ≡ Some e → start_in e ≡ Some s
-    → lists_task u s.tasks ≡ true → u < task_count journal
+pub started_exist : (journal : List Event) (p u : ℕ) (e : Event) (s : Start) → IsLawfulUnlimited journal → event_at journal p ≡ Some e
+    → start_in e ≡ Some s → lists_task u s.tasks ≡ true → u < task_count journal
 unfolding event_at
 started_exist [] p u e s lawful at says among = absurd (none-some e at)
 started_exist (event ∷ before) p u e s lawful at says among =

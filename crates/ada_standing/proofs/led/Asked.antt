@@ -15,11 +15,12 @@ use Rattle.ada_events.specs.Nests.{nest, innermost, frame}
 use Rattle.ada_events.specs.Masters.{reaches}
 use Rattle.ada_events.specs.Asks.{asker, named_tasks, body_task, asked_event, member_position}
 use Rattle.ada_events.specs.Refusals.{is_not_your_master, is_not_in_accept, has_no_block}
-use Rattle.ada_laws.proofs.Accepting.{NoneApplies, none_applies}
+use Rattle.ada_laws.specs.Unlimited.{refusal_but_limits}
+use Rattle.ada_laws.proofs.Limitless.{is_accepted-unlimited}
 use Rattle.ada_laws.proofs.Searching.{option_map-some}
 use Rattle.ada_standing.specs.Renaming.{Renaming, renamed_task, renamed_tasks, renamed_master, renamed_member, renamed_event}
 use Rattle.ada_standing.specs.StandsIn.{StandsIn}
-use Rattle.ada_standing.specs.Asking.{asked_task, asked_master, renamed_request, names_kept, causes_but_limits, refusal_but_limits}
+use Rattle.ada_standing.specs.Asking.{asked_task, asked_master, renamed_request, names_kept}
 use Rattle.ada_standing.proofs.alike.Orderly.{IsOrderly}
 use Rattle.ada_standing.proofs.asked.Naming.{asked_for, HasName, HaveNames, IsAsker, asker_live, IsAsking, is_asking}
 use Rattle.ada_standing.proofs.asked.Nested.{frame_alike, frame_lived, innermost_alike}
@@ -133,8 +134,7 @@ event_renamed old new names (Tick now) stands orderly asking master accepts bloc
 pub asked_renamed : (old new : List Event) (names : Renaming) (request : Request) → StandsIn old new names → IsOrderly old
     → names_kept names old request ≡ true → refusal_but_limits old request ≡ None
     → renamed_event names (asked_event old request) ≡ Some (asked_event new (renamed_request names request))
-unfolding refusal_but_limits causes_but_limits
 asked_renamed old new names request stands orderly kept accepted =
-    let none : NoneApplies (causes_but_limits old request) = none_applies (causes_but_limits old request) accepted in
-    event_renamed old new names request stands orderly (is_asking old names request kept none.0 none.1.0) none.1.1.1.1.0
-    none.1.1.1.1.1.1.1.1.1.1.1.1.0 none.1.1.1.1.1.1.1.1.1.1.1.1.1.0
+    let told = is_accepted-unlimited old request accepted in
+    event_renamed old new names request stands orderly (is_asking old names request kept told.tasks_known told.running)
+    told.your_master told.in_accept told.in_block

@@ -1,5 +1,5 @@
 -- Two journals that grow by events of which each of the second stands for one of the first: what their names say of it.
-use Rattle.std.proofs.Common.{◌≡◌, ℕ, suc, ◌+◌, ◌<◌, Some, List, [], ◌∷◌, ◌++◌, length, map, refl, sym, ap, ◌∙◌, arith, inl, inr}
+use Rattle.std.proofs.Common.{◌≡◌, ℕ, suc, ◌+◌, ◌<◌, ◌≤◌, Some, List, [], ◌∷◌, ◌++◌, length, map, refl, sym, ap, ◌∙◌, arith, inl, inr}
 use Rattle.std.specs.Option.{option_len}
 use Rattle.std.proofs.lemmas.Bool.{cases_eq, eq-eqb}
 use Rattle.ada_events.specs.declared.event.Event.{Event}
@@ -9,13 +9,14 @@ use Rattle.ada_events.specs.declared.names.Master.TheVariants.{Body, Block}
 use Rattle.ada_events.specs.Tasks.{task_count}
 use Rattle.ada_events.specs.Forced.{task_no}
 use Rattle.ada_laws.proofs.Searching.{option_map-some}
+use Rattle.ada_laws.proofs.Growing.{task_count-more}
 use Rattle.ada_standing.specs.Renaming.{Renaming, renamed_task, renamed_tasks, renamed_master, renamed_event}
 use Rattle.ada_standing.specs.internal.Next.{next_names}
 use Rattle.ada_standing.specs.Leading.{KeepsNames}
 use Rattle.ada_standing.proofs.alike.Kinds.{AreBoth}
 use Rattle.ada_standing.proofs.held.Renamed.{IsRenamed, is_renamed, from_both-some, renamed_task-is}
 use Rattle.ada_standing.proofs.kept.Saying.{creation_said}
-use Rattle.ada_standing.proofs.kept.Naming.{AreNext, like, task_later, position_later, made_named}
+use Rattle.ada_standing.proofs.kept.Naming.{AreNext, like, task_before, position_before, task_later, position_later, made_named}
 use Rattle.ada_standing.proofs.kept.Tasks.{exists_cases}
 
 -- both journals grew by events one by one, and the names with them
@@ -173,3 +174,26 @@ module _ (old new : List Event) (names : Renaming) where
             let there : task_count new_now ≡ k + task_count new = omega (arith, newest, grow_counts old_now new_now now grow) in
             ap (next_names old_now new_now event now).task newest ∙ (made_named old_now new_now now event other next c says ∙ ap Some there)
       ]
+
+  -- what existed before has the name that it had, or none as before
+
+  grow_more : (old_after new_after : List Event) (after : Renaming) → GrowAlike old new names old_after new_after after
+      → (task_count old ≤ task_count old_after) × (length old ≤ length old_after)
+  grow_more old_after new_after after (GrowAlike.nothing) = (omega arith, omega arith)
+  grow_more old_after new_after after (GrowAlike.one_more old_now new_now now event other grow next) =
+      let more = grow_more old_now new_now now grow in
+      (omega (arith, more.0, task_count-more event old_now), omega (arith, more.1))
+
+  pub grow_old_tasks : (old_after new_after : List Event) (after : Renaming) → GrowAlike old new names old_after new_after after
+      → (u : ℕ) → u < task_count old → after.task u ≡ names.task u
+  grow_old_tasks old_after new_after after (GrowAlike.nothing) u below = refl
+  grow_old_tasks old_after new_after after (GrowAlike.one_more old_now new_now now event other grow next) u below =
+      task_before old_now new_now now event u (omega (arith, below, (grow_more old_now new_now now grow).0))
+      ∙ grow_old_tasks old_now new_now now grow u below
+
+  pub grow_old_positions : (old_after new_after : List Event) (after : Renaming) → GrowAlike old new names old_after new_after after
+      → (p : ℕ) → p ≤ length old → after.position p ≡ names.position p
+  grow_old_positions old_after new_after after (GrowAlike.nothing) p within = refl
+  grow_old_positions old_after new_after after (GrowAlike.one_more old_now new_now now event other grow next) p within =
+      position_before old_now new_now now event p (omega (arith, within, (grow_more old_now new_now now grow).1))
+      ∙ grow_old_positions old_now new_now now grow p within

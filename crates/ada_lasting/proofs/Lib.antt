@@ -1,0 +1,13 @@
+mod Finding
+mod Meant
+mod Growing
+mod Stepping
+mod Beginning
+mod Shortened
+mod Answered
+mod Refused
+mod Newest
+mod Asked
+mod MovedNames
+mod NamesBack
+mod WithoutTask

@@ -1,0 +1,81 @@
+use Rattle.std.proofs.Common.{◌≡◌, ◌+◌, ◌-◌, Bool, true, List, length, take, sym, ap, ◌∙◌, subst, arith}
+use Rattle.std.specs.Prelude.{is_some}
+use Rattle.ada_events.specs.declared.event.Event.{Event}
+use Rattle.ada_events.specs.Tasks.{task_count}
+use Rattle.ada_events.specs.Steps.{IsAccepted, IsRefused as IsRefusedNow}
+use Rattle.ada_standing.specs.Asking.{renamed_request}
+use Rattle.ada_lasting.specs.declared.failure.NotDone.TheVariants.{GivenUp}
+use Rattle.ada_lasting.specs.Naming.{Naming, renaming_of, length_of}
+use Rattle.ada_lasting.specs.internal.Keeping.{grown_to}
+use Rattle.ada_lasting.specs.Meaning.{meant}
+use Rattle.ada_lasting.specs.internal.Nameable.{names_nameable}
+use Rattle.ada_lasting.specs.Following.{Long, Follows}
+use Rattle.ada_lasting.specs.Refusing.{IsRefused}
+use Rattle.ada_lasting.specs.internal.Causes.{named_cause}
+use Rattle.ada_lasting.specs.internal.Present.{named_next, with_next}
+use Rattle.ada_lasting.proofs.Asked.{given_up, stepped_by, refused_by, after_longer}
+use Rattle.ada_lasting.proofs.kernel.LongKernel.ask.Goals as goal
+
+pub returns-in-Err-clause-err : goal.returns-in-Err-clause-err
+returns-in-Err-clause-err c = λ journal follows.
+    let here = subst (Follows journal) (sym c.self.view_is) follows in
+    subst (IsRefused journal (meant c.args.request) (GivenUp c.in-Err.task)) c.self.view_is
+    (given_up journal _ here (meant c.args.request) c.in-Err.task c.in-Err.ensures.err)
+
+pub grow-requires : goal.grow-requires
+grow-requires c =
+    let longer = after_longer c.self-2.inside.kernel c.in-Ok.asked c.step.new.self c.in-Ok-step.ensures.ok.after in
+    let long : c.len.result ≡ length c.step.new.self = c.len.ensures ∙ ap length c.journal-in-Ok-step.ensures.events in
+    omega (arith, longer, long, c.self-2.invariant.0)
+
+pub invariant_of-self : goal.invariant_of-self
+invariant_of-self c =
+    let longer = after_longer c.self-2.inside.kernel c.in-Ok.asked c.step.new.self c.in-Ok-step.ensures.ok.after in
+    let long : c.len.result ≡ length c.step.new.self = c.len.ensures ∙ ap length c.journal-in-Ok-step.ensures.events in
+    let before : c.len-before.result ≡ length c.self.inside.kernel = c.len-before.ensures ∙ ap length c.journal.ensures.events in
+    let same : c.self-2.inside.kernel ≡ c.self.inside.kernel =
+    ap (λ (k : Long). k.present) (c.self-2.view_is ∙ (c.in_default.ensures.ok ∙ ap (with_next (is_some c.master-master.result)) (sym c.self.view_is))) in
+    (sym long ∙ sym (ap (λ (n : Naming). n.until) c.grow.ensures), omega (arith, longer, before, ap length same))
+
+pub returns-in-Ok-step-clause-ok : goal.returns-in-Ok-step-clause-ok
+returns-in-Ok-step-clause-ok c = λ journal follows.
+    let kernel : Long = c.args.self.now in
+    let r = meant c.args.request in
+    let more : Bool = is_some c.master-master.result in
+    let named = c.self-2.view_is ∙ c.in_default.ensures.ok in
+    let asked : c.in-Ok.asked ≡ renamed_request (renaming_of kernel.names) r =
+    c.in-Ok.ensures.ok ∙ ap (λ (k : Long). renamed_request (renaming_of k.names) r) c.self.view_is in
+    let nameable : names_nameable kernel.names r ≡ true = subst (λ (k : Long). names_nameable k.names r ≡ true) c.self.view_is c.in-Ok.ensures.named in
+    let accepted : IsAccepted kernel.present (renamed_request (renaming_of kernel.names) r) c.in-Ok-step.field-0 c.step.new.self =
+    subst (λ q. IsAccepted kernel.present q c.in-Ok-step.field-0 c.step.new.self) asked
+    (subst (λ (p : List Event). IsAccepted p c.in-Ok.asked c.in-Ok-step.field-0 c.step.new.self) (ap (λ (k : Long). k.present) named)
+    c.in-Ok-step.ensures.ok) in
+    let long : c.len.result ≡ length c.step.new.self = c.len.ensures ∙ ap length c.journal-in-Ok-step.ensures.events in
+    let names : c.grow.new.self ≡ grown_to (named_next more kernel.names (task_count kernel.present)) (length c.step.new.self) =
+    c.grow.ensures
+    ∙ (ap (λ (k : Long). grown_to k.names c.len.result) named
+    ∙ ap (grown_to (named_next more kernel.names (task_count kernel.present))) long) in
+    let before : c.len-before.result ≡ length kernel.present =
+    c.len-before.ensures ∙ (ap length c.journal.ensures.events ∙ ap (λ (k : Long). length k.present) c.self.view_is) in
+    let next : c.next_position-position.result ≡ length_of kernel.names + 1 =
+    c.next_position-position.ensures ∙ ap (λ (k : Long). length_of k.names + 1) c.self.view_is in
+    stepped_by journal kernel follows r c.known.ensures nameable more c.master-master.ensures c.in-Ok-step.field-0 _ c.next_position-position.result accepted
+    names (ap (λ n. take (length c.step.new.self - n) c.step.new.self) before) next
+
+pub returns-in-Err-step-clause-err : goal.returns-in-Err-step-clause-err
+returns-in-Err-step-clause-err c = λ journal follows.
+    let kernel : Long = c.args.self.now in
+    let r = meant c.args.request in
+    let named = c.self-2.view_is ∙ c.in_default.ensures.ok in
+    let asked : c.in-Ok.asked ≡ renamed_request (renaming_of kernel.names) r =
+    c.in-Ok.ensures.ok ∙ ap (λ (k : Long). renamed_request (renaming_of k.names) r) c.self.view_is in
+    let nameable : names_nameable kernel.names r ≡ true = subst (λ (k : Long). names_nameable k.names r ≡ true) c.self.view_is c.in-Ok.ensures.named in
+    let refused : IsRefusedNow kernel.present (renamed_request (renaming_of kernel.names) r) c.in-Err-step.cause c.step.new.self =
+    subst (λ q. IsRefusedNow kernel.present q c.in-Err-step.cause c.step.new.self) asked
+    (subst (λ (p : List Event). IsRefusedNow p c.in-Ok.asked c.in-Err-step.cause c.step.new.self) (ap (λ (k : Long). k.present) named)
+    c.in-Err-step.ensures.err) in
+    let view : List Event → Long = λ p. record { present = p; names = c.self-2.inside.names; group = take (length p - c.self-2.inside.group) p } in
+    let restored : c.unname_next.new.self ≡ kernel = c.unname_next.ensures kernel (ap view c.in-Err-step.ensures.err.unchanged ∙ named) in
+    subst (λ x. IsRefused journal r x c.unname_next.new.self) (sym c.named.ensures)
+    (subst (IsRefused journal r (named_cause c.in-Err-step.cause)) (sym restored)
+    (refused_by journal kernel follows r c.known.ensures nameable c.in-Err-step.cause c.step.new.self refused))

@@ -1,0 +1,39 @@
+-- A kernel that lives on follows a journal without an end.
+use Rattle.std.specs.Prelude.{◌≡◌, ℕ, ◌+◌, Some, None, List, ◌++◌, length, map}
+use Rattle.ada_events.specs.declared.event.Event.{Event}
+use Rattle.ada_events.specs.declared.request.Request.{Request}
+use Rattle.ada_events.specs.Tasks.{task_count}
+use Rattle.ada_events.specs.Lawful.{IsSettled, After}
+use Rattle.ada_laws.specs.Unlimited.{IsLawfulUnlimited, refusal_but_limits}
+use Rattle.ada_standing.specs.Renaming.{renamed_event}
+use Rattle.ada_standing.specs.StandsIn.{StandsIn}
+use Rattle.ada_lasting.specs.Naming.{Naming, length_of, renaming_of}
+
+-- what a contract sees of a kernel that lives on: its present journal, what has lasting names in it, and the events that
+-- the last request appended to it, the newest first
+pub record Long : Type 0 where
+  pub present : List Event
+  pub names : Naming
+  pub group : List Event
+
+-- the kernel follows a journal without an end: this is lawful, where tasks, slots and events have no limit, and settled,
+-- the present journal stands in for it, and the next event and the next task will have their places in it as names
+pub record Follows (journal : List Event) (kernel : Long) : Type 0 where
+  pub lawful : IsLawfulUnlimited journal
+  pub settled : IsSettled journal
+  pub stands : StandsIn journal kernel.present (renaming_of kernel.names)
+  pub length : length journal ≡ length_of kernel.names
+  pub made : task_count journal ≡ kernel.names.made
+
+-- the request was accepted: it isn't refused, where tasks, slots and events have no limit; its event stands at this
+-- position of what it leads to, which the kernel follows then; and each of the events by which the present journal grew
+-- stands for one of those that were appended, in their order
+pub record IsStepped (journal : List Event) (request : Request) (at : ℕ) (kernel : Long) : Type 0 where
+  pub unrefused : refusal_but_limits journal request ≡ None
+  pub grown : List Event
+  pub after : After journal request grown
+  pub follows : Follows grown kernel
+  pub position : at ≡ length journal + 1
+  pub steps : List Event
+  pub appended : grown ≡ steps ++ journal
+  pub told : map Some kernel.group ≡ map (renamed_event (renaming_of kernel.names)) steps

@@ -1,0 +1,5 @@
+pub mod Naming
+pub mod Meaning
+pub mod Following
+pub mod Refusing
+pub mod internal

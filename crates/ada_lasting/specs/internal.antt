@@ -1,0 +1,6 @@
+-- What only proofs cite: no caller meets it.
+pub mod Present
+pub mod Nameable
+pub mod Keeping
+pub mod Causes
+pub mod Moving

@@ -1,0 +1,378 @@
+//! A kernel that lives on.
+
+ghost use Rattle.std.specs.Prelude.{◌≡◌, ◌<◌, ℕ, IfErr, IfOk, Ok, OnErr, OnOk, List, [], None, is_some, reverse};
+ghost use Rattle.std.specs.Bool.{then_some};
+ghost use Rattle.ada_events.specs.declared.event.Event.{Event as Happening};
+ghost use Rattle.ada_events.specs.Attributes.{is_callable, is_finished, own_count};
+ghost use Rattle.ada_events.specs.Outcomes.{outcome_of};
+ghost use Rattle.ada_standing.specs.Renaming.{renamed_outcome};
+ghost use Rattle.std.specs.Option.{option_and_then};
+ghost use Rattle.ada_events.specs.Phases.{is_running, is_terminated};
+ghost use Rattle.ada_lasting.specs.internal.Present.{IsPresent, with_next};
+ghost use Rattle.ada_lasting.specs.Following.{Follows, IsStepped, Long};
+ghost use Rattle.ada_lasting.specs.Meaning.{meant};
+ghost use Rattle.ada_lasting.specs.internal.Nameable.{creates};
+ghost use Rattle.ada_lasting.specs.Naming.{found, renaming_of};
+ghost use Rattle.ada_lasting.specs.Refusing.{IsRefused, IsUncounted, IsWant};
+
+use crate::failure::NotDone;
+use crate::masters::Masters;
+use crate::moving::NotMoved;
+use crate::names::Names;
+use crate::requests::{LastingMaster, LastingRequest};
+use ada_compact::{Compacted, NotCompacted, compact};
+use ada_events::limits::{MOST_APPENDED, MOST_EVENTS, MOST_SLOTS, MOST_TASKS};
+use ada_events::{Entry, Event, Family, Outcome, Refusal, TaskNo};
+use ada_kernel::Kernel;
+use std::alloc::Global;
+use std::marker::Model;
+
+/// A kernel whose journal is without an end.
+#[derive(Drop)]
+pub struct LongKernel {
+    kernel: Kernel,
+    names: Names,
+    masters: Masters,
+    alloc: Global,
+    // The number of events that its maker chose, and the one from which on the present journal is made shorter next.
+    threshold: u32,
+    due: u32,
+    // How many events the present journal had before the last request.
+    group: u32,
+}
+
+impl Model for LongKernel {
+    ghost use Rattle.std.specs.Prelude.{◌≡◌, ◌≤◌, ◌-◌, length, take};
+    ghost use Rattle.ada_lasting.specs.Following.{Long};
+
+    ghost Value = { Long };
+
+    ghost view = { λ k. record {
+      present = k.kernel;
+      names = k.names;
+      group = take (length k.kernel - k.group) k.kernel;
+    } };
+
+    ghost invariant = { λ k. (length k.kernel ≡ k.names.until) × (k.group ≤ length k.kernel) };
+}
+
+impl LastingRequest {
+    // The master of the task that it makes.
+    #[tactic(auto, unfolding(crate::specs::Meaning::meant))]
+    fn master(&self) -> Option<LastingMaster>
+        ensures { is_some result ≡ creates (meant self.now) }
+    {
+        match self {
+            LastingRequest::Create { master, .. } => Some(*master),
+            _ => None,
+        }
+    }
+
+    // How many entries the task has that it makes.
+    fn entries(&self) -> u64 {
+        match self {
+            LastingRequest::Create { families, .. } => Family::entries_in(families.as_slice()),
+            _ => 0,
+        }
+    }
+}
+
+impl LongKernel {
+    /// A kernel with an empty journal. The present journal is made shorter when it has `threshold` events, or twice as
+    /// many as it had after it was made shorter last, if these are more. Fails with `OutOfMemory` alone.
+    pub fn new(threshold: u32, alloc: Global) -> Result<Self, NotDone>
+        ensures { IfOk result (λ kernel. Follows [] kernel) }
+    {
+        let kernel = match Kernel::new(alloc) {
+            Ok(kernel) => kernel,
+            Err(cause) => return Err(NotDone::Refused(cause)),
+        };
+        let Ok(names) = Names::new(alloc) else {
+            return Err(NotDone::Refused(Refusal::OutOfMemory));
+        };
+        Ok(LongKernel {
+            kernel,
+            names,
+            masters: Masters::new(alloc),
+            alloc,
+            threshold,
+            due: threshold,
+            group: 0,
+        })
+    }
+
+    /// Answers a request. Accepted, its event is appended to the journal without an end, and then exactly the steps
+    /// that it forces, in order, and the answer is the position of its event, from 1. Refused, nothing is changed.
+    ///
+    /// Before the request is asked, the present journal may be made shorter: then the terminated tasks are given up
+    /// whose masters are terminated or left.
+    pub fn step(&mut self, request: LastingRequest) -> Result<u64, NotDone>
+        ensures ok { IfOk result (λ at. (journal : List Happening) → Follows journal self.old
+            → IsStepped journal (meant request) at self.new) }
+        ensures err { IfErr result (λ cause. (journal : List Happening)
+            → Follows journal self.old → IsRefused journal (meant request) cause self.new) }
+    {
+        if let Err(cause) = self.make_room(&request) {
+            return Err(cause);
+        }
+        self.ask(request)
+    }
+
+    /// Makes the present journal shorter.
+    ///
+    /// # Errors
+    ///
+    /// [`NotDone::NotCompacted`] if helpers have no room, or for want of memory. Nothing has changed then.
+    pub fn compact(&mut self) -> Result<(), NotDone>
+        ensures follows { (journal : List Happening) → Follows journal self.old
+            → Follows journal self.new }
+        ensures err { OnErr result (self.new ≡ self.old) }
+        ensures want { IfErr result (λ cause. IsWant cause) }
+    {
+        self.known();
+        let Ok(kept) = self.masters.kept(&self.kernel, &self.names, self.alloc) else {
+            return Err(NotDone::NotCompacted(NotCompacted::OutOfMemory));
+        };
+        let Compacted { kernel, names } = match compact(&self.kernel, &kept, self.alloc) {
+            Ok(compacted) => compacted,
+            Err(cause) => return Err(NotDone::NotCompacted(cause)),
+        };
+        let until = kernel.journal().len();
+        let names = match self.names.moved(&names, until, self.alloc) {
+            Ok(names) => names,
+            Err(NotMoved::NoMoreNames) => return Err(NotDone::NoMoreNames),
+            Err(NotMoved::OutOfMemory) => {
+                return Err(NotDone::NotCompacted(NotCompacted::OutOfMemory));
+            }
+        };
+        self.masters.retain(&names);
+        self.kernel = kernel;
+        self.names = names;
+        self.group = until;
+        self.due = until.saturating_mul(2).max(self.threshold);
+        Ok(())
+    }
+
+    // Calls what tells of the present journal and of the names: so the prover knows it where this is called.
+    fn known(&self)
+        ensures { IsPresent self.now }
+    {
+        let _ = self.kernel.journal();
+        let _ = self.names.made();
+    }
+
+    fn is_full(&self) -> bool {
+        MOST_EVENTS < self.kernel.journal().len() as usize + MOST_APPENDED
+    }
+
+    // Whether there is no room for the task that a request makes.
+    fn is_crowded(&self, request: &LastingRequest) -> bool {
+        let view = self.kernel.view();
+        let slots = u64::from(view.tables().slots()).saturating_add(request.entries());
+        request.master().is_some()
+            && (usize::from(self.kernel.tasks()) >= MOST_TASKS || slots > MOST_SLOTS as u64)
+    }
+
+    fn make_room(&mut self, request: &LastingRequest) -> Result<(), NotDone>
+        ensures follows { (journal : List Happening) → Follows journal self.old
+            → Follows journal self.new }
+        ensures want { IfErr result (λ cause. IsWant cause) }
+    {
+        let due = self.kernel.journal().len() >= self.due;
+        if !due && !self.is_full() && !self.is_crowded(request) {
+            return Ok(());
+        }
+        match self.compact() {
+            Err(cause) if self.is_full() => Err(cause),
+            Err(_) => {
+                self.due = self.kernel.journal().len().saturating_add(self.threshold);
+                Ok(())
+            }
+            Ok(()) => Ok(()),
+        }
+    }
+
+    // Names the task that a request makes, if it makes one.
+    fn name_next(&mut self, master: Option<LastingMaster>) -> Result<(), NotDone>
+        ensures ok { OnOk result (self.new ≡ with_next (is_some master) self.old) }
+        ensures err { OnErr result (self.new ≡ self.old) }
+        ensures want { IfErr result (λ cause. IsWant cause) }
+    {
+        let Some(master) = master else {
+            return Ok(());
+        };
+        let task = self.names.made();
+        if task == u64::MAX {
+            return Err(NotDone::NoMoreNames);
+        }
+        if self.names.add_task(TaskNo(self.kernel.tasks())).is_err() {
+            return Err(NotDone::Refused(Refusal::OutOfMemory));
+        }
+        if self.masters.add(task, master).is_err() {
+            self.names.take_back();
+            return Err(NotDone::Refused(Refusal::OutOfMemory));
+        }
+        Ok(())
+    }
+
+    // Takes the name back, since the task wasn't made.
+    fn unname_next(&mut self, master: Option<LastingMaster>)
+        ensures { (kernel : Long) → self.old ≡ with_next (is_some master) kernel
+            → self.new ≡ kernel }
+    {
+        if master.is_some() {
+            self.names.take_back();
+            self.masters.take_back();
+        }
+    }
+
+    fn ask(&mut self, request: LastingRequest) -> Result<u64, NotDone>
+        ensures ok { IfOk result (λ at. (journal : List Happening) → Follows journal self.old
+            → IsStepped journal (meant request) at self.new) }
+        ensures err { IfErr result (λ cause. (journal : List Happening)
+            → Follows journal self.old → IsRefused journal (meant request) cause self.new) }
+    {
+        self.known();
+        let before = self.kernel.journal().len();
+        let position = self.names.next_position();
+        let master = request.master();
+        let asked = match self.names.asked(request) {
+            Ok(asked) => asked,
+            Err(task) => return Err(NotDone::GivenUp(task)),
+        };
+        if let Err(cause) = self.name_next(master) {
+            return Err(cause);
+        }
+        match self.kernel.step(asked) {
+            Ok(_) => {
+                self.group = before;
+                self.names.grow(self.kernel.journal().len());
+                Ok(position)
+            }
+            Err(cause) => {
+                self.unname_next(master);
+                Err(NotDone::named(cause))
+            }
+        }
+    }
+
+    /// Gives a terminated task up: it may not be named any more.
+    ///
+    /// # Errors
+    ///
+    /// [`NotDone::Refused`] with `UnknownTask` for a task that was never made, and with `MainTask` for the main
+    /// program; [`NotDone::GivenUp`]; [`NotDone::NotTerminated`].
+    pub fn release(&mut self, task: u64) -> Result<(), NotDone>
+        ensures follows { (journal : List Happening) → Follows journal self.old
+            → Follows journal self.new }
+        ensures ok { OnOk result (found self.new.names.tasks task ≡ None) }
+        ensures err { OnErr result (self.new ≡ self.old) }
+    {
+        self.known();
+        match self.names.task(task) {
+            _ if task == 0 => Err(NotDone::Refused(Refusal::MainTask)),
+            Some(present) if self.kernel.terminated(present) == Some(true) => {
+                self.names.forget(task);
+                self.group = self.kernel.journal().len();
+                Ok(())
+            }
+            Some(_) => Err(NotDone::NotTerminated(task)),
+            None if task < self.names.made() => Err(NotDone::GivenUp(task)),
+            None => Err(NotDone::Refused(Refusal::UnknownTask)),
+        }
+    }
+
+    /// The events that the last request appended, in their order, as the present journal has them:
+    /// [`LongKernel::names`] tells the lasting names of the tasks and positions that they name. None after a release
+    /// and a compaction.
+    pub fn events(&self) -> &[Event]
+        ensures { reverse result.now ≡ self.now.group }
+    {
+        let events = self.kernel.journal().as_slice();
+        &events[self.group as usize..]
+    }
+
+    /// What has lasting names in the present journal.
+    pub fn names(&self) -> &Names
+        ensures { result.now ≡ self.now.names }
+    {
+        &self.names
+    }
+
+    /// The kernel with the present journal.
+    pub fn present(&self) -> &Kernel
+        ensures { result.now ≡ self.now.present }
+    {
+        &self.kernel
+    }
+
+    /// The attribute TERMINATED of a task (9.9); none if it was never made or given up.
+    pub fn terminated(&self, task: u64) -> Option<bool>
+        ensures { (journal : List Happening) → Follows journal self.now
+            → result ≡ then_some (is_some (found self.now.names.tasks task))
+            (is_terminated journal task) }
+    {
+        self.known();
+        self.kernel.terminated(self.names.task(task)?)
+    }
+
+    /// The attribute CALLABLE of a task (9.9); none if it was never made or given up.
+    pub fn callable(&self, task: u64) -> Option<bool>
+        ensures { (journal : List Happening) → Follows journal self.now
+            → result ≡ then_some (is_some (found self.now.names.tasks task))
+            (is_callable journal task) }
+    {
+        self.known();
+        self.kernel.callable(self.names.task(task)?)
+    }
+
+    /// Whether a task is running: started, not ended, and not suspended. None if it was never made or given up.
+    pub fn running(&self, task: u64) -> Option<bool>
+        ensures { (journal : List Happening) → Follows journal self.now
+            → result ≡ then_some (is_some (found self.now.names.tasks task))
+            (is_running journal task) }
+    {
+        self.known();
+        self.kernel.running(self.names.task(task)?)
+    }
+
+    /// The outcome of a task, a call in it by its position in the present journal; none if the task was never made or
+    /// given up.
+    pub fn outcome(&self, task: u64) -> Option<Outcome>
+        ensures { (journal : List Happening) → Follows journal self.now
+            → result ≡ option_and_then (λ (v : ℕ).
+            renamed_outcome (renaming_of self.now.names) (outcome_of journal task))
+            (found self.now.names.tasks task) }
+    {
+        self.known();
+        self.kernel.outcome(self.names.task(task)?)
+    }
+
+    /// The attribute COUNT of an entry of the asking task's own (9.9), at most 256. Refused for the first that applies
+    /// of `UnknownTask`, `NotRunning`, `NoSuchFamily` and `ConstraintError`; [`NotDone::GivenUp`].
+    pub fn count(&self, by: u64, entry: Entry) -> Result<u16, NotDone>
+        ensures ok { IfOk result (λ count. (journal : List Happening) → Follows journal self.now
+            → own_count journal by entry ≡ Ok count) }
+        ensures err { IfErr result (λ cause. (journal : List Happening) → Follows journal self.now
+            → IsUncounted (own_count journal by entry) cause) }
+    {
+        self.known();
+        match self.names.task(by) {
+            Some(task) => match self.kernel.count(task, entry) {
+                Ok(count) => Ok(count),
+                Err(cause) => Err(NotDone::Refused(cause)),
+            },
+            None if by < self.names.made() => Err(NotDone::GivenUp(by)),
+            None => Err(NotDone::Refused(Refusal::UnknownTask)),
+        }
+    }
+
+    /// Whether the main program is terminated.
+    pub fn finished(&self) -> bool
+        ensures { (journal : List Happening) → Follows journal self.now
+            → result ≡ is_finished journal }
+    {
+        self.known();
+        self.kernel.finished()
+    }
+}

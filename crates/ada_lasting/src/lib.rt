@@ -1,0 +1,21 @@
+//! A kernel that lives on, and names that last.
+//!
+//! Section numbers are those of the Ada 83 manual, ANSI/MIL-STD-1815A.
+#![tactic(auto)]
+
+pub mod asking;
+pub mod failure;
+pub mod forgetting;
+pub mod kernel;
+pub mod masters;
+pub mod moving;
+pub mod names;
+pub mod requests;
+pub mod rows;
+
+pub use failure::NotDone;
+pub use kernel::LongKernel;
+pub use moving::NotMoved;
+pub use names::Names;
+pub use requests::{LastingMaster, LastingRequest, LastingTasks};
+pub use rows::Row;

@@ -1,0 +1,136 @@
+//! Requests to a kernel that lives on, in few words, and what a test wants of their answers, a question in each function.
+
+use ada_events::{Choice, Choices, Entry, Families, Family, Patience, Refusal, Tail};
+use ada_lasting::{LastingMaster, LastingRequest, LastingTasks, LongKernel, NotDone};
+use std::process::Abort;
+
+/// The main program, and its body as a master.
+pub const MAIN: u64 = 0;
+
+pub const MAIN_BODY: LastingMaster = LastingMaster::Body(MAIN);
+
+/// The one entry of each task.
+pub const ENTRY: Entry = Entry {
+    family: 0,
+    index: 0,
+};
+
+pub fn create(by: u64, master: LastingMaster) -> LastingRequest {
+    LastingRequest::Create {
+        by,
+        master,
+        families: Families::from_slice(&[Family { low: 0, high: 0 }]),
+    }
+}
+
+pub fn activate(by: u64, task: u64) -> LastingRequest {
+    LastingRequest::Activate {
+        by,
+        tasks: LastingTasks::from_slice(&[task]),
+    }
+}
+
+pub fn abort(by: u64, task: u64) -> LastingRequest {
+    LastingRequest::Abort {
+        by,
+        tasks: LastingTasks::from_slice(&[task]),
+    }
+}
+
+pub fn up(by: u64) -> LastingRequest {
+    LastingRequest::Elaborated { by, ok: true }
+}
+
+pub fn complete(by: u64) -> LastingRequest {
+    LastingRequest::Complete { by }
+}
+
+pub fn call(by: u64, callee: u64) -> LastingRequest {
+    LastingRequest::Call {
+        by,
+        callee,
+        entry: ENTRY,
+        patience: Patience::Simple,
+    }
+}
+
+pub fn accept(by: u64) -> LastingRequest {
+    LastingRequest::Wait {
+        by,
+        choices: Choices::from_slice(&[Choice {
+            guard: true,
+            entry: ENTRY,
+        }]),
+        tail: Tail::Nothing,
+        pick: 0,
+    }
+}
+
+pub fn end(by: u64) -> LastingRequest {
+    LastingRequest::End { by, raised: false }
+}
+
+/// The request is accepted, and its event has the position.
+pub fn assert_accepted<R: Abort>(
+    rt: &R,
+    kernel: &mut LongKernel,
+    request: LastingRequest,
+    at: u64,
+) {
+    assert_eq!(rt; kernel.step(request), Ok(at));
+}
+
+/// The request isn't done, for the cause.
+pub fn assert_not_done<R: Abort>(
+    rt: &R,
+    kernel: &mut LongKernel,
+    request: LastingRequest,
+    cause: NotDone,
+) {
+    assert_eq!(rt; kernel.step(request), Err(cause));
+}
+
+/// The kernel refuses the request.
+pub fn assert_refused<R: Abort>(
+    rt: &R,
+    kernel: &mut LongKernel,
+    request: LastingRequest,
+    cause: Refusal,
+) {
+    assert_not_done(rt, kernel, request, NotDone::Refused(cause));
+}
+
+/// The task was given up, so the request isn't done.
+pub fn assert_given_up<R: Abort>(
+    rt: &R,
+    kernel: &mut LongKernel,
+    request: LastingRequest,
+    task: u64,
+) {
+    assert_not_done(rt, kernel, request, NotDone::GivenUp(task));
+}
+
+/// What a release answers.
+pub fn assert_release<R: Abort>(
+    rt: &R,
+    kernel: &mut LongKernel,
+    task: u64,
+    answer: Result<(), NotDone>,
+) {
+    assert_eq!(rt; kernel.release(task), answer);
+}
+
+/// The present journal is made shorter.
+pub fn assert_compacts<R: Abort>(rt: &R, kernel: &mut LongKernel) {
+    assert_eq!(rt; kernel.compact(), Ok(()));
+}
+
+/// TERMINATED of a task; `None` where it was given up or never made.
+pub fn assert_terminated<R: Abort>(
+    rt: &R,
+    kernel: &LongKernel,
+    task: u64,
+    terminated: Option<bool>,
+) {
+    assert_eq!(rt; kernel.terminated(task), terminated, "{task}");
+}

@@ -1,0 +1,107 @@
+//! The limits of a kernel that lives on: its tasks at a time, its thresholds, and that its journal is never full.
+
+use crate::asking::{
+    MAIN, MAIN_BODY, abort, accept, activate, assert_accepted, assert_refused, assert_release,
+    assert_terminated, call, create, end, up,
+};
+use ada_events::Refusal;
+use ada_events::limits::MOST_EVENTS;
+use ada_lasting::{LastingRequest, LongKernel};
+use std::process::Abort;
+use std::test::Fail;
+
+/// How many tasks there may be beside the main program.
+const MOST: u64 = 255;
+
+fn fill<R: Abort>(rt: &R, kernel: &mut LongKernel) {
+    for task in 0..MOST {
+        assert_accepted(rt, kernel, create(MAIN, MAIN_BODY), task.wrapping_add(1));
+    }
+}
+
+#[test]
+fn no_task_is_made_beside_256_until_a_terminated_one_is_released(
+    rt: HostRuntime,
+) -> Result<(), Fail> {
+    let mut kernel = LongKernel::new(4096, rt.alloc())?;
+    fill(&rt, &mut kernel);
+    assert_refused(
+        &rt,
+        &mut kernel,
+        create(MAIN, MAIN_BODY),
+        Refusal::TooManyTasks,
+    );
+    // An abort at 256, by which the task is halted and gone.
+    assert_accepted(&rt, &mut kernel, abort(MAIN, 7), 256);
+    assert_terminated(&rt, &kernel, 7, Some(true));
+    assert_refused(
+        &rt,
+        &mut kernel,
+        create(MAIN, MAIN_BODY),
+        Refusal::TooManyTasks,
+    );
+    assert_release(&rt, &mut kernel, 7, Ok(()));
+    assert_accepted(&rt, &mut kernel, create(MAIN, MAIN_BODY), 259);
+    assert_terminated(&rt, &kernel, 256, Some(false));
+    assert_refused(
+        &rt,
+        &mut kernel,
+        create(MAIN, MAIN_BODY),
+        Refusal::TooManyTasks,
+    );
+    Ok(())
+}
+
+// Two tasks that are up at 6, whose activations end at 4 and 8.
+fn make_two<R: Abort>(rt: &R, kernel: &mut LongKernel) {
+    for task in 1..3u64 {
+        let at = task.wrapping_mul(4);
+        assert_accepted(rt, kernel, create(MAIN, MAIN_BODY), at.wrapping_sub(3));
+        assert_accepted(rt, kernel, activate(MAIN, task), at.wrapping_sub(2));
+        assert_accepted(rt, kernel, up(task), at.wrapping_sub(1));
+    }
+}
+
+// Rendezvous of four events each: the call, the wait and the meeting, and the end.
+fn meet<R: Abort>(rt: &R, kernel: &mut LongKernel, rounds: u64) {
+    for round in 0..rounds {
+        let at = round.wrapping_mul(4).wrapping_add(9);
+        assert_accepted(rt, kernel, call(1, 2), at);
+        assert_accepted(rt, kernel, accept(2), at.wrapping_add(1));
+        assert_accepted(rt, kernel, end(2), at.wrapping_add(3));
+    }
+}
+
+#[test]
+fn positions_are_the_same_at_each_threshold(rt: HostRuntime) -> Result<(), Fail> {
+    for threshold in [0, 1, 12, 65_535, 65_536, 65_537, u32::MAX] {
+        let mut kernel = LongKernel::new(threshold, rt.alloc())?;
+        make_two(&rt, &mut kernel);
+        meet(&rt, &mut kernel, 100);
+    }
+    Ok(())
+}
+
+// Of an empty kernel, whose tasks' numbers don't matter.
+fn tick<R: Abort>(rt: &R, kernel: &mut LongKernel, ticks: u64) {
+    for before in 0..ticks {
+        let now = (before % 1_000_000) as i64;
+        assert_accepted(
+            rt,
+            kernel,
+            LastingRequest::Tick { now },
+            before.wrapping_add(1),
+        );
+    }
+}
+
+#[test]
+fn the_journal_is_never_full(rt: HostRuntime) -> Result<(), Fail> {
+    let ticks = MOST_EVENTS as u64 + 1000;
+    for threshold in [4096, u32::MAX] {
+        let mut kernel = LongKernel::new(threshold, rt.alloc())?;
+        tick(&rt, &mut kernel, ticks);
+        assert!(&rt; (kernel.present().journal().len() as usize) < MOST_EVENTS);
+    }
+    Ok(())
+}
