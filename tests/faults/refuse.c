@@ -1,7 +1,8 @@
 /* SPDX-License-Identifier: MIT */
 /* Loaded before the C library by LD_PRELOAD, this refuses growths of memory: of the calls of malloc, calloc and
- * realloc that a program makes, number REFUSE_AT answers null, and with REFUSE_ON=1 each later one too. At the
- * program's end the file REFUSE_REPORT gets a line with how many calls there were and how many were refused. */
+ * realloc that a program makes, number REFUSE_AT answers null, and with REFUSE_ON=1 each later one too. REFUSE_OF=first
+ * counts those of the program's first thread alone, and REFUSE_OF=others those of its other threads. At the program's end
+ * the file REFUSE_REPORT gets a line with how many calls there were and how many were refused. */
 #define _GNU_SOURCE
 #include <errno.h>
 #include <fcntl.h>
@@ -21,6 +22,7 @@ static atomic_long refused;
 static long first;
 static int goes_on;
 static int counts;
+static enum { ALL, FIRST, OTHERS } whose;
 
 /* A number of decimal digits, or 0. Nothing here may ask for memory. */
 static long number(const char *text) {
@@ -33,11 +35,19 @@ static long number(const char *text) {
 __attribute__((constructor)) static void begin(void) {
   first = number(getenv("REFUSE_AT"));
   goes_on = number(getenv("REFUSE_ON")) == 1;
+  const char *of = getenv("REFUSE_OF");
+  if (of && strcmp(of, "first") == 0) whose = FIRST;
+  if (of && strcmp(of, "others") == 0) whose = OTHERS;
   counts = 1;
 }
 
+/* The first thread has the number of the process. */
+static int is_counted(void) {
+  return counts && (whose == ALL || (whose == FIRST) == (syscall(SYS_gettid) == getpid()));
+}
+
 static int is_refused(void) {
-  if (!counts) return 0;
+  if (!is_counted()) return 0;
   long call = atomic_fetch_add(&calls, 1) + 1;
   if (first == 0 || call < first || (call > first && !goes_on)) return 0;
   atomic_fetch_add(&refused, 1);
