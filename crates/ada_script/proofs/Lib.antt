@@ -1,6 +1,7 @@
 pub mod CutParts
 pub mod Numbers
 pub mod Repeat
+pub mod Spaces
 pub mod Choices
 pub mod Written
 pub mod Taken

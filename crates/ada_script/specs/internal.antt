@@ -3,5 +3,6 @@ pub mod Fault
 pub mod Number
 pub mod Printable
 pub mod Reading
+pub mod Spaces
 pub mod Verbs
 pub mod Writing
