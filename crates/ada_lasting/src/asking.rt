@@ -18,6 +18,7 @@ const NOBODY: TaskNo = TaskNo(65_535);
 
 impl Names {
     // The task for a lasting name, nobody for one that was never made; the name itself if it was given up.
+    #[inline(always)]
     fn asked_task(&self, lasting: u64) -> Result<TaskNo, u64>
         ensures ok { IfOk result (λ task.
             task ≡ asked_task (renaming_of self.now) (task_no lasting)) }
@@ -32,6 +33,7 @@ impl Names {
     }
 
     #[tactic(auto, unfolding(ada_standing::specs::Asking::asked_master, crate::specs::internal::Nameable::are_nameable))]
+    #[inline(always)]
     fn asked_master(&self, lasting: LastingMaster) -> Result<Master, u64>
         ensures ok { IfOk result (λ master.
             master ≡ asked_master (renaming_of self.now) (meant_master lasting)) }
@@ -64,6 +66,7 @@ impl Names {
 
     /// What a request asks of the present journal; a task that it names, and that was given up, if there is one.
     #[tactic(auto, unfolding(ada_standing::specs::Asking::renamed_request, crate::specs::Meaning::meant, crate::specs::internal::Nameable::names_nameable, crate::specs::internal::Nameable::are_nameable, ada_events::specs::Asks::asker, ada_events::specs::Asks::named_tasks))]
+    #[inline(always)]
     pub(crate) fn asked(&self, request: LastingRequest) -> Result<Request, u64>
         ensures ok { IfOk result (λ asked.
             asked ≡ renamed_request (renaming_of self.now) (meant request)) }

@@ -59,6 +59,7 @@ impl Model for LongKernel {
 impl LastingRequest {
     // The master of the task that it makes.
     #[tactic(auto, unfolding(crate::specs::Meaning::meant))]
+    #[inline(always)]
     fn master(&self) -> Option<LastingMaster>
         ensures { is_some result ≡ creates (meant self.now) }
     {
@@ -106,6 +107,8 @@ impl LongKernel {
     ///
     /// Before the request is asked, the present journal may be made shorter: then the terminated tasks are given up
     /// whose masters are terminated or left.
+    // Inlined, as all that it does for each request, so that no request is copied on its way to the present kernel.
+    #[inline(always)]
     pub fn step(&mut self, request: LastingRequest) -> Result<u64, NotDone>
         ensures ok { IfOk result (λ at. (journal : List Happening) → Follows journal self.old
             → IsStepped journal (meant request) at self.new) }
@@ -161,11 +164,13 @@ impl LongKernel {
         let _ = self.names.made();
     }
 
+    #[inline(always)]
     fn is_full(&self) -> bool {
         MOST_EVENTS < self.kernel.journal().len() as usize + MOST_APPENDED
     }
 
     // Whether there is no room for the task that a request makes.
+    #[inline(always)]
     fn is_crowded(&self, request: &LastingRequest) -> bool {
         let view = self.kernel.view();
         let slots = u64::from(view.tables().slots()).saturating_add(request.entries());
@@ -173,6 +178,7 @@ impl LongKernel {
             && (usize::from(self.kernel.tasks()) >= MOST_TASKS || slots > MOST_SLOTS as u64)
     }
 
+    #[inline(always)]
     fn make_room(&mut self, request: &LastingRequest) -> Result<(), NotDone>
         ensures follows { (journal : List Happening) → Follows journal self.old
             → Follows journal self.new }
@@ -182,6 +188,16 @@ impl LongKernel {
         if !due && !self.is_full() && !self.is_crowded(request) {
             return Ok(());
         }
+        self.shorten()
+    }
+
+    // Makes the present journal shorter, or puts it off if there is room without it.
+    #[inline(never)]
+    fn shorten(&mut self) -> Result<(), NotDone>
+        ensures follows { (journal : List Happening) → Follows journal self.old
+            → Follows journal self.new }
+        ensures want { IfErr result (λ cause. IsWant cause) }
+    {
         match self.compact() {
             Err(cause) if self.is_full() => Err(cause),
             Err(_) => {
@@ -193,6 +209,7 @@ impl LongKernel {
     }
 
     // Names the task that a request makes, if it makes one.
+    #[inline(always)]
     fn name_next(&mut self, master: Option<LastingMaster>) -> Result<(), NotDone>
         ensures ok { OnOk result (self.new ≡ with_next (is_some master) self.old) }
         ensures err { OnErr result (self.new ≡ self.old) }
@@ -216,6 +233,7 @@ impl LongKernel {
     }
 
     // Takes the name back, since the task wasn't made.
+    #[inline(always)]
     fn unname_next(&mut self, master: Option<LastingMaster>)
         ensures { (kernel : Long) → self.old ≡ with_next (is_some master) kernel
             → self.new ≡ kernel }
@@ -226,6 +244,7 @@ impl LongKernel {
         }
     }
 
+    #[inline(always)]
     fn ask(&mut self, request: LastingRequest) -> Result<u64, NotDone>
         ensures ok { IfOk result (λ at. (journal : List Happening) → Follows journal self.old
             → IsStepped journal (meant request) at self.new) }
