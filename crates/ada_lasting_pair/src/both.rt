@@ -11,7 +11,7 @@ use std::alloc::Global;
 
 /// What is known of a task that was made: who made it, on whom it depends, how many families of entries it has, and the
 /// low bound of each.
-#[derive(Clone, Copy, Debug)]
+#[derive(Clone, Copy)]
 pub struct Made {
     pub maker: u64,
     pub master: LastingMaster,

@@ -39,12 +39,12 @@ impl Dice {
         self.below(cases) == 0
     }
 
-    /// A number below a count; 0 where that is 0.
+    /// A number below a count; 0 if that is 0.
     pub fn among(&mut self, count: usize) -> usize {
         self.any() as usize % count.max(1)
     }
 
-    /// One of some items; none where there is none.
+    /// One of some items; none if there is none.
     pub fn pick<T: Copy>(&mut self, items: &[T]) -> Option<T> {
         let place = self.any() as usize % items.len().max(1);
         items.get(place).copied()

@@ -1,7 +1,7 @@
 //! The kinds of requests, and what a random run is mostly about.
 
 /// The kinds of requests.
-#[derive(Clone, Copy, Debug, PartialEq, Eq)]
+#[derive(Clone, Copy)]
 pub enum Kind {
     Open,
     Create,
@@ -18,7 +18,7 @@ pub enum Kind {
 }
 
 /// What a run is mostly about: a kind of requests comes the more often, the more often it stands here.
-#[derive(Clone, Copy, Debug)]
+#[derive(Clone, Copy)]
 pub struct Mix {
     pub kinds: &'static [Kind],
 }

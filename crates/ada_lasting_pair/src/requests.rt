@@ -25,7 +25,7 @@ pub fn request(scene: Scene<'_>, mix: Mix, dice: &mut Dice) -> LastingRequest {
     }
 }
 
-/// What a request makes, where it makes a task.
+/// What a request makes, if it makes a task.
 pub fn made(request: &LastingRequest) -> Option<Made> {
     match request {
         LastingRequest::Create {

@@ -23,7 +23,7 @@ const MOST_EVENTS: u32 = 60_000;
 const STANDSTILLS: u32 = 12;
 
 /// A run: its number, its mix, its threshold and how many requests it has at most.
-#[derive(Clone, Copy, Debug)]
+#[derive(Clone, Copy)]
 pub struct Run {
     pub number: u64,
     pub mix: Mix,
@@ -49,7 +49,7 @@ pub struct Sum {
 /// The bits of all kinds of events.
 pub const ALL_KINDS: u64 = (1 << 23) - 2;
 
-/// Where a run found a difference: behind so many requests of it.
+/// Where a run found a difference: after so many requests of it.
 #[derive(Clone, Copy, Debug)]
 pub struct Found {
     pub request: u64,
@@ -127,7 +127,7 @@ impl Run {
         Ok(())
     }
 
-    /// One request, and what comes behind it. Whether it was accepted.
+    /// One request, and what comes after it. Whether it was accepted.
     pub fn play_one(&self, both: &mut Both, number: u64) -> Result<bool, Unlike> {
         let asked = self.request(both, number);
         let again = self.request(both, number);

@@ -3,7 +3,7 @@
 use crate::both::Both;
 use crate::dice::Dice;
 use crate::plainly::plain_task;
-use ada_events::{Entry, Member, TaskNo};
+use ada_events::{Entry, Master, Member};
 use ada_lasting::{LastingMaster, LastingTasks};
 
 /// The kernels, and what is known of their tasks.
@@ -91,22 +91,10 @@ impl Scene<'_> {
         if plain.0 >= self.both.plain.tasks() {
             return LastingMaster::Body(task);
         }
-        match self.innermost_block(plain) {
-            Some(position) => LastingMaster::Block(u64::from(position)),
-            None => LastingMaster::Body(task),
+        match self.both.plain.view().frame(plain) {
+            Master::Body(_) => LastingMaster::Body(task),
+            Master::Block(position) => LastingMaster::Block(u64::from(position)),
         }
-    }
-
-    fn innermost_block(self, task: TaskNo) -> Option<u32> {
-        let view = self.both.plain.view();
-        let nest = view.nest(task);
-        let mut found = None;
-        for place in 0..nest.len() {
-            if let Some(Member::Block(position)) = nest.get(place) {
-                found = Some(position);
-            }
-        }
-        found
     }
 
     /// The master of a new task: mostly what its maker is in, or what that depends on.
@@ -179,7 +167,7 @@ impl Scene<'_> {
             Some(made) => (made.families, made.low),
             None => (0, 0),
         };
-        let family = (dice.below(u32::from(families).max(1)) & 0xff) as u8;
+        let family = dice.below(u32::from(families.max(1))) as u8;
         if dice.one_in(25) {
             return Entry {
                 family: family.wrapping_add(dice.below(3) as u8),

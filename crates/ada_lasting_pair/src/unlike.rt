@@ -4,7 +4,7 @@ use std::alloc::{AllocError, AllocFailed};
 use thiserror::Error;
 
 /// In what a kernel that lives on is unlike one that keeps everything.
-#[derive(Clone, Copy, Debug, PartialEq, Eq, Error)]
+#[derive(Clone, Copy, Debug, Error)]
 pub enum Unlike {
     #[error("out of memory")]
     OutOfMemory,
@@ -56,7 +56,7 @@ impl<T: Drop> From<AllocFailed<T>> for Unlike {
     }
 }
 
-/// Fails where that doesn't hold.
+/// Fails if that doesn't hold.
 pub(crate) fn want(holds: bool, unlike: Unlike) -> Result<(), Unlike> {
     if holds { Ok(()) } else { Err(unlike) }
 }
