@@ -4,6 +4,7 @@ use crate::boards::{try_offer, try_open};
 use crate::halls::{HallCall, try_hall};
 use crate::journals::Reserving;
 use crate::kernels::{Making, Play};
+use crate::lasting::{LastingCall, try_lasting};
 use crate::saying;
 use crate::scenario::{EVENTS, LINES, Scene};
 use crate::scripts::{Copying, Printed, Printing, Reading, Spelling};
@@ -32,10 +33,11 @@ pub enum Call {
     HallNew,
     HallStep,
     HallSay,
+    Lasting(LastingCall),
 }
 
 /// All of them.
-pub const CALLS: [Call; 20] = [
+pub const CALLS: [Call; 25] = [
     Call::KernelNew,
     Call::KernelStep(Scene::EachEvent),
     Call::KernelStep(Scene::Termination),
@@ -56,6 +58,11 @@ pub const CALLS: [Call; 20] = [
     Call::HallNew,
     Call::HallStep,
     Call::HallSay,
+    Call::Lasting(LastingCall::New),
+    Call::Lasting(LastingCall::Create),
+    Call::Lasting(LastingCall::Tick),
+    Call::Lasting(LastingCall::DueCreate),
+    Call::Lasting(LastingCall::Compact),
 ];
 
 /// How many tasks there may be before one is added in a trial of it.
@@ -85,6 +92,7 @@ impl Call {
             Call::HallNew => "Hall::new",
             Call::HallStep => "Hall::step",
             Call::HallSay => "Hall::say",
+            Call::Lasting(call) => call.name(),
         }
     }
 
@@ -93,7 +101,7 @@ impl Call {
     pub fn numbers(self) -> usize {
         match self {
             Call::KernelStep(scene) => scene.requests(),
-            Call::AddTask | Call::ReserveCall => TASKS,
+            Call::AddTask | Call::ReserveCall | Call::Lasting(LastingCall::Create) => TASKS,
             Call::Words => LINES,
             Call::WriteEvent => EVENTS,
             Call::WriteShown => 2,
@@ -132,6 +140,7 @@ impl Call {
             Call::HallNew => try_hall(rt, HallCall::New, reach),
             Call::HallStep => try_hall(rt, HallCall::Step, reach),
             Call::HallSay => try_hall(rt, HallCall::Say(number), reach),
+            Call::Lasting(call) => Ok(try_lasting(alloc, call, number, reach)),
         }
     }
 }

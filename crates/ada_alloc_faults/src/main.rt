@@ -1,7 +1,8 @@
-//! Makes each call of the kernel, the tables, the journal, scripts, printing, the board and the hall that takes memory,
-//! for `tools/try_refusals`, which refuses each growth of it in turn: the call answers want of memory and leaves all
-//! that can be asked as it was, and made again it answers as if nothing had been refused; or a hall's step stands, and
-//! what is published is behind until the next one.
+//! Makes each call of the kernel, the one that lives on, the tables, the journal, scripts, printing, the board and the
+//! hall that takes memory, for `tools/try_refusals`, which refuses each growth of it in turn: the call answers want of
+//! memory and leaves all that can be asked as it was, and made again it answers as if nothing had been refused; or a
+//! hall's step stands, and what is published is behind until the next one; or a request to the kernel that lives on
+//! stands, and its present journal is made shorter later.
 #![tactic(auto)]
 
 mod boards;
@@ -9,6 +10,7 @@ mod calls;
 mod halls;
 mod journals;
 mod kernels;
+mod lasting;
 mod orders;
 mod saying;
 mod scenario;

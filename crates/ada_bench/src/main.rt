@@ -9,6 +9,7 @@ mod boards;
 mod floors;
 mod jobs;
 mod kernels;
+mod lasting;
 mod locked;
 mod published;
 mod queries;
@@ -23,6 +24,7 @@ mod workloads;
 mod works;
 
 use boards::{measure_boards, try_boards};
+use lasting::{ROUNDS, measure_lasting, try_lasting};
 use queries::Query;
 use scripts::Kind;
 use std::alloc::{AllocError, Global};
@@ -49,6 +51,9 @@ const MAKING: &str = "kernels";
 
 /// The name of the reads and publications of boards.
 const BOARDS: &str = "board";
+
+/// The name of what is measured of a kernel that lives on.
+const LASTING: &str = "lasting";
 
 /// Without a word, prints the names of what can be measured. With such a name, and perhaps a number of
 /// lines, rounds, tasks, events or times, measures it and prints the table. With `small`, tries all on
@@ -88,6 +93,7 @@ fn print_names(rt: &HostRuntime) -> anyhow::Result<()> {
         println!(rt; "{}", query.name())?;
     }
     println!(rt; "{}", MAKING)?;
+    println!(rt; "{}", LASTING)?;
     println!(rt; "{}", BOARDS)?;
     Ok(())
 }
@@ -102,6 +108,7 @@ fn try_all(rt: &HostRuntime) -> anyhow::Result<()> {
     for query in Query::ALL {
         try_query(rt, query, 3)?;
     }
+    try_lasting(rt, 5)?;
     Ok(())
 }
 
@@ -128,6 +135,9 @@ fn measure_named(rt: &HostRuntime, name: &str, size: Option<usize>) -> anyhow::R
     }
     if name == MAKING {
         measure_making(rt, times)?;
+    }
+    if name == LASTING {
+        measure_lasting(rt, size.map_or(ROUNDS, |size| size as u64))?;
     }
     Ok(())
 }

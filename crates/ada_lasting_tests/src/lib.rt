@@ -1,4 +1,5 @@
-//! Tests of a kernel that lives on: tasks that are given up, and limits.
+//! Tests of a kernel that lives on: random requests beside a kernel that keeps everything, tasks that are given up, and
+//! limits.
 #![tactic(auto)]
 
 #[cfg(test)]
@@ -7,3 +8,5 @@ mod asking;
 mod given_up;
 #[cfg(test)]
 mod limits;
+#[cfg(test)]
+mod random;

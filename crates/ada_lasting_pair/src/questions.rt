@@ -1,0 +1,119 @@
+//! The answers of both kernels to all questions, compared.
+
+use crate::both::Both;
+use crate::plainly::plain_task;
+use crate::unlike::{Unlike, want};
+use ada_events::{Entry, Outcome};
+use ada_lasting::NotDone;
+
+const FIRST: Entry = Entry {
+    family: 0,
+    index: 0,
+};
+
+impl Both {
+    /// Compares the answers to all questions.
+    pub fn compare(&self) -> Result<(), Unlike> {
+        let is_whole = self.long.finished() == self.plain.finished()
+            && self.long.names().made() == u64::from(self.plain.tasks());
+        want(is_whole, Unlike::Whole)?;
+        for task in 0..=self.tasks() {
+            self.compare_task(task)?;
+            self.compare_counts(task)?;
+        }
+        Ok(())
+    }
+
+    fn compare_task(&self, task: u64) -> Result<(), Unlike> {
+        if self.is_given_up(task) {
+            return self.want_nothing(task);
+        }
+        let plain = plain_task(task);
+        let is_terminated = self.plain.terminated(plain);
+        want(
+            self.long.terminated(task) == is_terminated,
+            Unlike::Terminated(task),
+        )?;
+        let is_callable = self.plain.callable(plain);
+        want(
+            self.long.callable(task) == is_callable,
+            Unlike::Callable(task),
+        )?;
+        let is_running = self.plain.running(plain);
+        want(self.long.running(task) == is_running, Unlike::Running(task))?;
+        self.compare_outcome(task)
+    }
+
+    // There are no answers about a task that was given up.
+    fn want_nothing(&self, task: u64) -> Result<(), Unlike> {
+        want(
+            self.long.terminated(task).is_none(),
+            Unlike::Terminated(task),
+        )?;
+        want(self.long.callable(task).is_none(), Unlike::Callable(task))?;
+        want(self.long.running(task).is_none(), Unlike::Running(task))?;
+        want(self.long.outcome(task).is_none(), Unlike::Outcome(task))
+    }
+
+    fn compare_outcome(&self, task: u64) -> Result<(), Unlike> {
+        let wanted = self.plain.outcome(plain_task(task));
+        let is_like = match (self.long.outcome(task), wanted) {
+            (Some(found), Some(wanted)) => self.is_like(found, wanted),
+            (None, None) => true,
+            _ => false,
+        };
+        want(is_like, Unlike::Outcome(task))
+    }
+
+    // Whether two outcomes are the same, but for the name of a call.
+    fn is_like(&self, found: Outcome, wanted: Outcome) -> bool {
+        let (call, choice) = match found {
+            Outcome::Accepted { call, choice } => (call, choice),
+            _ => return found == wanted,
+        };
+        match wanted {
+            Outcome::Accepted {
+                call: wanted_call,
+                choice: wanted_choice,
+            } => {
+                let name = self.long.names().lasting_position(call);
+                choice == wanted_choice && name == Some(u64::from(wanted_call))
+            }
+            _ => false,
+        }
+    }
+
+    // COUNT of the entries of a running task's families, of one beside them, and of a family that it doesn't have.
+    fn compare_counts(&self, task: u64) -> Result<(), Unlike> {
+        let Some(made) = self.made.get(task as usize) else {
+            return Ok(());
+        };
+        if self.plain.running(plain_task(task)) != Some(true) {
+            return self.compare_count(task, FIRST);
+        }
+        for family in 0..=made.families {
+            self.compare_family(task, family, made.low)?;
+        }
+        Ok(())
+    }
+
+    fn compare_family(&self, task: u64, family: u8, low: i32) -> Result<(), Unlike> {
+        for offset in 0..3 {
+            let index = low.wrapping_add(offset);
+            self.compare_count(task, Entry { family, index })?;
+        }
+        Ok(())
+    }
+
+    fn compare_count(&self, task: u64, entry: Entry) -> Result<(), Unlike> {
+        let wanted = if self.is_given_up(task) {
+            Err(NotDone::GivenUp(task))
+        } else {
+            match self.plain.count(plain_task(task), entry) {
+                Ok(count) => Ok(count),
+                Err(cause) => Err(NotDone::Refused(cause)),
+            }
+        };
+        want(self.long.count(task, entry) == wanted, Unlike::Count(task))
+    }
+}

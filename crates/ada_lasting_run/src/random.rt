@@ -1,0 +1,40 @@
+//! Random runs.
+
+use ada_lasting_pair::{Both, Found, Run, Sum};
+use anyhow::anyhow;
+
+/// Plays these runs, and prints what came up. Fails at the first difference, which it tells with the number of the run
+/// and of the request.
+pub fn play_all(rt: &HostRuntime, first: u64, runs: u64, length: u64) -> anyhow::Result<()> {
+    let mut sum = Sum::default();
+    for offset in 0..runs {
+        let number = first.wrapping_add(offset);
+        let run = Run::new(number, length);
+        if let Err(Found { request, unlike }) = run.play(rt.alloc(), &mut sum) {
+            return Err(anyhow!("run {number}, request {request}: {unlike}"));
+        }
+    }
+    println!(rt;
+        "{} runs: {} requests, {} accepted, {} events, {} tasks, {} of them given up, {} compactions without room",
+        sum.runs, sum.asked, sum.accepted, sum.events, sum.tasks, sum.given_up, sum.crowded
+    )?;
+    Ok(())
+}
+
+/// Prints what a run asks, and whether it is accepted, up to a difference or to its end.
+pub fn play_shown(rt: &HostRuntime, number: u64, length: u64) -> anyhow::Result<()> {
+    let run = Run::new(number, length);
+    println!(rt; "{run:?}")?;
+    let mut both = Both::new(run.threshold, rt.alloc())?;
+    for request in 0..run.length {
+        println!(rt; "{request}: {:?}", run.request(&both, request))?;
+        match run.play_one(&mut both, request) {
+            Ok(accepted) => println!(rt; "  {accepted}, {:?}", both.present())?,
+            Err(unlike) => {
+                println!(rt; "  differs: {unlike}")?;
+                return Ok(());
+            }
+        }
+    }
+    Ok(())
+}
