@@ -5,3 +5,4 @@ mod Suspended
 mod StandingIn
 mod Positions
 mod Placed
+mod Kept

@@ -16,7 +16,7 @@ pub enum NotCompacted {
     /// What a request would have to name has no name in the new journal, or the names have no order.
     #[error("unnamed")]
     Unnamed,
-    /// The check found that the new journal doesn't stand in for the old one.
+    /// The check found that the new journal doesn't stand in for the old one, or that a task that is kept has no name.
     #[error("not alike")]
     NotAlike,
 }

@@ -3,6 +3,7 @@ use Rattle.std.proofs.Common.{◌≡◌, ℕ, zero, suc, ◌<◌, true, not, Opt
 use Rattle.std.specs.Prelude.{nat_lt, nat_le, ◌-◌}
 use Rattle.std.proofs.lemmas.Bool.{and_parts, ltb-true, lt-ltb, lt-leb, ne_eqb}
 use Rattle.std.specs.Option.{option_and_then}
+use Rattle.std.proofs.lemmas.List.Elements.{All-nil}
 use Rattle.std.proofs.lemmas.Option.{none-some, same_Some}
 use Rattle.ada_events.specs.declared.event.Event.{Event}
 use Rattle.ada_events.specs.Tasks.{task_count, has_task, creation_of, families_of, moment}
@@ -17,6 +18,7 @@ use Rattle.ada_standing.specs.StandsIn.{StandsIn, is_live, activator_of}
 use Rattle.ada_lasting.specs.Naming.{found, position_of, renaming_of}
 use Rattle.ada_lasting.specs.internal.Keeping.{first_names}
 use Rattle.ada_lasting.specs.Following.{Long, Follows}
+use Rattle.ada_lasting.specs.Remembering.{IsRemembered, KnowsMasters}
 
 abbrev names : Renaming
 names = renaming_of first_names
@@ -93,13 +95,18 @@ stands_empty = record {
   });
 }
 
+-- the main program alone has a name, and no master
+no_masters : KnowsMasters [] first_names []
+no_masters = record { right = All-nil (IsRemembered []); complete = λ u v is other. absurd (other (alone u v is).0) }
+
 -- a kernel whose present journal is empty, with the first names, follows the empty journal
-pub begins : (kernel : Long) → kernel.present ≡ [] → kernel.names ≡ first_names → Follows [] kernel
+pub begins : (kernel : Long) → kernel.present ≡ [] → kernel.names ≡ first_names → kernel.masters ≡ [] → Follows [] kernel
 unfolding task_count
-begins kernel empty first = record {
+begins kernel empty first nobody = record {
   lawful = tt;
   settled = empty_is_settled;
   stands = rw (empty, first) stands_empty;
   length = rw first refl;
   made = rw first refl;
+  masters = rw (first, nobody) no_masters;
 }

@@ -39,7 +39,7 @@ pub count_after : (old : List Event) (r : Request) (new : List Event) → After 
 count_after old r new after = forced_count (asked_event old r ∷ old) new after.forces ∙ asked_count old r
 
 -- a name is found in the rows, or else in those after them
-found_first : (rows more : List Row) (lasting : ℕ) → found (rows ++ more) lasting ≡ option_or (found rows lasting) (found more lasting)
+pub found_first : (rows more : List Row) (lasting : ℕ) → found (rows ++ more) lasting ≡ option_or (found rows lasting) (found more lasting)
 unfolding found
 found_first [] more lasting = refl
 found_first (row ∷ rest) more lasting =

@@ -11,3 +11,6 @@ mod Asked
 mod MovedNames
 mod NamesBack
 mod WithoutTask
+mod Gone
+mod Remembering
+mod GivingUp

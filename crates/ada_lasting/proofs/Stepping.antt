@@ -1,5 +1,6 @@
 -- A kernel that lives on follows a journal without an end from request to request.
-use Rattle.std.proofs.Common.{◌≡◌, ℕ, suc, ◌+◌, ◌-◌, ◌≤◌, true, Some, None, List, ◌++◌, length, map, take, sym, ap, ◌∙◌, subst, if◌then◌else◌, arith}
+use Rattle.std.proofs.Common.{◌≡◌, ℕ, suc, ◌+◌, ◌-◌, ◌≤◌, true, Option, Some, None, List, ◌++◌, length, map, take, sym, ap, ◌∙◌, subst, if◌then◌else◌, arith}
+use Rattle.std.specs.Option.{option_map, is_some}
 use Rattle.std.proofs.lemmas.List.{length-append, take_at}
 use Rattle.ada_events.specs.declared.event.Event.{Event}
 use Rattle.ada_events.specs.declared.request.Request.{Request}
@@ -17,10 +18,15 @@ use Rattle.ada_standing.specs.Leading.{LedAlike}
 use Rattle.ada_standing.proofs.asked.Refusing.{refused_alike}
 use Rattle.ada_standing.proofs.led.Leading.{leads_alike}
 use Rattle.ada_lasting.specs.Naming.{Naming, length_of, renaming_of}
+use Rattle.ada_lasting.specs.declared.masters.Dependent.{Dependent}
+use Rattle.ada_lasting.specs.declared.requests.LastingMaster.{LastingMaster}
+use Rattle.ada_lasting.specs.Meaning.{meant_master}
+use Rattle.ada_lasting.specs.internal.Mastering.{asked_under, masters_next}
 use Rattle.ada_lasting.specs.internal.Nameable.{creates, names_nameable}
 use Rattle.ada_lasting.specs.Following.{Long, Follows, IsStepped}
 use Rattle.ada_lasting.specs.internal.Present.{IsPresent}
 use Rattle.ada_lasting.proofs.Meant.{kept_nameable}
+use Rattle.ada_lasting.proofs.Remembering.{masters_after}
 use Rattle.ada_lasting.proofs.Growing.{count_after, names_after, tasks_follow, positions_follow, lengths, growth_too}
 
 same_renaming : (x y : Renaming) → ((u : ℕ) → x.task u ≡ y.task u) → ((p : ℕ) → x.position p ≡ y.position p) → x ≡ y
@@ -51,11 +57,17 @@ module _ (journal : List Event) (kernel : Long) (follows : Follows journal kerne
     abbrev pub after : Naming
     after = names_after kernel.names r (task_count kernel.present) (length present)
 
-    abbrev pub stepped_kernel : Long
-    stepped_kernel = record { present = present; names = after; group = take (length present - length kernel.present) present }
+    abbrev pub stepped_kernel : List Dependent → Long
+    stepped_kernel masters = record {
+      present = present;
+      names = after;
+      group = take (length present - length kernel.present) present;
+      masters = masters;
+    }
 
-    pub stepped : IsStepped journal r (length_of kernel.names + 1) stepped_kernel
-    stepped =
+    pub stepped : (master : Option LastingMaster) → option_map meant_master master ≡ asked_under r → is_some master ≡ creates r
+        → IsStepped journal r (length_of kernel.names + 1) (stepped_kernel (masters_next master kernel.names.made kernel.masters))
+    stepped master asks makes =
         let (grown, leads) = leads_on-unlimited journal r follows.lawful follows.settled unrefused in
         let led : LedAlike journal kernel.present (renaming_of kernel.names) grown present =
         leads_alike journal kernel.present (renaming_of kernel.names) r grown present follows.stands follows.lawful
@@ -80,6 +92,8 @@ module _ (journal : List Event) (kernel : Long) (follows : Follows journal kerne
             stands = subst (StandsIn grown present) same led.stands;
             length = omega (arith, grew, longer, follows.length, is_present.short, is_present.order.grows);
             made = count_after journal r grown leads ∙ ap (λ n. if creates r then suc n else n) follows.made;
+            masters = masters_after journal r grown kernel.names kernel.masters master (task_count kernel.present) (length present) follows.made asks
+                makes leads follows.masters;
           };
           position = omega (arith, follows.length);
           steps = led.steps;

@@ -7,23 +7,28 @@ use Rattle.ada_events.specs.Lawful.{IsSettled, After}
 use Rattle.ada_laws.specs.Unlimited.{IsLawfulUnlimited, refusal_but_limits}
 use Rattle.ada_standing.specs.Renaming.{renamed_event}
 use Rattle.ada_standing.specs.StandsIn.{StandsIn}
+use Rattle.ada_lasting.specs.declared.masters.Dependent.{Dependent}
 use Rattle.ada_lasting.specs.Naming.{Naming, length_of, renaming_of}
+use Rattle.ada_lasting.specs.Remembering.{KnowsMasters}
 
--- what a contract sees of a kernel that lives on: its present journal, what has lasting names in it, and the events that
--- the last request appended to it, the newest first
+-- what a contract sees of a kernel that lives on: its present journal, what has lasting names in it, the events that the
+-- last request appended to it, the newest first, and the masters that it remembers of tasks
 pub record Long : Type 0 where
   pub present : List Event
   pub names : Naming
   pub group : List Event
+  pub masters : List Dependent
 
 -- the kernel follows a journal without an end: this is lawful, where tasks, slots and events have no limit, and settled,
--- the present journal stands in for it, and the next event and the next task will have their places in it as names
+-- the present journal stands in for it, the next event and the next task will have their places in it as names, and the
+-- masters of tasks are remembered
 pub record Follows (journal : List Event) (kernel : Long) : Type 0 where
   pub lawful : IsLawfulUnlimited journal
   pub settled : IsSettled journal
   pub stands : StandsIn journal kernel.present (renaming_of kernel.names)
   pub length : length journal ≡ length_of kernel.names
   pub made : task_count journal ≡ kernel.names.made
+  pub masters : KnowsMasters journal kernel.names kernel.masters
 
 -- the request was accepted: it isn't refused, where tasks, slots and events have no limit; its event stands at this
 -- position of what it leads to, which the kernel follows then; and each of the events by which the present journal grew

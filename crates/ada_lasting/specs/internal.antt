@@ -4,3 +4,4 @@ pub mod Nameable
 pub mod Keeping
 pub mod Causes
 pub mod Moving
+pub mod Mastering

@@ -1,16 +1,18 @@
 //! A kernel that lives on.
 
-ghost use Rattle.std.specs.Prelude.{◌≡◌, ◌<◌, ℕ, IfErr, IfOk, Ok, OnErr, OnOk, List, [], None, is_some, reverse};
+ghost use Rattle.std.specs.Prelude.{◌≡◌, ◌≢◌, ◌<◌, ℕ, IfErr, IfOk, Ok, OnErr, OnOk, List, [], None, Some, is_some, reverse};
 ghost use Rattle.std.specs.Bool.{then_some};
 ghost use Rattle.ada_events.specs.declared.event.Event.{Event as Happening};
 ghost use Rattle.ada_events.specs.Attributes.{is_callable, is_finished, own_count};
 ghost use Rattle.ada_events.specs.Outcomes.{outcome_of};
 ghost use Rattle.ada_standing.specs.Renaming.{renamed_outcome};
-ghost use Rattle.std.specs.Option.{option_and_then};
+ghost use Rattle.std.specs.Option.{option_and_then, option_map};
 ghost use Rattle.ada_events.specs.Phases.{is_running, is_terminated};
 ghost use Rattle.ada_lasting.specs.internal.Present.{IsPresent, with_next};
 ghost use Rattle.ada_lasting.specs.Following.{Follows, IsStepped, Long};
-ghost use Rattle.ada_lasting.specs.Meaning.{meant};
+ghost use Rattle.ada_lasting.specs.GivingUp.{GivesUpOnly};
+ghost use Rattle.ada_lasting.specs.Meaning.{meant, meant_master};
+ghost use Rattle.ada_lasting.specs.internal.Mastering.{asked_under};
 ghost use Rattle.ada_lasting.specs.internal.Nameable.{creates};
 ghost use Rattle.ada_lasting.specs.Naming.{found, renaming_of};
 ghost use Rattle.ada_lasting.specs.Refusing.{IsRefused, IsUncounted, IsWant};
@@ -51,6 +53,7 @@ impl Model for LongKernel {
       present = k.kernel;
       names = k.names;
       group = take (length k.kernel - k.group) k.kernel;
+      masters = k.masters;
     } };
 
     ghost invariant = { λ k. (length k.kernel ≡ k.names.until) × (k.group ≤ length k.kernel) };
@@ -61,7 +64,8 @@ impl LastingRequest {
     #[tactic(auto, unfolding(crate::specs::Meaning::meant))]
     #[inline(always)]
     fn master(&self) -> Option<LastingMaster>
-        ensures { is_some result ≡ creates (meant self.now) }
+        ensures made { is_some result ≡ creates (meant self.now) }
+        ensures under { option_map meant_master result ≡ asked_under (meant self.now) }
     {
         match self {
             LastingRequest::Create { master, .. } => Some(*master),
@@ -105,8 +109,8 @@ impl LongKernel {
     /// Answers a request. Accepted, its event is appended to the journal without an end, and then exactly the steps
     /// that it forces, in order, and the answer is the position of its event, from 1. Refused, nothing is changed.
     ///
-    /// Before the request is asked, the present journal may be made shorter: then the terminated tasks are given up
-    /// whose masters are terminated or left.
+    /// Before the request is asked, the present journal may be made shorter, as by [`LongKernel::compact`]. It stays so if
+    /// the request is refused.
     // Inlined, as all that it does for each request, so that no request is copied on its way to the present kernel.
     #[inline(always)]
     pub fn step(&mut self, request: LastingRequest) -> Result<u64, NotDone>
@@ -114,6 +118,8 @@ impl LongKernel {
             → IsStepped journal (meant request) at self.new) }
         ensures err { IfErr result (λ cause. (journal : List Happening)
             → Follows journal self.old → IsRefused journal (meant request) cause self.new) }
+        ensures given_up { (journal : List Happening) → Follows journal self.old
+            → GivesUpOnly journal self.old.names self.new.names }
     {
         if let Err(cause) = self.make_room(&request) {
             return Err(cause);
@@ -121,19 +127,27 @@ impl LongKernel {
         self.ask(request)
     }
 
-    /// Makes the present journal shorter.
+    /// Makes the present journal shorter. Terminated tasks are given up whose masters are gone, and no others: a master
+    /// is gone if the task is terminated whose body it is, or if no task that lives is within the block (9.4).
     ///
     /// # Errors
     ///
-    /// [`NotDone::NotCompacted`] if helpers have no room, or for want of memory. Nothing has changed then.
+    /// [`NotDone::NotCompacted`] if helpers have no room, or for want of memory; [`NotDone::NoMoreNames`]. Nothing has
+    /// changed then.
+    #[tactic(auto, using(crate::proofs::GivingUp::same_names))]
     pub fn compact(&mut self) -> Result<(), NotDone>
         ensures follows { (journal : List Happening) → Follows journal self.old
             → Follows journal self.new }
+        ensures given_up { (journal : List Happening) → Follows journal self.old
+            → GivesUpOnly journal self.old.names self.new.names }
         ensures err { OnErr result (self.new ≡ self.old) }
         ensures want { IfErr result (λ cause. IsWant cause) }
     {
         self.known();
-        let Ok(kept) = self.masters.kept(&self.kernel, &self.names, self.alloc) else {
+        let Ok(kept) = self
+            .masters
+            .kept(&self.kernel.view(), &self.names, self.alloc)
+        else {
             return Err(NotDone::NotCompacted(NotCompacted::OutOfMemory));
         };
         let Compacted { kernel, names } = match compact(&self.kernel, &kept, self.alloc) {
@@ -179,9 +193,12 @@ impl LongKernel {
     }
 
     #[inline(always)]
+    #[tactic(auto, using(crate::proofs::GivingUp::same_names))]
     fn make_room(&mut self, request: &LastingRequest) -> Result<(), NotDone>
         ensures follows { (journal : List Happening) → Follows journal self.old
             → Follows journal self.new }
+        ensures given_up { (journal : List Happening) → Follows journal self.old
+            → GivesUpOnly journal self.old.names self.new.names }
         ensures want { IfErr result (λ cause. IsWant cause) }
     {
         let due = self.kernel.journal().len() >= self.due;
@@ -193,9 +210,12 @@ impl LongKernel {
 
     // Makes the present journal shorter, or puts it off if there is room without it.
     #[inline(never)]
+    #[tactic(auto, using(crate::proofs::GivingUp::same_names))]
     fn shorten(&mut self) -> Result<(), NotDone>
         ensures follows { (journal : List Happening) → Follows journal self.old
             → Follows journal self.new }
+        ensures given_up { (journal : List Happening) → Follows journal self.old
+            → GivesUpOnly journal self.old.names self.new.names }
         ensures want { IfErr result (λ cause. IsWant cause) }
     {
         match self.compact() {
@@ -211,7 +231,7 @@ impl LongKernel {
     // Names the task that a request makes, if it makes one.
     #[inline(always)]
     fn name_next(&mut self, master: Option<LastingMaster>) -> Result<(), NotDone>
-        ensures ok { OnOk result (self.new ≡ with_next (is_some master) self.old) }
+        ensures ok { OnOk result (self.new ≡ with_next master self.old) }
         ensures err { OnErr result (self.new ≡ self.old) }
         ensures want { IfErr result (λ cause. IsWant cause) }
     {
@@ -235,8 +255,7 @@ impl LongKernel {
     // Takes the name back, since the task wasn't made.
     #[inline(always)]
     fn unname_next(&mut self, master: Option<LastingMaster>)
-        ensures { (kernel : Long) → self.old ≡ with_next (is_some master) kernel
-            → self.new ≡ kernel }
+        ensures { (kernel : Long) → self.old ≡ with_next master kernel → self.new ≡ kernel }
     {
         if master.is_some() {
             self.names.take_back();
@@ -250,6 +269,8 @@ impl LongKernel {
             → IsStepped journal (meant request) at self.new) }
         ensures err { IfErr result (λ cause. (journal : List Happening)
             → Follows journal self.old → IsRefused journal (meant request) cause self.new) }
+        ensures names { (task v : ℕ) → found self.old.names.tasks task ≡ Some v
+            → found self.new.names.tasks task ≡ Some v }
     {
         self.known();
         let before = self.kernel.journal().len();
@@ -275,7 +296,7 @@ impl LongKernel {
         }
     }
 
-    /// Gives a terminated task up: it may not be named any more.
+    /// Gives a terminated task up: it may not be named any more. All others keep their names.
     ///
     /// # Errors
     ///
@@ -285,6 +306,8 @@ impl LongKernel {
         ensures follows { (journal : List Happening) → Follows journal self.old
             → Follows journal self.new }
         ensures ok { OnOk result (found self.new.names.tasks task ≡ None) }
+        ensures others { (other : ℕ) → other ≢ task
+            → found self.new.names.tasks other ≡ found self.old.names.tasks other }
         ensures err { OnErr result (self.new ≡ self.old) }
     {
         self.known();

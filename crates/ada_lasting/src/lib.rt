@@ -15,6 +15,7 @@ pub mod rows;
 
 pub use failure::NotDone;
 pub use kernel::LongKernel;
+pub use masters::Dependent;
 pub use moving::NotMoved;
 pub use names::Names;
 pub use requests::{LastingMaster, LastingRequest, LastingTasks};

@@ -1,16 +1,29 @@
 //! On whom the tasks depend that may still be named, so that a task is given up when its master is gone (9.4).
 
+ghost use Rattle.std.specs.Prelude.{◌≡◌, ◌&&◌, ◌++◌, [], ◌∷◌, List, true, IfOk, IfNone, IfSome, OnErr, OnOk, Some};
+ghost use Rattle.std.specs.List.{All, list_any};
+ghost use Rattle.ada_events.specs.declared.names.Master.TheVariants.{Block as BlockMaster};
+ghost use Rattle.ada_events.specs.Nests.{nest};
+ghost use Rattle.ada_lasting.specs.GivingUp.{IsGone};
+ghost use Rattle.ada_lasting.specs.Meaning.{meant_master};
+ghost use Rattle.ada_lasting.specs.Naming.{found, renaming_of};
+ghost use Rattle.ada_lasting.specs.declared.masters.Dependent.{Dependent as DependentValue};
+ghost use Rattle.ada_lasting.specs.internal.Mastering.{IsKeptOrGone, named_masters};
+ghost use Rattle.ada_standing.specs.Renaming.{renamed_master};
+ghost use Rattle.ada_standing.specs.StandsIn.{is_block, is_live};
+
 use crate::Names;
 use crate::requests::LastingMaster;
-use ada_events::{Event, Master, Member, TaskNo};
-use ada_kernel::Kernel;
+use ada_events::{Master, TaskNo};
+use ada_view::{View, queries};
 use std::alloc::{AllocError, Global};
+use std::marker::Model;
 
 /// A task, and the master that it depends on.
-#[derive(Clone, Copy)]
-struct Dependent {
-    task: u64,
-    master: LastingMaster,
+#[derive(Clone, Copy, Debug, PartialEq, Eq)]
+pub struct Dependent {
+    pub task: u64,
+    pub master: LastingMaster,
 }
 
 /// The masters of tasks, in the order of the tasks.
@@ -19,73 +32,135 @@ pub(crate) struct Masters {
     dependents: Vec<Dependent>,
 }
 
-// Whether the block that was opened at a position is left, or its task terminated within it (9.10).
-fn is_left(kernel: &Kernel, block: u32) -> bool {
-    let view = kernel.view();
-    match kernel.journal().get(block) {
-        Some(Event::Opened { by, .. })
-            if by.0 < kernel.tasks() && kernel.terminated(*by) == Some(false) => {
-            let nest = view.nest(*by);
-            !(0..nest.len()).any(|place| nest.get(place) == Some(Member::Block(block)))
-        }
-        _ => true,
+impl Model for Masters {
+    ghost use Rattle.std.specs.Prelude.{List};
+    ghost use Rattle.ada_lasting.specs.declared.masters.Dependent.{Dependent};
+
+    ghost Value = { List Dependent };
+
+    ghost view = { λ m. m.dependents.items };
+}
+
+// Whether the task lives.
+fn is_live(view: &View, task: TaskNo) -> bool
+    ensures { result ≡ is_live view.now task.0 }
+{
+    task.0 < queries::tasks(view) && !view.record(task).stage.terminated
+}
+
+// Whether the task lives, and is within the block.
+fn is_within(view: &View, task: TaskNo, block: u32) -> bool
+    ensures { result ≡ (is_live view.now task.0
+        && list_any (is_block block) (nest view.now task.0)) }
+{
+    is_live(view, task) && view.nest(task).has_block(block)
+}
+
+// Whether no task that lives is within the block, since it is left, or its task terminated in it (9.10).
+fn is_left(view: &View, block: u32) -> bool
+    ensures { result ≡ true → IsGone view.now (BlockMaster block) }
+{
+    match view.opener(block) {
+        Some(task) => !is_within(view, task, block),
+        None => true,
     }
 }
 
-// Whether the master is terminated, left, or given up.
-fn is_gone(kernel: &Kernel, names: &Names, master: LastingMaster) -> bool {
+// Whether a master of the present journal is gone.
+fn is_gone(view: &View, master: Master) -> bool
+    ensures { result ≡ true → IsGone view.now master }
+{
     match master {
-        LastingMaster::Body(task) => match names.task(task) {
-            Some(task) => kernel.terminated(task) != Some(false),
-            None => true,
-        },
-        LastingMaster::Block(block) => match names.position(block) {
-            Some(block) => is_left(kernel, block),
-            None => true,
-        },
+        Master::Body(task) => view.record(task).stage.terminated,
+        Master::Block(block) => is_left(view, block),
+    }
+}
+
+impl Names {
+    // The master that has the name in the present journal.
+    #[tactic(auto, unfolding(ada_standing::specs::Renaming::renamed_master))]
+    fn master(&self, lasting: LastingMaster) -> Option<Master>
+        ensures { result ≡ renamed_master (renaming_of self.now) (meant_master lasting) }
+    {
+        match lasting {
+            LastingMaster::Body(task) => match self.task(task) {
+                Some(task) => Some(Master::Body(task)),
+                None => None,
+            },
+            LastingMaster::Block(position) => match self.position(position) {
+                Some(block) => Some(Master::Block(block)),
+                None => None,
+            },
+        }
+    }
+
+    // The task in the present journal, if it has a name there, is terminated, and its master isn't gone.
+    fn kept_task(&self, view: &View, dependent: Dependent) -> Option<TaskNo>
+        ensures gone { IfNone result (IsKeptOrGone view.now self.now [] dependent) }
+        ensures named { IfSome result (λ task.
+            found self.now.tasks dependent.task ≡ Some task.0) }
+    {
+        let task = self.task(dependent.task)?;
+        if !view.record(task).stage.terminated {
+            return None;
+        }
+        match self.master(dependent.master) {
+            Some(master) if !is_gone(view, master) => Some(task),
+            _ => None,
+        }
     }
 }
 
 impl Masters {
-    pub(crate) fn new(alloc: Global) -> Self {
+    pub(crate) fn new(alloc: Global) -> Self
+        ensures { result ≡ [] }
+    {
         Masters {
             dependents: Vec::new(alloc),
         }
     }
 
     /// Adds a task, which is made last.
-    pub(crate) fn add(&mut self, task: u64, master: LastingMaster) -> Result<(), AllocError> {
+    pub(crate) fn add(&mut self, task: u64, master: LastingMaster) -> Result<(), AllocError>
+        ensures ok { OnOk result (self.new
+            ≡ self.old ++ (record { task = task; master = master } ∷ [])) }
+        ensures err { OnErr result (self.new ≡ self.old) }
+    {
         self.dependents.push(Dependent { task, master })?;
         Ok(())
     }
 
     /// Takes back the task that was added last.
-    pub(crate) fn take_back(&mut self) {
+    pub(crate) fn take_back(&mut self)
+        ensures { (before : List DependentValue) (last : DependentValue)
+            → self.old ≡ before ++ (last ∷ []) → self.new ≡ before }
+    {
         let _ = self.dependents.pop();
     }
 
     /// The terminated tasks that have names, and whose masters aren't gone.
     pub(crate) fn kept(
         &self,
-        kernel: &Kernel,
+        view: &View,
         names: &Names,
         alloc: Global,
-    ) -> Result<Vec<TaskNo>, AllocError> {
+    ) -> Result<Vec<TaskNo>, AllocError>
+        ensures { IfOk result (λ kept.
+            All (IsKeptOrGone view.now names.now kept.items) self.now) }
+    {
         let mut kept = Vec::new(alloc);
         for dependent in &self.dependents {
-            if let Some(task) = names.task(dependent.task) {
-                if kernel.terminated(task) == Some(true)
-                    && !is_gone(kernel, names, dependent.master)
-                {
-                    kept.push(task)?;
-                }
+            if let Some(task) = names.kept_task(view, *dependent) {
+                kept.push(task)?;
             }
         }
         Ok(kept)
     }
 
     /// Forgets the tasks that have no names any more.
-    pub(crate) fn retain(&mut self, names: &Names) {
+    pub(crate) fn retain(&mut self, names: &Names)
+        ensures { self.new ≡ named_masters names.now self.old }
+    {
         self.dependents
             .retain(|dependent| names.task(dependent.task).is_some());
     }

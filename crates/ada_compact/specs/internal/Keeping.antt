@@ -1,7 +1,8 @@
 -- What is right of one task, and of the first so many, and the order of those that stand for them.
-use Rattle.std.specs.Prelude.{◌≡◌, ℕ, ◌<◌, true, false, Some, List}
+use Rattle.std.specs.Prelude.{◌≡◌, ℕ, ◌<◌, Bool, true, false, not, ◌||◌, Some, List, is_some}
 use Rattle.ada_events.specs.declared.event.Event.{Event}
 use Rattle.ada_events.specs.Phases.{is_terminated, has_ended}
+use Rattle.ada_events.specs.Tasks.{has_task}
 use Rattle.ada_standing.specs.Renaming.{Renaming}
 use Rattle.ada_standing.specs.StandsIn.{is_live, KeepsTasks, IsSameTask, IsSameDependent, IsSameNest, IsSameActive}
 
@@ -26,3 +27,7 @@ pub record RisesBelow (names : Renaming) (many low : ℕ) : Type 0 where
 pub record AreTasksRight (old new : List Event) (names : Renaming) : Type 0 where
   pub keeps : KeepsTasks old new names
   pub stands : (u v : ℕ) → names.task u ≡ Some v → IsStandIn old new names u v
+
+-- the task may still be named, or doesn't exist
+abbrev pub is_named : List Event → Renaming → ℕ → Bool
+is_named journal names task = not (has_task journal task) || is_some (names.task task)

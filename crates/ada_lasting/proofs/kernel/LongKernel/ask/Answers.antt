@@ -5,7 +5,7 @@ use Rattle.ada_events.specs.Tasks.{task_count}
 use Rattle.ada_events.specs.Steps.{IsAccepted, IsRefused as IsRefusedNow}
 use Rattle.ada_standing.specs.Asking.{renamed_request}
 use Rattle.ada_lasting.specs.declared.failure.NotDone.TheVariants.{GivenUp}
-use Rattle.ada_lasting.specs.Naming.{Naming, renaming_of, length_of}
+use Rattle.ada_lasting.specs.Naming.{Naming, found, renaming_of, length_of}
 use Rattle.ada_lasting.specs.internal.Keeping.{grown_to}
 use Rattle.ada_lasting.specs.Meaning.{meant}
 use Rattle.ada_lasting.specs.internal.Nameable.{names_nameable}
@@ -13,6 +13,7 @@ use Rattle.ada_lasting.specs.Following.{Long, Follows}
 use Rattle.ada_lasting.specs.Refusing.{IsRefused}
 use Rattle.ada_lasting.specs.internal.Causes.{named_cause}
 use Rattle.ada_lasting.specs.internal.Present.{named_next, with_next}
+use Rattle.ada_lasting.proofs.GivingUp.{names_stay}
 use Rattle.ada_lasting.proofs.Asked.{given_up, stepped_by, refused_by, after_longer}
 use Rattle.ada_lasting.proofs.kernel.LongKernel.ask.Goals as goal
 
@@ -34,7 +35,7 @@ invariant_of-self c =
     let long : c.len.result ≡ length c.step.new.self = c.len.ensures ∙ ap length c.journal-in-Ok-step.ensures.events in
     let before : c.len-before.result ≡ length c.self.inside.kernel = c.len-before.ensures ∙ ap length c.journal.ensures.events in
     let same : c.self-2.inside.kernel ≡ c.self.inside.kernel =
-    ap (λ (k : Long). k.present) (c.self-2.view_is ∙ (c.in_default.ensures.ok ∙ ap (with_next (is_some c.master-master.result)) (sym c.self.view_is))) in
+    ap (λ (k : Long). k.present) (c.self-2.view_is ∙ (c.in_default.ensures.ok ∙ ap (with_next c.master-master.result) (sym c.self.view_is))) in
     (sym long ∙ sym (ap (λ (n : Naming). n.until) c.grow.ensures), omega (arith, longer, before, ap length same))
 
 pub returns-in-Ok-step-clause-ok : goal.returns-in-Ok-step-clause-ok
@@ -59,8 +60,9 @@ returns-in-Ok-step-clause-ok c = λ journal follows.
     c.len-before.ensures ∙ (ap length c.journal.ensures.events ∙ ap (λ (k : Long). length k.present) c.self.view_is) in
     let next : c.next_position-position.result ≡ length_of kernel.names + 1 =
     c.next_position-position.ensures ∙ ap (λ (k : Long). length_of k.names + 1) c.self.view_is in
-    stepped_by journal kernel follows r c.known.ensures nameable more c.master-master.ensures c.in-Ok-step.field-0 _ c.next_position-position.result accepted
-    names (ap (λ n. take (length c.step.new.self - n) c.step.new.self) before) next
+    stepped_by journal kernel follows r c.known.ensures nameable c.master-master.result c.master-master.ensures.under c.master-master.ensures.made
+    c.in-Ok-step.field-0 _ c.next_position-position.result accepted names (ap (λ n. take (length c.step.new.self - n) c.step.new.self) before)
+    (ap (λ (k : Long). k.masters) named) next
 
 pub returns-in-Err-step-clause-err : goal.returns-in-Err-step-clause-err
 returns-in-Err-step-clause-err c = λ journal follows.
@@ -74,8 +76,32 @@ returns-in-Err-step-clause-err c = λ journal follows.
     subst (λ q. IsRefusedNow kernel.present q c.in-Err-step.cause c.step.new.self) asked
     (subst (λ (p : List Event). IsRefusedNow p c.in-Ok.asked c.in-Err-step.cause c.step.new.self) (ap (λ (k : Long). k.present) named)
     c.in-Err-step.ensures.err) in
-    let view : List Event → Long = λ p. record { present = p; names = c.self-2.inside.names; group = take (length p - c.self-2.inside.group) p } in
+    let view : List Event → Long = λ p. record {
+      present = p;
+      names = c.self-2.inside.names;
+      group = take (length p - c.self-2.inside.group) p;
+      masters = c.self-2.inside.masters;
+    } in
     let restored : c.unname_next.new.self ≡ kernel = c.unname_next.ensures kernel (ap view c.in-Err-step.ensures.err.unchanged ∙ named) in
     subst (λ x. IsRefused journal r x c.unname_next.new.self) (sym c.named.ensures)
     (subst (IsRefused journal r (named_cause c.in-Err-step.cause)) (sym restored)
     (refused_by journal kernel follows r c.known.ensures nameable c.in-Err-step.cause c.step.new.self refused))
+
+pub returns-in-Ok-step-clause-names : goal.returns-in-Ok-step-clause-names
+returns-in-Ok-step-clause-names c = λ task v is.
+    let named = c.self-2.view_is ∙ c.in_default.ensures.ok in
+    rw (c.grow.ensures, ap (λ (k : Long). k.names) named)
+    (names_stay (is_some c.master-master.result) c.args.self.now.names (task_count c.args.self.now.present) c.len.result task v is)
+
+pub returns-in-Err-step-clause-names : goal.returns-in-Err-step-clause-names
+returns-in-Err-step-clause-names c = λ task v is.
+    let kernel : Long = c.args.self.now in
+    let named = c.self-2.view_is ∙ c.in_default.ensures.ok in
+    let view : List Event → Long = λ p. record {
+      present = p;
+      names = c.self-2.inside.names;
+      group = take (length p - c.self-2.inside.group) p;
+      masters = c.self-2.inside.masters;
+    } in
+    let restored : c.unname_next.new.self ≡ kernel = c.unname_next.ensures kernel (ap view c.in-Err-step.ensures.err.unchanged ∙ named) in
+    ap (λ (k : Long). found k.names.tasks task) restored ∙ is

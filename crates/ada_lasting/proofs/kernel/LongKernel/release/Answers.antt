@@ -4,9 +4,9 @@ use Rattle.ada_events.specs.declared.names.TaskNo.{TaskNo}
 use Rattle.ada_events.specs.Tasks.{has_task}
 use Rattle.ada_events.specs.Phases.{is_terminated}
 use Rattle.ada_lasting.specs.Naming.{found}
-use Rattle.ada_lasting.specs.Following.{Follows}
+use Rattle.ada_lasting.specs.Following.{Long, Follows}
 use Rattle.ada_lasting.proofs.Shortened.{released, dead_told}
-use Rattle.ada_lasting.proofs.WithoutTask.{found-without-same}
+use Rattle.ada_lasting.proofs.WithoutTask.{found-without-same, found-without-other}
 use Rattle.ada_lasting.proofs.kernel.LongKernel.release.Goals as goal
 
 pub returns-in-Some-clause-follows : goal.returns-in-Some-clause-follows
@@ -21,3 +21,8 @@ returns-in-Some-clause-follows c = λ journal follows.
 
 pub returns-in-Some-clause-ok : goal.returns-in-Some-clause-ok
 returns-in-Some-clause-ok c = rw c.forget.ensures (found-without-same c.self.inside.names.tasks c.args.task)
+
+pub returns-in-Some-clause-others : goal.returns-in-Some-clause-others
+returns-in-Some-clause-others c = λ other differs.
+    subst (λ (k : Long). found c.forget.new.self.tasks other ≡ found k.names.tasks other) c.self.view_is
+    (rw c.forget.ensures (found-without-other c.self.inside.names.tasks c.args.task other differs))
