@@ -109,8 +109,8 @@ impl LongKernel {
     /// Answers a request. Accepted, its event is appended to the journal without an end, and then exactly the steps
     /// that it forces, in order, and the answer is the position of its event, from 1. Refused, nothing is changed.
     ///
-    /// Before the request is asked, the present journal may be made shorter, as by [`LongKernel::compact`]. It stays so if
-    /// the request is refused.
+    /// Before the request is asked, the present journal may be made shorter, as by [`LongKernel::compact`]. It stays so
+    /// if the request is refused.
     // Inlined, as all that it does for each request, so that no request is copied on its way to the present kernel.
     #[inline(always)]
     pub fn step(&mut self, request: LastingRequest) -> Result<u64, NotDone>
