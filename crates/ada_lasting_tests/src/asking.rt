@@ -1,6 +1,6 @@
 //! Requests to a kernel that lives on, in few words, and what a test wants of its answers, a question in each function.
 
-use ada_events::{Choice, Choices, Entry, Families, Family, Patience, Refusal, Tail};
+use ada_events::{Choice, Choices, Entry, Families, Family, Patience, Refusal, Tail, TaskNo};
 use ada_lasting::{LastingMaster, LastingRequest, LastingTasks, LongKernel, NotDone};
 use std::process::Abort;
 
@@ -125,7 +125,7 @@ pub fn assert_compacts<R: Abort>(rt: &R, kernel: &mut LongKernel) {
     assert_eq!(rt; kernel.compact(), Ok(()));
 }
 
-/// TERMINATED of a task; `None` where it was given up or never made.
+/// TERMINATED of a task; `None` if it was given up or never made.
 pub fn assert_terminated<R: Abort>(
     rt: &R,
     kernel: &LongKernel,
@@ -133,4 +133,60 @@ pub fn assert_terminated<R: Abort>(
     terminated: Option<bool>,
 ) {
     assert_eq!(rt; kernel.terminated(task), terminated, "{task}");
+}
+
+/// A task that depends on a master is made and activated: its creation is at this position, and its activation follows
+/// with three events.
+pub fn make_up<R: Abort>(rt: &R, kernel: &mut LongKernel, by: u64, master: LastingMaster, at: u64) {
+    let task = kernel.names().made();
+    assert_accepted(rt, kernel, create(by, master), at);
+    assert_accepted(rt, kernel, activate(by, task), at.wrapping_add(1));
+    assert_accepted(rt, kernel, up(task), at.wrapping_add(2));
+}
+
+/// A task lives so, and ends with two more events, its completion and its termination.
+pub fn live_and_end<R: Abort>(
+    rt: &R,
+    kernel: &mut LongKernel,
+    by: u64,
+    master: LastingMaster,
+    at: u64,
+) {
+    let task = kernel.names().made();
+    make_up(rt, kernel, by, master, at);
+    assert_accepted(rt, kernel, complete(task), at.wrapping_add(4));
+    assert_terminated(rt, kernel, task, Some(true));
+}
+
+/// Task 1 lives and ends in a block of the main program, which is left at 9.
+pub fn live_in_a_block<R: Abort>(rt: &R, kernel: &mut LongKernel) {
+    assert_accepted(rt, kernel, LastingRequest::Open { by: MAIN }, 1);
+    live_and_end(rt, kernel, MAIN, LastingMaster::Block(1), 2);
+    assert_accepted(rt, kernel, LastingRequest::Close { by: MAIN }, 8);
+}
+
+/// The numbers of tasks 2 and 3 and of the call at 18 aren't those of the present journal.
+fn assert_moved<R: Abort>(rt: &R, kernel: &LongKernel) {
+    let names = kernel.names();
+    assert_eq!(rt; names.task(1), None);
+    for task in [2u16, 3] {
+        let present = names.task(u64::from(task));
+        assert!(rt;
+            present.is_some() && present != Some(TaskNo(task)),
+            "{present:?}"
+        );
+    }
+    let call = names.position(18);
+    assert!(rt; call.is_some() && call != Some(18), "{call:?}");
+}
+
+/// Task 1 lives, ends, and is given up when the journal is made shorter; by then tasks 2 and 3 are up, and task 3 has
+/// called task 2, at 18.
+pub fn start_to_call<R: Abort>(rt: &R, kernel: &mut LongKernel) {
+    live_in_a_block(rt, kernel);
+    make_up(rt, kernel, MAIN, MAIN_BODY, 10);
+    make_up(rt, kernel, MAIN, MAIN_BODY, 14);
+    assert_accepted(rt, kernel, call(3, 2), 18);
+    assert_compacts(rt, kernel);
+    assert_moved(rt, kernel);
 }

@@ -2,7 +2,8 @@
 
 use crate::asking::{
     ENTRY, MAIN, MAIN_BODY, abort, accept, activate, assert_accepted, assert_compacts,
-    assert_given_up, assert_refused, assert_release, assert_terminated, call, complete, create, up,
+    assert_given_up, assert_refused, assert_release, assert_terminated, call, complete, create,
+    live_and_end, live_in_a_block, make_up,
 };
 use ada_events::Refusal;
 use ada_lasting::{LastingMaster, LastingRequest, LongKernel, NotDone};
@@ -10,23 +11,6 @@ use std::process::Abort;
 use std::test::Fail;
 
 const LATE: u32 = 4096;
-
-// A task that depends on a master, by the task that makes it: its creation is at this position, its activation follows
-// with three events, and its completion and its end with two.
-fn live_and_end<R: Abort>(
-    rt: &R,
-    kernel: &mut LongKernel,
-    by: u64,
-    master: LastingMaster,
-    at: u64,
-) {
-    let task = kernel.names().made();
-    assert_accepted(rt, kernel, create(by, master), at);
-    assert_accepted(rt, kernel, activate(by, task), at.wrapping_add(1));
-    assert_accepted(rt, kernel, up(task), at.wrapping_add(2));
-    assert_accepted(rt, kernel, complete(task), at.wrapping_add(4));
-    assert_terminated(rt, kernel, task, Some(true));
-}
 
 #[test]
 fn a_release_is_refused_for_who_never_was_the_main_program_and_who_lives(
@@ -103,17 +87,10 @@ fn a_task_is_given_up_once_its_block_is_left(rt: HostRuntime) -> Result<(), Fail
     Ok(())
 }
 
-// Main makes task 1, up at 3, whose activation ends at 4.
-fn begin<R: Abort>(rt: &R, kernel: &mut LongKernel) {
-    assert_accepted(rt, kernel, create(MAIN, MAIN_BODY), 1);
-    assert_accepted(rt, kernel, activate(MAIN, 1), 2);
-    assert_accepted(rt, kernel, up(1), 3);
-}
-
 #[test]
 fn a_task_is_given_up_once_its_master_terminates(rt: HostRuntime) -> Result<(), Fail> {
     let mut kernel = LongKernel::new(LATE, rt.alloc())?;
-    begin(&rt, &mut kernel);
+    make_up(&rt, &mut kernel, MAIN, MAIN_BODY, 1);
     live_and_end(&rt, &mut kernel, 1, LastingMaster::Body(1), 5);
     assert_compacts(&rt, &mut kernel);
     assert_terminated(&rt, &kernel, 2, Some(true));
@@ -130,7 +107,7 @@ fn a_task_is_given_up_once_its_block_ended_with_the_task_that_opened_it(
     rt: HostRuntime,
 ) -> Result<(), Fail> {
     let mut kernel = LongKernel::new(LATE, rt.alloc())?;
-    begin(&rt, &mut kernel);
+    make_up(&rt, &mut kernel, MAIN, MAIN_BODY, 1);
     assert_accepted(&rt, &mut kernel, LastingRequest::Open { by: 1 }, 5);
     live_and_end(&rt, &mut kernel, 1, LastingMaster::Block(5), 6);
     assert_compacts(&rt, &mut kernel);
@@ -140,5 +117,42 @@ fn a_task_is_given_up_once_its_block_ended_with_the_task_that_opened_it(
     assert_compacts(&rt, &mut kernel);
     assert_terminated(&rt, &kernel, 2, None);
     assert_terminated(&rt, &kernel, 1, Some(true));
+    Ok(())
+}
+
+// The journal has nine events, the number from which on it is made shorter before the next request.
+fn begin_due<R: Abort>(rt: &R, kernel: &mut LongKernel) {
+    live_in_a_block(rt, kernel);
+    assert_eq!(rt; kernel.present().journal().len(), 9);
+    assert_terminated(rt, kernel, 1, Some(true));
+}
+
+// The journal was made shorter, and task 1 given up, but nothing happened: the next event is at 10.
+fn assert_shorter<R: Abort>(rt: &R, kernel: &mut LongKernel) {
+    assert!(rt; kernel.present().journal().len() < 9);
+    assert!(rt; kernel.events().is_empty());
+    assert_terminated(rt, kernel, 1, None);
+    assert_accepted(rt, kernel, LastingRequest::Open { by: MAIN }, 10);
+}
+
+#[test]
+fn a_refused_request_may_give_tasks_up(rt: HostRuntime) -> Result<(), Fail> {
+    let mut kernel = LongKernel::new(9, rt.alloc())?;
+    begin_due(&rt, &mut kernel);
+    assert_refused(&rt, &mut kernel, complete(2), Refusal::UnknownTask);
+    assert_shorter(&rt, &mut kernel);
+    Ok(())
+}
+
+#[test]
+fn a_request_may_give_up_the_very_task_that_it_names(rt: HostRuntime) -> Result<(), Fail> {
+    let mut kernel = LongKernel::new(9, rt.alloc())?;
+    begin_due(&rt, &mut kernel);
+    assert_given_up(&rt, &mut kernel, abort(MAIN, 1), 1);
+    assert_shorter(&rt, &mut kernel);
+    // Here the journal isn't due yet, and an abort of a terminated task is accepted.
+    let mut kernel = LongKernel::new(10, rt.alloc())?;
+    begin_due(&rt, &mut kernel);
+    assert_accepted(&rt, &mut kernel, abort(MAIN, 1), 10);
     Ok(())
 }
