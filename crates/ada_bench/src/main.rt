@@ -137,7 +137,7 @@ fn measure_named(rt: &HostRuntime, name: &str, size: Option<usize>) -> anyhow::R
         measure_making(rt, times)?;
     }
     if name == LASTING {
-        measure_lasting(rt, size.map_or(ROUNDS, |size| size as u64))?;
+        measure_lasting(rt, size.unwrap_or(ROUNDS))?;
     }
     Ok(())
 }
