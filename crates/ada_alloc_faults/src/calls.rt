@@ -4,7 +4,7 @@ use crate::boards::{try_offer, try_open};
 use crate::halls::{HallCall, try_hall};
 use crate::journals::Reserving;
 use crate::kernels::{Making, Play};
-use crate::lasting::{LastingCall, try_lasting};
+use crate::lasting::{LastingCall, Living};
 use crate::saying;
 use crate::scenario::{EVENTS, LINES, Scene};
 use crate::scripts::{Copying, Printed, Printing, Reading, Spelling};
@@ -60,7 +60,7 @@ pub const CALLS: [Call; 25] = [
     Call::HallSay,
     Call::Lasting(LastingCall::New),
     Call::Lasting(LastingCall::Create),
-    Call::Lasting(LastingCall::Tick),
+    Call::Lasting(LastingCall::DueTick),
     Call::Lasting(LastingCall::DueCreate),
     Call::Lasting(LastingCall::Compact),
 ];
@@ -140,7 +140,7 @@ impl Call {
             Call::HallNew => try_hall(rt, HallCall::New, reach),
             Call::HallStep => try_hall(rt, HallCall::Step, reach),
             Call::HallSay => try_hall(rt, HallCall::Say(number), reach),
-            Call::Lasting(call) => Ok(try_lasting(alloc, call, number, reach)),
+            Call::Lasting(call) => Ok(lasting(alloc, call, number, reach)),
         }
     }
 }
@@ -162,6 +162,12 @@ fn step(alloc: Global, scene: Scene, number: usize, reach: Reach) -> anyhow::Res
 fn table(alloc: Global, call: TableCall, tasks: usize, reach: Reach) -> Option<Seen> {
     let trial = TableTrial::prepare(alloc, call, tasks);
     let twin = TableTrial::prepare(alloc, call, tasks);
+    go(trial, twin, reach)
+}
+
+fn lasting(alloc: Global, call: LastingCall, tasks: usize, reach: Reach) -> Option<Seen> {
+    let trial = Living::prepare(alloc, call, tasks);
+    let twin = Living::prepare(alloc, call, tasks);
     go(trial, twin, reach)
 }
 

@@ -1,6 +1,7 @@
 //! Trials of a kernel that lives on.
 
-use crate::trial::{Answer, Reach, Seen, Trial};
+use crate::kernels::are_same;
+use crate::trial::{Answer, Trial};
 use ada_compact::NotCompacted;
 use ada_events::{Choice, Choices, Entry, Families, Family, Patience, Refusal, Tail};
 use ada_lasting::{LastingMaster, LastingRequest, LastingTasks, LongKernel, NotDone};
@@ -12,8 +13,8 @@ pub enum LastingCall {
     New,
     /// A creation.
     Create,
-    /// A tick, before which the present journal is made shorter, and a creation.
-    Tick,
+    /// A tick and a creation before which the present journal is due to be made shorter.
+    DueTick,
     DueCreate,
     /// The making of a shorter journal alone.
     Compact,
@@ -25,10 +26,19 @@ impl LastingCall {
         match self {
             LastingCall::New => "LongKernel::new",
             LastingCall::Create => "LongKernel::step:create",
-            LastingCall::Tick => "LongKernel::step:due",
+            LastingCall::DueTick => "LongKernel::step:due_tick",
             LastingCall::DueCreate => "LongKernel::step:due_create",
             LastingCall::Compact => "LongKernel::compact",
         }
+    }
+
+    fn is_due(self) -> bool {
+        matches!(self, LastingCall::DueTick | LastingCall::DueCreate)
+    }
+
+    /// The number of events at which the present journal is made shorter: soon, or in no trial.
+    fn threshold(self) -> u32 {
+        if self.is_due() { SOON } else { LATE }
     }
 }
 
@@ -45,13 +55,9 @@ const ENTRY: Entry = Entry {
     index: 0,
 };
 
-/// The numbers of events at which the present journal is made shorter: soon, and in no trial.
 const SOON: u32 = 64;
 
 const LATE: u32 = 60_000;
-
-/// How many tasks and requests there are at most before a call.
-const MOST: usize = 64;
 
 /// A kernel that lives on.
 #[derive(Drop)]
@@ -59,42 +65,9 @@ pub struct Living {
     alloc: Global,
     call: LastingCall,
     kernel: Option<LongKernel>,
-    // The last answer.
-    last: Result<u64, NotDone>,
+    /// The position that the last accepted request was answered.
+    at: u64,
     moment: i64,
-}
-
-/// Goes so far in a trial of a call, with so many more tasks before it.
-pub fn try_lasting(alloc: Global, call: LastingCall, number: usize, reach: Reach) -> Option<Seen> {
-    let mut trial = Living::prepare(alloc, call, number);
-    let mut twin = Living::prepare(alloc, call, number);
-    match reach {
-        Reach::Before => None,
-        Reach::Call => {
-            let _ = trial.call();
-            None
-        }
-        Reach::Whole => Some(look(&mut trial, &mut twin)),
-    }
-}
-
-// Where the present journal isn't made shorter for want of memory, the request is answered all the same.
-fn look(trial: &mut Living, twin: &mut Living) -> Seen {
-    let answer = trial.call();
-    let unchanged = answer != Answer::Refused || trial.is_like(twin);
-    let last = match answer {
-        Answer::Refused => trial.call(),
-        _ => answer,
-    };
-    let done = last != Answer::Failed && last != Answer::Refused && twin.call() == Answer::Done;
-    let alike = trial.last == twin.last && trial.is_like(twin);
-    trial.go_on();
-    twin.go_on();
-    Seen {
-        answer,
-        unchanged,
-        again: done && alike && trial.last == twin.last && trial.is_like(twin),
-    }
 }
 
 fn create() -> LastingRequest {
@@ -145,33 +118,28 @@ fn end() -> LastingRequest {
 }
 
 impl Living {
-    fn prepare(alloc: Global, call: LastingCall, number: usize) -> Living {
+    /// Before a call, with so many tasks.
+    pub fn prepare(alloc: Global, call: LastingCall, tasks: usize) -> Living {
         let mut living = Living {
             alloc,
             call,
             kernel: None,
-            last: Ok(0),
+            at: 0,
             moment: 0,
         };
-        if call == LastingCall::New {
-            return living;
+        if call != LastingCall::New {
+            living.make();
+            living.begin();
+            for _ in 1..tasks {
+                living.ask(create());
+            }
+            living.fill();
         }
-        living.make();
-        living.begin();
-        for _ in 1..number {
-            living.ask(create());
-        }
-        living.fill();
         living
     }
 
-    // Makes the kernel.
     fn make(&mut self) -> Answer {
-        let threshold = match self.call {
-            LastingCall::Tick | LastingCall::DueCreate => SOON,
-            _ => LATE,
-        };
-        match LongKernel::new(threshold, self.alloc) {
+        match LongKernel::new(self.call.threshold(), self.alloc) {
             Ok(kernel) => {
                 self.kernel = Some(kernel);
                 Answer::Done
@@ -180,9 +148,16 @@ impl Living {
         }
     }
 
-    fn ask(&mut self, request: LastingRequest) {
-        if let Some(kernel) = &mut self.kernel {
-            self.last = kernel.step(request);
+    fn ask(&mut self, request: LastingRequest) -> Answer {
+        let Some(kernel) = &mut self.kernel else {
+            return Answer::Failed;
+        };
+        match kernel.step(request) {
+            Ok(at) => {
+                self.at = at;
+                Answer::Done
+            }
+            Err(cause) => answer_of(cause),
         }
     }
 
@@ -213,13 +188,17 @@ impl Living {
         self.ask(end());
     }
 
-    // Ticks until the present journal is due to be made shorter, where it is to be.
+    // Ticks until the present journal is due to be made shorter.
     fn fill(&mut self) {
-        for _ in 0..MOST {
+        for _ in 0..SOON {
             if self.events() < SOON {
-                self.ask(LastingRequest::Tick { now: 0 });
+                self.tick();
             }
         }
+    }
+
+    fn tick(&mut self) -> Answer {
+        self.ask(LastingRequest::Tick { now: self.moment })
     }
 
     // How many events the present journal has.
@@ -230,15 +209,14 @@ impl Living {
         }
     }
 
-    // Makes the request of the call, which may leave the present journal as long as it is.
-    fn step(&mut self, request: LastingRequest) -> Answer {
+    // A due request is accepted though there is no memory for a shorter journal: the present one grows. It is refused
+    // only if it needs memory of its own.
+    fn ask_due(&mut self, request: LastingRequest) -> Answer {
         let before = self.events();
-        self.ask(request);
-        let is_longer = self.events() > before;
-        match self.last {
-            Ok(_) if self.call != LastingCall::Create && is_longer => Answer::Behind,
-            Ok(_) => Answer::Done,
-            Err(cause) => answer_of(cause),
+        match self.ask(request) {
+            Answer::Done if self.events() > before => Answer::Behind,
+            Answer::Refused if self.call == LastingCall::DueTick => Answer::Failed,
+            answer => answer,
         }
     }
 
@@ -249,6 +227,12 @@ impl Living {
                 Err(cause) => answer_of(cause),
             },
             None => Answer::Failed,
+        }
+    }
+
+    fn release(&mut self, task: u64) {
+        if let Some(kernel) = &mut self.kernel {
+            let _ = kernel.release(task);
         }
     }
 }
@@ -265,48 +249,57 @@ impl Trial for Living {
     fn call(&mut self) -> Answer {
         match self.call {
             LastingCall::New => self.make(),
-            LastingCall::Create | LastingCall::DueCreate => self.step(create()),
-            LastingCall::Tick => self.step(LastingRequest::Tick { now: 0 }),
+            LastingCall::Create => self.ask(create()),
+            LastingCall::DueTick => self.ask_due(LastingRequest::Tick { now: self.moment }),
+            LastingCall::DueCreate => self.ask_due(create()),
             LastingCall::Compact => self.compact(),
         }
     }
 
+    // Time passes, in which a due journal is made shorter; the queued call is served; a task is given up.
     fn go_on(&mut self) {
         self.moment = self.moment.wrapping_add(10);
-        self.ask(LastingRequest::Tick { now: self.moment });
+        for _ in 0..SOON {
+            self.tick();
+        }
         self.ask(accept());
         self.ask(end());
         self.ask(create());
         self.ask(LastingRequest::Close { by: CLIENT });
         self.ask(LastingRequest::Complete { by: CLIENT });
-        if let Some(kernel) = &mut self.kernel {
-            let _ = kernel.release(CLIENT);
-            let _ = kernel.compact();
+        self.release(CLIENT);
+        if !self.call.is_due() {
+            self.compact();
         }
         self.ask(create());
     }
 
     fn is_like(&self, other: &Living) -> bool {
-        // A present journal that was due may be of either length.
-        let is_due = matches!(self.call, LastingCall::Tick | LastingCall::DueCreate);
-        match (&self.kernel, &other.kernel) {
-            (Some(kernel), Some(other_kernel)) => {
-                are_alike(kernel, other_kernel)
-                    && (is_due || have_same_journal(kernel, other_kernel))
+        self.at == other.at
+            && match (&self.kernel, &other.kernel) {
+                (Some(kernel), Some(other_kernel)) if self.call.is_due() => {
+                    are_alike(kernel, other_kernel) && is_short(kernel)
+                }
+                (Some(kernel), Some(other_kernel)) => {
+                    are_alike(kernel, other_kernel)
+                        && kernel.events() == other_kernel.events()
+                        && are_same(kernel.present(), other_kernel.present())
+                }
+                (None, None) => true,
+                _ => false,
             }
-            (None, None) => true,
-            _ => false,
-        }
     }
 }
 
-fn have_same_journal(kernel: &LongKernel, other: &LongKernel) -> bool {
-    kernel.present().journal().as_slice() == other.present().journal().as_slice()
+// Whether the present journal was made shorter, or is due for the first time.
+fn is_short(kernel: &LongKernel) -> bool {
+    kernel.present().journal().len() < 2 * SOON
 }
 
-// Whether two kernels have as many tasks, and tell the same of each by its lasting name.
+// Whether two kernels follow as many events and tasks, and tell the same of each task by its lasting name.
 fn are_alike(kernel: &LongKernel, other: &LongKernel) -> bool {
     kernel.names().made() == other.names().made()
+        && kernel.names().next_position() == other.names().next_position()
         && (0..kernel.names().made()).all(|task| tell_the_same(kernel, other, task))
 }
 

@@ -7,12 +7,18 @@ use ada_events::Refusal;
 pub enum Answer {
     /// It did its work.
     Done,
-    /// It did its work, and what it publishes is behind for want of memory.
+    /// It did its work, and is behind for want of memory: with what it publishes, or with a shorter journal.
     Behind,
     /// It was refused for want of memory.
     Refused,
     /// It failed for another cause.
     Failed,
+}
+
+impl Answer {
+    fn is_done(self) -> bool {
+        matches!(self, Answer::Done | Answer::Behind)
+    }
 }
 
 impl From<Refusal> for Answer {
@@ -72,12 +78,12 @@ pub fn go<T: Trial>(mut trial: T, mut twin: T, reach: Reach) -> Option<Seen> {
 
 fn look<T: Trial>(trial: &mut T, twin: &mut T) -> Seen {
     let answer = trial.call();
-    let unchanged = answer == Answer::Done || trial.is_like(twin);
+    let unchanged = answer.is_done() || trial.is_like(twin);
     let last = match answer {
         Answer::Refused => trial.call(),
         _ => answer,
     };
-    let done = last == Answer::Done && twin.call() == Answer::Done;
+    let done = last.is_done() && twin.call() == Answer::Done;
     let alike = trial.is_like(twin);
     trial.go_on();
     twin.go_on();
