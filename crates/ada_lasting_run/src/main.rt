@@ -19,7 +19,7 @@ const GENERATIONS: u64 = 2;
 
 /// Without a word, tries both on little, and prints what it came to. With `random` and perhaps a first number, how many
 /// runs, and about how many requests each has, plays these runs; with `shown` and a number, prints the requests of a
-/// run; with `life` and a number, lives so many generations of about 5,000 requests, and prints what it kept at most.
+/// run; with `life` and a number, lives so many generations of about 5,000 requests, and prints the memory it took.
 fn main(rt: HostRuntime) -> anyhow::Result<()> {
     let words: Vec<String> = env::args(&rt)?.collect(rt.alloc())?;
     match words.get(1) {
