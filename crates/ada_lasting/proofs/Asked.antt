@@ -11,7 +11,6 @@ use Rattle.ada_events.specs.Steps.{IsAccepted, IsRefused as IsRefusedNow}
 use Rattle.ada_standing.specs.Asking.{renamed_request}
 use Rattle.ada_lasting.specs.declared.masters.Dependent.{Dependent}
 use Rattle.ada_lasting.specs.declared.requests.LastingMaster.{LastingMaster}
-use Rattle.ada_lasting.specs.declared.rows.Row.{Row}
 use Rattle.ada_lasting.specs.declared.failure.NotDone.{NotDone}
 use Rattle.ada_lasting.specs.declared.failure.NotDone.TheVariants.{GivenUp}
 use Rattle.ada_lasting.specs.Naming.{Naming, length_of, renaming_of}
@@ -20,7 +19,7 @@ use Rattle.ada_lasting.specs.Meaning.{meant_master}
 use Rattle.ada_lasting.specs.internal.Mastering.{asked_under, masters_next}
 use Rattle.ada_lasting.specs.internal.Nameable.{creates, names_nameable}
 use Rattle.ada_lasting.specs.Following.{Long, Follows, IsStepped}
-use Rattle.ada_lasting.specs.Refusing.{IsRefused, IsCause, IsWant}
+use Rattle.ada_lasting.specs.Refusing.{IsRefused, IsWant}
 use Rattle.ada_lasting.specs.internal.Causes.{named_cause}
 use Rattle.ada_lasting.specs.internal.Present.{IsPresent, named_next}
 use Rattle.ada_lasting.proofs.Meant.{kept_nameable}

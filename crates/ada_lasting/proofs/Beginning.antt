@@ -1,21 +1,19 @@
 -- At the beginning the kernel follows the empty journal.
-use Rattle.std.proofs.Common.{◌≡◌, ℕ, zero, suc, ◌<◌, true, not, Option, Some, None, List, [], length, map, refl, sym, ap, ◌∙◌, arith}
-use Rattle.std.specs.Prelude.{nat_lt, nat_le, ◌-◌}
+use Rattle.std.proofs.Common.{◌≡◌, ℕ, zero, suc, ◌<◌, true, not, Some, [], map, refl, sym, ap, arith}
+use Rattle.std.specs.Prelude.{◌-◌}
 use Rattle.std.proofs.lemmas.Bool.{and_parts, ltb-true, lt-ltb, lt-leb, ne_eqb}
 use Rattle.std.specs.Option.{option_and_then}
 use Rattle.std.proofs.lemmas.List.Elements.{All-nil}
 use Rattle.std.proofs.lemmas.Option.{none-some, same_Some}
-use Rattle.ada_events.specs.declared.event.Event.{Event}
-use Rattle.ada_events.specs.Tasks.{task_count, has_task, creation_of, families_of, moment}
+use Rattle.ada_events.specs.Tasks.{task_count, has_task, creation_of}
 use Rattle.ada_events.specs.Phases.{is_terminated, is_completed}
 use Rattle.ada_events.specs.Nests.{nest}
 use Rattle.ada_events.specs.Search.{event_at, gathered}
 use Rattle.ada_events.specs.Outcomes.{outcome_of, last_given}
 use Rattle.ada_laws.proofs.GroupLaws.{empty_is_settled}
-use Rattle.ada_laws.specs.Suspension.{IsSuspendedAt}
 use Rattle.ada_standing.specs.Renaming.{Renaming, renamed_outcome, renamed_member}
 use Rattle.ada_standing.specs.StandsIn.{StandsIn, is_live, activator_of}
-use Rattle.ada_lasting.specs.Naming.{found, position_of, renaming_of}
+use Rattle.ada_lasting.specs.Naming.{found, renaming_of}
 use Rattle.ada_lasting.specs.internal.Keeping.{first_names}
 use Rattle.ada_lasting.specs.Following.{Long, Follows}
 use Rattle.ada_lasting.specs.Remembering.{IsRemembered, KnowsMasters}

@@ -1,12 +1,11 @@
 -- Who is given up where a shorter present journal is taken: only tasks whose masters are gone.
 use Rattle.std.proofs.Common.{◌≡◌, ◌≢◌, ℕ, ◌<◌, Bool, true, false, Option, Some, None, List, [], ◌∷◌, refl, sym, ap, ◌∙◌, subst, inl, inr}
-use Rattle.std.specs.Option.{option_map, option_and_then, option_or}
+use Rattle.std.specs.Option.{option_and_then, option_or}
 use Rattle.std.specs.List.{All}
-use Rattle.std.proofs.lemmas.Bool.{cases_Bool, true≢false, ltb-true}
+use Rattle.std.proofs.lemmas.Bool.{cases_Bool, ltb-true}
 use Rattle.std.proofs.lemmas.Option.{none-some, same_Some}
 use Rattle.ada_events.specs.declared.event.Event.{Event}
 use Rattle.ada_events.specs.declared.names.TaskNo.{TaskNo}
-use Rattle.ada_events.specs.declared.names.Master.{Master}
 use Rattle.ada_events.specs.Says.{Creation}
 use Rattle.ada_events.specs.Tasks.{task_count, creation_of}
 use Rattle.ada_events.specs.Phases.{is_terminated, lists_task}
@@ -14,14 +13,13 @@ use Rattle.ada_events.specs.Forced.{task_no}
 use Rattle.ada_laws.proofs.Parents.{master_known-unlimited}
 use Rattle.ada_laws.proofs.Searching.{option_map-some}
 use Rattle.ada_standing.specs.Names.{Names, named, renaming_of as standing_of}
-use Rattle.ada_standing.specs.StandsIn.{StandsIn, is_live}
+use Rattle.ada_standing.specs.StandsIn.{StandsIn}
 use Rattle.ada_standing.proofs.alike.Pairs.{live_from}
 use Rattle.ada_compact.specs.Kept.{AreNamed}
-use Rattle.ada_lasting.specs.declared.masters.Dependent.{Dependent}
 use Rattle.ada_lasting.specs.Naming.{Naming, AreInOrder, found, renaming_of}
 use Rattle.ada_lasting.specs.Meaning.{meant_master}
 use Rattle.ada_lasting.specs.Following.{Long, Follows}
-use Rattle.ada_lasting.specs.GivingUp.{IsGone, MayBeGivenUp, GivesUpOnly}
+use Rattle.ada_lasting.specs.GivingUp.{MayBeGivenUp, GivesUpOnly}
 use Rattle.ada_lasting.specs.Remembering.{IsRemembered}
 use Rattle.ada_lasting.specs.declared.rows.Row.{Row}
 use Rattle.ada_lasting.specs.internal.Keeping.{grown_to}

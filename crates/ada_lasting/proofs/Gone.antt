@@ -1,5 +1,5 @@
 -- When a master is gone, in the present journal and in the one that it stands in for.
-use Rattle.std.proofs.Common.{◌≡◌, ℕ, ◌&&◌, true, false, Some, None, List, [], ◌∷◌, sym, ap, ◌∙◌, subst, refl, inl, inr}
+use Rattle.std.proofs.Common.{◌≡◌, ℕ, ◌&&◌, true, false, Some, None, List, sym, ap, ◌∙◌, inl, inr}
 use Rattle.std.specs.Option.{option_map}
 use Rattle.std.specs.List.{list_any}
 use Rattle.std.proofs.lemmas.Bool.{cases_Bool, and_from, true≢false, false_from_ne_true}

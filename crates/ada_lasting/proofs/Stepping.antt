@@ -1,11 +1,10 @@
 -- A kernel that lives on follows a journal without an end from request to request.
-use Rattle.std.proofs.Common.{◌≡◌, ℕ, suc, ◌+◌, ◌-◌, ◌≤◌, true, Option, Some, None, List, ◌++◌, length, map, take, sym, ap, ◌∙◌, subst, if◌then◌else◌, arith}
+use Rattle.std.proofs.Common.{◌≡◌, ℕ, suc, ◌+◌, ◌-◌, true, Option, Some, None, List, ◌++◌, length, map, take, sym, ap, ◌∙◌, subst, if◌then◌else◌, arith}
 use Rattle.std.specs.Option.{option_map, is_some}
 use Rattle.std.proofs.lemmas.List.{length-append, take_at}
 use Rattle.ada_events.specs.declared.event.Event.{Event}
 use Rattle.ada_events.specs.declared.request.Request.{Request}
 use Rattle.ada_events.specs.Tasks.{task_count}
-use Rattle.ada_events.specs.Lawful.{After}
 use Rattle.ada_events.specs.Steps.{IsAccepted}
 use Rattle.ada_laws.specs.Unlimited.{refusal_but_limits}
 use Rattle.ada_laws.proofs.Limitless.{lawful_unlimited, accepted_without_limits}
