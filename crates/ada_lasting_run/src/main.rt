@@ -9,17 +9,18 @@ use life::{Life, live};
 use random::{play_all, play_shown};
 use std::{env, fs};
 
-/// How many random runs there are, where nothing else is asked for, and about how many requests each has.
+/// How many random runs there are, if nothing else is asked for, and about how many requests each has.
 const RUNS: u64 = 8;
 
 const LENGTH: u64 = 128;
 
-/// How many generations a life has, where nothing else is asked for.
+/// How many generations a life has, if nothing else is asked for.
 const GENERATIONS: u64 = 2;
 
-/// Without a word, tries both on little, and prints what it came to. With `random` and perhaps a first number, how many
-/// runs, and about how many requests each has, plays these runs; with `shown` and a number, prints the requests of a run;
-/// with `life` and a number, lives so many generations of about 5,000 requests, and prints the memory that it took.
+/// Without a word, tries both on little, and prints what it came to. With `random` and perhaps a first number, how
+/// many runs, and about how many requests each has, plays these runs; with `shown` and a number, prints the requests of
+/// a run; with `life` and a number, lives so many generations of about 5,000 requests, and prints the memory that it
+/// took.
 fn main(rt: HostRuntime) -> anyhow::Result<()> {
     let words: Vec<String> = env::args(&rt)?.collect(rt.alloc())?;
     match words.get(1) {
@@ -59,8 +60,8 @@ fn print_life(rt: &HostRuntime, generations: u64) -> anyhow::Result<()> {
         most_tasks,
     } = live(rt.alloc(), generations)?;
     println!(rt;
-        "{generations} generations: {requests} requests, {events} events, {tasks} tasks; at most {most_events} events and \
-         {most_tasks} tasks at a time"
+        "{generations} generations: {requests} requests, {events} events, {tasks} tasks; \
+         at most {most_events} events and {most_tasks} tasks at a time"
     )?;
     Ok(())
 }

@@ -15,7 +15,8 @@ pub fn play_all(rt: &HostRuntime, first: u64, runs: u64, length: u64) -> anyhow:
         }
     }
     println!(rt;
-        "{} runs: {} requests, {} accepted, {} events, {} tasks, {} of them given up, {} compactions without room",
+        "{} runs: {} requests, {} accepted, {} events, {} tasks, {} of them given up, \
+         {} compactions without room",
         sum.runs, sum.asked, sum.accepted, sum.events, sum.tasks, sum.given_up, sum.crowded
     )?;
     Ok(())
@@ -24,7 +25,10 @@ pub fn play_all(rt: &HostRuntime, first: u64, runs: u64, length: u64) -> anyhow:
 /// Prints what a run asks, and whether it is accepted, up to a difference or to its end.
 pub fn play_shown(rt: &HostRuntime, number: u64, length: u64) -> anyhow::Result<()> {
     let run = Run::new(number, length);
-    println!(rt; "{run:?}")?;
+    println!(rt;
+        "up to {} requests, threshold {}",
+        run.length, run.threshold
+    )?;
     let mut both = Both::new(run.threshold, rt.alloc())?;
     for request in 0..run.length {
         println!(rt; "{request}: {:?}", run.request(&both, request))?;

@@ -1,5 +1,5 @@
-//! The events of the last request to a kernel that lives on, once its journal was made shorter, and the lasting names of
-//! what they name.
+//! The events of the last request to a kernel that lives on, once its journal was made shorter, and the lasting names
+//! of what they name.
 
 use crate::asking::{MAIN, abort, accept, assert_accepted, assert_compacts, end, start_to_call};
 use ada_events::{Event, TaskNo};
