@@ -17,9 +17,10 @@ const LENGTH: u64 = 128;
 /// How many generations a life has, if nothing else is asked for.
 const GENERATIONS: u64 = 2;
 
-/// Without a word, tries both on little, and prints what it came to. With `random` and perhaps a first number, how many
-/// runs, and about how many requests each has, plays these runs; with `shown` and a number, prints the requests of a
-/// run; with `life` and a number, lives so many generations of about 5,000 requests, and prints the memory it took.
+/// Without a word, tries both on little, and prints what it came to. With `random` and perhaps a first number, how
+/// many runs, and about how many requests each has, plays these runs; with `shown` and a number, prints the requests of
+/// a run; with `life` and a number, lives so many generations of about 5,000 requests, and prints the memory that it
+/// took.
 fn main(rt: HostRuntime) -> anyhow::Result<()> {
     let words: Vec<String> = env::args(&rt)?.collect(rt.alloc())?;
     match words.get(1) {

@@ -1,5 +1,6 @@
 //! Random runs.
 
+use ada_lasting::LastingRequest;
 use ada_lasting_pair::{Both, Found, Run, Sum};
 use anyhow::anyhow;
 
@@ -30,15 +31,32 @@ pub fn play_shown(rt: &HostRuntime, number: u64, length: u64) -> anyhow::Result<
         run.length, run.threshold
     )?;
     let mut both = Both::new(run.threshold, rt.alloc())?;
-    for request in 0..run.length {
-        println!(rt; "{request}: {:?}", run.request(&both, request))?;
-        match run.play_one(&mut both, request) {
-            Ok(accepted) => println!(rt; "  {accepted}, {:?}", both.present())?,
-            Err(unlike) => {
-                println!(rt; "  differs: {unlike}")?;
-                return Ok(());
-            }
+    show_all(rt, &run, &mut both)
+}
+
+fn show_all(rt: &HostRuntime, run: &Run, both: &mut Both) -> anyhow::Result<()> {
+    for number in 0..run.length {
+        show_request(rt, number, &run.request(both, number))?;
+        if !show_answer(rt, run, both, number)? {
+            break;
         }
     }
     Ok(())
+}
+
+fn show_request(rt: &HostRuntime, number: u64, request: &LastingRequest) -> anyhow::Result<()> {
+    println!(rt; "{number}: {request:?}")?;
+    Ok(())
+}
+
+// Makes a request of the run, and prints what comes of it. Whether the kernels did the same.
+fn show_answer(rt: &HostRuntime, run: &Run, both: &mut Both, number: u64) -> anyhow::Result<bool> {
+    match run.play_one(both, number) {
+        Ok(accepted) => println!(rt; "  {accepted}, {:?}", both.present())?,
+        Err(unlike) => {
+            println!(rt; "  differs: {unlike}")?;
+            return Ok(false);
+        }
+    }
+    Ok(true)
 }

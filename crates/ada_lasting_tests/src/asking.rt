@@ -1,4 +1,5 @@
-//! Requests to a kernel that lives on, in few words, and what a test wants of its answers, a question in each function.
+//! Requests to a kernel that lives on, in few words, and what a test wants of their answers, a question in each
+//! function.
 
 use ada_events::{Choice, Choices, Entry, Families, Family, Patience, Refusal, Tail, TaskNo};
 use ada_lasting::{LastingMaster, LastingRequest, LastingTasks, LongKernel, NotDone};
