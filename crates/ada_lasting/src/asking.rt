@@ -1,6 +1,6 @@
 //! What a request in names that last asks of the present journal.
 
-ghost use Rattle.std.specs.Prelude.{◌≡◌, IfOk, IfErr, OnOk, OnErr, map, true, false};
+ghost use Rattle.std.specs.Prelude.{◌≡◌, ◌&&◌, is_none, map};
 ghost use Rattle.std.specs.Option.{unwrap_or};
 ghost use Rattle.ada_events.specs.Forced.{task_no};
 ghost use Rattle.ada_events.specs.Asks.{body_task};
@@ -17,81 +17,78 @@ use ada_events::{Master, Request, TaskNo, Tasks};
 const NOBODY: TaskNo = TaskNo(65_535);
 
 impl Names {
-    // The task for a lasting name, nobody for one that was never made; the name itself if it was given up.
+    // The task for a lasting name, nobody for one that has none. A name that was given up is noted.
     #[inline(always)]
-    fn asked_task(&self, lasting: u64) -> Result<TaskNo, u64>
-        ensures ok { IfOk result (λ task.
-            task ≡ asked_task (renaming_of self.now) (task_no lasting)) }
-        ensures named { OnOk result (is_nameable self.now lasting ≡ true) }
-        ensures err { OnErr result (is_nameable self.now lasting ≡ false) }
+    fn asked_task(&self, lasting: u64, given_up: &mut Option<u64>) -> TaskNo
+        ensures task { result ≡ asked_task (renaming_of self.now) (task_no lasting) }
+        ensures named { is_none given_up.new
+            ≡ (is_none given_up.old && is_nameable self.now lasting) }
     {
-        match self.task(lasting) {
-            Some(task) => Ok(task),
-            None if lasting < self.made() => Err(lasting),
-            None => Ok(NOBODY),
+        if let Some(task) = self.task(lasting) {
+            return task;
         }
+        if lasting < self.made() {
+            *given_up = Some(lasting);
+        }
+        NOBODY
     }
 
     #[tactic(auto, unfolding(ada_standing::specs::Asking::asked_master, crate::specs::internal::Nameable::are_nameable))]
     #[inline(always)]
-    fn asked_master(&self, lasting: LastingMaster) -> Result<Master, u64>
-        ensures ok { IfOk result (λ master.
-            master ≡ asked_master (renaming_of self.now) (meant_master lasting)) }
-        ensures named { OnOk result (are_nameable self.now
-            (body_task (meant_master lasting)) ≡ true) }
-        ensures err { OnErr result (are_nameable self.now
-            (body_task (meant_master lasting)) ≡ false) }
+    fn asked_master(&self, lasting: LastingMaster, given_up: &mut Option<u64>) -> Master
+        ensures master { result
+            ≡ asked_master (renaming_of self.now) (meant_master lasting) }
+        ensures named { is_none given_up.new ≡ (is_none given_up.old
+            && are_nameable self.now (body_task (meant_master lasting))) }
     {
         match lasting {
-            LastingMaster::Body(task) => Ok(Master::Body(self.asked_task(task)?)),
-            LastingMaster::Block(position) => {
-                Ok(Master::Block(self.position(position).unwrap_or(0)))
-            }
+            LastingMaster::Body(task) => Master::Body(self.asked_task(task, given_up)),
+            LastingMaster::Block(position) => Master::Block(self.position(position).unwrap_or(0)),
         }
     }
 
     #[tactic(auto, unfolding(crate::specs::internal::Nameable::are_nameable))]
-    fn asked_tasks(&self, lasting: &LastingTasks) -> Result<Tasks, u64>
-        ensures ok { IfOk result (λ tasks.
-            tasks ≡ map (asked_task (renaming_of self.now)) (map task_no lasting.now)) }
-        ensures named { OnOk result (are_nameable self.now (map task_no lasting.now) ≡ true) }
-        ensures err { OnErr result (are_nameable self.now (map task_no lasting.now) ≡ false) }
+    fn asked_tasks(&self, lasting: &LastingTasks, given_up: &mut Option<u64>) -> Tasks
+        ensures tasks { result
+            ≡ map (asked_task (renaming_of self.now)) (map task_no lasting.now) }
+        ensures named { is_none given_up.new ≡ (is_none given_up.old
+            && are_nameable self.now (map task_no lasting.now)) }
     {
         let mut tasks = Tasks::new();
         for task in lasting.as_slice() {
-            tasks.push(self.asked_task(*task)?);
+            tasks.push(self.asked_task(*task, given_up));
         }
-        Ok(tasks)
+        tasks
     }
 
-    /// What a request asks of the present journal; a task that it names, and that was given up, if there is one.
+    /// What a request asks of the present journal. A task that it names, and that was given up, is noted.
+    // No result holds the request, which would move it once more.
     #[tactic(auto, unfolding(ada_standing::specs::Asking::renamed_request, crate::specs::Meaning::meant, crate::specs::internal::Nameable::names_nameable, crate::specs::internal::Nameable::are_nameable, ada_events::specs::Asks::asker, ada_events::specs::Asks::named_tasks))]
     #[inline(always)]
-    pub(crate) fn asked(&self, request: LastingRequest) -> Result<Request, u64>
-        ensures ok { IfOk result (λ asked.
-            asked ≡ renamed_request (renaming_of self.now) (meant request)) }
-        ensures named { OnOk result (names_nameable self.now (meant request) ≡ true) }
-        ensures err { OnErr result (names_nameable self.now (meant request) ≡ false) }
+    pub(crate) fn asked(&self, request: LastingRequest, given_up: &mut Option<u64>) -> Request
+        ensures asked { result ≡ renamed_request (renaming_of self.now) (meant request) }
+        ensures named { is_none given_up.new ≡ (is_none given_up.old
+            && names_nameable self.now (meant request)) }
     {
-        Ok(match request {
+        match request {
             LastingRequest::Open { by } => Request::Open {
-                by: self.asked_task(by)?,
+                by: self.asked_task(by, given_up),
             },
             LastingRequest::Create {
                 by,
                 master,
                 families,
             } => Request::Create {
-                by: self.asked_task(by)?,
-                master: self.asked_master(master)?,
+                by: self.asked_task(by, given_up),
+                master: self.asked_master(master, given_up),
                 families,
             },
             LastingRequest::Activate { by, tasks } => Request::Activate {
-                by: self.asked_task(by)?,
-                tasks: self.asked_tasks(&tasks)?,
+                by: self.asked_task(by, given_up),
+                tasks: self.asked_tasks(&tasks, given_up),
             },
             LastingRequest::Elaborated { by, ok } => Request::Elaborated {
-                by: self.asked_task(by)?,
+                by: self.asked_task(by, given_up),
                 ok,
             },
             LastingRequest::Call {
@@ -100,8 +97,8 @@ impl Names {
                 entry,
                 patience,
             } => Request::Call {
-                by: self.asked_task(by)?,
-                callee: self.asked_task(callee)?,
+                by: self.asked_task(by, given_up),
+                callee: self.asked_task(callee, given_up),
                 entry,
                 patience,
             },
@@ -111,30 +108,30 @@ impl Names {
                 tail,
                 pick,
             } => Request::Wait {
-                by: self.asked_task(by)?,
+                by: self.asked_task(by, given_up),
                 choices,
                 tail,
                 pick,
             },
             LastingRequest::Delay { by, duration } => Request::Delay {
-                by: self.asked_task(by)?,
+                by: self.asked_task(by, given_up),
                 duration,
             },
             LastingRequest::End { by, raised } => Request::End {
-                by: self.asked_task(by)?,
+                by: self.asked_task(by, given_up),
                 raised,
             },
             LastingRequest::Close { by } => Request::Close {
-                by: self.asked_task(by)?,
+                by: self.asked_task(by, given_up),
             },
             LastingRequest::Complete { by } => Request::Complete {
-                by: self.asked_task(by)?,
+                by: self.asked_task(by, given_up),
             },
             LastingRequest::Abort { by, tasks } => Request::Abort {
-                by: self.asked_task(by)?,
-                tasks: self.asked_tasks(&tasks)?,
+                by: self.asked_task(by, given_up),
+                tasks: self.asked_tasks(&tasks, given_up),
             },
             LastingRequest::Tick { now } => Request::Tick { now },
-        })
+        }
     }
 }

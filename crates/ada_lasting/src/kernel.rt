@@ -276,10 +276,11 @@ impl LongKernel {
         let before = self.kernel.journal().len();
         let position = self.names.next_position();
         let master = request.master();
-        let asked = match self.names.asked(request) {
-            Ok(asked) => asked,
-            Err(task) => return Err(NotDone::GivenUp(task)),
-        };
+        let mut given_up = None;
+        let asked = self.names.asked(request, &mut given_up);
+        if let Some(task) = given_up {
+            return Err(NotDone::GivenUp(task));
+        }
         if let Err(cause) = self.name_next(master) {
             return Err(cause);
         }

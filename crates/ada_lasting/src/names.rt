@@ -6,7 +6,7 @@ ghost use Rattle.ada_events.specs.declared.names.TaskNo.{TaskNo as Number};
 ghost use Rattle.ada_lasting.specs.Naming.{AreInOrder, Naming, found, lasting_of, length_of, named_by, position_of};
 ghost use Rattle.ada_lasting.specs.internal.Keeping.{first_names, grown_to, with_task};
 
-use crate::rows::{Row, find, name_of};
+use crate::rows::{Row, find, find_near, name_of};
 use ada_events::TaskNo;
 use std::alloc::{AllocError, Global};
 use std::marker::Model;
@@ -88,10 +88,17 @@ impl Names {
     pub fn task(&self, lasting: u64) -> Option<TaskNo>
         ensures { option_map (λ (t : Number). t.0) result ≡ found self.now.tasks lasting }
     {
-        match find(&self.tasks, lasting) {
+        match find_near(&self.tasks, self.likely_row(lasting), lasting) {
             Some(present) => Some(TaskNo(present as u16)),
             None => None,
         }
+    }
+
+    // Where the row of a task is if none was given up that was made after it.
+    #[inline(always)]
+    fn likely_row(&self, lasting: u64) -> usize {
+        let later = self.made.wrapping_sub(lasting);
+        (self.tasks.len() as u64).wrapping_sub(later) as usize
     }
 
     /// The position that has a lasting name in the present journal.

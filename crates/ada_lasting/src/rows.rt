@@ -21,6 +21,18 @@ pub(crate) fn find(rows: &[Row], lasting: u64) -> Option<u32>
     }
 }
 
+/// What has a lasting name, looked for at this row first. The lasting names of the rows rise.
+#[inline(always)]
+pub(crate) fn find_near(rows: &[Row], likely: usize, lasting: u64) -> Option<u32>
+    requires { rises_between 0 (2 ^ 64) rows.now ≡ true }
+    ensures { result ≡ found rows.now lasting }
+{
+    match rows.get(likely) {
+        Some(row) if row.lasting == lasting => Some(row.present),
+        _ => find(rows, lasting),
+    }
+}
+
 /// The lasting name of what has this number in the present journal.
 #[tactic(auto, unfolding(crate::specs::Naming::named_by))]
 pub(crate) fn name_of(rows: &[Row], present: u32) -> Option<u64>

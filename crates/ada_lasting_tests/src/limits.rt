@@ -1,12 +1,13 @@
 //! The limits of a kernel that lives on: its tasks at a time, its thresholds, and that its journal is never full.
 
 use crate::asking::{
-    MAIN, MAIN_BODY, abort, accept, activate, assert_accepted, assert_refused, assert_release,
-    assert_terminated, call, create, end, up,
+    ENTRY, MAIN, MAIN_BODY, abort, accept, activate, assert_accepted, assert_not_done,
+    assert_refused, assert_release, assert_terminated, call, create, end, up,
 };
-use ada_events::Refusal;
-use ada_events::limits::MOST_EVENTS;
-use ada_lasting::{LastingRequest, LongKernel};
+use ada_compact::NotCompacted;
+use ada_events::limits::{MOST_APPENDED, MOST_EVENTS};
+use ada_events::{Patience, Refusal};
+use ada_lasting::{LastingRequest, LongKernel, NotDone};
 use std::process::Abort;
 use std::test::Fail;
 
@@ -82,16 +83,12 @@ fn positions_are_the_same_at_each_threshold(rt: HostRuntime) -> Result<(), Fail>
     Ok(())
 }
 
-// Of an empty kernel, whose tasks' numbers don't matter.
-fn tick<R: Abort>(rt: &R, kernel: &mut LongKernel, ticks: u64) {
+// Of an empty kernel, or one with so many events, none of which waits for a moment.
+fn tick<R: Abort>(rt: &R, kernel: &mut LongKernel, events: u64, ticks: u64) {
     for before in 0..ticks {
         let now = (before % 1_000_000) as i64;
-        assert_accepted(
-            rt,
-            kernel,
-            LastingRequest::Tick { now },
-            before.wrapping_add(1),
-        );
+        let at = events.wrapping_add(before).wrapping_add(1);
+        assert_accepted(rt, kernel, LastingRequest::Tick { now }, at);
     }
 }
 
@@ -100,8 +97,42 @@ fn the_journal_is_never_full(rt: HostRuntime) -> Result<(), Fail> {
     let ticks = MOST_EVENTS as u64 + 1000;
     for threshold in [4096, u32::MAX] {
         let mut kernel = LongKernel::new(threshold, rt.alloc())?;
-        tick(&rt, &mut kernel, ticks);
+        tick(&rt, &mut kernel, 0, ticks);
         assert!(&rt; (kernel.present().journal().len() as usize) < MOST_EVENTS);
     }
+    Ok(())
+}
+
+// A conditional call, which isn't met; that its task was told so takes a helper to say again.
+fn call_in_vain() -> LastingRequest {
+    LastingRequest::Call {
+        by: 1,
+        callee: 2,
+        entry: ENTRY,
+        patience: Patience::Conditional,
+    }
+}
+
+#[test]
+fn with_no_room_for_a_helper_a_full_present_journal_takes_no_more(
+    rt: HostRuntime,
+) -> Result<(), Fail> {
+    let mut kernel = LongKernel::new(4096, rt.alloc())?;
+    fill(&rt, &mut kernel);
+    assert_accepted(&rt, &mut kernel, activate(MAIN, 1), 256);
+    assert_accepted(&rt, &mut kernel, up(1), 257);
+    assert_accepted(&rt, &mut kernel, call_in_vain(), 259);
+    // With the event that there is no room for, 64,768.
+    let ticks = (MOST_EVENTS - MOST_APPENDED) as u64 - 259;
+    tick(&rt, &mut kernel, 260, ticks);
+    let full = NotDone::NotCompacted(NotCompacted::NoRoom(Refusal::TooManyTasks));
+    assert_not_done(&rt, &mut kernel, abort(MAIN, 7), full);
+    assert_not_done(
+        &rt,
+        &mut kernel,
+        LastingRequest::Tick { now: 1_000_000 },
+        full,
+    );
+    assert_terminated(&rt, &kernel, 7, Some(false));
     Ok(())
 }
