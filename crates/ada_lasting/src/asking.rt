@@ -3,7 +3,7 @@
 ghost use Rattle.std.specs.Prelude.{◌≡◌, ◌&&◌, is_none, map};
 ghost use Rattle.std.specs.Option.{unwrap_or};
 ghost use Rattle.ada_events.specs.Forced.{task_no};
-ghost use Rattle.ada_events.specs.Asks.{body_task};
+ghost use Rattle.ada_events.specs.Asks.{asker, body_task};
 ghost use Rattle.ada_standing.specs.Asking.{asked_master, asked_task, renamed_request};
 ghost use Rattle.ada_lasting.specs.Meaning.{meant, meant_master};
 ghost use Rattle.ada_lasting.specs.internal.Nameable.{are_nameable, is_nameable, names_nameable};
@@ -15,6 +15,30 @@ use ada_events::{Master, Request, TaskNo, Tasks};
 
 /// No task: a journal has fewer.
 const NOBODY: TaskNo = TaskNo(65_535);
+
+impl LastingRequest {
+    // The task that asks; a tick has none.
+    #[tactic(auto, unfolding(crate::specs::Meaning::meant, ada_events::specs::Asks::asker))]
+    #[inline(always)]
+    fn by(&self) -> Option<u64>
+        ensures { result ≡ asker (meant self.now) }
+    {
+        match self {
+            LastingRequest::Open { by }
+            | LastingRequest::Create { by, .. }
+            | LastingRequest::Activate { by, .. }
+            | LastingRequest::Elaborated { by, .. }
+            | LastingRequest::Call { by, .. }
+            | LastingRequest::Wait { by, .. }
+            | LastingRequest::Delay { by, .. }
+            | LastingRequest::End { by, .. }
+            | LastingRequest::Close { by }
+            | LastingRequest::Complete { by }
+            | LastingRequest::Abort { by, .. } => Some(*by),
+            LastingRequest::Tick { .. } => None,
+        }
+    }
+}
 
 impl Names {
     // The task for a lasting name, nobody for one that has none. A name that was given up is noted.
@@ -70,65 +94,54 @@ impl Names {
         ensures named { is_none given_up.new ≡ (is_none given_up.old
             && names_nameable self.now (meant request)) }
     {
+        let by = match request.by() {
+            Some(by) => self.asked_task(by, given_up),
+            None => NOBODY,
+        };
         match request {
-            LastingRequest::Open { by } => Request::Open {
-                by: self.asked_task(by, given_up),
-            },
+            LastingRequest::Open { .. } => Request::Open { by },
             LastingRequest::Create {
-                by,
                 master,
                 families,
+                ..
             } => Request::Create {
-                by: self.asked_task(by, given_up),
+                by,
                 master: self.asked_master(master, given_up),
                 families,
             },
-            LastingRequest::Activate { by, tasks } => Request::Activate {
-                by: self.asked_task(by, given_up),
+            LastingRequest::Activate { tasks, .. } => Request::Activate {
+                by,
                 tasks: self.asked_tasks(&tasks, given_up),
             },
-            LastingRequest::Elaborated { by, ok } => Request::Elaborated {
-                by: self.asked_task(by, given_up),
-                ok,
-            },
+            LastingRequest::Elaborated { ok, .. } => Request::Elaborated { by, ok },
             LastingRequest::Call {
-                by,
                 callee,
                 entry,
                 patience,
+                ..
             } => Request::Call {
-                by: self.asked_task(by, given_up),
+                by,
                 callee: self.asked_task(callee, given_up),
                 entry,
                 patience,
             },
             LastingRequest::Wait {
+                choices,
+                tail,
+                pick,
+                ..
+            } => Request::Wait {
                 by,
                 choices,
                 tail,
                 pick,
-            } => Request::Wait {
-                by: self.asked_task(by, given_up),
-                choices,
-                tail,
-                pick,
             },
-            LastingRequest::Delay { by, duration } => Request::Delay {
-                by: self.asked_task(by, given_up),
-                duration,
-            },
-            LastingRequest::End { by, raised } => Request::End {
-                by: self.asked_task(by, given_up),
-                raised,
-            },
-            LastingRequest::Close { by } => Request::Close {
-                by: self.asked_task(by, given_up),
-            },
-            LastingRequest::Complete { by } => Request::Complete {
-                by: self.asked_task(by, given_up),
-            },
-            LastingRequest::Abort { by, tasks } => Request::Abort {
-                by: self.asked_task(by, given_up),
+            LastingRequest::Delay { duration, .. } => Request::Delay { by, duration },
+            LastingRequest::End { raised, .. } => Request::End { by, raised },
+            LastingRequest::Close { .. } => Request::Close { by },
+            LastingRequest::Complete { .. } => Request::Complete { by },
+            LastingRequest::Abort { tasks, .. } => Request::Abort {
+                by,
                 tasks: self.asked_tasks(&tasks, given_up),
             },
             LastingRequest::Tick { now } => Request::Tick { now },

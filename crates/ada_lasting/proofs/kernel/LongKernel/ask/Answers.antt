@@ -46,7 +46,8 @@ returns-in-Ok-clause-ok c = λ journal follows.
     let named = c.self-2.view_is ∙ c.in_default-name_next.ensures.ok in
     let asked : c.asked-asked.result ≡ renamed_request (renaming_of kernel.names) r =
     c.asked-asked.ensures.asked ∙ ap (λ (k : Long). renamed_request (renaming_of k.names) r) c.self.view_is in
-    let nameable : names_nameable kernel.names r ≡ true = subst (λ (k : Long). names_nameable k.names r ≡ true) c.self.view_is (sym c.asked-asked.ensures.named ∙ ap is_none c.in_default.is) in
+    let nameable : names_nameable kernel.names r ≡ true =
+    subst (λ (k : Long). names_nameable k.names r ≡ true) c.self.view_is (sym c.asked-asked.ensures.named ∙ ap is_none c.in_default.is) in
     let accepted : IsAccepted kernel.present (renamed_request (renaming_of kernel.names) r) c.in-Ok.field-0 c.step.new.self =
     subst (λ q. IsAccepted kernel.present q c.in-Ok.field-0 c.step.new.self) asked
     (subst (λ (p : List Event). IsAccepted p c.asked-asked.result c.in-Ok.field-0 c.step.new.self) (ap (λ (k : Long). k.present) named)
@@ -71,7 +72,8 @@ returns-in-Err-step-clause-err c = λ journal follows.
     let named = c.self-2.view_is ∙ c.in_default-name_next.ensures.ok in
     let asked : c.asked-asked.result ≡ renamed_request (renaming_of kernel.names) r =
     c.asked-asked.ensures.asked ∙ ap (λ (k : Long). renamed_request (renaming_of k.names) r) c.self.view_is in
-    let nameable : names_nameable kernel.names r ≡ true = subst (λ (k : Long). names_nameable k.names r ≡ true) c.self.view_is (sym c.asked-asked.ensures.named ∙ ap is_none c.in_default.is) in
+    let nameable : names_nameable kernel.names r ≡ true =
+    subst (λ (k : Long). names_nameable k.names r ≡ true) c.self.view_is (sym c.asked-asked.ensures.named ∙ ap is_none c.in_default.is) in
     let refused : IsRefusedNow kernel.present (renamed_request (renaming_of kernel.names) r) c.in-Err-step.cause c.step.new.self =
     subst (λ q. IsRefusedNow kernel.present q c.in-Err-step.cause c.step.new.self) asked
     (subst (λ (p : List Event). IsRefusedNow p c.asked-asked.result c.in-Err-step.cause c.step.new.self) (ap (λ (k : Long). k.present) named)
