@@ -1,12 +1,13 @@
 -- One level of bits.
-use Rattle.std.proofs.Common.{◌≡◌, ◌≢◌, ℕ, ◌+◌, ◌-◌, ◌*◌, ◌/◌, ◌%◌, ◌^◌, ◌<◌, ◌≤◌, true, false, List, length, get_or, sym, refl, ap, ◌∙◌, arith, inl, inr}
+use Rattle.std.proofs.Common.{◌≡◌, ◌≢◌, ℕ, zero, suc, [], ◌∷◌, ◌++◌, ◌+◌, ◌-◌, ◌*◌, ◌/◌, ◌%◌, ◌^◌, ◌<◌, ◌≤◌, true, false, List, length, get_or}
+use Rattle.std.proofs.Common.{sym, refl, ap, ◌∙◌, arith, inl, inr}
 use Rattle.std.proofs.Common.{eq-eqb, w64}
 use Rattle.std.specs.Prelude.{bit_and, bit_or, ◌==◌}
 use Rattle.std.specs.Int.{bit_at, bit_not, trailing_zeros}
 use Rattle.std.proofs.lemmas.Bool.{cases_eq, cases_lt, ne_eqb, eqb-true, true≢false, cases_Bool}
 use Rattle.std.proofs.lemmas.Nat.{and_le_l}
 use Rattle.std.proofs.lemmas.List.Sums.{sum_by-set}
-use Rattle.std.proofs.lemmas.List.{length-set, get_or-set_same, get_or-set_other}
+use Rattle.std.proofs.lemmas.List.{length-set, get_or-set_same, get_or-set_other, get_or_past}
 use Rattle.std.proofs.lemmas.Nat.Bits.{bit_at-zero, bit_at_set_same, bit_at_set_other, bit_at_clear_same, bit_at_clear_other, bit_at-trailing_zeros}
 use Rattle.ada_agenda.specs.Bits.{has}
 use Rattle.ada_agenda.specs.internal.Bits.{with_bit, without_bit, AreHeads}
@@ -126,12 +127,12 @@ heads_put low high n tied within =
         length-set high (n / 64 / 64) (bit_or (get_or high (n / 64 / 64) 0) (1 * 2 ^ (n / 64 % 64) % 2 ^ 64)),
         tied.room,
       );
-      heads = λ w below.
+      heads = λ w.
           elim (cases_eq w (n / 64)) [
             | inl same ↦ rw (same, set_here high (n / 64) above, word_some (with_bit low n) n (set_here low n within)) refl
             | inr other ↦
                 rw (set_others high (n / 64) w above other, get_or-set_other low (n / 64) w word 0 other)
-                (tied.heads w (omega (arith, length-set low (n / 64) word)))
+                (tied.heads w)
           ];
       few = omega (arith, length-set low (n / 64) word, tied.few);
     }
@@ -150,12 +151,12 @@ heads_emptied low high n tied within empty =
             (bit_and (get_or high (n / 64 / 64) 0) (2 ^ 64 - 1 - 1 * 2 ^ (n / 64 % 64) % 2 ^ 64)),
         tied.room,
       );
-      heads = λ w below.
+      heads = λ w.
           elim (cases_eq w (n / 64)) [
             | inl same ↦ rw (same, clear_here high (n / 64) above, empty) refl
             | inr other ↦
                 rw (clear_others high (n / 64) w above other, get_or-set_other low (n / 64) w word 0 other)
-                (tied.heads w (omega (arith, length-set low (n / 64) word)))
+                (tied.heads w)
           ];
       few = omega (arith, length-set low (n / 64) word, tied.few);
     }
@@ -168,7 +169,7 @@ heads_kept low high n tied within some =
     let place : n / 64 < length low = omega arith in
     record {
       room = omega (arith, length-set low (n / 64) word, tied.room);
-      heads = λ w below.
+      heads = λ w.
           elim (cases_eq w (n / 64)) [
             | inl same ↦
                 let here : get_or (without_bit low n) (n / 64) 0 ≡ word = get_or-set_same low (n / 64) word 0 place in
@@ -177,24 +178,57 @@ heads_kept low high n tied within some =
                 let less : word ≤ get_or low (n / 64) 0 = and_le_l (get_or low (n / 64) 0) (2 ^ 64 - 1 - 1 * 2 ^ (n % 64) % 2 ^ 64) in
                 let gone : word ≡ 0 = omega arith in
                 true≢false (sym (eq-eqb _ 0 (here ∙ gone)) ∙ some)) in
-                rw (same, some, tied.heads (n / 64) place, was) refl
+                rw (same, some, tied.heads (n / 64), was) refl
             | inr other ↦
-                rw (get_or-set_other low (n / 64) w word 0 other) (tied.heads w (omega (arith, length-set low (n / 64) word)))
+                rw (get_or-set_other low (n / 64) w word 0 other) (tied.heads w)
           ];
       few = omega (arith, length-set low (n / 64) word, tied.few);
     }
 
+-- a word that is told by the upper level is there
+pub heads_within : (low high : List ℕ) (w : ℕ) → AreHeads low high → has high w ≡ true → w < length low
+heads_within low high w tied stands = elim (cases_lt w (length low)) [
+  | inl within ↦ within
+  | inr past ↦
+      let none : get_or low w 0 ≡ 0 = get_or_past low w 0 past in
+      absurd (true≢false (sym stands ∙ tied.heads w ∙ rw none refl))
+]
+
 -- the least of the upper level is the first word with a number, and its least is the least of all
 pub least_of_all : (low high : List ℕ) (m n : ℕ) → AreHeads low high → ((w : ℕ) → w < m → has high w ≡ false) → n < 64 * m + 64
-    → ((k : ℕ) → k < n → 64 * m ≤ k → has low k ≡ false) → n < 64 * length low → (k : ℕ) → k < n → has low k ≡ false
-least_of_all low high m n tied none near least within k less =
+    → ((k : ℕ) → k < n → 64 * m ≤ k → has low k ≡ false) → (k : ℕ) → k < n → has low k ≡ false
+least_of_all low high m n tied none near least k less =
     elim (cases_Bool (has low k)) [
       | inr absent ↦ absent
       | inl stands ↦
-          let place : k / 64 < length low = omega arith in
-          let head : has high (k / 64) ≡ true = tied.heads (k / 64) place ∙ rw (word_some low k stands) refl in
+          let head : has high (k / 64) ≡ true = tied.heads (k / 64) ∙ rw (word_some low k stands) refl in
           elim (cases_lt (k / 64) m) [
             | inl before ↦ absurd (true≢false (sym head ∙ none (k / 64) before))
             | inr after ↦ least k less (omega arith)
           ]
     ]
+
+-- more words of no bit leave each number as it was
+pub same_bits : (old new : List ℕ) (k : ℕ) → ((w : ℕ) → get_or new w 0 ≡ get_or old w 0) → has new k ≡ has old k
+unfolding has
+same_bits old new k same = rw (same (k / 64)) refl
+
+-- a number past the last word isn't there
+pub none_past : (words : List ℕ) (k : ℕ) → length words ≤ k / 64 → has words k ≡ false
+none_past words k past = elim (cases_Bool (has words k)) [
+  | inr absent ↦ absent
+  | inl stands ↦
+      let none : get_or words (k / 64) 0 ≡ 0 = get_or_past words (k / 64) 0 past in
+      absurd (true≢false (sym (rw none refl) ∙ word_some words k stands))
+]
+
+-- what isn't there lessens nothing
+pub none_lessened : (words : List ℕ) (k : ℕ) → has words k ≡ false → has words k ≡ true → word_sum words < word_sum words
+none_lessened words k absent stands = absurd (true≢false (sym stands ∙ absent))
+
+-- one more word of no bit leaves each word as it was
+pub zero_more : (words : List ℕ) (w : ℕ) → get_or (words ++ 0 ∷ []) w 0 ≡ get_or words w 0
+zero_more [] zero = refl
+zero_more [] (suc w) = get_or_past [] w 0 (omega arith)
+zero_more (word ∷ words) zero = refl
+zero_more (word ∷ words) (suc w) = zero_more words w

@@ -15,8 +15,8 @@ use std::marker::Model;
 const ROWS: usize = 11;
 
 /// What is to be looked at, in the rows of the forced steps: numbers below `MOST_KEYS`, of which the least of the
-/// first row that has one comes first. All calls but `new` take no memory, and look at a few words. Contracts see it
-/// as the list of its rows, each as the words of its bits.
+/// first row that has one comes first. All calls but `new` take no memory, and look at a few words; a row gets its
+/// words as they are reached. Contracts see it as the list of its rows, each as the words of its bits.
 #[derive(Drop)]
 pub struct Agenda {
     rows: Vec<Numbers>,
@@ -41,7 +41,7 @@ impl Agenda {
         ensures { IfOk result (λ agenda. (row : Row) (number : ℕ)
             → has_key agenda row number ≡ false) }
     {
-        let mut sets = Vec::new(alloc);
+        let mut sets = Vec::with_capacity(alloc, ROWS)?;
         for _ in 0..ROWS {
             sets.push(Numbers::new(alloc)?)?;
         }

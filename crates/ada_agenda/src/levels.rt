@@ -11,8 +11,9 @@ use crate::bits::{insert, least_in, remove};
 /// Puts a number into the set.
 pub fn put(low: &mut [u64], mid: &mut [u64], top: &mut [u64], number: usize)
     requires levels { AreLevels low.old mid.old top.old }
-    requires within { number < MOST_KEYS }
+    requires within { number < 64 * length low.old }
     ensures levels { AreLevels low.new mid.new top.new }
+    ensures many { length low.new ≡ length low.old }
     ensures here { has low.new number ≡ true }
     ensures others { (k : ℕ) → k ≢ number → has low.new k ≡ has low.old k }
 {
@@ -28,7 +29,6 @@ fn take_head(mid: &mut [u64], top: &mut [u64], number: usize)
     ensures mid { mid.new ≡ without_bit mid.old number }
     ensures top { AreHeads mid.new top.new }
     ensures many { length top.new ≡ length top.old }
-    ensures tops { (k : ℕ) → has top.new k ≡ true → has top.old k ≡ true }
 {
     remove(mid, number);
     if mid[number / 64] == 0 {
@@ -39,8 +39,9 @@ fn take_head(mid: &mut [u64], top: &mut [u64], number: usize)
 /// Takes a number out of the set.
 pub fn take(low: &mut [u64], mid: &mut [u64], top: &mut [u64], number: usize)
     requires levels { AreLevels low.old mid.old top.old }
-    requires within { number < MOST_KEYS }
+    requires within { number < 64 * length low.old }
     ensures levels { AreLevels low.new mid.new top.new }
+    ensures many { length low.new ≡ length low.old }
     ensures here { has low.new number ≡ false }
     ensures others { (k : ℕ) → k ≢ number → has low.new k ≡ has low.old k }
     ensures fewer { has low.old number ≡ true → word_sum low.new < word_sum low.old }

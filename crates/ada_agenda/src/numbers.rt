@@ -1,6 +1,6 @@
 //! A set of small numbers.
 
-ghost use Rattle.std.specs.Prelude.{◌≡◌, ◌≢◌, ◌<◌, ℕ, true, false, length, slice_index_or, IfOk, IfSome, IfNone};
+ghost use Rattle.std.specs.Prelude.{◌≡◌, ◌≢◌, ◌+◌, ◌<◌, ◌≤◌, ℕ, true, false, length, max, slice_index_or, vec_capacity, IfOk, IfSome, IfNone};
 ghost use Rattle.ada_agenda.specs.declared.numbers.TheConstants.{MOST_KEYS};
 ghost use Rattle.ada_agenda.specs.Bits.{has};
 ghost use Rattle.ada_agenda.specs.Bits.{word_sum};
@@ -23,36 +23,45 @@ const _: () = prove!(MOST_KEYS == 64 * WORDS);
 // Each position of a journal is such a key.
 const _: () = prove!(MOST_EVENTS < MOST_KEYS);
 
-/// So many words of no bit.
-fn zeros(alloc: Global, count: usize) -> Result<Vec<u64>, AllocError>
-    ensures many { IfOk result (λ words. length words.items ≡ count) }
-    ensures zeros { IfOk result (λ words. (w : ℕ) → w < count
-        → slice_index_or words.items w 0 ≡ 0) }
+// Adds words of no bit, up to the one at a place, for which there is room.
+#[tactic(auto, using(crate::proofs::Words::zero_more, crate::proofs::Words::same_bits))]
+fn fill_to(words: &mut Vec<u64>, place: usize)
+    requires { place < vec_capacity words.old }
+    ensures there { place < length words.new.items }
+    ensures few { length words.new.items ≤ max (length words.old.items) (place + 1) }
+    ensures same { (w : ℕ)
+        → slice_index_or words.new.items w 0 ≡ slice_index_or words.old.items w 0 }
+    ensures bits { (k : ℕ) → has words.new.items k ≡ has words.old.items k }
+    ensures room { vec_capacity words.new ≡ vec_capacity words.old }
 {
-    vec![in alloc; 0u64; count]
+    while words.len() <= place {
+        words.push_reserved(0);
+    }
 }
 
 /// A set of numbers below `MOST_KEYS`. Whether a number is in it, putting one in, taking one out, and the least
-/// of all each look at a few words; none takes memory. Contracts see it as the words of its bits.
+/// of all each look at a few words, and what is put in adds the words before it that aren't there yet; none takes
+/// memory. Contracts see it as the words of its bits.
 #[derive(Drop)]
 pub struct Numbers {
-    /// A bit for each number.
+    /// A bit for each number. There is room for all words, of which those come that are written to and those before
+    /// them, so that a new set is made without writing any.
     low: Vec<u64>,
     /// A bit for each word of `low` that isn't 0.
-    mid: Vec<u64>,
+    mid: [u64; HEADS],
     /// A bit for each word of `mid` that isn't 0.
-    top: Vec<u64>,
+    top: [u64; 1],
 }
 
 impl Model for Numbers {
-    ghost use Rattle.std.specs.Prelude.{List, ℕ};
+    ghost use Rattle.std.specs.Prelude.{◌≤◌, List, ℕ, vec_capacity};
     ghost use Rattle.ada_agenda.specs.internal.Bits.{AreLevels};
 
     ghost Value = { List ℕ };
 
     ghost view = { λ n. n.low.items };
 
-    ghost invariant = { λ n. AreLevels n.low.items n.mid.items n.top.items };
+    ghost invariant = { λ n. AreLevels n.low.items n.mid n.top × (1088 ≤ vec_capacity n.low) };
 }
 
 impl Numbers {
@@ -60,10 +69,12 @@ impl Numbers {
     pub fn new(alloc: Global) -> Result<Self, AllocError>
         ensures { IfOk result (λ numbers. (k : ℕ) → has numbers k ≡ false) }
     {
-        let low = zeros(alloc, WORDS)?;
-        let mid = zeros(alloc, HEADS)?;
-        let top = zeros(alloc, 1)?;
-        Ok(Numbers { low, mid, top })
+        let low = Vec::with_capacity(alloc, WORDS)?;
+        Ok(Numbers {
+            low,
+            mid: [0; HEADS],
+            top: [0],
+        })
     }
 
     /// Puts a number in, which may be there already.
@@ -72,6 +83,7 @@ impl Numbers {
         ensures here { has self.new number ≡ true }
         ensures others { (k : ℕ) → k ≢ number → has self.new k ≡ has self.old k }
     {
+        fill_to(&mut self.low, number / 64);
         put(&mut self.low, &mut self.mid, &mut self.top, number);
     }
 
@@ -82,7 +94,9 @@ impl Numbers {
         ensures others { (k : ℕ) → k ≢ number → has self.new k ≡ has self.old k }
         ensures fewer { has self.old number ≡ true → word_sum self.new < word_sum self.old }
     {
-        take(&mut self.low, &mut self.mid, &mut self.top, number);
+        if number / 64 < self.low.len() {
+            take(&mut self.low, &mut self.mid, &mut self.top, number);
+        }
     }
 
     /// The least number of the set.

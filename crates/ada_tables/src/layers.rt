@@ -124,11 +124,21 @@ fn count(layers: &mut [Layer], block: u32, change: Change)
     }
 }
 
-// Whether a block stands in a nest.
-fn has_block(layers: &[Layer], block: u32) -> bool
+// Whether a block is one of some members.
+fn has_block_among(layers: &[Layer], block: u32) -> bool
     ensures { result ≡ list_any (nests.is_block_at block) layers.now }
 {
     layers.iter().any(|layer| layer.is_block_at(block))
+}
+
+// Whether a block stands in a nest. It is mostly the innermost member that is asked for, which is looked at first.
+fn has_block(layers: &[Layer], block: u32) -> bool
+    ensures { result ≡ list_any (nests.is_block_at block) layers.now }
+{
+    match layers.split_last() {
+        Some((last, rest)) => last.is_block_at(block) || has_block_among(rest, block),
+        None => false,
+    }
 }
 
 // Whether the second block is the first or stands outside it.

@@ -23,13 +23,14 @@ use Rattle.ada_agenda.specs.Kinds.OfClose.{leaves as close_leaves, quits as clos
 use Rattle.ada_agenda.specs.Kinds.OfAbort.{halts as abort_halts, fails as abort_fails}
 use Rattle.ada_agenda.proofs.StartedTasks.{created_exists}
 use Rattle.ada_agenda.proofs.Adding.{agendas_stay}
-use Rattle.ada_agenda.proofs.Noting.{noted, noted_giving, own_is}
+use Rattle.ada_agenda.proofs.Noting.{noted_giving, own_is}
 use Rattle.ada_agenda.proofs.Places.{closing_open}
 use Rattle.ada_triggers.specs.internal.Keys.{OfFirst, AsHaltable, AsHeld, AsUnstarted}
 use Rattle.ada_agenda.specs.Keeping.When.{holds_so}
 use Rattle.ada_agenda.specs.Keeping.AsKey.{itself}
 use Rattle.ada_triggers.specs.internal.Keys.AsHeld.{held}
 use Rattle.ada_triggers.specs.internal.Keys.AsUnstarted.{goes}
+use Rattle.ada_triggers.proofs.Giving.{abandons_so}
 use Rattle.ada_triggers.proofs.Halting.{haltable}
 use Rattle.ada_triggers.proofs.Holding.{block_fits}
 
@@ -52,17 +53,22 @@ closed_fits before by block lawful =
 abbrev pub CloseKeys : List Event → ℕ → ℕ → Row → ℕ → Type 0
 CloseKeys before at block = Both (Both (AsKey Leaving at) (AsKey QuittingBlock block)) (OfFirst (AsUnstarted before) (task_count before))
 
-close_key : (before : List Event) (at block : ℕ) (row : Row) (key : ℕ) → at ≡ own before → OfClose before block row key → CloseKeys before at block row key
-close_key before at block row key same close_leaves = inl (inl (rw same itself))
-close_key before at block row key same close_quits = inl (inr itself)
-close_key before at block row key same (close_abandons u of) =
-    inr (record { task = u; among = created_exists before u of.creation of.made; of = goes of.creation of.made of.never })
+close_key : (by : TaskNo) (step : Event) (before : List Event) (at block : ℕ) (row : Row) (key : ℕ) → at ≡ own before
+    → step_at (Closed by block ∷ before) row key ≡ Some step → OfClose before block row key → CloseKeys before at block row key
+close_key by step before at block row key same gives close_leaves = inl (inl (rw same itself))
+close_key by step before at block row key same gives close_quits = inl (inr itself)
+close_key by step before at block row key same gives (close_abandons u of) =
+    inr (record {
+      task = u;
+      among = created_exists before u of.creation of.made;
+      of = goes of.creation of.made (abandons_so (Closed by block) step before u of.never gives);
+    })
 
 pub close_noted : (before : List Event) (old new : List (List ℕ)) (by : TaskNo) (block at : ℕ) → at ≡ length before + 1
     → Puts old new (CloseKeys before at block) → KeepsUp before (Closed by block) old new
 close_noted before old new by block at same puts lawful agenda =
-    noted (Closed by block) before old new (CloseKeys before at block) lawful agenda puts (λ row key added.
-    close_key before at block row key (own_is before at same) added)
+    noted_giving (Closed by block) before old new (CloseKeys before at block) lawful agenda puts (λ row key step added gives.
+    close_key by step before at block row key (own_is before at same) gives added)
 
 -- an abort
 hit_known : (event : Event) (before : List Event) (u : ℕ) → IsHit event before u → u < task_count before

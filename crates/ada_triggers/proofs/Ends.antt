@@ -52,7 +52,7 @@ use Rattle.ada_agenda.specs.Keeping.When.{holds_so}
 use Rattle.ada_triggers.specs.internal.Keys.AsHolder.{quits, goes as holder_goes, leaves}
 use Rattle.ada_triggers.specs.internal.Keys.AsDependent.{through}
 use Rattle.ada_triggers.specs.internal.Keys.AsActivation.{activates}
-use Rattle.ada_triggers.proofs.Giving.{goer, quitter}
+use Rattle.ada_triggers.proofs.Giving.{abandons_so, goer, quitter}
 
 -- a master on which a live task depends is held
 pub dependent_held : (before : List Event) (t : ℕ) (m : Master) → IsLawful before → is_terminated before t ≡ false → depends_on before t m ≡ true
@@ -138,7 +138,11 @@ completion_key event step before task row key lawful makes gives body_quits =
 completion_key event step before task row key lawful makes gives (call_fails p was of) = inl (inl (inr (uncallable_key before task.0 p lawful was of)))
 completion_key event step before task row key lawful makes gives (start_ends p active) = inl (inr (activates p active))
 completion_key event step before task row key lawful makes gives (task_abandons u of) =
-    inr (record { task = u; among = created_exists before u of.creation of.made; of = goes of.creation of.made of.never })
+    inr (record {
+      task = u;
+      among = created_exists before u of.creation of.made;
+      of = goes of.creation of.made (abandons_so event step before u of.never gives);
+    })
 
 completes_alone : (task : TaskNo) → creation_in (Completed task) ≡ None
 unfolding creation_in

@@ -1,5 +1,5 @@
 -- What a step that a row gives behind an event says of the task or the master at its key.
-use Rattle.std.proofs.Common.{◌≡◌, ℕ, ◌<◌, ◌==◌, Bool, true, not, ◌&&◌, ◌||◌, arith, Some, None, List, ◌∷◌, sym, refl, ap, ◌∙◌, ◌⊎◌, inl, inr}
+use Rattle.std.proofs.Common.{◌≡◌, ℕ, ◌<◌, ◌==◌, Bool, true, false, not, ◌&&◌, ◌||◌, arith, Some, None, List, ◌∷◌, sym, refl, ap, ◌∙◌, ◌⊎◌, inl, inr}
 use Rattle.std.proofs.lemmas.Bool.{and_parts, or_cases, or_left, or_right, not-true, not_from_false, and_from, true≢false, false_from_ne_true, eqb-true, ne_eqb}
 use Rattle.ada_events.specs.declared.event.Event.{Event}
 use Rattle.ada_events.specs.declared.event.Event.TheVariants.{Gone, Quit}
@@ -13,12 +13,13 @@ use Rattle.ada_events.specs.Phases.{has_start, is_completed, is_terminated}
 use Rattle.ada_events.specs.Termination.{is_complete, is_abandoned, all_terminated}
 use Rattle.ada_events.specs.Forced.{task_no, is_to_go, is_to_quit}
 use Rattle.ada_laws.proofs.Depending.{created_positive}
+use Rattle.ada_laws.proofs.Growing.{is_terminated-more}
 use Rattle.ada_laws.proofs.Searching.{then_some-some, option_map_or-true}
 use Rattle.ada_rows.specs.declared.row.Row.TheVariants.{Terminating, QuittingBody}
 use Rattle.ada_rows.specs.Rows.{step_at}
 use Rattle.ada_agenda.specs.Kinds.{quitting_row, quitting_key}
 use Rattle.ada_agenda.proofs.Refining.{task_step}
-use Rattle.ada_triggers.specs.internal.Keys.{may_go, may_quit}
+use Rattle.ada_triggers.specs.internal.Keys.{may_be_abandoned, may_go, may_quit}
 
 -- the main program isn't abandoned
 not_main : (journal : List Event) (t : ℕ) → is_abandoned journal t ≡ true → not (t == 0) ≡ true
@@ -64,6 +65,22 @@ goer event step before t none gives =
           or_right (is_completed before t) _
           (and_from (not (has_start before t)) (not (t == 0)) (unstarted event before t both.0) both.1)
     ]
+
+-- who goes isn't terminated before either
+not_gone : (event step : Event) (before : List Event) (t : ℕ) → step_at (event ∷ before) Terminating t ≡ Some step → is_terminated before t ≡ false
+unfolding is_to_go
+not_gone event step before t gives =
+    let after = event ∷ before in
+    let goes = (then_some-some (is_to_go after t) (Gone (task_no t)) step (task_step after Terminating t step refl gives)).0 in
+    let live = not-true (is_terminated after t) (and_parts (not (is_terminated after t)) _ goes).0 in
+    false_from_ne_true (is_terminated before t) (λ ended. true≢false (sym (is_terminated-more event before t ended) ∙ live))
+
+-- who goes and was never started may be abandoned
+pub abandons_so : (event step : Event) (before : List Event) (t : ℕ) → has_start before t ≡ false → step_at (event ∷ before) Terminating t ≡ Some step
+    → may_be_abandoned before t ≡ true
+abandons_so event step before t never gives =
+    and_from (not (has_start before t)) (not (is_terminated before t)) (not_from_false (has_start before t) never)
+    (not_from_false (is_terminated before t) (not_gone event step before t gives))
 
 -- a body whose dependents quit is that of a completed task
 body_done : (journal : List Event) (t : TaskNo) → is_to_quit journal (Body t) ≡ true → is_completed journal t.0 ≡ true

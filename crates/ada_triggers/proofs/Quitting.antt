@@ -48,7 +48,7 @@ use Rattle.ada_triggers.specs.internal.Keys.AsHolder.{quits, goes as holder_goes
 use Rattle.ada_triggers.specs.internal.Keys.AsDependent.{through}
 use Rattle.ada_triggers.specs.internal.Keys.AsMaster.{own, outer}
 use Rattle.ada_triggers.proofs.Ends.{dependent_held}
-use Rattle.ada_triggers.proofs.Giving.{goer, quitter}
+use Rattle.ada_triggers.proofs.Giving.{abandons_so, goer, quitter}
 use Rattle.ada_triggers.proofs.Outwards.{holds_enclosed, holder_found}
 use Rattle.ada_triggers.proofs.Quitters.{IsGiven, quit_says, quit_forced, quitter_ready, no_open_call, given_before}
 
@@ -246,7 +246,11 @@ quit_key : (m : Master) (step : Event) (before : List Event) (row : Row) (key : 
 quit_key m step before row key lawful gives (ends t r k depends live of) =
     elim (ended_key m step before t r k lawful (record { depends = depends; live = live }) gives of) [ inl put ↦ inl (inr put) | inr given ↦ inr given ]
 quit_key m step before row key lawful gives (abandons t u depends live of) =
-    inl (inl (record { task = u; among = created_exists before u of.creation of.made; of = goes of.creation of.made of.never }))
+    inl (inl (record {
+      task = u;
+      among = created_exists before u of.creation of.made;
+      of = goes of.creation of.made (abandons_so (Quit m) step before u of.never gives);
+    }))
 
 -- what gave a step before was in the agenda
 has_quit_key : (m : Master) (step : Event) (before : List Event) (old new : List (List ℕ)) (row : Row) (key : ℕ) → IsLawful (Quit m ∷ before)

@@ -1,9 +1,9 @@
 -- Tasks that were made and never started, and the number below which there is none.
 use Rattle.std.proofs.Common.{◌≡◌, ℕ, ◌+◌, ◌<◌, Bool, true, not, List, [], ◌∷◌, sym, ◌∙◌, subst, arith, inl, inr}
-use Rattle.std.proofs.lemmas.Bool.{true≢false, or_right, cases_lt, not_from_false}
+use Rattle.std.proofs.lemmas.Bool.{true≢false, and_parts, or_right, cases_lt, not-true}
 use Rattle.ada_events.specs.declared.event.Event.{Event}
 use Rattle.ada_events.specs.Says.{started_in}
-use Rattle.ada_events.specs.Phases.{lists_task, has_start}
+use Rattle.ada_events.specs.Phases.{lists_task, has_start, is_terminated}
 use Rattle.ada_laws.proofs.Depending.{created_positive}
 use Rattle.ada_rows.specs.declared.row.Row.{Row}
 use Rattle.ada_rows.specs.declared.row.Row.TheVariants.{Terminating}
@@ -12,7 +12,7 @@ use Rattle.ada_agenda.specs.Keeping.AsKey.{itself}
 use Rattle.ada_agenda.specs.Keeping.When.{holds_so}
 use Rattle.ada_agenda.proofs.Noting.{grows_same}
 use Rattle.ada_triggers.specs.Bounds.{IsStartBound}
-use Rattle.ada_triggers.specs.internal.Keys.{OfFirst, AsUnstarted}
+use Rattle.ada_triggers.specs.internal.Keys.{OfFirst, AsUnstarted, may_be_abandoned}
 use Rattle.ada_triggers.specs.internal.Keys.AsUnstarted.{goes}
 use Rattle.ada_triggers.proofs.Putting.{covered_put}
 
@@ -38,18 +38,19 @@ bound_stays event before bound is = record {
   started = λ task some below. or_right (lists_task task (started_in event)) (has_start before task) (is.started task some below);
 }
 
-unstarted_key : (journal : List Event) (task : ℕ) (so : Bool) (row : Row) (key : ℕ) → so ≡ not (has_start journal task)
+unstarted_key : (journal : List Event) (task : ℕ) (so : Bool) (row : Row) (key : ℕ) → so ≡ may_be_abandoned journal task
     → AsUnstarted journal task row key → When so (AsKey Terminating task) row key
-unstarted_key journal task so row key so_is (goes creation made never) = holds_so (so_is ∙ not_from_false (has_start journal task) never) itself
+unstarted_key journal task so row key so_is (goes creation made may) = holds_so (so_is ∙ may) itself
 
-pub unstarted_put : (journal : List Event) (old new : List (List ℕ)) (task : ℕ) (so : Bool) → so ≡ not (has_start journal task)
+pub unstarted_put : (journal : List Event) (old new : List (List ℕ)) (task : ℕ) (so : Bool) → so ≡ may_be_abandoned journal task
     → Puts old new (When so (AsKey Terminating task)) → Puts old new (AsUnstarted journal task)
 unstarted_put journal old new task so so_is puts =
     covered_put old new (AsUnstarted journal task) (When so (AsKey Terminating task)) puts (λ row key of. unstarted_key journal task so row key so_is of)
 
 not_below : (journal : List Event) (old : List (List ℕ)) (bound task : ℕ) (row : Row) (key : ℕ) → IsStartBound journal bound → task < bound
     → AsUnstarted journal task row key → has_key old row key ≡ true
-not_below journal old bound task row key is below (goes creation made never) =
+not_below journal old bound task row key is below (goes creation made may) =
+    let never = not-true (has_start journal task) (and_parts (not (has_start journal task)) (not (is_terminated journal task)) may).0 in
     absurd (true≢false (sym (is.started task (created_positive journal task creation made) below) ∙ never))
 
 -- below the bound there is none to put

@@ -5,6 +5,7 @@ ghost use Rattle.ada_events.specs.Lawful.{IsLawful};
 ghost use Rattle.ada_events.specs.Tasks.{task_count};
 ghost use Rattle.ada_triggers.specs.Bounds.{IsStartBound};
 ghost use Rattle.ada_agenda.specs.Keeping.{Puts};
+ghost use Rattle.ada_triggers.specs.internal.Keys as keys;
 ghost use Rattle.ada_triggers.specs.internal.Keys.{OfFirst, AsUnstarted};
 
 use ada_agenda::Agenda;
@@ -68,15 +69,24 @@ fn first_unstarted(view: &View, from: u16) -> u16
     number
 }
 
-// Puts a task that was made and never started into the row of those that go.
+// Whether the task was never started, and isn't terminated: no other goes without having run (9.3).
+fn may_be_abandoned(view: &View, task: TaskNo) -> bool
+    ensures { result ≡ keys.may_be_abandoned view.now task.0 }
+{
+    let stage = view.record(task).stage;
+    !stage.named && !stage.terminated
+}
+
+// Puts a task that was made and never started, unless it is terminated, into the row of those that go.
 fn put_unstarted(agenda: &mut Agenda, view: &View, task: TaskNo)
     ensures { Puts agenda.old agenda.new (AsUnstarted view.now task.0) }
 {
-    let waits = !view.record(task).stage.named;
+    let waits = may_be_abandoned(view, task);
     put_if(agenda, Row::Terminating, task.0 as usize, waits);
 }
 
-// Puts those that were never started, of the tasks from a number on, into the row of those that go.
+// Puts those that were never started, and aren't terminated, of the tasks from a number on, into the row of those that
+// go.
 fn put_unstarted_from(agenda: &mut Agenda, view: &View, from: u16)
     requires { IsStartBound view.now from }
     ensures put { Puts agenda.old agenda.new
@@ -88,7 +98,7 @@ fn put_unstarted_from(agenda: &mut Agenda, view: &View, from: u16)
     }
 }
 
-/// Puts the tasks that were made and never started into the row of those that go.
+/// Puts the tasks that were made and never started, and aren't terminated, into the row of those that go.
 pub(crate) fn put_all_unstarted(agenda: &mut Agenda, first: &mut FirstUnstarted, view: &View)
     requires { IsStartBound view.now first.old }
     ensures put { Puts agenda.old agenda.new

@@ -51,9 +51,13 @@ AsHaltable journal task = When (may_halt journal task) (AsKey Halting task)
 pub data AsHeld (journal : List Event) (at : Row) (task : ℕ) : Row → ℕ → Type 0 where
   held : (event : Event) (p : ℕ) → event_at journal p ≡ Some event → is_of_row at event ≡ true → IsSuspendedAt journal task p → AsHeld journal at task at p
 
--- a task that was made and never started (9.3)
+-- only a task that was never started, and isn't terminated, goes without having run (9.3)
+abbrev pub may_be_abandoned : List Event → ℕ → Bool
+may_be_abandoned journal task = not (has_start journal task) && not (is_terminated journal task)
+
+-- a task that was made and never started, and isn't terminated (9.3)
 pub data AsUnstarted (journal : List Event) (task : ℕ) : Row → ℕ → Type 0 where
-  goes : (creation : Creation) → creation_of journal task ≡ Some creation → has_start journal task ≡ false → AsUnstarted journal task Terminating task
+  goes : (creation : Creation) → creation_of journal task ≡ Some creation → may_be_abandoned journal task ≡ true → AsUnstarted journal task Terminating task
 
 -- the call to that task at which a task is suspended (9.5)
 pub data AsCaller (journal : List Event) (callee task : ℕ) : Row → ℕ → Type 0 where

@@ -8,15 +8,5 @@ returns-clause-least c =
     least_of_all c.args.low.now c.args.mid.now c.least_in-place.result c.least_in.result levels.low_heads
     (least_of_all c.args.mid.now c.args.top.now c.least_in-head.result c.least_in-place.result levels.mid_heads
     (λ w less. c.least_in-head.ensures.least w less (omega arith))
-    (omega (arith, c.least_in-place.ensures.within)) c.least_in-place.ensures.least
-    (omega (arith, levels.heads, c.least_in-place.ensures.within, levels.tops c.least_in-head.result c.least_in-head.ensures.here)))
+    (omega (arith, c.least_in-place.ensures.within)) c.least_in-place.ensures.least)
     (omega (arith, c.least_in.ensures.within)) c.least_in.ensures.least
-    (omega (
-      arith,
-      levels.words,
-      levels.heads,
-      c.least_in.ensures.within,
-      c.least_in-place.ensures.within,
-      levels.tops c.least_in-head.result
-          c.least_in-head.ensures.here,
-    ))

@@ -5,8 +5,8 @@ use Rattle.ada_agenda.proofs.agenda.Agenda.new.Goals as goal
 
 pub loop-init : goal.loop-init
 loop-init c = (
-  ap length c.new-sets.ensures.items,
-  λ row k. rw c.new-sets.ensures.items (none_beyond [] row k (omega arith)),
+  ap length c.in_ok-sets.ensures.items,
+  λ row k. rw c.in_ok-sets.ensures.items (none_beyond [] row k (omega arith)),
 )
 
 pub loop-preserved : goal.loop-preserved
