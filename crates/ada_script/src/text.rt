@@ -51,10 +51,9 @@ pub fn check_line(number: u32, line: &[u8]) -> Result<(), Cause>
 pub fn is_skipped(words: &Words) -> bool
     ensures { result ≡ skipped words.now }
 {
-    match words.peek() {
+    match words.first() {
         None => true,
-        Some([first, ..]) => *first == b'#',
-        Some([]) => false,
+        Some(first) => first == b'#',
     }
 }
 
@@ -80,14 +79,15 @@ fn read_line(
     if is_skipped(&words) {
         return Ok(());
     }
-    let mut statement = Statement::Tick { now: 0 };
-    read_statement(alloc, names, &mut words, &mut statement)?;
-    names.declare(&statement)?;
-    lines.reserve(1)?;
-    lines.push_reserved(Line {
+    // Filled where it lies, so that it is moved once.
+    let mut added = Line {
         line: number,
-        statement,
-    });
+        statement: Statement::Tick { now: 0 },
+    };
+    read_statement(alloc, names, &mut words, &mut added.statement)?;
+    names.declare(&added.statement)?;
+    lines.reserve(1)?;
+    lines.push_reserved(added);
     Ok(())
 }
 
