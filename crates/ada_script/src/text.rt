@@ -1,6 +1,6 @@
 //! Reading a text as a script.
 
-ghost use Rattle.std.specs.Prelude.{◌≡◌, ◌↔◌, ◌≤◌, ◌++◌, ◌⊎◌, List, IsTrue, OnOk, IfOk, IfErr};
+ghost use Rattle.std.specs.Prelude.{◌≡◌, ◌↔◌, ◌≤◌, ◌++◌, ◌⊎◌, List, [], IsTrue, OnOk, IfOk, IfErr, IsOkUnless};
 ghost use Rattle.ada_statements.specs.Text.{words_in};
 ghost use Rattle.ada_script.specs.Script.{IsPrintable, IsPlain, IsUnplain, is_skipped as skipped, scope_of, AddsLine, IsScript, IsFault, IsFirstFault};
 ghost use Rattle.ada_script.specs.internal.Printable.{printable};
@@ -91,6 +91,16 @@ fn read_line(
     Ok(())
 }
 
+/// No lines, with room for as many as the text has if each takes 16 bytes, so that they are seldom moved as more are
+/// read.
+fn room_for_lines(alloc: Global, text: &[u8]) -> Result<Vec<Line>, Cause>
+    ensures none { IfOk result (λ lines. lines.items ≡ []) }
+    ensures memory { IsOkUnless result Cause.OutOfMemory }
+{
+    let count = text.len() / 16;
+    Ok(Vec::with_capacity(alloc, count.min(4096))?)
+}
+
 /// Reads a text as a script. It is one where each line is blank, a comment or a statement whose names
 /// are declared by the lines before it; else the fault names the first line that isn't. Its cause is
 /// `OutOfMemory` where a growth was refused before such a line was met.
@@ -100,7 +110,10 @@ pub fn read(alloc: Global, text: &[u8]) -> Result<Script, ScriptFault>
         ⊎ IsFirstFault text.now fault) }
 {
     let mut number = 1;
-    let mut lines = Vec::new(alloc);
+    let mut lines = room_for_lines(alloc, text).map_err(|cause| ScriptFault {
+        line: number,
+        cause,
+    })?;
     let mut names = Names::new(alloc).map_err(|cause| ScriptFault {
         line: number,
         cause,
