@@ -1,6 +1,7 @@
 -- How a word is read as a number. What a number's word is, the spelling says by `signed_decimal`; this is
 -- the way back, and stands for nothing by itself.
-use Rattle.std.specs.Prelude.{◌≡◌, ◌<◌, length, get_or, ℕ, zero, suc, ℤ, pos, negsuc, ◌&&◌, ◌^◌, ◌==◌, nat_lt, if◌then◌else◌, List, [], ◌∷◌, Option, Some, None, option_and_then, decimal}
+use Rattle.std.specs.Prelude.{◌≡◌, ℕ, zero, suc, ◌<◌, ℤ, pos, negsuc, ◌&&◌, ◌^◌, ◌==◌, nat_lt, if◌then◌else◌}
+use Rattle.std.specs.Prelude.{List, [], ◌∷◌, length, get_or, Option, Some, None, option_and_then, decimal}
 use Rattle.std.specs.Str.{bytes_eq}
 use Rattle.std.specs.Str.Parse.{digits_value}
 
