@@ -1,43 +1,58 @@
 -- Numbers and their spellings.
-use Rattle.std.proofs.Common.{◌≡◌, ℕ, zero, suc, ◌^◌, ◌<◌, ◌&&◌, Bool, true, false, cond, ltb, List, [], ◌∷◌, Option, Some, None, Result, Ok, Err, ℤ, pos}
-use Rattle.std.proofs.Common.{negsuc, FitsSigned, to_z, of_z, w32, w64, refl, sym, ap, subst, ◌∙◌, arith, inl, inr}
+use Rattle.std.proofs.Common.{◌≡◌, ℕ, zero, suc, ◌+◌, ◌-◌, ◌*◌, ◌^◌, ◌<◌, ◌≤◌, ◌&&◌, Bool, true, false, cond, ltb, List, [], ◌∷◌, length, get_or, take}
+use Rattle.std.proofs.Common.{Option, Some, None, ℤ, pos, negsuc, FitsSigned, to_z, of_z, w32, w64, refl, sym, ap, subst, ◌∙◌, arith, inl, inr}
 use Rattle.std.specs.Prelude.{MatchOption, IfSome, decimal, option_and_then}
 use Rattle.std.specs.Fmt.{signed_decimal}
+use Rattle.std.specs.Int.{IsInRange}
 use Rattle.std.specs.Str.{bytes_eq}
-use Rattle.std.specs.Str.Parse.{digits_value, ParsesUnsigned}
-use Rattle.std.specs.Str.{IsUtf8}
-use Rattle.std.proofs.lemmas.Bool.{true≢false, lt-ltb, ltb-true}
+use Rattle.std.specs.Str.Parse.{AllDigits, digits_value, IsNumeral}
+use Rattle.std.proofs.lemmas.Bool.{lt-ltb, ltb-true}
 use Rattle.std.proofs.lemmas.Bool.Decides.{eqb_tells}
 use Rattle.std.proofs.lemmas.Int.{to_z-of_z}
+use Rattle.std.proofs.lemmas.Int.Digits.{digits_more, digits_value_more}
 use Rattle.std.proofs.lemmas.Slice.Eq.{bytes_eq-Decides}
-use Rattle.std.proofs.lemmas.Fmt.{decimal_is_IsNumeral, parse-decimal, IsAscii-decimal}
-use Rattle.std.proofs.lemmas.Str.{IsUtf8-from_ascii}
-use Rattle.ada_script.specs.internal.Number.{natural_of, positive, negative, integer_of}
-
--- the bytes of no number are other than text
-pub no_text : (word : List ℕ) → (IsUtf8 word → ⊥) → (n : ℕ) → n < 2 ^ 64 → decimal n ≡ word → ⊥
-no_text word none n lt e = none (subst IsUtf8 e (IsUtf8-from_ascii (decimal n) (IsAscii-decimal n lt)))
+use Rattle.std.proofs.lemmas.Fmt.{decimal_digit, decimal_is_IsNumeral, decimal_nonempty, decimal-digits_value, first_decimal}
+use Rattle.std.proofs.lemmas.Str.{digit_value_digit}
+use Rattle.std.proofs.lemmas.Str.Parse.{digit_at, digits_value-take-le, numerals_by_value, tells_digits}
+use Rattle.ada_script.specs.internal.Number.{IsLed, natural_of, positive, negative, integer_of}
 
 -- a word is the spelling of one number at most
 abbrev IsSpelledBy : List ℕ → Option ℕ → Type 0
 IsSpelledBy word r = MatchOption r ((n : ℕ) → n < 2 ^ 64 → decimal n ≡ word → ⊥) (λ n. decimal n ≡ word)
 
-module _ {E : Type 0} where
-  -- what doesn't parse is no spelling
-  pub unparsed : (word text : List ℕ) (d : E) → text ≡ word → ParsesUnsigned {E = E} 64 10 text (Err d) → (n : ℕ) → n < 2 ^ 64 → decimal n ≡ word → ⊥
-  unparsed word text d same h n lt e =
-      let parsed : Err d ≡ Ok n = parse-decimal {E = E} 64 n text (Err d) lt lt (same ∙ sym e) h in
-      absurd cc
+-- a spelling has a first digit, which is no 0 but alone
+pub decimal_is_led : (n : ℕ) (word : List ℕ) → n < 2 ^ 64 → decimal n ≡ word → IsLed word
+decimal_is_led zero word lt e = subst IsLed (sym (decimal_digit 0 (omega arith)) ∙ e) (omega arith, λ _. refl)
+decimal_is_led (suc n) word lt e =
+    let first = first_decimal (suc n) (omega arith) lt in
+    subst IsLed e (decimal_nonempty (suc n) lt, λ zero_first. absurd (omega (arith, first, zero_first)))
 
-  -- nor is what parses to a number that is spelled otherwise
-  pub spelled_otherwise : (word text out : List ℕ) (r : Result ℕ E) (number : ℕ) → text ≡ word → r ≡ Ok number → ParsesUnsigned 64 10 text r
-      → out ≡ decimal number → bytes_eq out word ≡ false
-      → (n : ℕ) → n < 2 ^ 64 → decimal n ≡ word → ⊥
-  spelled_otherwise word text out r number same ok h written differs n lt e =
-      let parsed : r ≡ Ok n = parse-decimal {E = E} 64 n text r lt lt (same ∙ sym e) h in
-      let is : number ≡ n = cc in
-      let equal : out ≡ word = written ∙ ap decimal is ∙ e in
-      true≢false (sym ((bytes_eq-Decides out word).1 equal) ∙ differs)
+-- a word with another byte, or one whose digits so far are too many, is no spelling
+pub no_digit : (word : List ℕ) (i number : ℕ) → i < length word → number ≡ digits_value 10 (take i word)
+    → (IsInRange 48 57 (get_or word i 0) → 2 ^ 64 ≤ number * 10 + (get_or word i 0 - 48))
+    → (n : ℕ) → n < 2 ^ 64 → decimal n ≡ word → ⊥
+no_digit word i number within so_far fails n lt e =
+    let numeral = subst (λ w. IsNumeral 10 w × (digits_value 10 w ≡ n)) e (decimal_is_IsNumeral n lt) in
+    let digit = digit_at word i numeral.0.1 within in
+    let value = digit_value_digit (get_or word i 0) digit in
+    let more = digits_value_more 10 word i within in
+    let least = digits_value-take-le 10 word (i + 1) (omega arith) in
+    let full = fails digit in
+    omega (arith, value, more, least, full, so_far, numeral.1, lt)
+
+-- digits of which the first is no 0 but alone are the spelling of their value
+pub digits_are_spelled : (word : List ℕ) (number : ℕ) → IsLed word → AllDigits 10 word → number ≡ digits_value 10 word → number < 2 ^ 64 → decimal number ≡ word
+digits_are_spelled word number led digits is lt =
+    rw is (decimal-digits_value (numerals_by_value (AllDigits 10) tells_digits) word digits led.0 led.1 (rw (← is) lt))
+
+-- one more digit
+pub digit_more : (word : List ℕ) (i number : ℕ) → i < length word → IsInRange 48 57 (get_or word i 0)
+    → AllDigits 10 (take i word) → number ≡ digits_value 10 (take i word)
+    → AllDigits 10 (take (i + 1) word) × (number * 10 + (get_or word i 0 - 48) ≡ digits_value 10 (take (i + 1) word))
+digit_more word i number within digit digits so_far =
+    let value = digit_value_digit (get_or word i 0) digit in
+    let more = digits_value_more 10 word i within in
+    (digits_more 10 word i within digits (omega (arith, value, digit)), omega (arith, value, more, so_far))
 
 value_of_decimal : (n : ℕ) (word : List ℕ) → n < 2 ^ 64 → decimal n ≡ word → digits_value 10 word ≡ n
 value_of_decimal n word lt e = subst (λ w. digits_value 10 w ≡ n) e (decimal_is_IsNumeral n lt).1

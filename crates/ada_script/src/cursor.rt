@@ -1,6 +1,6 @@
 //! Going over the lines of a text and the words of a line, with no memory.
 
-ghost use Rattle.std.specs.Prelude.{◌≡◌, List, ◌∷◌, [], MatchOption, IfNone, false, ℕ};
+ghost use Rattle.std.specs.Prelude.{◌≡◌, ◌<◌, ◌≤◌, List, ◌∷◌, [], length, get_or, MatchOption, IfNone, false, ℕ};
 ghost use Rattle.std.specs.List.{list_all};
 ghost use Rattle.ada_statements.specs.Text.{lines_of, parts_of, space, words_in};
 ghost use Rattle.ada_script.specs.internal.Spaces.{begins_with_space, is_space};
@@ -48,7 +48,22 @@ fn after_spaces(bytes: &[u8]) -> &[u8]
     &rest[rest.len()..]
 }
 
+/// How many bytes stand before the first space.
+fn word_length(bytes: &[u8]) -> usize
+    ensures fits { result ≤ length bytes.now }
+    ensures word { (k : ℕ) → k < result → get_or bytes.now k 0 ≡ space → ⊥ }
+    ensures end { result < length bytes.now → get_or bytes.now result 0 ≡ space }
+{
+    for (i, byte) in bytes.iter().enumerate() {
+        if *byte == b' ' {
+            return i;
+        }
+    }
+    bytes.len()
+}
+
 /// The bytes before the first space, and those after it. There are none where no bytes are left.
+#[inline(always)]
 fn cut(bytes: &[u8]) -> Option<(&[u8], &[u8])>
     ensures { MatchOption result (parts_of space bytes.now ≡ [])
         (λ p. parts_of space bytes.now ≡ p.0.now ∷ parts_of space p.1.now) }
@@ -56,12 +71,12 @@ fn cut(bytes: &[u8]) -> Option<(&[u8], &[u8])>
     if bytes.is_empty() {
         return None;
     }
-    for (i, byte) in bytes.iter().enumerate() {
-        if *byte == b' ' {
-            return Some((&bytes[..i], &bytes[i + 1..]));
-        }
+    let end = word_length(bytes);
+    if end < bytes.len() {
+        Some((&bytes[..end], &bytes[end + 1..]))
+    } else {
+        Some((bytes, &bytes[bytes.len()..]))
     }
-    Some((bytes, &bytes[bytes.len()..]))
 }
 
 /// Whether the first byte is a space.
@@ -74,16 +89,27 @@ fn is_space_next(bytes: &[u8]) -> bool
     }
 }
 
-/// The first word of a line and what stands after it, if there is one.
-fn cut_word(line: &[u8]) -> Option<(&[u8], &[u8])>
-    ensures { MatchOption result (words_in line.now ≡ [])
-        (λ p. words_in line.now ≡ p.0.now ∷ words_in p.1.now) }
+/// The bytes from the first word on.
+#[inline(always)]
+fn from_word(bytes: &[u8]) -> &[u8]
+    ensures words { words_in result.now ≡ words_in bytes.now }
+    ensures first { begins_with_space result.now ≡ false }
 {
-    if is_space_next(line) {
-        cut(after_spaces(line))
+    if is_space_next(bytes) {
+        after_spaces(bytes)
     } else {
-        cut(line)
+        bytes
     }
+}
+
+/// The word that the bytes begin with, if there are bytes, and what stands after it.
+#[inline(always)]
+fn cut_word(bytes: &[u8]) -> Option<(&[u8], &[u8])>
+    requires { begins_with_space bytes.now ≡ false }
+    ensures { MatchOption result (words_in bytes.now ≡ [])
+        (λ p. words_in bytes.now ≡ p.0.now ∷ words_in p.1.now) }
+{
+    cut(bytes)
 }
 
 /// The first line of a text and what stands after it, if there is one.
@@ -138,17 +164,22 @@ impl<'a> Lines<'a> {
 /// The words of a line that are left. Contracts see them as the list of the words.
 #[derive(Drop)]
 pub struct Words<'a> {
-    /// The next word, which is cut once, and what stands behind it.
-    next: Option<(&'a [u8], &'a [u8])>,
+    /// What is left of the line, from a word on.
+    rest: &'a [u8],
 }
 
 impl<'a> Model for Words<'a> {
     ghost use Rattle.std.specs.Prelude.{List, ℕ};
-    ghost use Rattle.ada_script.specs.Cursor.{words_ahead};
+    ghost use Rattle.ada_statements.specs.Text.{words_in};
 
     ghost Value = { List (List ℕ) };
 
-    ghost view = { λ w. words_ahead w.next };
+    ghost view = { λ w. words_in w.rest.now };
+
+    ghost use Rattle.std.specs.Prelude.{◌≡◌, false};
+    ghost use Rattle.ada_script.specs.internal.Spaces.{begins_with_space};
+
+    ghost invariant = { λ w. begins_with_space w.rest.now ≡ false };
 }
 
 impl<'a> Words<'a> {
@@ -160,7 +191,7 @@ impl<'a> Words<'a> {
         ensures { result ≡ words_in line.now }
     {
         Words {
-            next: cut_word(line),
+            rest: from_word(line),
         }
     }
 
@@ -169,8 +200,8 @@ impl<'a> Words<'a> {
         ensures word { MatchOption result (self.old ≡ []) (λ word. self.old ≡ word.now ∷ self.new) }
         ensures none { IfNone result (self.new ≡ []) }
     {
-        let (word, rest) = self.next?;
-        self.next = cut_word(rest);
+        let (word, rest) = cut_word(self.rest)?;
+        self.rest = from_word(rest);
         Some(word)
     }
 
@@ -179,14 +210,25 @@ impl<'a> Words<'a> {
         ensures { MatchOption result (self.now ≡ []) (λ word. (rest : List (List ℕ))
             × (self.now ≡ word.now ∷ rest)) }
     {
-        let (word, _) = self.next?;
+        let (word, _) = cut_word(self.rest)?;
         Some(word)
+    }
+
+    /// The first byte of the next word, which is left where it is.
+    pub fn first(&self) -> Option<u8>
+        ensures { MatchOption result (self.now ≡ []) (λ first. (bytes : List ℕ)
+            × (rest : List (List ℕ)) × (self.now ≡ (first ∷ bytes) ∷ rest)) }
+    {
+        match self.rest {
+            [] => None,
+            [first, ..] => Some(*first),
+        }
     }
 
     /// Whether no word is left.
     pub fn is_over(&self) -> bool
         ensures { result ≡ is_over self.now }
     {
-        self.next.is_none()
+        self.rest.is_empty()
     }
 }

@@ -1,10 +1,31 @@
 //! Reading a word as a number. Each number has one spelling.
 
-ghost use Rattle.std.specs.Prelude.{◌≡◌, ◌<◌, ◌≤◌, ◌^◌, ℕ, MatchOption, IfSome, decimal};
-ghost use Rattle.ada_script.specs.internal.Number.{natural_of, integer_of, positive, negative};
+ghost use Rattle.std.specs.Prelude.{◌≡◌, ◌↔◌, ◌<◌, ◌≤◌, ◌+◌, ◌-◌, ◌*◌, ◌^◌, ℕ, MatchOption, IfSome, IsTrue, decimal};
+ghost use Rattle.std.specs.Int.{IsInRange};
+ghost use Rattle.ada_script.specs.internal.Number.{IsLed, natural_of, integer_of, positive, negative};
 
-use itoa::Buffer;
-use std::str;
+/// Whether there is a byte, and a 0 at the beginning stands alone.
+fn is_led(word: &[u8]) -> bool
+    ensures { IsTrue result ↔ IsLed word.now }
+{
+    match word {
+        [] => false,
+        [_] => true,
+        [first, ..] => *first != b'0',
+    }
+}
+
+/// The number with one more digit at its end, if the byte is a digit, and the number below 2 ^ 64.
+fn with_digit(number: u64, byte: u8) -> Option<u64>
+    ensures fits { IfSome result (λ n. n < 2 ^ 64) }
+    ensures value { MatchOption result (IsInRange 48 57 byte → 2 ^ 64 ≤ number * 10 + (byte - 48))
+        (λ n. IsInRange 48 57 byte × (n ≡ number * 10 + (byte - 48))) }
+{
+    if byte < b'0' || byte > b'9' || number > u64::MAX / 10 {
+        return None;
+    }
+    (number * 10).checked_add(u64::from(byte - b'0'))
+}
 
 /// The number whose spelling the word is.
 fn spelled(word: &[u8]) -> Option<u64>
@@ -12,18 +33,17 @@ fn spelled(word: &[u8]) -> Option<u64>
     ensures spelling { MatchOption result ((n : ℕ) → n < 2 ^ 64 → decimal n ≡ word.now
         → ⊥) (λ n. decimal n ≡ word.now) }
 {
-    let Ok(text) = str::from_utf8(word) else {
+    if !is_led(word) {
         return None;
-    };
-    let Ok(number) = text.parse::<u64>() else {
-        return None;
-    };
-    let mut buffer = Buffer::new();
-    if buffer.format(number).as_bytes() == word {
-        Some(number)
-    } else {
-        None
     }
+    let mut number: u64 = 0;
+    for byte in word {
+        match with_digit(number, *byte) {
+            Some(longer) => number = longer,
+            None => return None,
+        }
+    }
+    Some(number)
 }
 
 /// The number whose spelling the word is, from 0 on and below 2 ^ 64.

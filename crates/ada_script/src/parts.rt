@@ -5,7 +5,7 @@ ghost use Rattle.std.specs.List.{list_all};
 ghost use Rattle.ada_statements.specs.Scope.{is_task, is_declared, has_entry};
 ghost use Rattle.ada_statements.specs.Text.{is_name as name_form, is_name_byte as name_byte};
 ghost use Rattle.ada_script.specs.internal.Reading.{Gives, GivesWord, word_at, end_at, keyword_at, moment_at, index_at, pick_at, below_2_32 as low_number};
-ghost use Rattle.ada_script.specs.internal.Reading.{begins_number, number_is_next, optional_index_at, bounds_at, name_at, task_name_at};
+ghost use Rattle.ada_script.specs.internal.Reading.{number_is_next, optional_index_at, bounds_at, name_at, task_name_at};
 ghost use Rattle.ada_script.specs.internal.Reading.{master_at, new_name_at, entry_name_at};
 
 use crate::cursor::Words;
@@ -81,23 +81,13 @@ pub fn read_pick(words: &mut Words) -> Result<u32, Fault>
     below_2_32(natural(word)).ok_or(Fault::BadNumber)
 }
 
-/// Whether the word begins as a number does.
-fn is_number_begun(word: &[u8]) -> bool
-    ensures { result ≡ begins_number word.now }
-{
-    match word {
-        [] => false,
-        [first, ..] => first.is_ascii_digit() || *first == b'-',
-    }
-}
-
 /// Whether the next word begins as a number does.
 fn is_number_next(words: &Words) -> bool
     ensures { result ≡ number_is_next words.now }
 {
-    match words.peek() {
+    match words.first() {
         None => false,
-        Some(word) => is_number_begun(word),
+        Some(first) => first.is_ascii_digit() || first == b'-',
     }
 }
 

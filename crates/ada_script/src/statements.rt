@@ -21,6 +21,7 @@ use ada_statements::{Cause, Name, Names, Statement};
 use std::alloc::Global;
 
 // Puts what was read into its place.
+#[inline(always)]
 fn put(place: &mut Statement, statement: Statement) -> Result<(), Fault>
     ensures { IsOk result × (place.new ≡ statement) }
 {

@@ -1,6 +1,6 @@
 //! Reading a text as a script.
 
-ghost use Rattle.std.specs.Prelude.{◌≡◌, ◌↔◌, ◌≤◌, ◌++◌, ◌⊎◌, List, IsTrue, OnOk, IfOk, IfErr};
+ghost use Rattle.std.specs.Prelude.{◌≡◌, ◌↔◌, ◌≤◌, ◌++◌, ◌⊎◌, List, [], IsTrue, OnOk, IfOk, IfErr, IsOkUnless};
 ghost use Rattle.ada_statements.specs.Text.{words_in};
 ghost use Rattle.ada_script.specs.Script.{IsPrintable, IsPlain, IsUnplain, is_skipped as skipped, scope_of, AddsLine, IsScript, IsFault, IsFirstFault};
 ghost use Rattle.ada_script.specs.internal.Printable.{printable};
@@ -51,10 +51,9 @@ pub fn check_line(number: u32, line: &[u8]) -> Result<(), Cause>
 pub fn is_skipped(words: &Words) -> bool
     ensures { result ≡ skipped words.now }
 {
-    match words.peek() {
+    match words.first() {
         None => true,
-        Some([first, ..]) => *first == b'#',
-        Some([]) => false,
+        Some(first) => first == b'#',
     }
 }
 
@@ -80,15 +79,26 @@ fn read_line(
     if is_skipped(&words) {
         return Ok(());
     }
-    let mut statement = Statement::Tick { now: 0 };
-    read_statement(alloc, names, &mut words, &mut statement)?;
-    names.declare(&statement)?;
-    lines.reserve(1)?;
-    lines.push_reserved(Line {
+    // Filled where it lies, so that it is moved once.
+    let mut added = Line {
         line: number,
-        statement,
-    });
+        statement: Statement::Tick { now: 0 },
+    };
+    read_statement(alloc, names, &mut words, &mut added.statement)?;
+    names.declare(&added.statement)?;
+    lines.reserve(1)?;
+    lines.push_reserved(added);
     Ok(())
+}
+
+/// No lines, with room for as many as the text has if each takes 16 bytes, so that they are seldom moved as more are
+/// read.
+fn room_for_lines(alloc: Global, text: &[u8]) -> Result<Vec<Line>, Cause>
+    ensures none { IfOk result (λ lines. lines.items ≡ []) }
+    ensures memory { IsOkUnless result Cause.OutOfMemory }
+{
+    let count = text.len() / 16;
+    Ok(Vec::with_capacity(alloc, count.min(4096))?)
 }
 
 /// Reads a text as a script. It is one where each line is blank, a comment or a statement whose names
@@ -100,7 +110,10 @@ pub fn read(alloc: Global, text: &[u8]) -> Result<Script, ScriptFault>
         ⊎ IsFirstFault text.now fault) }
 {
     let mut number = 1;
-    let mut lines = Vec::new(alloc);
+    let mut lines = room_for_lines(alloc, text).map_err(|cause| ScriptFault {
+        line: number,
+        cause,
+    })?;
     let mut names = Names::new(alloc).map_err(|cause| ScriptFault {
         line: number,
         cause,

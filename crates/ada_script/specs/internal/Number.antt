@@ -1,8 +1,13 @@
 -- How a word is read as a number. What a number's word is, the spelling says by `signed_decimal`; this is
 -- the way back, and stands for nothing by itself.
-use Rattle.std.specs.Prelude.{ℕ, zero, suc, ℤ, pos, negsuc, ◌&&◌, ◌^◌, ◌==◌, nat_lt, if◌then◌else◌, List, [], ◌∷◌, Option, Some, None, option_and_then, decimal}
+use Rattle.std.specs.Prelude.{◌≡◌, ℕ, zero, suc, ◌<◌, ℤ, pos, negsuc, ◌&&◌, ◌^◌, ◌==◌, nat_lt, if◌then◌else◌}
+use Rattle.std.specs.Prelude.{List, [], ◌∷◌, length, get_or, Option, Some, None, option_and_then, decimal}
 use Rattle.std.specs.Str.{bytes_eq}
 use Rattle.std.specs.Str.Parse.{digits_value}
+
+-- a first byte is there, and a 0 stands alone
+abbrev pub IsLed : List ℕ → Type 0
+IsLed word = (0 < length word) × (get_or word 0 0 ≡ 48 → length word ≡ 1)
 
 -- the number below 2 ^ 64 whose spelling this is
 unfoldable pub natural_of : List ℕ → Option ℕ

@@ -3,9 +3,12 @@ use Rattle.ada_statements.specs.Text.{space}
 use Rattle.ada_script.proofs.CutParts.{parts_behind, parts_of-whole}
 use Rattle.ada_script.proofs.cursor.cut.Goals as goal
 
-pub returns-then-byte-eq32 : goal.returns-then-byte-eq32
-returns-then-byte-eq32 c = parts_behind space c.args.bytes.now c.loop-i.i (omega arith) c.loop-i.invariant c.if-byte-eq32.true
+pub returns-then-end-bytes : goal.returns-then-end-bytes
+returns-then-end-bytes c =
+    let end = c.word_length-end.ensures in
+    parts_behind space c.args.bytes.now c.word_length-end.result c.if-end-bytes.true end.word (end.end c.if-end-bytes.true)
 
-pub returns : goal.returns
-returns c =
-    parts_of-whole space c.args.bytes.now (sym c.is_empty.ensures ∙ c.if-is_empty.false) (λ k lt. c.loop-i.invariant k (omega arith))
+pub returns-else-end-bytes : goal.returns-else-end-bytes
+returns-else-end-bytes c =
+    parts_of-whole space c.args.bytes.now (sym c.is_empty.ensures ∙ c.if-is_empty.false)
+    (λ k within. c.word_length-end.ensures.word k (omega (arith, c.if-end-bytes.false, within)))
