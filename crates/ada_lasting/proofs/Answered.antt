@@ -1,5 +1,5 @@
 -- A kernel that lives on answers what the journal that it follows tells.
-use Rattle.std.proofs.Common.{◌≡◌, ℕ, ◌≤◌, Bool, Option, Some, None, List, Result, Ok, Err, refl, sym, ap, ◌∙◌, arith}
+use Rattle.std.proofs.Common.{◌≡◌, ℕ, ◌≤◌, Option, Some, None, List, Err, refl, sym, ap, ◌∙◌, arith}
 use Rattle.std.specs.Prelude.{is_some}
 use Rattle.std.specs.Bool.{then_some}
 use Rattle.std.specs.Option.{option_and_then}
@@ -14,7 +14,7 @@ use Rattle.ada_events.specs.declared.names.Entry.{Entry}
 use Rattle.ada_events.specs.declared.refusal.Refusal.TheVariants.{UnknownTask}
 use Rattle.ada_standing.specs.Renaming.{renamed_outcome}
 use Rattle.ada_laws.proofs.Limitless.{lawful_unlimited}
-use Rattle.ada_standing.specs.Asking.{AnswersAlike, AnswerAlike}
+use Rattle.ada_standing.specs.Asking.{AnswersAlike}
 use Rattle.ada_standing.proofs.asked.Answering.{answered_alike}
 use Rattle.ada_lasting.specs.Naming.{found, renaming_of}
 use Rattle.ada_lasting.specs.Following.{Long, Follows}

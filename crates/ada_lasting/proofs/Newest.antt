@@ -1,5 +1,5 @@
 -- The newest events of a journal are the last of the list in which they came.
-use Rattle.std.proofs.Common.{◌≡◌, ℕ, ◌-◌, ◌≤◌, ◌++◌, List, length, take, drop, reverse, refl, sym, ap, ◌∙◌, arith}
+use Rattle.std.proofs.Common.{◌≡◌, ℕ, ◌-◌, ◌≤◌, ◌++◌, List, length, take, drop, reverse, sym, ap, ◌∙◌, arith}
 use Rattle.std.proofs.lemmas.List.{take-append-drop, take_at, length-drop, length-reverse, reverse-append, take_all}
 use Rattle.ada_events.specs.declared.event.Event.{Event}
 

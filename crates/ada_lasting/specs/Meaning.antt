@@ -1,19 +1,15 @@
--- Requests in names that last: what they ask of a journal without an end, and whether what they name has a name.
-use Rattle.std.specs.Prelude.{ℕ, Bool, true, false, not, ◌&&◌, ◌||◌, nat_lt, List, [], ◌∷◌, map}
-use Rattle.std.specs.Option.{is_some, option_map_or}
+-- Requests in names that last: what they ask of a journal without an end.
+use Rattle.std.specs.Prelude.{map}
 use Rattle.ada_events.specs.declared.request.Request.{Request}
 use Rattle.ada_events.specs.declared.request.Request.TheVariants as request
-use Rattle.ada_events.specs.declared.names.TaskNo.{TaskNo}
 use Rattle.ada_events.specs.declared.names.Master.{Master}
 use Rattle.ada_events.specs.declared.names.Master.TheVariants as master
 use Rattle.ada_events.specs.Forced.{task_no}
-use Rattle.ada_events.specs.Asks.{asker, named_tasks}
 use Rattle.ada_lasting.specs.declared.requests.LastingMaster.{LastingMaster}
 use Rattle.ada_lasting.specs.declared.requests.LastingMaster.TheVariants.{Body, Block}
 use Rattle.ada_lasting.specs.declared.requests.LastingRequest.{LastingRequest}
 use Rattle.ada_lasting.specs.declared.requests.LastingRequest.TheVariants.{Open, Create, Activate, Elaborated, Call, Wait}
 use Rattle.ada_lasting.specs.declared.requests.LastingRequest.TheVariants.{Delay, End, Close, Complete, Abort, Tick}
-use Rattle.ada_lasting.specs.Naming.{Naming, found}
 
 abbrev pub meant_master : LastingMaster → Master
 meant_master (Body task) = master.Body (task_no task)

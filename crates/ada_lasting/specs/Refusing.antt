@@ -3,12 +3,11 @@ use Rattle.std.specs.Prelude.{◌≡◌, ◌⊎◌, ℕ, false, Some, None, List
 use Rattle.ada_events.specs.declared.event.Event.{Event}
 use Rattle.ada_events.specs.declared.request.Request.{Request}
 use Rattle.ada_events.specs.declared.refusal.Refusal.{Refusal}
-use Rattle.ada_events.specs.declared.refusal.Refusal.TheVariants.{TooManyTasks, TooManySlots, JournalFull, OutOfMemory}
+use Rattle.ada_events.specs.declared.refusal.Refusal.TheVariants.{TooManyTasks, TooManySlots, OutOfMemory}
 use Rattle.ada_laws.specs.Unlimited.{refusal_but_limits}
 use Rattle.ada_standing.specs.Asking.{names_kept}
 use Rattle.ada_lasting.specs.declared.failure.NotDone.{NotDone}
 use Rattle.ada_lasting.specs.declared.failure.NotDone.TheVariants.{Refused, GivenUp, NotTerminated, NotCompacted, NoMoreNames}
-use Rattle.ada_compact.specs.declared.failure.NotCompacted.TheVariants.{NoRoom}
 use Rattle.ada_lasting.specs.Naming.{renaming_of}
 use Rattle.ada_lasting.specs.Following.{Long, Follows}
 
