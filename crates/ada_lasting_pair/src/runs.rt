@@ -148,8 +148,13 @@ fn is_anybody_running(both: &Both) -> bool {
 
 fn has_room(both: &Both) -> bool {
     both.plain.tasks() < MOST_TASKS
-        && both.plain.view().tables().slots() < MOST_SLOTS
+        && slots(both) < MOST_SLOTS
         && both.plain.journal().len() < MOST_EVENTS
+}
+
+// How many entries all tasks have.
+fn slots(both: &Both) -> u16 {
+    both.plain.view().tables().slots()
 }
 
 // What comes between two requests, now and then.
