@@ -16,17 +16,15 @@ mod creation;
 #[cfg(test)]
 mod crowd;
 #[cfg(test)]
-mod dice;
-#[cfg(test)]
 mod filling;
 #[cfg(test)]
 mod journals;
 #[cfg(test)]
 mod kernel_memory;
 #[cfg(test)]
-mod kinds;
-#[cfg(test)]
 mod limits;
+#[cfg(test)]
+mod mixes;
 #[cfg(test)]
 mod names;
 #[cfg(test)]

@@ -1,12 +1,12 @@
 //! Random requests of a kernel and of the plain one side by side.
 
-use crate::dice::Dice;
-use crate::kinds::Mix;
+use crate::mixes::MIXES;
 use crate::requests::request;
-use crate::scenes::Scene;
+use crate::scenes::JournalScene;
 use crate::side_by_side::Both;
 use crate::tally::Tally;
 use ada_events::Request;
+use ada_test_requests::{Dice, Mix};
 use std::process::Abort;
 use std::test::Fail;
 
@@ -18,7 +18,7 @@ const LENGTH: u64 = 100;
 
 /// The request that follows from the number of a die, as a journal stands.
 fn next_request(both: &Both, mix: Mix, seed: u64) -> Request {
-    let scene = Scene {
+    let scene = JournalScene {
         journal: both.plain().journal(),
         tasks: both.tasks(),
     };
@@ -44,7 +44,7 @@ fn play<R: Abort + AllocGlobal>(rt: &R, mix: Mix, run: u64, tally: &mut Tally) -
 fn random_requests(rt: HostRuntime) -> Result<(), Fail> {
     let mut tally = Tally::new(rt.alloc());
     for run in 0..RUNS {
-        for (number, mix) in Mix::ALL.iter().enumerate() {
+        for (number, mix) in MIXES.iter().enumerate() {
             play(
                 &rt,
                 *mix,

@@ -3,7 +3,6 @@
 use crate::side_by_side::Both;
 use ada_events::{Refusal, TaskNo};
 use std::alloc::{AllocError, Global};
-use std::collections::BTreeSet;
 use std::fmt::Debug;
 use std::process::Abort;
 
@@ -75,21 +74,21 @@ const OUTCOMES: [&str; 16] = [
     "Nothing",
 ];
 
-/// The names of values that came up, such as events.
-#[derive(Drop)]
+/// Which kinds of values came up, such as events, of those with these names.
+#[derive(Clone, Copy)]
 struct Seen {
-    names: BTreeSet<String>,
+    names: &'static [&'static str],
+    // A bit for each name.
+    kinds: u64,
 }
 
 impl Seen {
     /// Nothing so far.
-    fn new(alloc: Global) -> Self {
-        Seen {
-            names: BTreeSet::new(alloc),
-        }
+    fn new(names: &'static [&'static str]) -> Self {
+        Seen { names, kinds: 0 }
     }
 
-    /// Keeps the name of a value's kind: the word with which its text begins.
+    /// Keeps that a value's kind came up: the word with which its text begins.
     fn note<T: Debug>(&mut self, alloc: Global, value: &T) -> Result<(), AllocError> {
         let text = format!(in alloc; "{value:?}")?;
         let name = text
@@ -97,20 +96,32 @@ impl Seen {
             .split(|letter: char| !letter.is_ascii_alphanumeric())
             .next()
             .unwrap_or("");
-        if !self.names.contains(name) {
-            self.names.insert(String::from_str(alloc, name)?)?;
-        }
+        self.keep(name);
         Ok(())
     }
 
-    /// Whether a value of that kind came up.
-    fn has(&self, name: &str) -> bool {
-        self.names.contains(name)
+    fn keep(&mut self, name: &str) {
+        for (place, known) in self.names.iter().enumerate() {
+            if *known == name {
+                self.kinds |= 1 << (place % 64);
+            }
+        }
+    }
+
+    /// Whether the kind with the name at this place came up.
+    fn has(&self, place: usize) -> bool {
+        self.kinds >> (place % 64) & 1 == 1
+    }
+
+    fn assert_all_came_up<R: Abort>(&self, rt: &R) {
+        for (place, name) in self.names.iter().enumerate() {
+            assert!(rt; self.has(place), "{name} never came up");
+        }
     }
 }
 
 /// What came up in all runs.
-#[derive(Drop)]
+#[derive(Clone, Copy)]
 pub struct Tally {
     alloc: Global,
     accepted: u64,
@@ -125,13 +136,13 @@ impl Tally {
         Tally {
             alloc,
             accepted: 0,
-            events: Seen::new(alloc),
-            causes: Seen::new(alloc),
-            outcomes: Seen::new(alloc),
+            events: Seen::new(&EVENTS),
+            causes: Seen::new(&CAUSES),
+            outcomes: Seen::new(&OUTCOMES),
         }
     }
 
-    /// Notes the answer to a request, the events behind so many, and the outcomes of all tasks.
+    /// Notes the answer to a request, the events after so many, and the outcomes of all tasks.
     pub fn note(
         &mut self,
         answer: Result<u32, Refusal>,
@@ -161,14 +172,8 @@ impl Tally {
             "{} requests were accepted",
             self.accepted
         );
-        for name in EVENTS {
-            assert!(rt; self.events.has(name), "{name} never came up");
-        }
-        for name in CAUSES {
-            assert!(rt; self.causes.has(name), "{name} was never answered");
-        }
-        for name in OUTCOMES {
-            assert!(rt; self.outcomes.has(name), "{name} was never an outcome");
-        }
+        self.events.assert_all_came_up(rt);
+        self.causes.assert_all_came_up(rt);
+        self.outcomes.assert_all_came_up(rt);
     }
 }

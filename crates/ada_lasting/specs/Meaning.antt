@@ -1,4 +1,4 @@
--- Requests in names that last: what they ask of a journal without an end, and whether what they name has a name.
+-- Requests in names that last: what they ask of a journal without an end.
 use Rattle.std.specs.Prelude.{map}
 use Rattle.ada_events.specs.declared.request.Request.{Request}
 use Rattle.ada_events.specs.declared.request.Request.TheVariants as request

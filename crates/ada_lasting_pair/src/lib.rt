@@ -3,9 +3,8 @@
 #![tactic(auto)]
 
 pub mod both;
-pub mod dice;
-pub mod kinds;
 pub mod lines;
+pub mod mixes;
 pub mod plainly;
 pub mod questions;
 pub mod requests;

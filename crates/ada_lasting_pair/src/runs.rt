@@ -1,12 +1,12 @@
 //! Random runs of a kernel that lives on and of one that keeps everything, side by side.
 
 use crate::both::Both;
-use crate::dice::Dice;
-use crate::kinds::Mix;
+use crate::mixes::MIXES;
 use crate::requests::{made, request};
-use crate::scenes::Scene;
+use crate::scenes::PairScene;
 use crate::unlike::Unlike;
 use ada_lasting::LastingRequest;
+use ada_test_requests::{Dice, Mix, Scene};
 use std::alloc::Global;
 
 /// The numbers of events from which on the present journal is made shorter.
@@ -59,7 +59,7 @@ pub struct Found {
 impl Run {
     /// The run of a number, with up to so many requests and a sixteenth to two of them.
     pub fn new(number: u64, length: u64) -> Run {
-        let mix = Mix::ALL[(number % 4) as usize];
+        let mix = MIXES[(number % 4) as usize];
         let threshold = THRESHOLDS[(number / 4 % 5) as usize];
         let length = (length / 16).saturating_mul(1 + number % 31);
         Run {
@@ -73,7 +73,7 @@ impl Run {
     /// The request that follows as the kernels stand.
     pub fn request(&self, both: &Both, number: u64) -> LastingRequest {
         request(
-            Scene { both },
+            PairScene { both },
             self.mix,
             &mut self.dice(number.wrapping_mul(2)),
         )
@@ -142,14 +142,19 @@ impl Run {
 }
 
 fn is_anybody_running(both: &Both) -> bool {
-    let scene = Scene { both };
+    let scene = PairScene { both };
     scene.is_anybody_running()
 }
 
 fn has_room(both: &Both) -> bool {
     both.plain.tasks() < MOST_TASKS
-        && both.plain.view().tables().slots() < MOST_SLOTS
+        && slots(both) < MOST_SLOTS
         && both.plain.journal().len() < MOST_EVENTS
+}
+
+// How many entries all tasks have.
+fn slots(both: &Both) -> u16 {
+    both.plain.view().tables().slots()
 }
 
 // What comes between two requests, now and then.
@@ -167,7 +172,7 @@ fn disturb(both: &mut Both, dice: &mut Dice) -> Result<(), Unlike> {
 
 // Mostly any task that was made.
 fn to_release(both: &Both, dice: &mut Dice) -> u64 {
-    let scene = Scene { both };
+    let scene = PairScene { both };
     if dice.one_in(3) {
         scene.any_task(dice)
     } else {

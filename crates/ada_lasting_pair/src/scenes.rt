@@ -1,18 +1,108 @@
 //! What random requests are about: who may ask what, as a kernel that keeps everything tells.
 
 use crate::both::Both;
-use crate::dice::Dice;
 use crate::plainly::plain_task;
-use ada_events::{Entry, Master, Member};
+use ada_events::{Master, Member};
 use ada_lasting::{LastingMaster, LastingTasks};
+use ada_test_requests::{Dice, Scene};
 
 /// The kernels, and what is known of their tasks.
 #[derive(Clone, Copy)]
-pub struct Scene<'a> {
+pub struct PairScene<'a> {
     pub both: &'a Both,
 }
 
-impl Scene<'_> {
+impl Scene for PairScene<'_> {
+    type Task = u64;
+
+    // Mostly a task that isn't terminated; any other that was made, and rarely one that never was.
+    fn any_task(self, dice: &mut Dice) -> u64 {
+        match dice.below(60) {
+            0 => u64::from(dice.of_any_size()),
+            1 => u64::MAX.wrapping_sub(u64::from(dice.below(3))),
+            2 => self.tasks(),
+            3..=7 => self.any_made(dice),
+            _ => dice.pick(self.both.live.as_slice()).unwrap_or(0),
+        }
+    }
+
+    fn wants_tasks(self, dice: &mut Dice) -> bool {
+        self.alive() < 5 && !dice.one_in(4)
+    }
+
+    fn is_running(self, task: u64) -> bool {
+        self.both.plain.running(plain_task(task)) == Some(true)
+    }
+
+    fn is_activating(self, task: u64) -> bool {
+        match self.both.plain.record(plain_task(task)) {
+            Some(record) => !record.stage.elaborated,
+            None => false,
+        }
+    }
+
+    fn innermost(self, task: u64) -> Option<Member> {
+        let task = plain_task(task);
+        if task.0 < self.both.plain.tasks() {
+            self.both.plain.view().innermost(task)
+        } else {
+            None
+        }
+    }
+
+    fn wants_to_leave(self, dice: &mut Dice) -> bool {
+        dice.one_in(12)
+    }
+
+    // The main program mostly doesn't: it is the one that goes on when others are stuck.
+    fn may_wait_long(self, task: u64, dice: &mut Dice) -> bool {
+        task != 0 || dice.one_in(10)
+    }
+
+    fn has_to_activate(self, by: u64) -> bool {
+        let live = self.both.live.as_slice();
+        live.iter().any(|task| self.may_activate(by, *task))
+    }
+
+    fn to_activate(self, by: u64) -> LastingTasks {
+        let mut list = LastingTasks::new();
+        for task in self.both.live.as_slice() {
+            if self.may_activate(by, *task) && !list.is_full() {
+                list.push(*task);
+            }
+        }
+        list
+    }
+
+    fn families(self, task: u64) -> u8 {
+        match self.both.made.get(task as usize) {
+            Some(made) => made.families,
+            None => 0,
+        }
+    }
+
+    fn index(self, task: u64, _family: u8, dice: &mut Dice) -> i32 {
+        let low = match self.both.made.get(task as usize) {
+            Some(made) => made.low,
+            None => 0,
+        };
+        low.wrapping_add(dice.below(2) as i32)
+    }
+
+    fn how_many(self, dice: &mut Dice) -> u32 {
+        match dice.below(400) {
+            0 => 256,
+            1..=12 => 0,
+            _ => 1 + dice.below(3),
+        }
+    }
+
+    fn duration(self, dice: &mut Dice) -> i64 {
+        dice.duration(60)
+    }
+}
+
+impl PairScene<'_> {
     /// How many tasks were made.
     pub fn tasks(self) -> u64 {
         self.both.made.len() as u64
@@ -21,17 +111,6 @@ impl Scene<'_> {
     /// How many tasks aren't terminated.
     pub fn alive(self) -> usize {
         self.both.live.len()
-    }
-
-    /// Mostly a task that isn't terminated; any other that was made, and rarely one that never was.
-    pub fn any_task(self, dice: &mut Dice) -> u64 {
-        match dice.below(60) {
-            0 => u64::from(dice.any() >> dice.below(32)),
-            1 => u64::MAX.wrapping_sub(u64::from(dice.below(3))),
-            2 => self.tasks(),
-            3..=7 => self.any_made(dice),
-            _ => dice.pick(self.both.live.as_slice()).unwrap_or(0),
-        }
     }
 
     /// Any task that was made.
@@ -56,33 +135,10 @@ impl Scene<'_> {
         self.any_task(dice)
     }
 
-    /// Whether a task runs.
-    pub fn is_running(self, task: u64) -> bool {
-        self.both.plain.running(plain_task(task)) == Some(true)
-    }
-
     /// Whether any task runs.
     pub fn is_anybody_running(self) -> bool {
         let live = self.both.live.as_slice();
         live.iter().any(|task| self.is_running(*task))
-    }
-
-    /// Whether a task has yet to end its activation.
-    pub fn is_activating(self, task: u64) -> bool {
-        match self.both.plain.record(plain_task(task)) {
-            Some(record) => !record.stage.elaborated,
-            None => false,
-        }
-    }
-
-    /// The innermost of what a task is within.
-    pub fn innermost(self, task: u64) -> Option<Member> {
-        let task = plain_task(task);
-        if task.0 < self.both.plain.tasks() {
-            self.both.plain.view().innermost(task)
-        } else {
-            None
-        }
     }
 
     /// The body or the innermost block that a task is in.
@@ -119,17 +175,6 @@ impl Scene<'_> {
         }
     }
 
-    /// The tasks that a task made and has yet to activate.
-    pub fn to_activate(self, by: u64) -> LastingTasks {
-        let mut list = LastingTasks::new();
-        for task in self.both.live.as_slice() {
-            if self.may_activate(by, *task) && !list.is_full() {
-                list.push(*task);
-            }
-        }
-        list
-    }
-
     fn may_activate(self, by: u64, task: u64) -> bool {
         let is_named = match self.both.plain.record(plain_task(task)) {
             Some(record) => record.stage.named,
@@ -141,65 +186,8 @@ impl Scene<'_> {
         }
     }
 
-    /// Up to three tasks, rarely none.
-    pub fn some_tasks(self, dice: &mut Dice) -> LastingTasks {
-        let mut list = LastingTasks::new();
-        for _ in 0..self.how_many(dice) {
-            if !list.is_full() {
-                list.push(self.any_task(dice));
-            }
-        }
-        list
-    }
-
-    /// One to three, rarely none, and more rarely as many as a list holds.
-    pub fn how_many(self, dice: &mut Dice) -> u32 {
-        match dice.below(400) {
-            0 => 256,
-            1..=12 => 0,
-            _ => 1 + dice.below(3),
-        }
-    }
-
-    /// An entry of a task, and rarely one that it doesn't have.
-    pub fn entry(self, task: u64, dice: &mut Dice) -> Entry {
-        let (families, low) = match self.both.made.get(task as usize) {
-            Some(made) => (made.families, made.low),
-            None => (0, 0),
-        };
-        let family = dice.below(u32::from(families.max(1))) as u8;
-        if dice.one_in(25) {
-            return Entry {
-                family: family.wrapping_add(dice.below(3) as u8),
-                index: dice.any().cast_signed() >> dice.below(32),
-            };
-        }
-        Entry {
-            family,
-            index: low.wrapping_add(dice.below(2) as i32),
-        }
-    }
-
-    /// A duration, in milliseconds: mostly short, rarely of any size.
-    pub fn duration(self, dice: &mut Dice) -> i64 {
-        match dice.below(60) {
-            0 => i64::MAX,
-            1 => i64::MIN,
-            2 => 9_000_000_000_000,
-            3 => -i64::from(dice.below(10)),
-            _ => i64::from(dice.below(12)),
-        }
-    }
-
     /// A moment to tick to: mostly soon, rarely of any size.
     pub fn moment(self, dice: &mut Dice) -> i64 {
-        let now = self.both.plain.view().moment();
-        match dice.below(60) {
-            0 => i64::MAX,
-            1 => i64::MIN,
-            2 => 9_000_000_000_001,
-            3 => now.wrapping_sub(1),
-            _ => now.wrapping_add(i64::from(dice.below(8))),
-        }
+        dice.moment(self.both.plain.view().moment(), 8)
     }
 }

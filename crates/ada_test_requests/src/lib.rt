@@ -1,9 +1,18 @@
-//! Requests to a kernel, in few words: what the tests of kernels, boards and halls ask.
+//! Requests to a kernel: in few words, as the tests of kernels, boards and halls ask them, and what random ones are
+//! made of, whatever a kernel calls its tasks.
 #![tactic(auto)]
+
+pub mod dice;
+pub mod kinds;
+pub mod parts;
+pub mod scene;
 
 use ada_events::{
     Bounded, Choice, Entry, Families, Family, Master, Patience, Request, Tail, TaskNo, Tasks,
 };
+pub use dice::Dice;
+pub use kinds::{Kind, Mix};
+pub use scene::Scene;
 
 /// The main program's body, as a master (9.4).
 pub const MAIN: Master = Master::Body(TaskNo(0));

@@ -24,31 +24,12 @@ pub struct Mix {
 }
 
 impl Mix {
-    /// The mixes, one of which each run takes.
-    pub const ALL: [Mix; 4] = [
-        Mix { kinds: &TALKING },
-        Mix { kinds: &ENDING },
-        Mix { kinds: &EVEN },
-        Mix { kinds: &NESTING },
-    ];
-}
+    /// Mostly about how tasks end.
+    pub const ENDING: Mix = Mix { kinds: &ENDING };
 
-const TALKING: [Kind; 14] = [
-    Kind::Open,
-    Kind::Create,
-    Kind::Call,
-    Kind::Call,
-    Kind::Call,
-    Kind::Call,
-    Kind::Wait,
-    Kind::Wait,
-    Kind::Wait,
-    Kind::Wait,
-    Kind::Delay,
-    Kind::End,
-    Kind::Tick,
-    Kind::Complete,
-];
+    /// About all kinds alike.
+    pub const EVEN: Mix = Mix { kinds: &EVEN };
+}
 
 const ENDING: [Kind; 12] = [
     Kind::Open,
@@ -78,16 +59,4 @@ const EVEN: [Kind; 12] = [
     Kind::Complete,
     Kind::Abort,
     Kind::Tick,
-];
-
-const NESTING: [Kind; 9] = [
-    Kind::Open,
-    Kind::Open,
-    Kind::Open,
-    Kind::Create,
-    Kind::Call,
-    Kind::Call,
-    Kind::Wait,
-    Kind::Wait,
-    Kind::Complete,
 ];
