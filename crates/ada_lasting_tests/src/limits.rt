@@ -92,6 +92,25 @@ fn tick<R: Abort>(rt: &R, kernel: &mut LongKernel, events: u64, ticks: u64) {
     }
 }
 
+fn assert_length<R: Abort>(rt: &R, kernel: &LongKernel, length: u32) {
+    assert_eq!(rt; kernel.present().journal().len(), length);
+}
+
+// A shorter one of the main program alone says the moment once more.
+#[test]
+fn the_present_journal_is_made_shorter_at_its_threshold(rt: HostRuntime) -> Result<(), Fail> {
+    for threshold in [8u32, 100, 4096] {
+        let mut kernel = LongKernel::new(threshold, rt.alloc())?;
+        let ticks = u64::from(threshold);
+        tick(&rt, &mut kernel, 0, ticks);
+        assert_length(&rt, &kernel, threshold);
+        let later = LastingRequest::Tick { now: 1_000_000 };
+        assert_accepted(&rt, &mut kernel, later, ticks.wrapping_add(1));
+        assert_length(&rt, &kernel, 2);
+    }
+    Ok(())
+}
+
 #[test]
 fn the_journal_is_never_full(rt: HostRuntime) -> Result<(), Fail> {
     let ticks = MOST_EVENTS as u64 + 1000;
