@@ -83,7 +83,7 @@ fn positions_are_the_same_at_each_threshold(rt: HostRuntime) -> Result<(), Fail>
     Ok(())
 }
 
-// Of an empty kernel, or one with so many events, none of which waits for a moment.
+// Ticks of a kernel whose journal has so many events; their moments rise from 0.
 fn tick<R: Abort>(rt: &R, kernel: &mut LongKernel, events: u64, ticks: u64) {
     for before in 0..ticks {
         let now = (before % 1_000_000) as i64;
@@ -96,7 +96,7 @@ fn assert_length<R: Abort>(rt: &R, kernel: &LongKernel, length: u32) {
     assert_eq!(rt; kernel.present().journal().len(), length);
 }
 
-// A shorter one of the main program alone says the moment once more.
+// A shorter journal of the main program alone has one event, a tick to the present moment. The next tick follows it.
 #[test]
 fn the_present_journal_is_made_shorter_at_its_threshold(rt: HostRuntime) -> Result<(), Fail> {
     for threshold in [8u32, 100, 4096] {
@@ -122,7 +122,7 @@ fn the_journal_is_never_full(rt: HostRuntime) -> Result<(), Fail> {
     Ok(())
 }
 
-// A conditional call, which isn't met; that its task was told so takes a helper to say again.
+// A conditional call that isn't met. To give its task the same outcome, a shorter journal takes a helper.
 fn call_in_vain() -> LastingRequest {
     LastingRequest::Call {
         by: 1,
@@ -141,7 +141,7 @@ fn with_no_room_for_a_helper_a_full_present_journal_takes_no_more(
     assert_accepted(&rt, &mut kernel, activate(MAIN, 1), 256);
     assert_accepted(&rt, &mut kernel, up(1), 257);
     assert_accepted(&rt, &mut kernel, call_in_vain(), 259);
-    // With the event that there is no room for, 64,768.
+    // The last of them is event 64,768, after which no request has room for all that it may append.
     let ticks = (MOST_EVENTS - MOST_APPENDED) as u64 - 259;
     tick(&rt, &mut kernel, 260, ticks);
     let full = NotDone::NotCompacted(NotCompacted::NoRoom(Refusal::TooManyTasks));
