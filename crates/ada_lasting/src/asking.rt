@@ -3,7 +3,7 @@
 ghost use Rattle.std.specs.Prelude.{◌≡◌, ◌&&◌, is_none, map};
 ghost use Rattle.std.specs.Option.{unwrap_or};
 ghost use Rattle.ada_events.specs.Forced.{task_no};
-ghost use Rattle.ada_events.specs.Asks.{asker, body_task};
+ghost use Rattle.ada_events.specs.Asks.{body_task};
 ghost use Rattle.ada_standing.specs.Asking.{asked_master, asked_task, renamed_request};
 ghost use Rattle.ada_lasting.specs.Meaning.{meant, meant_master};
 ghost use Rattle.ada_lasting.specs.internal.Nameable.{are_nameable, is_nameable, names_nameable};
@@ -15,30 +15,6 @@ use ada_events::{Master, Request, TaskNo, Tasks};
 
 /// No task: a journal has fewer.
 const NOBODY: TaskNo = TaskNo(65_535);
-
-impl LastingRequest {
-    // The task that asks; a tick has none.
-    #[tactic(auto, unfolding(crate::specs::Meaning::meant, ada_events::specs::Asks::asker))]
-    #[inline(always)]
-    fn by(&self) -> Option<u64>
-        ensures { result ≡ asker (meant self.now) }
-    {
-        match self {
-            LastingRequest::Open { by }
-            | LastingRequest::Create { by, .. }
-            | LastingRequest::Activate { by, .. }
-            | LastingRequest::Elaborated { by, .. }
-            | LastingRequest::Call { by, .. }
-            | LastingRequest::Wait { by, .. }
-            | LastingRequest::Delay { by, .. }
-            | LastingRequest::End { by, .. }
-            | LastingRequest::Close { by }
-            | LastingRequest::Complete { by }
-            | LastingRequest::Abort { by, .. } => Some(*by),
-            LastingRequest::Tick { .. } => None,
-        }
-    }
-}
 
 impl Names {
     // The task for a lasting name, nobody for one that has none. A name that was given up is noted.

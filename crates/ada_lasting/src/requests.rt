@@ -1,5 +1,9 @@
 //! What a task may ask of a kernel that lives on, in names that last.
 
+ghost use Rattle.std.specs.Prelude.{◌≡◌};
+ghost use Rattle.ada_events.specs.Asks.{asker};
+ghost use Rattle.ada_lasting.specs.Meaning.{meant};
+
 use ada_events::limits::MOST_TASKS;
 use ada_events::{Bounded, Choices, Entry, Families, Patience, Tail};
 
@@ -78,4 +82,28 @@ pub enum LastingRequest {
     Tick {
         now: i64,
     },
+}
+
+impl LastingRequest {
+    /// The task that asks; a tick has none.
+    #[tactic(auto, unfolding(crate::specs::Meaning::meant, ada_events::specs::Asks::asker))]
+    #[inline(always)]
+    pub fn by(&self) -> Option<u64>
+        ensures { result ≡ asker (meant self.now) }
+    {
+        match self {
+            LastingRequest::Open { by }
+            | LastingRequest::Create { by, .. }
+            | LastingRequest::Activate { by, .. }
+            | LastingRequest::Elaborated { by, .. }
+            | LastingRequest::Call { by, .. }
+            | LastingRequest::Wait { by, .. }
+            | LastingRequest::Delay { by, .. }
+            | LastingRequest::End { by, .. }
+            | LastingRequest::Close { by }
+            | LastingRequest::Complete { by }
+            | LastingRequest::Abort { by, .. } => Some(*by),
+            LastingRequest::Tick { .. } => None,
+        }
+    }
 }

@@ -1,7 +1,7 @@
 //! A kernel that lives on beside one that keeps everything: the same requests, and all that both answer compared.
 
 use crate::lines::{Lasting, Line, Own};
-use crate::plainly::{asker, listed, other, plain_master, plain_request, plain_task};
+use crate::plainly::{listed, other, plain_master, plain_request, plain_task};
 use crate::unlike::{Unlike, want};
 use ada_compact::NotCompacted;
 use ada_events::{Event, Master, Member, Refusal, TaskNo};
@@ -132,7 +132,7 @@ impl Both {
 
     // Whether a request names a task that was given up.
     fn names_given_up(&self, request: &LastingRequest) -> bool {
-        self.is_one_given_up(asker(request))
+        self.is_one_given_up(request.by())
             || self.is_one_given_up(other(request))
             || listed(request).iter().any(|task| self.is_given_up(*task))
     }
@@ -178,7 +178,7 @@ impl Both {
     fn is_given_up_answer(&self, request: &LastingRequest, answer: Result<u64, NotDone>) -> bool {
         match answer {
             Err(NotDone::GivenUp(task)) => {
-                let is_named = asker(request) == Some(task)
+                let is_named = request.by() == Some(task)
                     || other(request) == Some(task)
                     || listed(request).contains(&task);
                 is_named && self.is_given_up(task)

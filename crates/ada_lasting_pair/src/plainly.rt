@@ -122,24 +122,6 @@ fn plain_short_request(request: &LastingRequest) -> Request {
     }
 }
 
-/// The task that asks; none at a tick.
-pub fn asker(request: &LastingRequest) -> Option<u64> {
-    match request {
-        LastingRequest::Tick { .. } => None,
-        LastingRequest::Open { by }
-        | LastingRequest::Create { by, .. }
-        | LastingRequest::Activate { by, .. }
-        | LastingRequest::Elaborated { by, .. }
-        | LastingRequest::Call { by, .. }
-        | LastingRequest::Wait { by, .. }
-        | LastingRequest::Delay { by, .. }
-        | LastingRequest::End { by, .. }
-        | LastingRequest::Close { by }
-        | LastingRequest::Complete { by }
-        | LastingRequest::Abort { by, .. } => Some(*by),
-    }
-}
-
 /// The task that is called, or on whose body a new one depends.
 pub fn other(request: &LastingRequest) -> Option<u64> {
     match request {
