@@ -17,7 +17,6 @@ use ada_records::records::{holder_at, record_hold, record_release};
 use ada_records::suspension::{follow_hold, follow_release};
 use ada_steps::make_room;
 use ada_triggers::moments::after_tick;
-use ada_triggers::next_after_tick;
 
 impl Index {
     // Notes that a task is delayed until a moment.
@@ -92,8 +91,7 @@ impl Index {
     {
         let kept = &mut self.kept;
         let view = kept.view(journal);
-        after_tick(&mut self.agenda, self.next_due, &view, event, now);
-        self.next_due = next_after_tick(self.next_due, &view, now);
+        self.next_due = after_tick(&mut self.agenda, self.next_due, &view, event, now);
         kept.moment = now;
     }
 

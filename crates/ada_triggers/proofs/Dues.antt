@@ -54,6 +54,11 @@ no_due_key journal new tick at row key none (comes_at f there due) = absurd (non
 pub no_due : (journal : List Event) (old : List (List ℕ)) (tick : Event) (at : ℕ) → event_at journal at ≡ None → Puts old old (AsDueAt journal tick at)
 no_due journal old tick at none = record { grows = grows_same old; here = λ row key of. no_due_key journal old tick at row key none of }
 
+-- a moment that is waited for has come by a tick to another
+pub comes_by_tick : (tick event : Event) (now : ℤ) → tick ≡ Ticked now → is_due_by tick event ≡ is_due now (due_in event)
+unfolding moment_in
+comes_by_tick tick event now ticks = ap (λ (t : Event). is_due_by t event) ticks
+
 -- where a task is suspended
 at_key : (journal : List Event) (tick : Event) (task at : ℕ) (row : Row) (key : ℕ) → IsLawful journal → IsHeldAt journal task at
     → AsDue journal tick task row key → AsDueAt journal tick at row key
@@ -65,6 +70,14 @@ pub task_due_put : (journal : List Event) (old new : List (List ℕ)) (tick : Ev
     → Puts old new (AsDueAt journal tick at) → Puts old new (AsDue journal tick task)
 task_due_put journal old new tick task at lawful is puts =
     record { grows = puts.grows; here = λ row key of. puts.here row key (at_key journal tick task at row key lawful is of) }
+
+-- where a task is suspended at an event, by a tick
+pub due_noted : (journal : List Event) (old new : List (List ℕ)) (tick event : Event) (now : ℤ) (task at : ℕ) (row : Row) (so : Bool)
+    → IsLawful journal → IsHeldAt journal task at → event_at journal at ≡ Some event → tick ≡ Ticked now → row ≡ due_row event → so ≡ is_due now (due_in event)
+    → Puts old new (When so (AsKey row at)) → Puts old new (AsDue journal tick task)
+due_noted journal old new tick event now task at row so lawful is stands ticks rows so_is puts =
+    task_due_put journal old new tick task at lawful is
+    (due_put journal old new tick at event row so stands rows (so_is ∙ sym (comes_by_tick tick event now ticks)) puts)
 
 -- a tick
 due_by : (now : ℤ) (e : Event) (due : ℤ) → due_in e ≡ Some due → int_le due now ≡ true → is_due_by (Ticked now) e ≡ true

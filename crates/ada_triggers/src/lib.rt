@@ -11,5 +11,5 @@ mod next_due;
 mod sweeps;
 mod unstarted;
 
-pub use next_due::{NextDue, next_after_tick};
+pub use next_due::NextDue;
 pub use unstarted::FirstUnstarted;

@@ -1,13 +1,14 @@
 //! What a tick adds to an agenda: what is due by it, where it reaches the next due moment.
 
-ghost use Rattle.std.specs.Prelude.{◌≡◌};
+ghost use Rattle.std.specs.Prelude.{◌≡◌, ◌∷◌};
+ghost use Rattle.ada_events.specs.Lawful.{IsLawful};
 ghost use Rattle.ada_events.specs.Tasks.{task_count};
 ghost use Rattle.ada_events.specs.declared.event.Event.TheVariants.{Ticked as TickedEvent};
 ghost use Rattle.ada_agenda.specs.Keeping.{KeepsUp, Puts};
 ghost use Rattle.ada_agenda.specs.Kinds as kinds;
 ghost use Rattle.ada_triggers.specs.Bounds.{IsDueBound};
-ghost use Rattle.ada_triggers.specs.internal.Keys as keys;
-ghost use Rattle.ada_triggers.specs.internal.Keys.{OfFirst, AsDue, AsDueAt};
+ghost use Rattle.ada_triggers.specs.internal.Bounds.{IsBoundOfFirst, IsDueAfter};
+ghost use Rattle.ada_triggers.specs.internal.Keys.{OfFirst, AsDue};
 
 use crate::next_due::NextDue;
 use ada_agenda::Agenda;
@@ -28,7 +29,7 @@ pub fn tail_due(tail: &EventTail) -> Option<i64>
 }
 
 // The moment that is waited for at an event.
-pub(crate) fn due_in(event: &Event) -> Option<i64>
+fn due_in(event: &Event) -> Option<i64>
     ensures { result ≡ kinds.due_in event.now }
 {
     match event {
@@ -50,52 +51,56 @@ fn due_row(event: &Event) -> Row
     }
 }
 
-// Whether the moment that is waited for at an event has come by a tick.
-#[tactic(auto, unfolding(ada_events::specs::Says::moment_in))]
-fn is_due_by(tick: &Event, event: &Event) -> bool
-    ensures { result ≡ keys.is_due_by tick.now event.now }
-{
-    match tick {
-        Event::Ticked { now } => is_due(*now, due_in(event)),
-        _ => false,
-    }
-}
-
-// Puts a position into the row of what happens there where its moment comes.
-fn put_due_at(agenda: &mut Agenda, view: &View, tick: &Event, at: u32)
-    ensures { Puts agenda.old agenda.new (AsDueAt view.now tick.now at) }
-{
-    match view.event(at) {
-        Some(event) => put_if(agenda, due_row(event), at as usize, is_due_by(tick, event)),
-        None => (),
-    }
-}
-
 // Puts the position at which a task is suspended, if it is, into the row of what happens there where its moment comes.
-fn put_due(agenda: &mut Agenda, view: &View, tick: &Event, task: TaskNo)
-    ensures { Puts agenda.old agenda.new (AsDue view.now tick.now task.0) }
+// Gives the moment where it comes later.
+fn put_due(agenda: &mut Agenda, view: &View, tick: &Event, now: i64, task: TaskNo) -> Option<i64>
+    requires { tick.now ≡ TickedEvent now }
+    ensures put { Puts agenda.old agenda.new (AsDue view.now tick.now task.0) }
+    ensures later { IsDueAfter view.now now task.0 result }
 {
-    put_due_at(agenda, view, tick, view.record(task).suspension.at);
+    let at = view.record(task).suspension.at;
+    let Some(event) = view.event(at) else {
+        return None;
+    };
+    let due = due_in(event);
+    let comes = is_due(now, due);
+    put_if(agenda, due_row(event), at as usize, comes);
+    if comes { None } else { due }
 }
 
-// Puts all that is due.
-fn put_all_due(agenda: &mut Agenda, view: &View, tick: &Event)
-    ensures { Puts agenda.old agenda.new
+// Puts all that is due, and gives the least moment after `now` for which a task is suspended.
+fn put_all_due(agenda: &mut Agenda, view: &View, tick: &Event, now: i64) -> NextDue
+    requires { tick.now ≡ TickedEvent now }
+    ensures put { Puts agenda.old agenda.new
         (OfFirst (AsDue view.now tick.now) (task_count view.now)) }
+    ensures next { IsBoundOfFirst view.now now (task_count view.now) result }
 {
+    let mut next = NextDue::new();
     for number in 0..view.tables().tasks() {
-        put_due(agenda, view, tick, TaskNo(number));
+        let later = put_due(agenda, view, tick, now, TaskNo(number));
+        next = next.with(later);
     }
+    next
 }
 
 /// Notes that the moment moves, in milliseconds (9.6): that timed calls are cancelled, that waits pass and that delays
-/// end may be forced. A tick that doesn't reach the next due moment adds nothing.
-pub fn after_tick(agenda: &mut Agenda, next: NextDue, view: &View, event: &Event, now: i64)
+/// end may be forced. Gives the next moment for which a task is suspended then. A tick that doesn't reach the next due
+/// moment adds nothing, and looks at no task.
+pub fn after_tick(
+    agenda: &mut Agenda,
+    next: NextDue,
+    view: &View,
+    event: &Event,
+    now: i64,
+) -> NextDue
     requires bound { IsDueBound view.now next }
     requires ticks { event.now ≡ TickedEvent now }
-    ensures { KeepsUp view.now event.now agenda.old agenda.new }
+    ensures keeps_up { KeepsUp view.now event.now agenda.old agenda.new }
+    ensures next { IsLawful (event.now ∷ view.now) → IsDueBound (event.now ∷ view.now) result }
 {
     if next.is_reached_by(now) {
-        put_all_due(agenda, view, event);
+        put_all_due(agenda, view, event, now)
+    } else {
+        next
     }
 }

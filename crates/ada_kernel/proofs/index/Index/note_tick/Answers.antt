@@ -1,7 +1,6 @@
-use Rattle.std.proofs.Common.{◌≡◌, ℤ, List, Option, ◌∷◌, ◌∙◌, sym, ap, subst, w64}
+use Rattle.std.proofs.Common.{List, ◌∷◌, ◌∙◌, sym, subst, w64}
 use Rattle.std.proofs.lemmas.Int.{to_z-of_z}
 use Rattle.ada_events.specs.declared.event.Event.{Event}
-use Rattle.ada_events.specs.declared.event.Event.TheVariants.{Ticked}
 use Rattle.ada_events.specs.Lawful.{IsLawful}
 use Rattle.ada_events.specs.Says.{creation_in}
 use Rattle.ada_kernel.proofs.Quiet.{kept_up}
@@ -11,13 +10,6 @@ use Rattle.ada_triggers.proofs.Starts.{bound_stays}
 use Rattle.ada_records.proofs.Applied.{tick_stand}
 use Rattle.ada_records.proofs.EventKinds.{records_ticked}
 use Rattle.ada_kernel.proofs.index.Index.note_tick.Goals as goal
-
--- the bound after a tick, by a view of the journal
-renewed : (view before : List Event) (event : Event) (same now : ℤ) (bound : Option ℤ) → view ≡ before → same ≡ now → event ≡ Ticked now
-    → (IsLawful (Ticked same ∷ view) → IsDueBound (Ticked same ∷ view) bound) → IsLawful (event ∷ before) → IsDueBound (event ∷ before) bound
-renewed view before event same now bound viewed is ticks =
-    let P : Event → List Event → Type 0 = λ e j. IsLawful (e ∷ j) → IsDueBound (e ∷ j) bound in
-    λ kept. subst (λ (e : Event). P e before) (ap Ticked is ∙ sym ticks) (subst (P (Ticked same)) viewed kept)
 
 pub returns : goal.returns
 unfolding creation_in
@@ -35,9 +27,9 @@ returns c =
         timed = to_z-of_z w64 c.args.now c.ranges.now ∙ sym (ticked_to event before _ c.requires.ticks);
       };
       slots = follows.1;
-      agenda = kept_up _ before event _ _ c.view-view.ensures c.after_tick.ensures c.requires.may.lawful c.requires.may.stands.agenda;
+      agenda = kept_up _ before event _ _ c.view-view.ensures c.after_tick-self.ensures.keeps_up c.requires.may.lawful c.requires.may.stands.agenda;
       due =
-          renewed _ before event _ c.args.now c.next_after_tick-self.result c.view-view.ensures (to_z-of_z w64 c.args.now c.ranges.now) c.requires.ticks
-          c.next_after_tick-self.ensures c.requires.may.lawful;
+          subst (λ (journal : List Event). IsLawful (event ∷ journal) → IsDueBound (event ∷ journal) c.after_tick-self.result) c.view-view.ensures
+          c.after_tick-self.ensures.next c.requires.may.lawful;
       unstarted = bound_stays event before c.args.self.now.unstarted c.requires.may.stands.unstarted;
     }
