@@ -30,7 +30,7 @@ impl Index {
         let kept = &mut self.kept;
         let view = kept.view(journal);
         let hit = hit(&view, tasks);
-        after_abort(&mut self.agenda, &view);
+        after_abort(&mut self.agenda, &view, hit.as_slice());
         let records = kept.records.as_mut_slice();
         record_abort(records, hit.as_slice());
     }

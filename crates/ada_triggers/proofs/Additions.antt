@@ -1,15 +1,17 @@
 -- Agendas that are kept up with their journal, by kind of event.
-use Rattle.std.proofs.Common.{◌≡◌, ℕ, ◌+◌, ◌<◌, true, not, List, Some, ◌∷◌, length, sym, refl, ◌∙◌, inl, inr}
-use Rattle.std.proofs.lemmas.Bool.{true≢false, or_cases, and_parts, ltb-true}
+use Rattle.std.proofs.Common.{◌≡◌, ℕ, ◌+◌, ◌<◌, ◌≤◌, Bool, true, not, List, Some, ◌∷◌, length, sym, refl, ap, ◌∙◌, arith, inl, inr}
+use Rattle.std.proofs.lemmas.Bool.{true≢false, or_cases, and_parts, and_from, ltb-true, not-true}
 use Rattle.ada_events.specs.declared.event.Event.{Event}
 use Rattle.ada_events.specs.declared.event.Event.TheVariants.{Closed, Aborted}
+use Rattle.ada_events.specs.declared.limits.TheConstants.{MOST_TASKS}
 use Rattle.ada_events.specs.declared.names.TaskNo.{TaskNo}
-use Rattle.ada_events.specs.Says.{Closing, closing_in}
+use Rattle.ada_events.specs.Says.{Closing, closing_in, aborted_in}
 use Rattle.ada_events.specs.Tasks.{task_count}
 use Rattle.ada_events.specs.Tasks.{has_task}
 use Rattle.ada_events.specs.Phases.{is_abnormal, is_terminated}
 use Rattle.ada_events.specs.Lawful.{IsLawful}
 use Rattle.ada_laws.proofs.CallLaws.{open_calls_suspend}
+use Rattle.ada_laws.proofs.LimitLaws.{tasks_are_few}
 use Rattle.ada_laws.proofs.Suspending.{suspended_exists}
 use Rattle.ada_rows.specs.Rows.{step_at}
 use Rattle.ada_rows.specs.declared.row.Row.{Row}
@@ -25,10 +27,12 @@ use Rattle.ada_agenda.proofs.StartedTasks.{created_exists}
 use Rattle.ada_agenda.proofs.Adding.{agendas_stay}
 use Rattle.ada_agenda.proofs.Noting.{noted_giving, own_is}
 use Rattle.ada_agenda.proofs.Places.{closing_open}
-use Rattle.ada_triggers.specs.internal.Keys.{OfFirst, AsHaltable, AsHeld, AsUnstarted}
+use Rattle.ada_records.specs.Records.{ListsLive, is_hit}
+use Rattle.ada_view.specs.Flags.{AreNamed}
+use Rattle.ada_triggers.specs.internal.Keys.{OfFirst, AsHit, AsUnstarted, is_flagged, may_halt}
 use Rattle.ada_agenda.specs.Keeping.When.{holds_so}
 use Rattle.ada_agenda.specs.Keeping.AsKey.{itself}
-use Rattle.ada_triggers.specs.internal.Keys.AsHeld.{held}
+use Rattle.ada_triggers.specs.internal.Keys.AsCaller.{fails}
 use Rattle.ada_triggers.specs.internal.Keys.AsUnstarted.{goes}
 use Rattle.ada_triggers.proofs.Giving.{abandons_so}
 use Rattle.ada_triggers.proofs.Halting.{haltable}
@@ -71,38 +75,45 @@ close_noted before old new by block at same puts lawful agenda =
     close_key by step before at block row key (own_is before at same) gives added)
 
 -- an abort
-hit_known : (event : Event) (before : List Event) (u : ℕ) → IsHit event before u → u < task_count before
-unfolding is_abnormal
-hit_known event before u hit =
-    elim (or_cases _ (is_abnormal before u) hit.now) [
-      | inl newly ↦ ltb-true u (task_count before) (and_parts _ (has_task before u) (and_parts _ (not (is_terminated before u)) newly).0).1
-      | inr was ↦ absurd (true≢false (sym was ∙ hit.was))
-    ]
+module _ (before : List Event) (by : TaskNo) (tasks hit : List TaskNo) (flags : List Bool) (lawful : IsLawful before)
+    (lists : ListsLive before hit (is_hit before tasks)) (named : AreNamed flags hit) where
+  -- whom it makes abnormal is flagged
+  hit_flagged : (u : ℕ) → IsHit (Aborted by tasks) before u → (u < task_count before) × (is_flagged flags u ≡ true)
+  unfolding is_abnormal aborted_in
+  hit_flagged u is =
+      elim (or_cases _ (is_abnormal before u) is.now) [
+        | inl newly ↦
+            let both = and_parts _ (not (is_terminated before u)) newly in
+            let hits = and_parts (is_hit before tasks u) (has_task before u) both.0 in
+            let exists : u < task_count before = ltb-true u (task_count before) hits.1 in
+            let few : task_count before ≤ MOST_TASKS = tasks_are_few before lawful in (
+              exists,
+              named u (omega (arith, exists, few)) ∙ lists.tells u exists (not-true (is_terminated before u) both.1) ∙ hits.0,
+            )
+        | inr was ↦ absurd (true≢false (sym was ∙ is.was))
+      ]
 
--- all that was put for an abort
-abbrev pub AbortKeys : List Event → Row → ℕ → Type 0
-AbortKeys before = Both (OfFirst (AsHaltable before) (task_count before)) (OfFirst (AsHeld before Failing) (task_count before))
+  -- the caller of an open call to such a task is suspended at it
+  flagged_call : (u p : ℕ) → is_flagged flags u ≡ true → IsOpenCallTo before u p → OfFirst (AsHit before flags) (task_count before) Failing p
+  flagged_call u p flagged of =
+      let suspended = open_calls_suspend before of.call p of.opened in
+      record {
+        task = of.call.by;
+        among = suspended_exists before of.call.by p lawful suspended;
+        of = inr (fails of.call p of.opened.stands suspended (ap (is_flagged flags) of.to ∙ flagged));
+      }
 
--- the caller of an open call is suspended at it
-pub fails_held : (before : List Event) (u p : ℕ) → IsLawful before → IsOpenCallTo before u p
-    → OfFirst (AsHeld before Failing) (task_count before) Failing p
-fails_held before u p lawful of =
-    let suspended = open_calls_suspend before of.call p of.opened in
-    let at = of.opened.stands in
-    record {
-      task = of.call.by;
-      among = suspended_exists before of.call.by p lawful suspended;
-      of = held at.event p at.stands (rw at.says refl) suspended;
-    }
+  abort_key : (step : Event) (row : Row) (key : ℕ) → step_at (Aborted by tasks ∷ before) row key ≡ Some step
+      → OfAbort (Aborted by tasks) before row key → OfFirst (AsHit before flags) (task_count before) row key
+  abort_key step row key gives (abort_halts u is) =
+      let (exists, flagged) = hit_flagged u is in
+      let may = and_from (is_flagged flags u) (may_halt before u) flagged (haltable before by tasks u step gives) in
+      record { task = u; among = exists; of = inl (holds_so may itself) }
+  abort_key step row key gives (abort_fails u p is of) = flagged_call u p (hit_flagged u is).1 of
 
-abort_key : (by : TaskNo) (tasks : List TaskNo) (step : Event) (before : List Event) (row : Row) (key : ℕ) → IsLawful before
-    → step_at (Aborted by tasks ∷ before) row key ≡ Some step → OfAbort (Aborted by tasks) before row key → AbortKeys before row key
-abort_key by tasks step before row key lawful gives (abort_halts u hit) =
-    inl (record { task = u; among = hit_known (Aborted by tasks) before u hit; of = holds_so (haltable before by tasks u step gives) itself })
-abort_key by tasks step before row key lawful gives (abort_fails u p hit of) = inr (fails_held before u p lawful of)
-
-pub abort_noted : (before : List Event) (old new : List (List ℕ)) (by : TaskNo) (tasks : List TaskNo) → Puts old new (AbortKeys before)
+pub abort_noted : (before : List Event) (old new : List (List ℕ)) (by : TaskNo) (tasks hit : List TaskNo) (flags : List Bool)
+    → ListsLive before hit (is_hit before tasks) → AreNamed flags hit → Puts old new (OfFirst (AsHit before flags) (task_count before))
     → KeepsUp before (Aborted by tasks) old new
-abort_noted before old new by tasks puts lawful agenda =
-    noted_giving (Aborted by tasks) before old new (AbortKeys before) lawful agenda puts (λ row key step added gives.
-    abort_key by tasks step before row key lawful.0 gives added)
+abort_noted before old new by tasks hit flags lists named puts lawful agenda =
+    noted_giving (Aborted by tasks) before old new (OfFirst (AsHit before flags) (task_count before)) lawful agenda puts (λ row key step added gives.
+    abort_key before by tasks hit flags lawful.0 lists named step row key gives added)

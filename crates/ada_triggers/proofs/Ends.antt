@@ -43,7 +43,7 @@ use Rattle.ada_records.specs.Holders.{IsHeld}
 use Rattle.ada_records.proofs.LiveHolders.{of_master}
 use Rattle.ada_records.proofs.Owners.{has_contained}
 use Rattle.ada_view.proofs.Orphans.{gone_stays}
-use Rattle.ada_triggers.specs.internal.Keys.{OfFirst, AsHeld, AsCaller, AsUncallable, AsDependent, AsActivation, AsCompletion}
+use Rattle.ada_triggers.specs.internal.Keys.{OfFirst, AsHeld, AsCaller, AsUncallable, AsDependent, AsActivation, AsCompletion, is_that}
 use Rattle.ada_agenda.specs.Keeping.AsKey.{itself}
 use Rattle.ada_triggers.specs.internal.Keys.AsHeld.{held}
 use Rattle.ada_triggers.specs.internal.Keys.AsUnstarted.{goes}
@@ -97,10 +97,15 @@ pub done_before : (before : List Event) (old : List (List ℕ)) (task : TaskNo) 
 done_before before old task done = record { grows = grows_same old; here = λ row key of. waits_no_more before old task row key done of }
 
 -- an open call to a task, at its caller
-caller_key : (before : List Event) (task p : ℕ) → IsLawful before → IsOpenCallTo before task p → OfFirst (AsCaller before task) (task_count before) Failing p
+caller_key : (before : List Event) (task p : ℕ) → IsLawful before → IsOpenCallTo before task p
+    → OfFirst (AsCaller before (is_that task)) (task_count before) Failing p
 caller_key before task p lawful of =
     let suspended = open_calls_suspend before of.call p of.opened in
-    record { task = of.call.by; among = suspended_exists before of.call.by p lawful suspended; of = fails of.call p of.opened.stands suspended of.to }
+    record {
+      task = of.call.by;
+      among = suspended_exists before of.call.by p lawful suspended;
+      of = fails of.call p of.opened.stands suspended (eq-eqb of.call.callee task of.to);
+    }
 
 uncallable_key : (before : List Event) (task p : ℕ) → IsLawful before → is_uncallable before task ≡ false → IsOpenCallTo before task p
     → AsUncallable before task Failing p

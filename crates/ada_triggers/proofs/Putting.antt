@@ -1,6 +1,6 @@
 -- Keys that are put into an agenda.
 use Rattle.std.proofs.Common.{◌≡◌, ℕ, ◌+◌, ◌≤◌, Bool, true, List, sym, ap, ◌∙◌, subst, arith, inl, inr}
-use Rattle.std.proofs.lemmas.Bool.{cases_lt, eq-eqb}
+use Rattle.std.proofs.lemmas.Bool.{cases_lt}
 use Rattle.ada_events.specs.declared.event.Event.{Event}
 use Rattle.ada_events.specs.Search.{is_some_and, event_at}
 use Rattle.ada_events.specs.Says.{Call}
@@ -59,19 +59,19 @@ pub held_put : (journal : List Event) (old new : List (List ℕ)) (at : Row) (ta
 held_put journal old new at task p so lawful is so_is puts =
     covered_put old new (AsHeld journal at task) (When so (AsKey at p)) puts (λ row key of. held_key journal at task p so row key lawful is so_is of)
 
--- a call to the callee at a position
-is_called : (journal : List Event) (callee p : ℕ) (call : Call) → IsCallAt journal call p → call.callee ≡ callee
-    → is_some_and (event_at journal p) (calls callee) ≡ true
-is_called journal callee p call at to = rw (at.stands, at.says) (eq-eqb call.callee callee to)
+-- a call to one of those tasks at a position
+is_called : (journal : List Event) (those : ℕ → Bool) (p : ℕ) (call : Call) → IsCallAt journal call p → those call.callee ≡ true
+    → is_some_and (event_at journal p) (calls those) ≡ true
+is_called journal those p call at to = rw (at.stands, at.says) to
 
-caller_key : (journal : List Event) (callee task p : ℕ) (so : Bool) (row : Row) (key : ℕ) → IsLawful journal → IsHeldAt journal task p
-    → so ≡ is_some_and (event_at journal p) (calls callee) → AsCaller journal callee task row key → When so (AsKey Failing p) row key
-caller_key journal callee task p so row key lawful is so_is (fails call q at suspended to) =
+caller_key : (journal : List Event) (those : ℕ → Bool) (task p : ℕ) (so : Bool) (row : Row) (key : ℕ) → IsLawful journal → IsHeldAt journal task p
+    → so ≡ is_some_and (event_at journal p) (calls those) → AsCaller journal those task row key → When so (AsKey Failing p) row key
+caller_key journal those task p so row key lawful is so_is (fails call q at suspended to) =
     let there = held_there journal task p q lawful is suspended in
-    holds_so (so_is ∙ ap (λ n. is_some_and (event_at journal n) (calls callee)) (sym there.1) ∙ is_called journal callee q call at to) (rw there.1 itself)
+    holds_so (so_is ∙ ap (λ n. is_some_and (event_at journal n) (calls those)) (sym there.1) ∙ is_called journal those q call at to) (rw there.1 itself)
 
-pub caller_put : (journal : List Event) (old new : List (List ℕ)) (callee task p : ℕ) (so : Bool) → IsLawful journal → IsHeldAt journal task p
-    → so ≡ is_some_and (event_at journal p) (calls callee) → Puts old new (When so (AsKey Failing p)) → Puts old new (AsCaller journal callee task)
-caller_put journal old new callee task p so lawful is so_is puts =
-    covered_put old new (AsCaller journal callee task) (When so (AsKey Failing p)) puts (λ row key of.
-    caller_key journal callee task p so row key lawful is so_is of)
+pub caller_put : (journal : List Event) (old new : List (List ℕ)) (those : ℕ → Bool) (task p : ℕ) (so : Bool) → IsLawful journal → IsHeldAt journal task p
+    → so ≡ is_some_and (event_at journal p) (calls those) → Puts old new (When so (AsKey Failing p)) → Puts old new (AsCaller journal those task)
+caller_put journal old new those task p so lawful is so_is puts =
+    covered_put old new (AsCaller journal those task) (When so (AsKey Failing p)) puts (λ row key of.
+    caller_key journal those task p so row key lawful is so_is of)

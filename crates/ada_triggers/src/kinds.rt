@@ -6,13 +6,15 @@ ghost use Rattle.ada_events.specs.declared.names.TaskNo.{TaskNo as Number};
 ghost use Rattle.ada_triggers.specs.Bounds.{IsStartBound};
 ghost use Rattle.ada_agenda.specs.declared.numbers.TheConstants.{MOST_KEYS};
 ghost use Rattle.ada_agenda.specs.Keeping.{KeepsUp};
+ghost use Rattle.ada_records.specs.Records as records;
 
-use crate::sweeps::{put_all_haltable, put_all_held};
+use crate::sweeps::put_all_hit;
 use crate::unstarted::{FirstUnstarted, put_all_unstarted};
 use ada_agenda::Agenda;
 use ada_agenda::keeping::put;
+use ada_events::TaskNo;
 use ada_rows::Row;
-use ada_view::View;
+use ada_view::{View, named};
 
 /// Notes that a task closes a block (9.4): that it leaves the block, that the block's dependents quit, and that tasks
 /// go that were never started, may be forced.
@@ -28,11 +30,12 @@ pub fn after_close(agenda: &mut Agenda, first: &mut FirstUnstarted, view: &View,
     put_all_unstarted(agenda, first, view);
 }
 
-/// Notes that tasks are aborted (9.10): that a task is halted, and that a call fails, may be forced.
-pub fn after_abort(agenda: &mut Agenda, view: &View)
+/// Notes that tasks are aborted (9.10): that those are halted whom the abort hits, and that calls to them fail, may be
+/// forced.
+pub fn after_abort(agenda: &mut Agenda, view: &View, hit: &[TaskNo])
     ensures { (by : Number) (tasks : List Number)
+        → records.ListsLive view.now hit.now (records.is_hit view.now tasks)
         → KeepsUp view.now (AbortedEvent by tasks) agenda.old agenda.new }
 {
-    put_all_haltable(agenda, view);
-    put_all_held(agenda, view, Row::Failing);
+    put_all_hit(agenda, view, &named(hit));
 }

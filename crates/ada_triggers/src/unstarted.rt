@@ -1,4 +1,4 @@
-//! Tasks that were made and never started, in a pass that begins behind those that were.
+//! Tasks that were made and never started, and aren't terminated, in a pass that begins behind others.
 
 ghost use Rattle.std.specs.Prelude.{◌≡◌, []};
 ghost use Rattle.ada_events.specs.Lawful.{IsLawful};
@@ -15,8 +15,8 @@ use ada_rows::Row;
 use ada_view::View;
 use std::marker::Model;
 
-/// The number of a task below which each task, but the main program, was started (9.3). Contracts see it as that
-/// number.
+/// The number of a task below which each task, but the main program, was started, or is terminated (9.3). Contracts see
+/// it as that number.
 #[derive(Clone, Copy)]
 pub struct FirstUnstarted(u16);
 
@@ -47,7 +47,7 @@ impl FirstUnstarted {
         self.0
     }
 
-    /// Goes past the tasks that were started since.
+    /// Goes past the tasks that were started since, or are terminated.
     pub fn advance(&mut self, view: &View)
         requires { IsStartBound view.now self.old }
         ensures { IsStartBound view.now self.new }
@@ -56,14 +56,15 @@ impl FirstUnstarted {
     }
 }
 
-// The first task from a number on that no start names.
+// The first task from a number on that no start names, and that isn't terminated.
+#[tactic(auto, using(crate::proofs::Starts::bound_past))]
 fn first_unstarted(view: &View, from: u16) -> u16
     requires { IsStartBound view.now from }
     ensures { IsStartBound view.now result }
 {
     let tasks = view.tables().tasks();
     let mut number = from;
-    while number < tasks && view.record(TaskNo(number)).stage.named {
+    while number < tasks && !may_be_abandoned(view, TaskNo(number)) {
         number += 1;
     }
     number

@@ -7,7 +7,7 @@ use Rattle.std.proofs.lemmas.List.Folds.{list_any_more}
 use Rattle.ada_events.specs.declared.limits.TheConstants.{MOST_TASKS}
 use Rattle.ada_events.specs.declared.names.TaskNo.{TaskNo}
 use Rattle.ada_events.specs.Phases.{lists_task}
-use Rattle.ada_view.specs.internal.Hitting.{AreNamed}
+use Rattle.ada_view.specs.Flags.{AreNamed}
 
 -- the list up to the next task names whom that is
 next_named : (tasks : List TaskNo) (i task : ℕ) (d : TaskNo) → i < length tasks → (get_or tasks i d).0 ≡ task

@@ -15,5 +15,5 @@ mod touched;
 pub mod view;
 pub mod waits;
 
-pub use touched::{dependents, hit};
+pub use touched::{dependents, flag_of, hit, named};
 pub use view::View;

@@ -10,7 +10,8 @@ ghost use Rattle.ada_events.specs.Tasks.{task_count};
 ghost use Rattle.ada_events.specs.declared.names.TaskNo.{TaskNo as Number};
 ghost use Rattle.ada_tables.specs.Dependents.{holds};
 ghost use Rattle.ada_records.specs.Records as records;
-ghost use Rattle.ada_view.specs.internal.Hitting.{AreNamed, TellsOfLive, hits_bodies};
+ghost use Rattle.ada_view.specs.Flags.{AreNamed};
+ghost use Rattle.ada_view.specs.internal.Hitting.{TellsOfLive, hits_bodies};
 
 use crate::View;
 use ada_events::limits::MOST_TASKS;
@@ -52,8 +53,8 @@ pub fn dependents(view: &View, master: Master) -> Tasks
     dependents
 }
 
-// Which tasks a list names.
-fn named(tasks: &[TaskNo]) -> [bool; MOST_TASKS]
+/// Which tasks a list names: a flag for each.
+pub fn named(tasks: &[TaskNo]) -> [bool; MOST_TASKS]
     ensures { AreNamed result tasks.now }
 {
     let mut flags = [false; MOST_TASKS];
@@ -66,8 +67,8 @@ fn named(tasks: &[TaskNo]) -> [bool; MOST_TASKS]
     flags
 }
 
-// The flag of a task; false where there is none.
-fn flag_of(flags: &[bool], task: TaskNo) -> bool
+/// The flag of a task; false where there is none.
+pub fn flag_of(flags: &[bool], task: TaskNo) -> bool
     ensures { result ≡ slice_index_or flags.now task.0 false }
 {
     flags.get(usize::from(task.0)).copied().unwrap_or(false)

@@ -1,5 +1,5 @@
 -- Keys that are put into an agenda together, and who holds what a task was made under.
-use Rattle.std.specs.Prelude.{◌≡◌, ℕ, ◌<◌, ◌==◌, ◌||◌, ◌&&◌, Bool, true, false, not, Option, Some, List, slice_get}
+use Rattle.std.specs.Prelude.{◌≡◌, ℕ, ◌<◌, ◌==◌, ◌||◌, ◌&&◌, Bool, true, false, not, Option, Some, List, slice_get, slice_index_or}
 use Rattle.std.specs.Option.{is_some, option_map, option_and_then}
 use Rattle.ada_events.specs.declared.event.Event.{Event}
 use Rattle.ada_events.specs.declared.names.Master.{Master}
@@ -32,9 +32,8 @@ pub record OfFirst (Key : ℕ → Row → ℕ → Type 0) (many : ℕ) (row : Ro
   pub among : task < many
   pub of : Key task row key
 
--- the event is of the kind of which that row gives a step: a call that fails, a start that is over, a close that is left
+-- the event is of the kind of which that row gives a step: a start that is over, a close that is left
 abbrev pub is_of_row : Row → Event → Bool
-is_of_row Failing event = is_some (call_in event)
 is_of_row Activating event = is_some (start_in event)
 is_of_row Leaving event = is_some (closing_in event)
 is_of_row _ event = true
@@ -43,9 +42,13 @@ is_of_row _ event = true
 abbrev pub may_halt : List Event → ℕ → Bool
 may_halt journal task = not (has_ended journal task) && not (is_caller_in_rendezvous journal task)
 
--- a task that may be halted
-abbrev pub AsHaltable : List Event → ℕ → Row → ℕ → Type 0
-AsHaltable journal task = When (may_halt journal task) (AsKey Halting task)
+-- the task is flagged
+abbrev pub is_flagged : List Bool → ℕ → Bool
+is_flagged flags task = slice_index_or flags task false
+
+-- a flagged task that may be halted
+abbrev pub AsHaltable : List Event → List Bool → ℕ → Row → ℕ → Type 0
+AsHaltable journal flags task = When (is_flagged flags task && may_halt journal task) (AsKey Halting task)
 
 -- the position at which a task is suspended, in that row, where the event there is of its kind
 pub data AsHeld (journal : List Event) (at : Row) (task : ℕ) : Row → ℕ → Type 0 where
@@ -59,14 +62,23 @@ may_be_abandoned journal task = not (has_start journal task) && not (is_terminat
 pub data AsUnstarted (journal : List Event) (task : ℕ) : Row → ℕ → Type 0 where
   goes : (creation : Creation) → creation_of journal task ≡ Some creation → may_be_abandoned journal task ≡ true → AsUnstarted journal task Terminating task
 
--- the call to that task at which a task is suspended (9.5)
-pub data AsCaller (journal : List Event) (callee task : ℕ) : Row → ℕ → Type 0 where
-  fails : (call : Call) (p : ℕ) → IsCallAt journal call p → IsSuspendedAt journal task p → call.callee ≡ callee
-      → AsCaller journal callee task Failing p
+-- the call to one of those tasks at which a task is suspended (9.5)
+pub data AsCaller (journal : List Event) (those : ℕ → Bool) (task : ℕ) : Row → ℕ → Type 0 where
+  fails : (call : Call) (p : ℕ) → IsCallAt journal call p → IsSuspendedAt journal task p → those call.callee ≡ true
+      → AsCaller journal those task Failing p
+
+-- what an abort may force of a task (9.10): that it is halted, where it is flagged as one that is hit, and that its call
+-- to such a task fails
+abbrev pub AsHit : List Event → List Bool → ℕ → Row → ℕ → Type 0
+AsHit journal flags task = Both (AsHaltable journal flags task) (AsCaller journal (is_flagged flags) task)
+
+-- that task alone
+abbrev pub is_that : ℕ → ℕ → Bool
+is_that task other = other == task
 
 -- the calls to a task at which tasks are suspended, unless no call to it could be served before (9.5, 9.10)
 abbrev pub AsUncallable : List Event → ℕ → Row → ℕ → Type 0
-AsUncallable journal callee = When (not (is_uncallable journal callee)) (OfFirst (AsCaller journal callee) (task_count journal))
+AsUncallable journal callee = When (not (is_uncallable journal callee)) (OfFirst (AsCaller journal (is_that callee)) (task_count journal))
 
 -- the moment that is waited for at an event has come by a tick (9.6)
 abbrev pub is_due_by : Event → Event → Bool
@@ -146,6 +158,6 @@ holder_of journal (Block p) = option_map (λ (o : Opening). o.by) (opening_at jo
 abbrev pub holder_above : List Event → ℕ → Option ℕ
 holder_above journal task = option_and_then (λ (c : Creation). holder_of journal c.master) (creation_of journal task)
 
--- the event is a call to the task
-abbrev pub calls : ℕ → Event → Bool
-calls callee event = is_some_and (call_in event) (λ (c : Call). c.callee == callee)
+-- the event is a call to one of those tasks
+abbrev pub calls : (ℕ → Bool) → Event → Bool
+calls those event = is_some_and (call_in event) (λ (c : Call). those c.callee)

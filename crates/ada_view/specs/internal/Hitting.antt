@@ -2,15 +2,10 @@
 use Rattle.std.specs.Prelude.{◌≡◌, ℕ, ◌<◌, Bool, false, List, length, slice_index_or}
 use Rattle.std.specs.List.{list_any}
 use Rattle.ada_events.specs.declared.event.Event.{Event}
-use Rattle.ada_events.specs.declared.limits.TheConstants.{MOST_TASKS}
 use Rattle.ada_events.specs.declared.names.Master.TheVariants.{Body}
 use Rattle.ada_events.specs.declared.names.TaskNo.{TaskNo}
 use Rattle.ada_events.specs.Masters.{depends_on}
-use Rattle.ada_events.specs.Phases.{is_terminated, lists_task}
-
--- the flags of all numbers of tasks say which of them the list names
-abbrev pub AreNamed : List Bool → List TaskNo → Type 0
-AreNamed flags tasks = (task : ℕ) → task < MOST_TASKS → slice_index_or flags task false ≡ lists_task task tasks
+use Rattle.ada_events.specs.Phases.{is_terminated}
 
 -- what a flag of each task that isn't terminated says
 abbrev pub TellsOfLive : List Event → List Bool → (ℕ → Bool) → Type 0

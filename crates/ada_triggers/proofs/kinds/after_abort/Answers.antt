@@ -1,9 +1,7 @@
-use Rattle.ada_agenda.proofs.Noting.{both_put}
 use Rattle.ada_triggers.proofs.Additions.{abort_noted}
 use Rattle.ada_triggers.proofs.kinds.after_abort.Goals as goal
 
 pub returns : goal.returns
-returns c by tasks =
-    let old = c.args.agenda.now in
-    abort_noted c.args.view.now old c.put_all_held.new.agenda by tasks
-    (both_put old c.put_all_haltable.new.agenda c.put_all_held.new.agenda _ _ c.put_all_haltable.ensures c.put_all_held.ensures)
+returns c by tasks lists =
+    abort_noted c.args.view.now c.args.agenda.now c.put_all_hit.new.agenda by tasks c.args.hit.now c.named.result lists c.named.ensures
+    c.put_all_hit.ensures

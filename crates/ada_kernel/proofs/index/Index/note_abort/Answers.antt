@@ -21,5 +21,5 @@ returns c by lawful =
     c.requires lawful (record { makes = refl; ticks = refl })
     (omega (arith, c.record_abort.auto.records, c.as_mut_slice-records.ensures.len))
     now follows.0 follows.1
-    (kept_up _ before event _ _ c.view-view.ensures (c.after_abort.ensures by c.args.tasks.now) lawful c.requires.agenda)
+    (kept_up _ before event _ _ c.view-view.ensures (c.after_abort.ensures by c.args.tasks.now (search rules)) lawful c.requires.agenda)
     (bound_kept event before c.args.self.now.next_due lawful c.requires.due refl)
