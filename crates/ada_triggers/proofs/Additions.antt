@@ -1,14 +1,16 @@
 -- Agendas that are kept up with their journal, by kind of event.
-use Rattle.std.proofs.Common.{◌≡◌, ℕ, ◌+◌, ◌<◌, ◌≤◌, Bool, true, not, List, Some, ◌∷◌, length, sym, refl, ap, ◌∙◌, arith, inl, inr}
+use Rattle.std.proofs.Common.{◌≡◌, ℕ, ◌+◌, ◌<◌, ◌≤◌, Bool, true, not, List, Some, None, ◌∷◌, length, sym, refl, ap, subst, ◌∙◌, arith, inl, inr}
 use Rattle.std.proofs.lemmas.Bool.{true≢false, or_cases, and_parts, and_from, ltb-true, not-true}
 use Rattle.ada_events.specs.declared.event.Event.{Event}
 use Rattle.ada_events.specs.declared.event.Event.TheVariants.{Closed, Aborted}
 use Rattle.ada_events.specs.declared.limits.TheConstants.{MOST_TASKS}
 use Rattle.ada_events.specs.declared.names.TaskNo.{TaskNo}
-use Rattle.ada_events.specs.Says.{Closing, closing_in, aborted_in}
+use Rattle.ada_events.specs.declared.names.Master.TheVariants.{Block}
+use Rattle.ada_events.specs.Says.{Closing, closing_in, aborted_in, creation_in}
 use Rattle.ada_events.specs.Tasks.{task_count}
 use Rattle.ada_events.specs.Tasks.{has_task}
 use Rattle.ada_events.specs.Phases.{is_abnormal, is_terminated}
+use Rattle.ada_events.specs.Termination.{all_terminated}
 use Rattle.ada_events.specs.Lawful.{IsLawful}
 use Rattle.ada_laws.proofs.CallLaws.{open_calls_suspend}
 use Rattle.ada_laws.proofs.LimitLaws.{tasks_are_few}
@@ -18,7 +20,7 @@ use Rattle.ada_rows.specs.declared.row.Row.{Row}
 use Rattle.ada_rows.specs.declared.row.Row.TheVariants.{Failing, QuittingBlock, Leaving}
 use Rattle.ada_agenda.specs.declared.numbers.TheConstants.{MOST_KEYS}
 use Rattle.ada_agenda.specs.Additions.{adds_nothing}
-use Rattle.ada_agenda.specs.Keeping.{has_key, IsAgendaOf, Puts, AsKey, KeepsUp}
+use Rattle.ada_agenda.specs.Keeping.{has_key, IsAgendaOf, Puts, AsKey, When, KeepsUp}
 use Rattle.ada_agenda.specs.internal.Keeping.{Both}
 use Rattle.ada_agenda.specs.Kinds.{itself as own, IsOpenCallTo, IsHit, OfClose, OfAbort}
 use Rattle.ada_agenda.specs.Kinds.OfClose.{leaves as close_leaves, quits as close_quits, abandons as close_abandons}
@@ -28,12 +30,16 @@ use Rattle.ada_agenda.proofs.Adding.{agendas_stay}
 use Rattle.ada_agenda.proofs.Noting.{noted_giving, own_is}
 use Rattle.ada_agenda.proofs.Places.{closing_open}
 use Rattle.ada_records.specs.Records.{ListsLive, is_hit}
+use Rattle.ada_records.proofs.Owners.{nest_has_block}
 use Rattle.ada_view.specs.Flags.{AreNamed}
+use Rattle.ada_view.specs.Views.{IsHeldBySome}
+use Rattle.ada_view.proofs.Blocks.{opener_exists}
 use Rattle.ada_triggers.specs.internal.Keys.{OfFirst, AsHit, AsUnstarted, is_flagged, may_halt}
 use Rattle.ada_agenda.specs.Keeping.When.{holds_so}
 use Rattle.ada_agenda.specs.Keeping.AsKey.{itself}
 use Rattle.ada_triggers.specs.internal.Keys.AsCaller.{fails}
 use Rattle.ada_triggers.specs.internal.Keys.AsUnstarted.{goes}
+use Rattle.ada_triggers.proofs.Ends.{block_lived}
 use Rattle.ada_triggers.proofs.Giving.{abandons_so}
 use Rattle.ada_triggers.proofs.Halting.{haltable}
 use Rattle.ada_triggers.proofs.Holding.{block_fits}
@@ -53,14 +59,33 @@ closed_fits before by block lawful =
     let closing : Closing = record { by = by.0; block = block } in
     block_fits before by.0 block lawful.0 (closing_open (Closed by block) before closing lawful.1 (closing_here by block)).block
 
+-- who closes a block is within it
+pub close_held : (before : List Event) (by : TaskNo) (block : ℕ) → IsLawful (Closed by block ∷ before) → IsHeldBySome before (Block block)
+close_held before by block lawful =
+    let closing : Closing = record { by = by.0; block = block } in
+    let opened = closing_open (Closed by block) before closing lawful.1 (closing_here by block) in
+    let own = opened.block in
+    record {
+      task = by.0;
+      known = subst (λ t. t < task_count before) own.by (opener_exists before block own.event own.opening lawful.0 own.stands own.says);
+      held = nest_has_block before by.0 block own opened.unleft;
+    }
+
+closes_alone : (by : TaskNo) (block : ℕ) → creation_in (Closed by block) ≡ None
+unfolding creation_in
+closes_alone by block = refl
+
 -- all that was put for a close
 abbrev pub CloseKeys : List Event → ℕ → ℕ → Row → ℕ → Type 0
-CloseKeys before at block = Both (Both (AsKey Leaving at) (AsKey QuittingBlock block)) (OfFirst (AsUnstarted before) (task_count before))
+CloseKeys before at block =
+    let quits = When (not (all_terminated before (Block block))) (AsKey QuittingBlock block) in
+    Both (Both (AsKey Leaving at) quits) (OfFirst (AsUnstarted before) (task_count before))
 
 close_key : (by : TaskNo) (step : Event) (before : List Event) (at block : ℕ) (row : Row) (key : ℕ) → at ≡ own before
     → step_at (Closed by block ∷ before) row key ≡ Some step → OfClose before block row key → CloseKeys before at block row key
 close_key by step before at block row key same gives close_leaves = inl (inl (rw same itself))
-close_key by step before at block row key same gives close_quits = inl (inr itself)
+close_key by step before at block row key same gives close_quits =
+    inl (inr (holds_so (ap not (block_lived (Closed by block) step before block (closes_alone by block) gives)) itself))
 close_key by step before at block row key same gives (close_abandons u of) =
     inr (record {
       task = u;

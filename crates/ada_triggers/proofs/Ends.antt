@@ -27,7 +27,7 @@ use Rattle.ada_laws.proofs.DependentLaws.{going, all_terminated_at}
 use Rattle.ada_rows.specs.TouchedKeys.{is_uncallable}
 use Rattle.ada_rows.specs.Rows.{step_at}
 use Rattle.ada_rows.specs.declared.row.Row.{Row}
-use Rattle.ada_rows.specs.declared.row.Row.TheVariants.{Failing, Activating, Terminating, QuittingBody, Leaving}
+use Rattle.ada_rows.specs.declared.row.Row.TheVariants.{Failing, Activating, Terminating, QuittingBody, QuittingBlock, Leaving}
 use Rattle.ada_agenda.specs.Keeping.{has_key, Puts, KeepsUp}
 use Rattle.ada_agenda.specs.internal.Keeping.{Both}
 use Rattle.ada_agenda.specs.Kinds.{quitting_row, quitting_key, IsOpenCallTo, OfElaboration, OfCompletion, OfTermination}
@@ -38,7 +38,7 @@ use Rattle.ada_agenda.specs.Kinds.OfTermination.{fails as end_fails, activates a
 use Rattle.ada_agenda.proofs.StartedTasks.{created_exists}
 use Rattle.ada_agenda.proofs.Depending.{quits_live}
 use Rattle.ada_agenda.proofs.Noting.{grows_same, noted, noted_giving}
-use Rattle.ada_agenda.proofs.Refining.{task_step}
+use Rattle.ada_agenda.proofs.Refining.{task_step, position_step, quits_block}
 use Rattle.ada_records.specs.Holders.{IsHeld}
 use Rattle.ada_records.proofs.LiveHolders.{of_master}
 use Rattle.ada_records.proofs.Owners.{has_contained}
@@ -134,6 +134,11 @@ body_lived event step before task makes gives =
     quits_lived event before (Body (task_no task.0)) makes
     (then_some-some (is_to_quit (event ∷ before) (Body (task_no task.0))) (Quit (Body (task_no task.0))) step
     (task_step (event ∷ before) QuittingBody task.0 step refl gives)).0
+
+pub block_lived : (event step : Event) (before : List Event) (block : ℕ) → creation_in event ≡ None
+    → step_at (event ∷ before) QuittingBlock block ≡ Some step → all_terminated before (Block block) ≡ false
+block_lived event step before block makes gives =
+    quits_lived event before (Block block) makes (quits_block event step before block (position_step (event ∷ before) QuittingBlock block step refl gives))
 
 pub completion_key : (event step : Event) (before : List Event) (task : TaskNo) (row : Row) (key : ℕ) → IsLawful before → creation_in event ≡ None
     → step_at (event ∷ before) row key ≡ Some step → OfCompletion before task row key → AsCompletion before task row key

@@ -75,7 +75,7 @@ fn put_completion(agenda: &mut Agenda, first: &mut FirstUnstarted, view: &View, 
     ensures bound { IsStartBound view.now first.new }
 {
     put(agenda, Row::Terminating, task.0 as usize);
-    let lives = view.has_live_dependents(task);
+    let lives = view.has_live_dependents(Master::Body(task));
     put_if(agenda, Row::QuittingBody, task.0 as usize, lives);
     put_uncallable_calls(agenda, view, task);
     put_activation(agenda, view, task);

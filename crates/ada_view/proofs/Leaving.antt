@@ -22,7 +22,7 @@ use Rattle.ada_tables.specs.Standing.{StandFor}
 use Rattle.ada_agenda.proofs.Places.{closer_within}
 use Rattle.ada_agenda.proofs.Waiting.{suspended_at}
 use Rattle.ada_records.proofs.Owners.{has_contained}
-use Rattle.ada_view.specs.internal.Views.{IsHeldBySome}
+use Rattle.ada_view.specs.Views.{IsHeldBySome}
 
 -- a master that a task holds stands in the tables
 pub held_stands : (tables : TableState) (journal : List Event) (master : Master) → StandFor tables journal → IsHeldBySome journal master

@@ -18,7 +18,7 @@ use Rattle.ada_tables.specs.Dependents.{live_dependents}
 use Rattle.ada_tables.specs.Tables.{TableState, unready_dependents, ready_dependents}
 use Rattle.ada_tables.proofs.Readiness.{ready_all}
 use Rattle.ada_tables.specs.Standing.{StandFor}
-use Rattle.ada_view.specs.internal.Views.{IsHeldBySome}
+use Rattle.ada_view.specs.Views.{IsHeldBySome}
 use Rattle.ada_view.proofs.Leaving.{held_stands, none_counted}
 
 ready_bits : (t r d : Bool) → (not d || t || r) ≡ not (not t && not r && d)

@@ -3,4 +3,3 @@ pub mod Hitting
 pub mod Choosing
 pub mod Deciding
 pub mod Ending
-pub mod Views

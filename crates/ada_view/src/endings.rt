@@ -15,7 +15,7 @@ ghost use Rattle.ada_rows.specs.Rows.{at_event, step_at};
 ghost use Rattle.ada_rows.specs.declared.row.Row.TheVariants as row;
 ghost use Rattle.ada_events.specs.Tasks.{task_count};
 ghost use Rattle.ada_view.specs.internal.Ending.{IsOfOpener, closes_at};
-ghost use Rattle.ada_view.specs.internal.Views.{IsHeldBySome};
+ghost use Rattle.ada_view.specs.Views.{IsHeldBySome};
 ghost use Rattle.ada_tables.specs.Dependents.{has_block};
 
 use crate::view::View;
@@ -31,12 +31,13 @@ impl<'a> View<'a> {
         self.tables().live_dependents(master) == 0
     }
 
-    /// Whether a dependent of a task's body isn't terminated (9.4).
-    pub fn has_live_dependents(&self, task: TaskNo) -> bool
-        requires { task.0 < task_count self.now }
-        ensures { result ≡ not (ending.all_terminated self.now (BodyMaster task)) }
+    /// Whether a dependent of a master isn't terminated (9.4). The master is a task's body, or a block that a task is
+    /// within.
+    pub fn has_live_dependents(&self, master: Master) -> bool
+        requires { IsHeldBySome self.now master }
+        ensures { result ≡ not (ending.all_terminated self.now master) }
     {
-        !self.are_all_terminated(Master::Body(task))
+        !self.are_all_terminated(master)
     }
 
     // Whether the event is a close of a block that is left.

@@ -2,7 +2,11 @@ use Rattle.std.proofs.Common.{subst}
 use Rattle.ada_rows.specs.declared.row.Row.TheVariants.{QuittingBody}
 use Rattle.ada_agenda.specs.Keeping.{Puts, When, AsKey}
 use Rattle.ada_agenda.proofs.Noting.{both_put}
+use Rattle.ada_view.proofs.Quitting.{body_held}
 use Rattle.ada_triggers.proofs.endings.put_completion.Goals as goal
+
+pub has_live_dependents-lives-requires : goal.has_live_dependents-lives-requires
+has_live_dependents-lives-requires c = body_held c.args.view.now c.args.task c.requires.known
 
 pub returns-clause-put : goal.returns-clause-put
 returns-clause-put c =

@@ -1,13 +1,20 @@
-use Rattle.std.proofs.Common.{arith, refl, ap, subst, ◌+◌}
+use Rattle.std.proofs.Common.{arith, refl, ap, subst, sym, ◌+◌}
 use Rattle.ada_events.specs.declared.event.Event.TheVariants.{Closed}
 use Rattle.ada_events.specs.Says.{creation_in, moment_in, call_in, held_in, started_in, wait_in}
 use Rattle.ada_triggers.specs.Bounds.{IsStartBound}
 use Rattle.ada_laws.proofs.LimitLaws.{events_are_few}
 use Rattle.ada_kernel.proofs.Quiet.{kept_up, noted_from}
-use Rattle.ada_triggers.proofs.Additions.{closed_fits}
+use Rattle.ada_events.specs.declared.names.Master.TheVariants.{Block as BlockMaster}
+use Rattle.ada_view.specs.Views.{IsHeldBySome}
+use Rattle.ada_triggers.proofs.Additions.{close_held, closed_fits}
 use Rattle.ada_triggers.proofs.Bounds.{bound_kept}
 use Rattle.ada_kernel.proofs.Recorded.{holder_recorded, holder_tabled, noted_hold, followed_hold}
 use Rattle.ada_kernel.proofs.index.Index.note_close.Goals as goal
+
+pub after_close-requires-clause-held : goal.after_close-requires-clause-held
+after_close-requires-clause-held c =
+    subst (λ journal. IsHeldBySome journal (BlockMaster c.args.block)) (sym c.view-view.ensures)
+    (close_held c.args.journal.now.events c.args.by c.args.block c.requires.lawful)
 
 pub after_close-requires-clause-fits : goal.after_close-requires-clause-fits
 after_close-requires-clause-fits c = closed_fits c.args.journal.now.events c.args.by c.args.block c.requires.lawful
