@@ -1,5 +1,5 @@
 -- What masters may force on which the callee of a call depends.
-use Rattle.std.proofs.Common.{◌≡◌, ℕ, ◌&&◌, not, true, false, List, Some, None, ◌∷◌, sym, refl, ap, ◌∙◌, subst, inl, inr}
+use Rattle.std.proofs.Common.{◌≡◌, ℕ, ◌&&◌, not, true, false, List, Some, None, ◌∷◌, length, sym, refl, ap, ◌∙◌, subst, inl, inr}
 use Rattle.std.specs.Option.{option_map, option_and_then}
 use Rattle.std.proofs.lemmas.Bool.{true≢false, false_from_ne_true, and_parts, not-true}
 use Rattle.std.proofs.lemmas.Option.{none-some, same_Some}
@@ -7,7 +7,6 @@ use Rattle.ada_events.specs.declared.event.Event.{Event}
 use Rattle.ada_events.specs.declared.event.Event.TheVariants.{Halted, Cancelled}
 use Rattle.ada_events.specs.declared.names.TaskNo.{TaskNo}
 use Rattle.ada_events.specs.declared.names.Master.{Master}
-use Rattle.ada_events.specs.declared.names.Master.TheVariants.{Block}
 use Rattle.ada_events.specs.Says.{Call, creation_in, call_in, call_at, completed_in}
 use Rattle.ada_events.specs.Masters.{depends_on}
 use Rattle.ada_events.specs.Phases.{is_terminated, has_ended}
@@ -27,11 +26,13 @@ use Rattle.ada_agenda.specs.Kinds.OfHalt.{completes, quits_block, empties}
 use Rattle.ada_agenda.specs.Kinds.OfCancellation.{quits as quits_with}
 use Rattle.ada_agenda.proofs.Noting.{grows_same, held_there, noted_giving}
 use Rattle.ada_records.proofs.Owners.{has_contained}
-use Rattle.ada_triggers.specs.internal.Keys.{AsCompletion, AsHolder, AsDependent, AsCalleeAt, may_quit}
+use Rattle.ada_triggers.specs.internal.Keys.{OfFirst, AsBlock, AsCompletion, AsDependent, AsCalleeAt, may_quit}
+use Rattle.ada_triggers.specs.internal.Keys.AsMember.{block}
 use Rattle.ada_triggers.specs.internal.Keys.AsHolder.{quits}
 use Rattle.ada_triggers.specs.internal.Keys.AsDependent.{through}
 use Rattle.ada_triggers.specs.internal.Keys.AsCalleeAt.{called}
 use Rattle.ada_triggers.proofs.Giving.{quitter, quitter_of}
+use Rattle.ada_triggers.proofs.Holding.{block_place}
 use Rattle.ada_triggers.proofs.Ends.{dependent_held, completion_key}
 
 -- the callee of a call
@@ -97,7 +98,9 @@ cancellation_noted before old new call puts lawful agenda =
 
 -- all that was put for a halt
 abbrev pub HaltKeys : List Event → TaskNo → ℕ → Row → ℕ → Type 0
-HaltKeys before task at = Both (Both (AsCompletion before task) (AsHolder before task.0)) (AsCalleeAt before at)
+HaltKeys before task at =
+    let blocks = OfFirst (AsBlock (nest before task.0)) (length (nest before task.0)) in
+    Both (Both (AsCompletion before task) blocks) (AsCalleeAt before at)
 
 halt_key : (event step : Event) (before : List Event) (task : TaskNo) (at : ℕ) (row : Row) (key : ℕ) → IsLawful before → completed_in event ≡ Some task.0
     → creation_in event ≡ None → IsHeldAt before task.0 at → step_at (event ∷ before) row key ≡ Some step → OfHalt event before task row key
@@ -105,7 +108,8 @@ halt_key : (event step : Event) (before : List Event) (task : TaskNo) (at : ℕ)
 halt_key event step before task at row key lawful done makes is gives (completes r k of) =
     inl (inl (completion_key event step before task r k lawful makes gives of))
 halt_key event step before task at row key lawful done makes is gives (quits_block p among) =
-    inl (inr (quits (Block p) (has_contained (nest before task.0) p among.0 among.1 among.2) refl))
+    let (k, below, here) = block_place (nest before task.0) p (has_contained (nest before task.0) p among.0 among.1 among.2) in
+    inl (inr (record { task = k; among = below; of = block p here }))
 halt_key event step before task at row key lawful done makes is gives (empties p c m suspended stands ready depends) =
     let there = held_there before task.0 at p lawful is suspended in
     elim (quitter_of event step before task m done gives) [

@@ -61,7 +61,7 @@ pub member_fits : (journal : List Event) (task place p : ℕ) → IsLawful journ
 member_fits journal task place p lawful is = block_fits journal task p lawful (block_in_nest journal task p (member_is (nest journal task) place p is)).0
 
 -- a block of a nest stands at a place of it
-block_place : (members : List Member) (b : ℕ) → has_block b members ≡ true → (k : ℕ) × (k < length members) × (slice_get members k ≡ Some (BlockMember b))
+pub block_place : (members : List Member) (b : ℕ) → has_block b members ≡ true → (k : ℕ) × (k < length members) × (slice_get members k ≡ Some (BlockMember b))
 block_place members b has =
     let (k, below, is) = contains_block members b has in
     (k, below, slice_get-get_or members k (BlockMember b) below ∙ ap Some is)

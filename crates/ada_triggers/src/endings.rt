@@ -13,7 +13,7 @@ ghost use Rattle.ada_triggers.specs.Bounds.{IsStartBound};
 ghost use Rattle.ada_triggers.specs.internal.Keys.{AsActivation, AsCompletion};
 
 use crate::calls::put_callee;
-use crate::masters::{put_dependent, put_holder, put_master};
+use crate::masters::{put_blocks, put_dependent, put_master};
 use crate::sweeps::{put_held, put_uncallable_calls};
 use crate::unstarted::{FirstUnstarted, put_all_unstarted};
 use ada_agenda::Agenda;
@@ -120,7 +120,7 @@ pub fn after_halt(agenda: &mut Agenda, first: &mut FirstUnstarted, view: &View, 
     ensures bound { IsStartBound view.now first.new }
 {
     put_completion(agenda, first, view, task);
-    put_holder(agenda, view, task);
+    put_blocks(agenda, view, task);
     put_callee(agenda, view, view.record(task).suspension.at);
 }
 

@@ -65,8 +65,8 @@ fn put_layer(agenda: &mut Agenda, member: Option<Member>)
     }
 }
 
-// Puts the blocks that a task is within into the row in which blocks quit.
-fn put_blocks(agenda: &mut Agenda, view: &View, task: TaskNo)
+/// Puts the blocks that a task is within into the row in which blocks quit.
+pub(crate) fn put_blocks(agenda: &mut Agenda, view: &View, task: TaskNo)
     requires { task.0 < task_count view.now }
     ensures { Puts agenda.old agenda.new
         (OfFirst (AsBlock (nest view.now task.0)) (length (nest view.now task.0))) }
@@ -92,9 +92,9 @@ fn may_go(view: &View, task: TaskNo) -> bool
     stage.completed || !stage.named && task.0 != 0
 }
 
-/// Puts what the masters that a task holds may force: that the dependents of each quit, that the task goes, and that it
-/// leaves the block at whose close it is suspended.
-pub(crate) fn put_holder(agenda: &mut Agenda, view: &View, task: TaskNo)
+// Puts what the masters that a task holds may force: that the dependents of each quit, that the task goes, and that it
+// leaves the block at whose close it is suspended.
+fn put_holder(agenda: &mut Agenda, view: &View, task: TaskNo)
     requires { task.0 < task_count view.now }
     ensures { Puts agenda.old agenda.new (AsHolder view.now task.0) }
 {

@@ -6,5 +6,5 @@ pub returns-clause-keeps_up : goal.returns-clause-keeps_up
 returns-clause-keeps_up c =
     let old = c.args.agenda.now in
     halt_noted c.args.view.now old c.put_callee.new.agenda c.args.task c.record.result.suspension.at c.record.ensures.right.suspension.at
-    (both_put old c.put_holder.new.agenda c.put_callee.new.agenda _ _
-    (both_put old c.put_completion.new.agenda c.put_holder.new.agenda _ _ c.put_completion.ensures.put c.put_holder.ensures) c.put_callee.ensures)
+    (both_put old c.put_blocks.new.agenda c.put_callee.new.agenda _ _
+    (both_put old c.put_completion.new.agenda c.put_blocks.new.agenda _ _ c.put_completion.ensures.put c.put_blocks.ensures) c.put_callee.ensures)
