@@ -12,7 +12,7 @@ returns-then-eq c =
     let name = c.name-item.result in
     let same : bytes_eq bytes name ≡ true = ap (bytes_eq bytes) (sym c.as_bytes.ensures.value) ∙ sym c.eq.ensures ∙ c.if-eq.true in
     let among : list_any (bytes_eq bytes) names ≡ true =
-        sym c.loop-name.invariant ∙ among_found bytes names c.loop-name.name-index name c.loop-name-test.true c.name-item.is same in
+    sym c.loop-name.invariant ∙ among_found bytes names c.loop-name.name-index name c.loop-name-test.true c.name-item.is same in
     ap Some (sym ((bytes_decides bytes name).0 same)) ∙ sym (ap (λ t. if t then Some bytes else None) among)
 
 pub loop-name-preserved : goal.loop-name-preserved

@@ -27,7 +27,7 @@ pub returns-then-not-was_bound : goal.returns-then-not-was_bound
 returns-then-not-was_bound c =
     let entries = c.self.inside.table.entries in
     let first : position (bytes_eq c.args.name.now) (keys_of entries) ≡ Some c.in-Some.place =
-        subst (λ (names : Scope). position (bytes_eq c.args.name.now) (keys_of names) ≡ Some c.in-Some.place) (sym c.self.view_is) (sym c.in-Some.ensures.place) in
+    subst (λ (names : Scope). position (bytes_eq c.args.name.now) (keys_of names) ≡ Some c.in-Some.place) (sym c.self.view_is) (sym c.in-Some.ensures.place) in
     let changed = ap (set_value_at entries c.in-Some.place) c.bind.ensures
     ∙ set_at_place c.args.name.now (bound_by c.args.binding) c.in-Some-get_index_mut.meaning.now entries c.in-Some.place first
     (sym c.in-Some-get_index_mut.ensures.value)
@@ -38,7 +38,7 @@ pub returns-else-not-was_bound : goal.returns-else-not-was_bound
 returns-else-not-was_bound c =
     let entries = c.self.inside.table.entries in
     let first : position (bytes_eq c.args.name.now) (keys_of entries) ≡ Some c.in-Some.place =
-        subst (λ (names : Scope). position (bytes_eq c.args.name.now) (keys_of names) ≡ Some c.in-Some.place) (sym c.self.view_is) (sym c.in-Some.ensures.place) in
+    subst (λ (names : Scope). position (bytes_eq c.args.name.now) (keys_of names) ≡ Some c.in-Some.place) (sym c.self.view_is) (sym c.in-Some.ensures.place) in
     let changed = ap (set_value_at entries c.in-Some.place) c.bind.ensures
     ∙ set_at_place c.args.name.now (bound_by c.args.binding) c.in-Some-get_index_mut.meaning.now entries c.in-Some.place first
     (sym c.in-Some-get_index_mut.ensures.value)

@@ -10,6 +10,6 @@ pub returns-in-Some-clause-place : goal.returns-in-Some-clause-place
 returns-in-Some-clause-place c copy =
     let name = c.args.name.now in
     let here : slice_get c.self.inside.table.entries c.args.place ≡ Some (name, c.in-Some.field-0-1.now) =
-        sym c.in-Some.ensures.entry ∙ ap (λ found. Some (found, c.in-Some.field-0-1.now)) (c.is_copy_of.ensures copy) in
+    sym c.in-Some.ensures.entry ∙ ap (λ found. Some (found, c.in-Some.field-0-1.now)) (c.is_copy_of.ensures copy) in
     subst (λ (names : Scope). position (bytes_eq name) (keys_of names) ≡ Some c.args.place) c.self.view_is
-        (only_place c.self.inside.table.entries c.args.place name c.in-Some.field-0-1.now c.len.ensures.unique here)
+    (only_place c.self.inside.table.entries c.args.place name c.in-Some.field-0-1.now c.len.ensures.unique here)
