@@ -94,6 +94,24 @@ impl Name {
         usize::from(self.place)
     }
 
+    /// Whether these are the bytes of the name.
+    // One after another, since names are short.
+    #[inline(always)]
+    pub(crate) fn is(&self, bytes: &[u8]) -> bool
+        ensures { result ≡ bytes_eq self.now bytes.now }
+    {
+        let own = self.as_bytes();
+        if own.len() != bytes.len() {
+            return false;
+        }
+        for i in 0..own.len() {
+            if own[i] != bytes[i] {
+                return false;
+            }
+        }
+        true
+    }
+
     /// Whether one is a copy of the other. Names that aren't may have the same bytes too.
     // What lies after the names is compared with them, so that no loop goes over their bytes.
     #[inline(always)]

@@ -159,7 +159,7 @@ impl Names {
             return None;
         }
         let (found, meaning) = self.table.get_index(place)?;
-        if found.as_bytes() == name {
+        if found.is(name) {
             Some((found, meaning))
         } else {
             None
@@ -461,7 +461,7 @@ fn found_in<'n>(names: &'n [Name], bytes: &[u8]) -> Option<&'n Name>
         ≡ (if list_any (bytes_eq bytes.now) names.now then Some bytes.now else None) }
 {
     for name in names {
-        if bytes == name.as_bytes() {
+        if name.is(bytes) {
             return Some(name);
         }
     }
