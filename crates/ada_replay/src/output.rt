@@ -6,7 +6,7 @@ use crate::RunFault;
 use std::io::Write;
 
 /// How many bytes of text are gathered before they are written.
-const PIECE: usize = 65_536;
+pub(crate) const PIECE: usize = 65_536;
 
 /// Writes some bytes, in as many writes as it takes. An error of the writer, or a write that takes
 /// nothing, is `Write`, and then a beginning of the bytes was written.

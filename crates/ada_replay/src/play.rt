@@ -10,7 +10,7 @@ ghost use Rattle.ada_events.specs.declared.request.Request.{Request as RequestVa
 ghost use Rattle.ada_statements.specs.Binding.{is_show, request_of};
 
 use crate::kernel_sink::send_to_kernel;
-use crate::output::{write_output, write_piece};
+use crate::output::{PIECE, write_output, write_piece};
 use crate::shows::shown;
 use crate::{Answer, RunFault};
 use ada_events::{Event, Refusal, TaskNo};
@@ -18,6 +18,9 @@ use ada_kernel::Kernel;
 use ada_script::{Line, Names, Value, write_event, write_refusal, write_shown};
 use std::alloc::Global;
 use std::io::Write;
+
+/// Room for the text that is gathered: a piece, and what the line prints that makes it one, mostly.
+const ROOM: usize = PIECE + PIECE / 4;
 
 /// Appends the lines of all events behind the first `from`, in the order in which they came, or nothing.
 #[tactic(auto, using(crate::proofs::Groups::group_grows, crate::proofs::Groups::group_begins))]
@@ -167,7 +170,9 @@ pub fn play<W: Write>(
         × IsCutShort (Plays lines.now (state kernel.old names.old)) (W.contents writer.old)
         (W.contents writer.new)) }
 {
-    let mut text = Vec::new(alloc);
+    let Ok(mut text) = Vec::with_capacity(alloc, ROOM) else {
+        return Err(RunFault::Memory);
+    };
     for line in lines {
         if let Err(fault) = say(kernel, names, line, &mut text) {
             // what was played isn't lost, and the first fault is the answer

@@ -190,10 +190,9 @@ pub fn read_master(names: &Names, words: &mut Words) -> Result<Name, Fault>
     ensures { Gives result words.new (master_at names.now words.old) }
 {
     let name = read_name_word(words)?;
-    if names.is_declared(name) {
-        Ok(Name::from_bytes(name))
-    } else {
-        Err(Fault::UnknownName)
+    match names.declared_name(name) {
+        Some(declared) => Ok(declared.copy()),
+        None => Err(Fault::UnknownName),
     }
 }
 
@@ -206,7 +205,7 @@ pub fn read_new_name(names: &Names, words: &mut Words) -> Result<Name, Fault>
     if names.is_declared(name) {
         Err(Fault::DoubleName)
     } else {
-        Ok(Name::from_bytes(name))
+        Ok(names.new_name(name))
     }
 }
 
@@ -215,10 +214,13 @@ pub fn read_new_name(names: &Names, words: &mut Words) -> Result<Name, Fault>
 pub fn read_entry(names: &Names, task: &Name, words: &mut Words) -> Result<EntryName, Fault>
     ensures { Gives result words.new (entry_name_at names.now task.now words.old) }
 {
-    let family = read_name(words)?;
-    if !names.has_entry(task, &family) {
+    let name = read_name_word(words)?;
+    let Some(family) = names.entry_name(task, name) else {
         return Err(Fault::UnknownName);
-    }
+    };
     let index = read_optional_index(words)?;
-    Ok(EntryName { family, index })
+    Ok(EntryName {
+        family: family.copy(),
+        index,
+    })
 }

@@ -91,13 +91,15 @@ fn read_line(
     Ok(())
 }
 
-/// No lines, with room for as many as the text has if each takes 16 bytes, so that they are seldom moved as more are
-/// read.
+/// The least that a line with a statement takes, with its end.
+const LEAST_BYTES: usize = 6;
+
+/// No lines, with room for as many statements as the text may have, so that they aren't moved as more are read.
 fn room_for_lines(alloc: Global, text: &[u8]) -> Result<Vec<Line>, Cause>
     ensures none { IfOk result (λ lines. lines.items ≡ []) }
     ensures memory { IsOkUnless result Cause.OutOfMemory }
 {
-    let count = text.len() / 16;
+    let count = text.len() / LEAST_BYTES + 1;
     Ok(Vec::with_capacity(alloc, count.min(4096))?)
 }
 

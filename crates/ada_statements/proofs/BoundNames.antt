@@ -1,7 +1,8 @@
 -- What a name stands for is found by its bytes, and changed there.
 use Rattle.std.proofs.Common.{◌≡◌, ℕ, suc, ◌+◌, ◌<◌, ◌≤◌, Bool, true, false, cond, List, [], ◌∷◌, length, get_or, drop, add-one, Some, None}
-use Rattle.std.proofs.Common.{Option, IfSome, refl, sym, ap, ◌∙◌}
+use Rattle.std.proofs.Common.{Option, IfSome, refl, sym, ap, ◌∙◌, ◌||◌}
 use Rattle.std.specs.Cmp.Lexicographic.{bytes_decides}
+use Rattle.std.specs.List.{list_any}
 use Rattle.std.specs.Map.{lookup, lookup_key, set_value}
 use Rattle.std.specs.Option.{option_map}
 use Rattle.std.specs.Str.{bytes_eq}
@@ -43,7 +44,7 @@ with_meaning-absent name (entry ∷ names) change e = by (with_meaning-absent na
     by later true e = absurd cc
     by later false e = ap (λ (rest : Scope). entry ∷ rest) (later e)
 
--- a name at its place, and one that isn't there
+-- a name at its place or among others, and one that isn't there
 module _ (name : List ℕ) (names : List (List ℕ)) (i : ℕ) where
   module _ (other : List ℕ) (within : i < length names) (at : other ≡ get_or names i other) where
     here : drop i names ≡ other ∷ drop (i + 1) names
@@ -54,6 +55,15 @@ module _ (name : List ℕ) (names : List (List ℕ)) (i : ℕ) where
 
     pub place_passed : bytes_eq name other ≡ false → place_from (i + 1) name (drop (i + 1) names) ≡ place_from i name (drop i names)
     place_passed differs = sym (ap (place_from i name) here ∙ ap (λ t. cond t i (place_from (i + 1) name (drop (i + 1) names))) differs)
+
+    pub among_found : bytes_eq name other ≡ true → list_any (bytes_eq name) (drop i names) ≡ true
+    among_found found = ap (list_any (bytes_eq name)) here ∙ ap (λ t. t || list_any (bytes_eq name) (drop (i + 1) names)) found
+
+    pub among_passed : bytes_eq name other ≡ false → list_any (bytes_eq name) (drop (i + 1) names) ≡ list_any (bytes_eq name) (drop i names)
+    among_passed differs = sym (ap (list_any (bytes_eq name)) here ∙ ap (λ t. t || list_any (bytes_eq name) (drop (i + 1) names)) differs)
+
+  pub among_over : length names ≤ i → list_any (bytes_eq name) (drop i names) ≡ false
+  among_over past = ap (list_any (bytes_eq name)) (drop_of_length-le names past)
 
   pub place_over : length names ≤ i → place_from i name (drop i names) ≡ 255
   place_over past = ap (place_from i name) (drop_of_length-le names past)

@@ -1,3 +1,4 @@
 pub mod Found
 pub mod BoundNames
+pub mod Bytes
 pub mod Placed

@@ -213,3 +213,23 @@ next_inserted (e ∷ es) (suc j) name meaning apart at =
 pub inserted_next : (names : Scope) (i : ℕ) (name : List ℕ) (meaning : Meaning) → IsDistinct bytes_eq (keys_of names) → slice_get names i ≡ Some (name, meaning)
     → insert_entry bytes_eq (take i names) name meaning ≡ take (i + 1) names
 inserted_next names i name meaning distinct at = rw add-one (next_inserted names i name meaning distinct at)
+
+-- ---- the place of a name
+
+-- a name stands at one place alone
+placed_alone : (es : Scope) (n i : ℕ) (name : List ℕ) (meaning : Meaning) → IsDistinct bytes_eq (keys_of es) → slice_get es i ≡ Some (name, meaning)
+    → position_from (bytes_eq name) n (keys_of es) ≡ Some (n + i)
+unfolding IsDistinct
+placed_alone [] n i name meaning apart at = absurd cc
+placed_alone (e ∷ es) n zero name meaning apart at =
+    let same : e.0 ≡ name = cc in
+    ap (λ t. cond t (Some n) (position_from (bytes_eq name) (n + 1) (keys_of es))) (ap (bytes_eq name) same ∙ nat_list_eq_equiv.refl name) ∙ ap Some (omega arith)
+placed_alone (e ∷ es) n (suc i) name meaning apart at =
+    let differs : bytes_eq name e.0 ≡ false = nat_list_eq_equiv.symm name e.0 ∙ later_differs e.0 es i name meaning apart.0 at in
+    ap (λ t. cond t (Some n) (position_from (bytes_eq name) (n + 1) (keys_of es))) differs
+    ∙ placed_alone es (n + 1) i name meaning apart.1 at ∙ ap Some (omega arith)
+
+pub only_place : (names : Scope) (i : ℕ) (name : List ℕ) (meaning : Meaning) → IsDistinct bytes_eq (keys_of names) → slice_get names i ≡ Some (name, meaning)
+    → position (bytes_eq name) (keys_of names) ≡ Some i
+only_place names i name meaning apart at =
+    position_from-zero (bytes_eq name) (keys_of names) ∙ placed_alone names 0 i name meaning apart at ∙ ap Some (omega arith)

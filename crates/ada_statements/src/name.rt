@@ -1,6 +1,6 @@
 //! The names of a script.
 
-ghost use Rattle.std.specs.Prelude.{◌≡◌, ◌≤◌, length, []};
+ghost use Rattle.std.specs.Prelude.{◌≡◌, ◌≤◌, length, [], IsTrue};
 ghost use Rattle.std.specs.Cmp.{partial_equiv_from_equiv};
 ghost use Rattle.std.specs.Cmp.Lexicographic.{bytes_decides, nat_list_eq_equiv};
 ghost use Rattle.std.specs.Cmp.Rules.{hashing};
@@ -17,10 +17,13 @@ use std::{fmt, str};
 // Plain bytes, so that a name is copied as one piece, by no loop over what it has.
 #[derive(Drop, Default)]
 pub struct Name {
-    /// The name, and behind it whatever.
+    /// The name, and after it whatever.
     bytes: [u8; 16],
     /// How many of the bytes are the name's.
     length: u8,
+    /// Where it is looked for first among the names of a script, so that a name that was found once needn't be
+    /// searched for again.
+    place: u16,
 }
 
 impl Model for Name {
@@ -44,6 +47,7 @@ impl Name {
         Name {
             bytes: all,
             length: bytes.len() as u8,
+            place: 0,
         }
     }
 
@@ -69,7 +73,52 @@ impl Name {
         Name {
             bytes: self.bytes,
             length: self.length,
+            place: self.place,
         }
+    }
+
+    /// Another name of the same bytes, which is looked for at this place first.
+    pub(crate) fn copy_at(&self, place: usize) -> Self
+        ensures { result ≡ self.now }
+    {
+        Name {
+            bytes: self.bytes,
+            length: self.length,
+            place: u16::try_from(place).unwrap_or(0),
+        }
+    }
+
+    /// Where it is looked for first.
+    #[inline(always)]
+    pub(crate) fn place(&self) -> usize {
+        usize::from(self.place)
+    }
+
+    /// Whether these are the bytes of the name.
+    // One after another, since names are short.
+    #[inline(always)]
+    pub(crate) fn is(&self, bytes: &[u8]) -> bool
+        ensures { result ≡ bytes_eq self.now bytes.now }
+    {
+        let own = self.as_bytes();
+        if own.len() != bytes.len() {
+            return false;
+        }
+        for i in 0..own.len() {
+            if own[i] != bytes[i] {
+                return false;
+            }
+        }
+        true
+    }
+
+    /// Whether one is a copy of the other. Names that aren't may have the same bytes too.
+    // What lies after the names is compared with them, so that no loop goes over their bytes.
+    #[inline(always)]
+    pub(crate) fn is_copy_of(&self, other: &Name) -> bool
+        ensures { IsTrue result → self.now ≡ other.now }
+    {
+        self.length == other.length && self.bytes == other.bytes
     }
 }
 
@@ -78,8 +127,9 @@ impl PartialEq for Name {
 
     ghost laws = { partial_equiv_from_equiv nat_list_eq_equiv };
 
+    #[inline(always)]
     fn eq(&self, other: &Name) -> bool {
-        self.as_bytes() == other.as_bytes()
+        self.is_copy_of(other) || self.as_bytes() == other.as_bytes()
     }
 }
 

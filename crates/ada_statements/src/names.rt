@@ -1,7 +1,10 @@
 //! The names of a script, and what they are bound to.
 
 ghost use Rattle.std.specs.Prelude.{◌≡◌, ◌≤◌, None, Some, Ok, Err, length, map, option_map, IfOk, IfSome, OnOk, OnErr, IsOkUnless};
-ghost use Rattle.std.specs.Prelude.{option_copied, if◌then◌else◌};
+ghost use Rattle.std.specs.Prelude.{option_copied, if◌then◌else◌, unwrap_or, is_some, IsTrue, [], true};
+ghost use Rattle.std.specs.List.{position, list_any};
+ghost use Rattle.std.specs.Map.{keys_of};
+ghost use Rattle.std.specs.Str.{bytes_eq};
 ghost use Rattle.ada_statements.specs.Binding.{place_of as found_place};
 ghost use Rattle.ada_statements.specs.internal.Places.{kept, AreKept, IsNoted};
 ghost use Rattle.ada_events.specs.declared.limits.TheConstants.{MOST_FAMILIES};
@@ -9,6 +12,7 @@ ghost use Rattle.ada_events.specs.declared.limits.TheConstants.{MOST_FAMILIES};
 use crate::hints::Hints;
 use crate::meaning::{Binding, Bound};
 use crate::places::Places;
+use crate::statement::Declarations;
 use crate::{Cause, Declaration, EntryName, EntryNames, Made, Meaning, Name, Statement};
 use ada_events::{Entry, Master, TaskNo};
 use indexmap::IndexMap;
@@ -43,7 +47,8 @@ impl Names {
     ghost use Rattle.ada_statements.specs.Binding.{task_of, master_of, family_number, entry_of, with_meaning, bind};
     ghost use Rattle.ada_statements.specs.internal.Places.{bound_by};
     ghost use Rattle.ada_statements.specs.Binding.{bound_to, families_in};
-    ghost use Rattle.ada_statements.specs.Scope.{main_alone, meaning_of, is_declared, is_task, has_entry, declare, with_name};
+    ghost use Rattle.ada_statements.specs.Scope.{main_alone, meaning_of, is_declared, is_task, has_entry, entries_of, declare, with_name};
+    ghost use Rattle.ada_statements.specs.declared.meaning.Meaning.TheVariants.{Task as TaskMeaning};
 
     /// The main program alone.
     pub fn new(alloc: Global) -> Result<Self, Cause>
@@ -97,6 +102,31 @@ impl Names {
         }
     }
 
+    /// What a name stands for, if it is declared.
+    // A name that was read in these names remembers its place.
+    #[inline(always)]
+    fn meaning_of(&self, name: &Name) -> Option<&Meaning>
+        ensures { option_copied result ≡ meaning_of self.now name.now }
+    {
+        match self.remembered(name) {
+            Some(meaning) => Some(meaning),
+            None => self.meaning(name.as_bytes()),
+        }
+    }
+
+    /// The same, if it stands at the place that the name remembers.
+    #[inline(always)]
+    fn remembered(&self, name: &Name) -> Option<&Meaning>
+        ensures { IfSome result (λ meaning. meaning_of self.now name.now ≡ Some meaning.now) }
+    {
+        let (found, meaning) = self.table.get_index(name.place())?;
+        if found.is_copy_of(name) {
+            Some(meaning)
+        } else {
+            None
+        }
+    }
+
     /// The name of these bytes as it was declared, with what it stands for, if it is declared.
     #[inline(always)]
     fn declared(&self, name: &[u8]) -> Option<(&Name, &Meaning)>
@@ -129,7 +159,7 @@ impl Names {
             return None;
         }
         let (found, meaning) = self.table.get_index(place)?;
-        if found.as_bytes() == name {
+        if found.is(name) {
             Some((found, meaning))
         } else {
             None
@@ -143,8 +173,28 @@ impl Names {
         self.meaning(name).is_some()
     }
 
-    /// The name of these bytes as it was declared, if it is a task's. Copying it is cheaper than making
-    /// a name of the bytes.
+    /// A name of these bytes that isn't declared yet. It will be found at once if it is declared next.
+    pub fn new_name(&self, name: &[u8]) -> Name
+        requires { length name.now ≤ 16 }
+        ensures { result ≡ name.now }
+    {
+        Name::from_bytes(name).copy_at(self.table.len())
+    }
+
+    /// The name of these bytes as it was declared, if it is. Copying it is cheaper than making a name of the bytes, and
+    /// the copy is found at once.
+    #[inline(always)]
+    pub fn declared_name(&self, name: &[u8]) -> Option<&Name>
+        ensures { option_copied result
+            ≡ (if is_declared self.now name.now then Some name.now else None) }
+    {
+        match self.declared(name) {
+            Some((declared, _)) => Some(declared),
+            None => None,
+        }
+    }
+
+    /// The name of these bytes as it was declared, if it is a task's.
     #[inline(always)]
     pub fn task_name(&self, name: &[u8]) -> Option<&Name>
         ensures { option_copied result
@@ -156,14 +206,24 @@ impl Names {
         }
     }
 
-    /// Whether the task of this name has an entry of that name.
-    pub fn has_entry(&self, task: &Name, entry: &Name) -> bool
-        ensures { result ≡ has_entry self.now task.now entry.now }
+    /// The names of a task's entries; none where the name is no task's.
+    #[inline(always)]
+    fn entries(&self, task: &Name) -> &[Name]
+        ensures names { result.now ≡ unwrap_or (entries_of self.now task.now) [] }
+        ensures few { length result.now ≤ MOST_FAMILIES }
     {
-        match self.meaning(task.as_bytes()) {
-            Some(Meaning::Task { entries, .. }) => entries.as_slice().contains(entry),
-            _ => false,
+        match self.meaning_of(task) {
+            Some(Meaning::Task { entries, .. }) => entries.as_slice(),
+            _ => &[],
         }
+    }
+
+    /// The name of these bytes as it was declared, if the task of that name has an entry so named.
+    pub fn entry_name(&self, task: &Name, entry: &[u8]) -> Option<&Name>
+        ensures { option_copied result
+            ≡ (if has_entry self.now task.now entry.now then Some entry.now else None) }
+    {
+        found_in(self.entries(task), entry)
     }
 
     /// The task that a name is bound to, or number 65,535, which no task has.
@@ -171,7 +231,7 @@ impl Names {
     pub fn task(&self, name: &Name) -> TaskNo
         ensures { result ≡ task_of self.now name.now }
     {
-        match self.meaning(name.as_bytes()) {
+        match self.meaning_of(name) {
             Some(
                 Meaning::Task {
                     made: Some(made),
@@ -187,7 +247,7 @@ impl Names {
     pub fn master(&self, name: &Name) -> Master
         ensures { result ≡ master_of self.now name.now }
     {
-        match self.meaning(name.as_bytes()) {
+        match self.meaning_of(name) {
             Some(Meaning::Task { made, .. }) => match made {
                 Some(made) => Master::Body(made.task),
                 None => Master::Body(NO_TASK),
@@ -201,10 +261,7 @@ impl Names {
     fn family_number(&self, task: &Name, family: &Name) -> u8
         ensures { result ≡ family_number self.now task.now family.now }
     {
-        match self.meaning(task.as_bytes()) {
-            Some(Meaning::Task { entries, .. }) => place_of(family, entries),
-            _ => 255,
-        }
+        place_of(family, self.entries(task))
     }
 
     /// The entry of this name in a task. An index that is left out is 0.
@@ -273,12 +330,42 @@ impl Names {
         }
     }
 
+    /// Whether a copy of the name stands at this place in the table.
+    #[inline(always)]
+    fn stands_at(&self, place: usize, name: &Name) -> bool
+        ensures place { IsTrue result
+            → position (bytes_eq name.now) (keys_of self.now) ≡ Some place }
+        ensures found { IsTrue result → is_declared self.now name.now ≡ true }
+    {
+        if place >= self.table.len() {
+            return false;
+        }
+        match self.table.get_index(place) {
+            Some((found, _)) => found.is_copy_of(name),
+            None => false,
+        }
+    }
+
+    /// Where a name stands in the table.
+    #[inline(always)]
+    fn place(&self, name: &Name) -> Option<usize>
+        ensures place { result ≡ position (bytes_eq name.now) (keys_of self.now) }
+        ensures found { is_some result ≡ is_declared self.now name.now }
+    {
+        let place = name.place();
+        if self.stands_at(place, name) {
+            Some(place)
+        } else {
+            self.table.get_index_of(name)
+        }
+    }
+
     /// Binds a name. The places are no longer kept if it, or another name, was bound so before, or
     /// where there is no room.
     fn bind_name(&mut self, name: &Name, binding: Binding)
         ensures { self.new ≡ with_meaning self.old name.now (bound_by binding) }
     {
-        let Some(place) = self.table.get_index_of(name) else {
+        let Some(place) = self.place(name) else {
             return;
         };
         let places = self.places.take();
@@ -327,18 +414,28 @@ impl Names {
     {
         match statement {
             Statement::Open { block, .. } => self.insert(block, Meaning::Block { opened: None }),
-            Statement::Create { task, families, .. } => {
-                let entries = names_of(families.as_slice(), *self.table.allocator())?;
-                self.insert(
-                    task,
-                    Meaning::Task {
-                        entries,
-                        made: None,
-                    },
-                )
-            }
+            Statement::Create { task, families, .. } => self.declare_task(task, families),
             _ => Ok(()),
         }
+    }
+
+    /// Declares the name of a task with these families. An `Err` leaves the names as they were.
+    // Apart, so that no other statement waits for room for them.
+    #[inline(never)]
+    fn declare_task(&mut self, task: &Name, families: &Declarations) -> Result<(), Cause>
+        ensures ok { OnOk result (self.new
+            ≡ with_name self.old task.now (TaskMeaning (map (λ f. f.name) families.now) None)) }
+        ensures err { OnErr result (self.new ≡ self.old) }
+        ensures memory { IsOkUnless result Cause.OutOfMemory }
+    {
+        let entries = names_of(families.as_slice(), *self.table.allocator())?;
+        self.insert(
+            task,
+            Meaning::Task {
+                entries,
+                made: None,
+            },
+        )
     }
 
     /// Declares a name. Places aren't kept then. An `Err` leaves the names as they were.
@@ -349,7 +446,7 @@ impl Names {
     {
         self.places = None;
         let place = self.table.len();
-        self.table.insert(name.copy(), meaning)?;
+        self.table.insert(name.copy_at(place), meaning)?;
         self.hints.note(name.as_bytes(), place);
         Ok(())
     }
@@ -358,11 +455,25 @@ impl Names {
 /// The number of a name that isn't bound to a task.
 const NO_TASK: TaskNo = TaskNo(65_535);
 
+/// The name of these bytes among others.
+fn found_in<'n>(names: &'n [Name], bytes: &[u8]) -> Option<&'n Name>
+    ensures { option_copied result
+        ≡ (if list_any (bytes_eq bytes.now) names.now then Some bytes.now else None) }
+{
+    for name in names {
+        if name.is(bytes) {
+            return Some(name);
+        }
+    }
+    None
+}
+
 /// The place of a name among others, or 255.
-fn place_of(name: &Name, names: &EntryNames) -> u8
+fn place_of(name: &Name, names: &[Name]) -> u8
+    requires { length names.now ≤ MOST_FAMILIES }
     ensures { result ≡ found_place name.now names.now }
 {
-    for (i, other) in names.as_slice().iter().enumerate() {
+    for (i, other) in names.iter().enumerate() {
         if name == other {
             return i as u8;
         }

@@ -22,6 +22,7 @@ enum Spot {
 #[derive(Drop)]
 pub(crate) struct Places {
     tasks: Vec<Option<u16>>,
+    /// As far as something was made or opened. Room for the others lies there, and isn't written before.
     events: Vec<Spot>,
 }
 
@@ -32,8 +33,7 @@ impl Places {
     {
         let mut tasks = Vec::new(alloc);
         tasks.resize(MOST_TASKS, None)?;
-        let mut events = Vec::new(alloc);
-        events.resize(MOST_EVENTS, Spot::Nothing)?;
+        let events = Vec::with_capacity(alloc, MOST_EVENTS)?;
         Ok(Places { tasks, events })
     }
 
@@ -66,18 +66,34 @@ impl Places {
                 ..
             } => match u16::try_from(place) {
                 Ok(place) => {
-                    self.note_task(made.task, place) && self.note_event(made.at, Spot::Task(place))
+                    self.reach(made.at)
+                        && self.note_task(made.task, place)
+                        && self.note_event(made.at, Spot::Task(place))
                 }
                 Err(_) => false,
             },
             Meaning::Block {
                 opened: Some(opened),
             } => match u16::try_from(place) {
-                Ok(place) => self.note_event(*opened, Spot::Block(place)),
+                Ok(place) => { self.reach(*opened) && self.note_event(*opened, Spot::Block(place)) }
                 Err(_) => false,
             },
             _ => true,
         }
+    }
+
+    /// Writes the spots as far as this position, if it is one of a kernel's event.
+    fn reach(&mut self, at: u32) -> bool
+        ensures { (bound : Bound) → kept self.new bound ≡ kept self.old bound }
+    {
+        let position = at as usize;
+        if position >= MOST_EVENTS {
+            return false;
+        }
+        if position < self.events.len() {
+            return true;
+        }
+        self.events.resize(position + 1, Spot::Nothing).is_ok()
     }
 
     fn note_task(&mut self, task: TaskNo, place: u16) -> bool
