@@ -223,7 +223,8 @@ unfolding IsDistinct
 placed_alone [] n i name meaning apart at = absurd cc
 placed_alone (e ∷ es) n zero name meaning apart at =
     let same : e.0 ≡ name = cc in
-    ap (λ t. cond t (Some n) (position_from (bytes_eq name) (n + 1) (keys_of es))) (ap (bytes_eq name) same ∙ nat_list_eq_equiv.refl name) ∙ ap Some (omega arith)
+    let here : bytes_eq name e.0 ≡ true = ap (bytes_eq name) same ∙ nat_list_eq_equiv.refl name in
+    ap (λ t. cond t (Some n) (position_from (bytes_eq name) (n + 1) (keys_of es))) here ∙ ap Some (omega arith)
 placed_alone (e ∷ es) n (suc i) name meaning apart at =
     let differs : bytes_eq name e.0 ≡ false = nat_list_eq_equiv.symm name e.0 ∙ later_differs e.0 es i name meaning apart.0 at in
     ap (λ t. cond t (Some n) (position_from (bytes_eq name) (n + 1) (keys_of es))) differs

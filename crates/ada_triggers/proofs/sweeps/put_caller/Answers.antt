@@ -8,5 +8,5 @@ put_if-requires c = held_fits c.args.view.now c.args.task.0 _ c.record-at.ensure
 
 pub returns : goal.returns
 returns c =
-    caller_put c.args.view.now c.args.agenda.now c.put_if.new.agenda (is_that c.args.callee.0) c.args.task.0 c.record-at.result.suspension.at _ c.record-at.ensures.lawful
-    c.record-at.ensures.right.suspension.at c.calls_at-calls.ensures c.put_if.ensures
+    caller_put c.args.view.now c.args.agenda.now c.put_if.new.agenda (is_that c.args.callee.0) c.args.task.0 c.record-at.result.suspension.at _
+    c.record-at.ensures.lawful c.record-at.ensures.right.suspension.at c.calls_at-calls.ensures c.put_if.ensures
