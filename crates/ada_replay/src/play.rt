@@ -170,9 +170,9 @@ pub fn play<W: Write>(
         × IsCutShort (Plays lines.now (state kernel.old names.old)) (W.contents writer.old)
         (W.contents writer.new)) }
 {
-    let Ok(mut text) = Vec::with_capacity(alloc, ROOM) else {
-        return Err(RunFault::Memory);
-    };
+    let mut text = Vec::new(alloc);
+    // Where that is refused, the text takes room as it grows.
+    let _ = text.reserve(ROOM);
     for line in lines {
         if let Err(fault) = say(kernel, names, line, &mut text) {
             // what was played isn't lost, and the first fault is the answer

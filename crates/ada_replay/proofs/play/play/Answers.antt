@@ -34,7 +34,7 @@ returns-in_err-write_piece-clause-err g c =
 
 pub loop-line-init : goal.loop-line-init
 loop-line-init g c =
-    rw c.new-text.ensures.items (nothing_pending (state c.args.kernel.now c.args.names.now) (g.W.Write.contents c.args.writer.now))
+    rw (c.reserve.ensures.items, c.new-text.ensures.items) (nothing_pending (state c.args.kernel.now c.args.names.now) (g.W.Write.contents c.args.writer.now))
 
 pub loop-line-preserved : goal.loop-line-preserved
 loop-line-preserved g c =
