@@ -83,7 +83,7 @@ opener_exists (event ∷ before) p e o lawful at says =
           omega (arith, exists, task_count-more event before)
     ]
 
-callee_exists : (journal : List Event) (p : ℕ) (c : Call) → IsLawful journal → IsOpenCallAt journal c p → c.callee < task_count journal
+pub callee_exists : (journal : List Event) (p : ℕ) (c : Call) → IsLawful journal → IsOpenCallAt journal c p → c.callee < task_count journal
 callee_exists journal p c lawful opened =
     let named = call_names_entry journal p opened.stands.event c lawful opened.stands.stands opened.stands.says in
     declarer_exists journal c.callee c.entry named.0 named.1

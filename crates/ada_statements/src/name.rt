@@ -113,12 +113,16 @@ impl Name {
     }
 
     /// Whether one is a copy of the other. Names that aren't may have the same bytes too.
-    // What lies after the names is compared with them, so that no loop goes over their bytes.
+    // What lies after the names is compared with them, so that the loop goes over all 16 bytes, without a branch.
     #[inline(always)]
     pub(crate) fn is_copy_of(&self, other: &Name) -> bool
         ensures { IsTrue result → self.now ≡ other.now }
     {
-        self.length == other.length && self.bytes == other.bytes
+        let mut are = self.length == other.length;
+        for i in 0..16 {
+            are &= self.bytes[i] == other.bytes[i];
+        }
+        are
     }
 }
 

@@ -301,13 +301,13 @@ impl Tables {
         self.tasks.live_dependents(master)
     }
 
-    // Whether no call waits at any entry of a task.
-    fn has_no_calls(&self, task: u16) -> bool
-        requires { task < length self.now.tasks }
-        ensures { result ≡ has_no_calls self.now.tasks self.now.queues task }
+    /// Whether no call waits at any entry of a task (9.5).
+    pub fn has_no_calls(&self, task: TaskNo) -> bool
+        requires { task.0 < length self.now.tasks }
+        ensures { result ≡ has_no_calls self.now.tasks self.now.queues task.0 }
     {
-        let first = self.tasks.first_slot(task);
-        let many = slots::entries_in(self.tasks.families(task).as_slice()) as u16;
+        let first = self.tasks.first_slot(task.0);
+        let many = slots::entries_in(self.tasks.families(task.0).as_slice()) as u16;
         self.queues.are_empty(first, many)
     }
 
@@ -317,7 +317,7 @@ impl Tables {
         ensures { result ≡ is_ready self.now.tasks self.now.queues task }
     {
         match self.tasks.phase(task) {
-            Phase::Quittable => self.has_no_calls(task),
+            Phase::Quittable => self.has_no_calls(TaskNo(task)),
             _ => false,
         }
     }
@@ -355,7 +355,7 @@ impl Tables {
     {
         match self.tasks.phase(task) {
             Phase::Terminated => false,
-            Phase::Quittable => !self.has_no_calls(task),
+            Phase::Quittable => !self.has_no_calls(TaskNo(task)),
             _ => true,
         }
     }

@@ -5,7 +5,7 @@ use Rattle.ada_tables.proofs.tables.Tables.has_no_calls.Goals as goal
 pub entries_in-many-requires : goal.entries_in-many-requires
 entries_in-many-requires c =
     rw (c.as_slice.ensures.value, c.families.ensures)
-    (few_entries c.self.inside.tasks.tasks c.self.inside.queues.queues c.self.inside.queues.callers c.self.inside.tasks.firsts c.args.task c.self.invariant
+    (few_entries c.self.inside.tasks.tasks c.self.inside.queues.queues c.self.inside.queues.callers c.self.inside.tasks.firsts c.args.task.0 c.self.invariant
     (rw (← c.self.view_is) at c.requires))
 
 pub overflow_cast-many : goal.overflow_cast-many
@@ -14,7 +14,7 @@ overflow_cast-many c =
     omega (
       arith,
       many,
-      few_entries c.self.inside.tasks.tasks c.self.inside.queues.queues c.self.inside.queues.callers c.self.inside.tasks.firsts c.args.task
+      few_entries c.self.inside.tasks.tasks c.self.inside.queues.queues c.self.inside.queues.callers c.self.inside.tasks.firsts c.args.task.0
           c.self.invariant (rw (← c.self.view_is) at c.requires),
     )
 
@@ -26,7 +26,7 @@ are_empty-requires-clause-slots c =
       arith,
       many,
       first,
-      c.self.invariant.first c.args.task (rw (← c.self.view_is) at c.requires),
+      c.self.invariant.first c.args.task.0 (rw (← c.self.view_is) at c.requires),
       slots_within c.self.inside.tasks.tasks c.self.inside.queues.queues c.self.inside.queues.callers c.self.inside.tasks.firsts
-          c.args.task c.self.invariant (rw (← c.self.view_is) at c.requires),
+          c.args.task.0 c.self.invariant (rw (← c.self.view_is) at c.requires),
     )
