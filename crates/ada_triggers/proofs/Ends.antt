@@ -17,8 +17,6 @@ use Rattle.ada_events.specs.Termination.{all_terminated}
 use Rattle.ada_events.specs.Nests.{nest}
 use Rattle.ada_events.specs.Lawful.{IsLawful}
 use Rattle.ada_laws.specs.Suspension.{IsSuspendedAt}
-use Rattle.ada_laws.proofs.CallLaws.{open_calls_suspend}
-use Rattle.ada_laws.proofs.Suspending.{suspended_exists}
 use Rattle.ada_laws.proofs.Depending.{depends_on-cases, depends_exists, depends_reaches}
 use Rattle.ada_laws.proofs.Growing.{is_terminated-more}
 use Rattle.ada_laws.proofs.Searching.{then_some-some}
@@ -43,11 +41,11 @@ use Rattle.ada_records.specs.Holders.{IsHeld}
 use Rattle.ada_records.proofs.LiveHolders.{of_master}
 use Rattle.ada_records.proofs.Owners.{has_contained}
 use Rattle.ada_view.proofs.Orphans.{gone_stays}
-use Rattle.ada_triggers.specs.internal.Keys.{OfFirst, AsHeld, AsCaller, AsUncallable, AsDependent, AsActivation, AsCompletion, is_that}
+use Rattle.ada_triggers.specs.internal.Keys.{OfFirst, AsHeld, AsUncallable, AsDependent, AsActivation, AsCompletion}
 use Rattle.ada_agenda.specs.Keeping.AsKey.{itself}
 use Rattle.ada_triggers.specs.internal.Keys.AsHeld.{held}
 use Rattle.ada_triggers.specs.internal.Keys.AsUnstarted.{goes}
-use Rattle.ada_triggers.specs.internal.Keys.AsCaller.{fails}
+use Rattle.ada_triggers.specs.internal.Keys.AsUncallable.{loses}
 use Rattle.ada_agenda.specs.Keeping.When.{holds_so}
 use Rattle.ada_triggers.specs.internal.Keys.AsHolder.{quits, goes as holder_goes, leaves}
 use Rattle.ada_triggers.specs.internal.Keys.AsDependent.{through}
@@ -96,21 +94,6 @@ pub done_before : (before : List Event) (old : List (List ℕ)) (task : TaskNo) 
     → Puts old old (AsActivation before task)
 done_before before old task done = record { grows = grows_same old; here = λ row key of. waits_no_more before old task row key done of }
 
--- an open call to a task, at its caller
-caller_key : (before : List Event) (task p : ℕ) → IsLawful before → IsOpenCallTo before task p
-    → OfFirst (AsCaller before (is_that task)) (task_count before) Failing p
-caller_key before task p lawful of =
-    let suspended = open_calls_suspend before of.call p of.opened in
-    record {
-      task = of.call.by;
-      among = suspended_exists before of.call.by p lawful suspended;
-      of = fails of.call p of.opened.stands suspended (eq-eqb of.call.callee task of.to);
-    }
-
-uncallable_key : (before : List Event) (task p : ℕ) → IsLawful before → is_uncallable before task ≡ false → IsOpenCallTo before task p
-    → AsUncallable before task Failing p
-uncallable_key before task p lawful was of = holds_so (ap not was) (caller_key before task p lawful of)
-
 -- where dependents of a body quit behind an event that makes no task, some of them lived before it
 depended_before : (event : Event) (before : List Event) (u : ℕ) (m : Master) → creation_in event ≡ None → depends_on (event ∷ before) u m ≡ true
     → depends_on before u m ≡ true
@@ -145,7 +128,7 @@ pub completion_key : (event step : Event) (before : List Event) (task : TaskNo) 
 completion_key event step before task row key lawful makes gives task_goes = inl (inl (inl (inl itself)))
 completion_key event step before task row key lawful makes gives body_quits =
     inl (inl (inl (inr (holds_so (ap not (body_lived event step before task makes gives)) itself))))
-completion_key event step before task row key lawful makes gives (call_fails p was of) = inl (inl (inr (uncallable_key before task.0 p lawful was of)))
+completion_key event step before task row key lawful makes gives (call_fails p was of) = inl (inl (inr (loses p was of)))
 completion_key event step before task row key lawful makes gives (start_ends p active) = inl (inr (activates p active))
 completion_key event step before task row key lawful makes gives (task_abandons u of) =
     inr (record {
@@ -196,7 +179,7 @@ TerminationKeys before task =
 termination_key : (event step : Event) (before : List Event) (task : TaskNo) (row : Row) (key : ℕ) → IsLawful before → completed_in event ≡ None
     → is_terminated before task.0 ≡ false → step_at (event ∷ before) row key ≡ Some step → OfTermination before task row key
     → TerminationKeys before task row key
-termination_key event step before task row key lawful none live gives (end_fails p was of) = inl (inl (uncallable_key before task.0 p lawful was of))
+termination_key event step before task row key lawful none live gives (end_fails p was of) = inl (inl (loses p was of))
 termination_key event step before task row key lawful none live gives (end_activates p active) = inl (inr (activates p active))
 termination_key event step before task row key lawful none live gives (end_goes t depends) =
     inr (through t.0 (Body t) Terminating t.0 live depends (eq-eqb t.0 t.0 refl) (holder_goes (goer event step before t.0 none gives)))

@@ -59,7 +59,7 @@ pub quitter_ready : (before : List Event) (m : Master) (t : ℕ) → is_to_quit 
 quitter_ready before m t quits quitter = ready_parts before t (quits_ready before m t quits quitter.depends quitter.live)
 
 -- no call waits at an entry of who is ready to quit
-not_queued : (journal : List Event) (task p : ℕ) (entry : Entry) → has_empty_queues journal task ≡ true → Contains (queue journal task entry) p → ⊥
+pub not_queued : (journal : List Event) (task p : ℕ) (entry : Entry) → has_empty_queues journal task ≡ true → Contains (queue journal task entry) p → ⊥
 unfolding has_empty_queues is_queued_at
 not_queued journal task p entry empty contains =
     let q = queue-found journal task entry p contains in

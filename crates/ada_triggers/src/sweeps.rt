@@ -1,9 +1,10 @@
 //! Passes over all tasks that put keys into an agenda.
 
-ghost use Rattle.std.specs.Prelude.{◌≡◌, ◌&&◌, true};
+ghost use Rattle.std.specs.Prelude.{◌≡◌, ◌&&◌, ℕ, true};
 ghost use Rattle.ada_events.specs.Search.{is_some_and, event_at};
 ghost use Rattle.ada_events.specs.Tasks.{task_count};
 ghost use Rattle.ada_agenda.specs.Keeping.{Puts};
+ghost use Rattle.ada_agenda.specs.Kinds.{IsOpenCallTo};
 ghost use Rattle.ada_triggers.specs.internal.Keys as keys;
 ghost use Rattle.ada_triggers.specs.internal.Keys.{OfFirst, AsHaltable, AsHeld, AsCaller, AsHit, AsUncallable, calls};
 ghost use Rattle.ada_triggers.specs.internal.Keys.{is_flagged, is_that};
@@ -143,14 +144,21 @@ fn put_all_callers(agenda: &mut Agenda, view: &View, callee: TaskNo)
     }
 }
 
+// Whether a call to the task may be open: only where one waits at an entry of it, or the task is in something.
+fn may_be_called(view: &View, callee: TaskNo) -> bool
+    ensures { (p : ℕ) → IsOpenCallTo view.now callee.0 p → result ≡ true }
+{
+    let tables = view.tables();
+    callee.0 < tables.tasks() && !(tables.nest(callee).is_empty() && tables.has_no_calls(callee))
+}
+
 /// Puts the calls to a task into the row of those that fail, unless they failed already, since the task has ended or is
 /// abnormal.
 #[inline(always)]
-#[tactic(auto, using(ada_agenda::proofs::Noting::so_put, ada_agenda::proofs::Noting::not_put))]
 pub(crate) fn put_uncallable_calls(agenda: &mut Agenda, view: &View, callee: TaskNo)
     ensures { Puts agenda.old agenda.new (AsUncallable view.now callee.0) }
 {
-    if !view.is_uncallable(callee) {
+    if !view.is_uncallable(callee) && may_be_called(view, callee) {
         put_all_callers(agenda, view, callee);
     }
 }

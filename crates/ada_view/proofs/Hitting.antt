@@ -1,7 +1,9 @@
 -- Whom an abort hits, from task to task outwards.
-use Rattle.std.proofs.Common.{◌≡◌, ℕ, ◌<◌, Bool, true, false, ◌||◌, Some, None, List, [], ◌∷◌, ◌++◌, length, get_or, refl, sym, ap, ◌∙◌, subst, arith, inl, inr}
+use Rattle.std.proofs.Common.{◌≡◌, ℕ, zero, suc, ◌<◌, ◌≤◌, Bool, true, false, ◌||◌, Option, Some, None, List, [], ◌∷◌, ◌++◌, length, take, get_or}
+use Rattle.std.proofs.Common.{refl, sym, ap, ◌∙◌, subst, arith, inl, inr}
+use Rattle.std.specs.Prelude.{replicate}
 use Rattle.std.proofs.lemmas.Bool.{cases_lt}
-use Rattle.std.proofs.lemmas.List.{get_or_append_left, length-append}
+use Rattle.std.proofs.lemmas.List.{get_or_append_left, length-append, length-replicate, take-replicate}
 use Rattle.std.proofs.Math.Seq.{get_or-append_seam}
 use Rattle.std.specs.Prelude.{◌==◌}
 use Rattle.std.specs.List.{list_any}
@@ -105,3 +107,50 @@ flags_more journal flags test many flag long told says task below live =
           ∙ says (subst (λ n. is_terminated journal n ≡ false) (at ∙ long) live)
           ∙ ap test (sym (at ∙ long))
     ]
+
+none_flagged : (many task : ℕ) → get_or (replicate many false) task false ≡ false
+none_flagged zero task = refl
+none_flagged (suc many) zero = refl
+none_flagged (suc many) (suc task) = none_flagged many task
+
+-- who depends on no body of those that an abort names where it hits none of the tasks that were made before
+spared_by : (journal : List Event) (tasks : List TaskNo) (task : ℕ) (m : Option Master) → IsLawful journal → task < task_count journal
+    → is_terminated journal task ≡ false → TellsOfLive journal (replicate task false) (is_hit journal tasks)
+    → option_map (λ (c : Creation). c.master) (creation_of journal task) ≡ m → hits_bodies journal tasks task ≡ false
+spared_by journal tasks task None lawful known live told under = none_above journal tasks task lawful under
+spared_by journal tasks task (Some m) lawful known live told under =
+    sym (holder_tells journal tasks (replicate task false) task m false lawful known live under (λ holder held. sym (none_flagged task holder))
+        (length-replicate task false) told)
+
+-- before the first task that is named none is hit
+spared_so_far : (journal : List Event) (tasks : List TaskNo) (first many : ℕ) → IsLawful journal → first ≤ task_count journal → many ≤ first
+    → ((task : ℕ) → task < first → lists_task task tasks ≡ false) → TellsOfLive journal (replicate many false) (is_hit journal tasks)
+spared_so_far journal tasks first zero lawful known few unnamed = λ task below live. absurd (omega (arith, below))
+spared_so_far journal tasks first (suc many) lawful known few unnamed = λ task below live.
+    let told = spared_so_far journal tasks first many lawful known (omega (arith, few)) unnamed in
+    none_flagged (suc many) task
+    ∙ elim (cases_lt task many) [
+      | inl old ↦ sym (none_flagged many task) ∙ told task (omega (arith, old, length-replicate many false)) live
+      | inr last ↦
+          let at : task ≡ many = omega (arith, last, below, length-replicate (suc many) false) in
+          sym (unnamed_hit journal tasks task (unnamed task (omega (arith, at, few)))
+              ∙ spared_by journal tasks task (option_map (λ (c : Creation). c.master) (creation_of journal task)) lawful (omega (arith, at, few, known))
+              live (subst (λ n. TellsOfLive journal (replicate n false) (is_hit journal tasks)) (sym at) told) refl)
+    ]
+
+pub none_before : (journal : List Event) (tasks : List TaskNo) (first task : ℕ) → IsLawful journal → first ≤ task_count journal
+    → ((task : ℕ) → task < first → lists_task task tasks ≡ false) → task < first → is_terminated journal task ≡ false → is_hit journal tasks task ≡ false
+none_before journal tasks first task lawful known unnamed below live =
+    sym (spared_so_far journal tasks first first lawful known (omega arith) unnamed task (omega (arith, below, length-replicate first false)) live)
+    ∙ none_flagged first task
+
+-- so the flags begin with those of nobody
+pub flags_begin : (journal : List Event) (tasks : List TaskNo) (first many : ℕ) (flags : List Bool) → IsLawful journal → first ≤ task_count journal
+    → first ≤ many → ((task : ℕ) → task < first → lists_task task tasks ≡ false) → flags ≡ take first (replicate many false)
+    → (length flags ≡ first) × TellsOfLive journal flags (is_hit journal tasks)
+flags_begin journal tasks first many flags lawful known few unnamed are =
+    let same : flags ≡ replicate first false = are ∙ take-replicate first many false few in (
+      ap length same ∙ length-replicate first false,
+      subst (λ fs. TellsOfLive journal fs (is_hit journal tasks)) (sym same)
+          (spared_so_far journal tasks first first lawful known (omega arith) unnamed),
+    )

@@ -21,6 +21,15 @@ pub record ListsFirst (journal : List Event) (tasks : List TaskNo) (test : ℕ �
 pub lists_none : (journal : List Event) (test : ℕ → Bool) → ListsFirst journal [] test 0
 lists_none journal test = record { few = omega arith; below = λ i d less. absurd (omega (arith, less)); tells = λ task less live. absurd (omega (arith, less)) }
 
+-- nobody is listed where nobody passes
+pub lists_nobody : (journal : List Event) (test : ℕ → Bool) (many : ℕ)
+    → ((task : ℕ) → task < many → is_terminated journal task ≡ false → test task ≡ false) → ListsFirst journal [] test many
+lists_nobody journal test many none = record {
+  few = omega arith;
+  below = λ i d less. absurd (omega (arith, less));
+  tells = λ task less live. sym (none task less live);
+}
+
 unlisted : (tasks : List TaskNo) (many : ℕ) → ((i : ℕ) (d : TaskNo) → i < length tasks → (get_or tasks i d).0 < many) → lists_task many tasks ≡ false
 unlisted [] many below = refl
 unlisted (t ∷ rest) many below =

@@ -1,11 +1,11 @@
 //! Whom the quitting of a master's dependents and an abort touch.
 
-ghost use Rattle.std.specs.Prelude.{◌≡◌, ℕ, ◌<◌, false, true, List, length, slice_index_or};
+ghost use Rattle.std.specs.Prelude.{◌≡◌, ℕ, ◌<◌, ◌≤◌, false, true, List, length, slice_index_or};
 ghost use Rattle.ada_events.specs.declared.limits.TheConstants.{MOST_TASKS};
 ghost use Rattle.ada_events.specs.Forced.{is_to_quit};
 ghost use Rattle.ada_events.specs.Masters as masters;
 ghost use Rattle.ada_events.specs.Nests.{nest};
-ghost use Rattle.ada_events.specs.Phases.{is_terminated};
+ghost use Rattle.ada_events.specs.Phases.{is_terminated, lists_task};
 ghost use Rattle.ada_events.specs.Tasks.{task_count};
 ghost use Rattle.ada_events.specs.declared.names.TaskNo.{TaskNo as Number};
 ghost use Rattle.ada_tables.specs.Dependents.{holds};
@@ -115,15 +115,29 @@ fn is_hit(view: &View, task: TaskNo, named: &[bool], hit: &[bool]) -> bool
     flag_of(named, task) || hits_holder(view, task, hit)
 }
 
+// The first task that a list names, or that many where it names no earlier one.
+fn first_named(tasks: &[TaskNo], many: u16) -> u16
+    ensures few { result ≤ many }
+    ensures none { (task : ℕ) → task < result → lists_task task tasks.now ≡ false }
+{
+    let mut first = many;
+    for task in tasks {
+        first = first.min(task.0);
+    }
+    first
+}
+
 /// Whom an abort of these tasks hits (9.10). The task that holds what another was made under was made before that, so
-/// the tasks are gone through by their numbers.
+/// the tasks are gone through by their numbers, from the first that is named.
 pub fn hit(view: &View, tasks: &[TaskNo]) -> Tasks
     ensures { records.ListsLive view.now result (records.is_hit view.now tasks.now) }
 {
     let named = named(tasks);
-    let mut flags = Flags::new();
+    let many = view.tables().tasks();
+    let first = first_named(tasks, many);
+    let mut flags = Flags::from_slice(&[false; MOST_TASKS][..usize::from(first)]);
     let mut hit = Tasks::new();
-    for number in 0..view.tables().tasks() {
+    for number in first..many {
         let hits = is_hit(view, TaskNo(number), &named, flags.as_slice());
         flags.push(hits);
         if hits {

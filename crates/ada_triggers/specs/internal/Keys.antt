@@ -24,7 +24,7 @@ use Rattle.ada_rows.specs.declared.row.Row.TheVariants.{Halting, Failing, Activa
 use Rattle.ada_tables.specs.Dependents.{holds}
 use Rattle.ada_agenda.specs.Keeping.{When, AsKey}
 use Rattle.ada_agenda.specs.internal.Keeping.{Both}
-use Rattle.ada_agenda.specs.Kinds.{quitting_row, quitting_key, due_in, due_row, IsActivationOf}
+use Rattle.ada_agenda.specs.Kinds.{quitting_row, quitting_key, due_in, due_row, IsActivationOf, IsOpenCallTo}
 
 -- the keys of one of the first so many tasks
 pub record OfFirst (Key : ℕ → Row → ℕ → Type 0) (many : ℕ) (row : Row) (key : ℕ) : Type 0 where
@@ -76,9 +76,9 @@ AsHit journal flags task = Both (AsHaltable journal flags task) (AsCaller journa
 abbrev pub is_that : ℕ → ℕ → Bool
 is_that task other = other == task
 
--- the calls to a task at which tasks are suspended, unless no call to it could be served before (9.5, 9.10)
-abbrev pub AsUncallable : List Event → ℕ → Row → ℕ → Type 0
-AsUncallable journal callee = When (not (is_uncallable journal callee)) (OfFirst (AsCaller journal (is_that callee)) (task_count journal))
+-- an open call to a task to which a call could be served before (9.5, 9.10)
+pub data AsUncallable (journal : List Event) (callee : ℕ) : Row → ℕ → Type 0 where
+  loses : (p : ℕ) → is_uncallable journal callee ≡ false → IsOpenCallTo journal callee p → AsUncallable journal callee Failing p
 
 -- the moment that is waited for at an event has come by a tick (9.6)
 abbrev pub is_due_by : Event → Event → Bool

@@ -1,11 +1,26 @@
-use Rattle.std.proofs.Common.{◌∙◌, length, sym, ap, refl, subst, arith, [], ◌∷◌}
+use Rattle.std.specs.Prelude.{replicate, false}
+use Rattle.std.proofs.Common.{◌∙◌, ◌≤◌, length, take, sym, ap, refl, subst, arith, [], ◌∷◌}
 use Rattle.std.proofs.lemmas.List.{length-append}
+use Rattle.ada_events.specs.Tasks.{task_count}
 use Rattle.ada_records.specs.Records.{is_hit}
 use Rattle.ada_view.specs.internal.Hitting.{TellsOfLive}
-use Rattle.ada_view.proofs.Hitting.{flags_more}
-use Rattle.ada_view.proofs.Listing.{lists_more, lists_past, lists_all}
+use Rattle.ada_view.proofs.Hitting.{flags_more, flags_begin, none_before}
+use Rattle.ada_view.proofs.Listing.{lists_nobody, lists_more, lists_past, lists_all}
 use Rattle.ada_view.proofs.touched.hit.Goals as goal
 use Rattle.ada_view.proofs.touched.hit.Goals.{then-hits, else-hits}
+
+pub loop-number-init : goal.loop-number-init
+loop-number-init c =
+    let known : c.first_named-first.result ≤ task_count c.args.view.now = omega (arith, c.first_named-first.ensures.few, c.tasks-many.ensures.value, c.tables.ensures.stand.many) in
+    let few : c.first_named-first.result ≤ 256 = omega (arith, c.first_named-first.ensures.few, c.tasks-many.ensures.fits) in
+    let begin = flags_begin c.args.view.now c.args.tasks.now c.first_named-first.result 256 c.from_slice-flags.result c.tables.ensures.lawful known few
+    c.first_named-first.ensures.none (c.from_slice-flags.ensures ∙ ap (λ n. take n (replicate 256 false)) c.from.ensures) in (
+      begin.0,
+      begin.1,
+      rw c.new-hit.ensures
+          (lists_nobody c.args.view.now (is_hit c.args.view.now c.args.tasks.now) c.first_named-first.result
+          (λ task. none_before c.args.view.now c.args.tasks.now c.first_named-first.result task c.tables.ensures.lawful known c.first_named-first.ensures.none)),
+    )
 
 pub loop-number-preserved : goal.loop-number-preserved
 loop-number-preserved c =
@@ -32,4 +47,4 @@ loop-number-preserved c =
 pub returns : goal.returns
 returns c =
     lists_all c.args.view.now c.loop-number.hit (is_hit c.args.view.now c.args.tasks.now) c.loop-number.number c.loop-number.invariant.2
-    (omega (arith, c.loop-number-test.false, c.loop-number.auto.number-end, c.tasks-number-end.ensures.value, c.tables.ensures.stand.many))
+    (omega (arith, c.loop-number-test.false, c.loop-number.invariant.0, c.tasks-many.ensures.value, c.tables.ensures.stand.many))
