@@ -10,7 +10,7 @@ use Rattle.ada_events.specs.declared.names.Master.{Master}
 use Rattle.ada_events.specs.declared.names.Master.TheVariants.{Body, Block}
 use Rattle.ada_events.specs.Forced.{task_no, is_to_quit, is_done_activating}
 use Rattle.ada_events.specs.Says.{Creation, creation_in, gone_in, completed_in}
-use Rattle.ada_events.specs.Tasks.{task_count, creation_of}
+use Rattle.ada_events.specs.Tasks.{creation_of}
 use Rattle.ada_events.specs.Masters.{depends_on}
 use Rattle.ada_events.specs.Phases.{is_terminated}
 use Rattle.ada_events.specs.Termination.{all_terminated}
@@ -22,13 +22,12 @@ use Rattle.ada_laws.proofs.Growing.{is_terminated-more}
 use Rattle.ada_laws.proofs.Searching.{then_some-some}
 use Rattle.ada_laws.proofs.Reaching.{reaches_known}
 use Rattle.ada_laws.proofs.DependentLaws.{going, all_terminated_at}
-use Rattle.ada_rows.specs.TouchedKeys.{is_uncallable}
 use Rattle.ada_rows.specs.Rows.{step_at}
 use Rattle.ada_rows.specs.declared.row.Row.{Row}
-use Rattle.ada_rows.specs.declared.row.Row.TheVariants.{Failing, Activating, Terminating, QuittingBody, QuittingBlock, Leaving}
+use Rattle.ada_rows.specs.declared.row.Row.TheVariants.{Activating, Terminating, QuittingBody, QuittingBlock, Leaving}
 use Rattle.ada_agenda.specs.Keeping.{has_key, Puts, KeepsUp}
 use Rattle.ada_agenda.specs.internal.Keeping.{Both}
-use Rattle.ada_agenda.specs.Kinds.{quitting_row, quitting_key, IsOpenCallTo, OfElaboration, OfCompletion, OfTermination}
+use Rattle.ada_agenda.specs.Kinds.{quitting_row, quitting_key, OfElaboration, OfCompletion, OfTermination}
 use Rattle.ada_agenda.specs.Kinds.OfElaboration.{activates as task_up}
 use Rattle.ada_agenda.specs.Kinds.OfCompletion.{goes as task_goes, quits as body_quits, fails as call_fails, activates as start_ends}
 use Rattle.ada_agenda.specs.Kinds.OfCompletion.{abandons as task_abandons}
@@ -41,7 +40,7 @@ use Rattle.ada_records.specs.Holders.{IsHeld}
 use Rattle.ada_records.proofs.LiveHolders.{of_master}
 use Rattle.ada_records.proofs.Owners.{has_contained}
 use Rattle.ada_view.proofs.Orphans.{gone_stays}
-use Rattle.ada_triggers.specs.internal.Keys.{OfFirst, AsHeld, AsUncallable, AsDependent, AsActivation, AsCompletion}
+use Rattle.ada_triggers.specs.internal.Keys.{AsHeld, AsUncallable, AsDependent, AsActivation, AsCompletion}
 use Rattle.ada_agenda.specs.Keeping.AsKey.{itself}
 use Rattle.ada_triggers.specs.internal.Keys.AsHeld.{held}
 use Rattle.ada_triggers.specs.internal.Keys.AsUnstarted.{goes}

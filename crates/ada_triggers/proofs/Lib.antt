@@ -12,4 +12,5 @@ pub mod Putting
 pub mod Quitters
 pub mod Quitting
 pub mod Starts
+pub mod Uncallable
 pub mod Waits

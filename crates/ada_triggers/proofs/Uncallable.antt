@@ -1,9 +1,8 @@
 -- The open calls to a task to which no call can be served any more (9.5, 9.10).
-use Rattle.std.proofs.Common.{◌≡◌, ℕ, ◌<◌, Bool, true, false, List, length, sym, ◌∙◌, subst, arith, inl, inr, ap}
-use Rattle.std.specs.List.{Contains}
-use Rattle.std.proofs.lemmas.Bool.{eq-eqb, true≢false}
+use Rattle.std.proofs.Common.{◌≡◌, ℕ, ◌<◌, Bool, true, false, List, length, sym, ◌∙◌, arith, inl, inr, ap}
+use Rattle.std.proofs.lemmas.Bool.{eq-eqb, false_from_ne_true}
+use Rattle.std.proofs.lemmas.List.{length-map}
 use Rattle.ada_events.specs.declared.event.Event.{Event}
-use Rattle.ada_events.specs.declared.names.Member.{Member}
 use Rattle.ada_events.specs.Lawful.{IsLawful}
 use Rattle.ada_events.specs.Nests.{nest}
 use Rattle.ada_events.specs.Tasks.{task_count}
@@ -11,7 +10,9 @@ use Rattle.ada_laws.proofs.CallLaws.{open_calls_suspend}
 use Rattle.ada_laws.proofs.Suspending.{suspended_exists}
 use Rattle.ada_rows.specs.TouchedKeys.{is_uncallable}
 use Rattle.ada_rows.specs.declared.row.Row.{Row}
-use Rattle.ada_rows.specs.declared.row.Row.TheVariants.{Failing}
+use Rattle.ada_tables.specs.declared.layers.Layer.{Layer}
+use Rattle.ada_tables.specs.Dependents.{Facts, task_at}
+use Rattle.ada_tables.specs.Layers.{member_of, members}
 use Rattle.ada_tables.specs.Standing.{StandFor}
 use Rattle.ada_tables.specs.Tables.{TableState, has_no_calls}
 use Rattle.ada_records.proofs.Empty.{empty_alike}
@@ -62,7 +63,19 @@ open_somewhere tables journal task p lawful stand of none empty =
       | inl queued ↦
           not_queued journal task p of.call.entry
           (sym (empty_alike tables journal lawful (record { many = stand.many; facts = stand.tasks }) stand.queues task (open_callee journal task p lawful of))
-              ∙ none)
+          ∙ none)
           queued
       | inr within ↦ let (k, below, is) = within in omega (arith, below, empty)
     ]
+
+-- so where no call waits while the nest is empty, none is open
+pub waits_somewhere : (tables : TableState) (journal : List Event) (task p : ℕ) (layers : List Layer) (none : Bool) → IsLawful journal
+    → StandFor tables journal → IsOpenCallTo journal task p → members layers ≡ (task_at tables.tasks task).nest → length layers ≡ 0
+    → none ≡ has_no_calls tables.tasks tables.queues task → none ≡ false
+waits_somewhere tables journal task p layers none lawful stand of are empty is =
+    let nothing : length (nest journal task) ≡ 0 =
+    ap (λ (f : Facts). length f.nest) (sym (stand.tasks task (open_callee journal task p lawful of)))
+    ∙ ap length (sym are)
+    ∙ length-map layers member_of
+    ∙ empty in
+    false_from_ne_true none (λ yes. open_somewhere tables journal task p lawful stand of (sym is ∙ yes) nothing)

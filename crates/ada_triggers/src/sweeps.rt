@@ -2,6 +2,7 @@
 
 ghost use Rattle.std.specs.Prelude.{◌≡◌, ◌&&◌, ℕ, true};
 ghost use Rattle.ada_events.specs.Search.{is_some_and, event_at};
+ghost use Rattle.ada_events.specs.Lawful.{IsLawful};
 ghost use Rattle.ada_events.specs.Tasks.{task_count};
 ghost use Rattle.ada_agenda.specs.Keeping.{Puts};
 ghost use Rattle.ada_agenda.specs.Kinds.{IsOpenCallTo};
@@ -146,7 +147,8 @@ fn put_all_callers(agenda: &mut Agenda, view: &View, callee: TaskNo)
 
 // Whether a call to the task may be open: only where one waits at an entry of it, or the task is in something.
 fn may_be_called(view: &View, callee: TaskNo) -> bool
-    ensures { (p : ℕ) → IsOpenCallTo view.now callee.0 p → result ≡ true }
+    ensures open { (p : ℕ) → IsOpenCallTo view.now callee.0 p → result ≡ true }
+    ensures lawful { IsLawful view.now }
 {
     let tables = view.tables();
     callee.0 < tables.tasks() && !(tables.nest(callee).is_empty() && tables.has_no_calls(callee))

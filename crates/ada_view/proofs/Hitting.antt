@@ -120,7 +120,7 @@ spared_by : (journal : List Event) (tasks : List TaskNo) (task : ℕ) (m : Optio
 spared_by journal tasks task None lawful known live told under = none_above journal tasks task lawful under
 spared_by journal tasks task (Some m) lawful known live told under =
     sym (holder_tells journal tasks (replicate task false) task m false lawful known live under (λ holder held. sym (none_flagged task holder))
-        (length-replicate task false) told)
+    (length-replicate task false) told)
 
 -- before the first task that is named none is hit
 spared_so_far : (journal : List Event) (tasks : List TaskNo) (first many : ℕ) → IsLawful journal → first ≤ task_count journal → many ≤ first
@@ -134,8 +134,8 @@ spared_so_far journal tasks first (suc many) lawful known few unnamed = λ task 
       | inr last ↦
           let at : task ≡ many = omega (arith, last, below, length-replicate (suc many) false) in
           sym (unnamed_hit journal tasks task (unnamed task (omega (arith, at, few)))
-              ∙ spared_by journal tasks task (option_map (λ (c : Creation). c.master) (creation_of journal task)) lawful (omega (arith, at, few, known))
-              live (subst (λ n. TellsOfLive journal (replicate n false) (is_hit journal tasks)) (sym at) told) refl)
+          ∙ spared_by journal tasks task (option_map (λ (c : Creation). c.master) (creation_of journal task)) lawful (omega (arith, at, few, known))
+          live (subst (λ n. TellsOfLive journal (replicate n false) (is_hit journal tasks)) (sym at) told) refl)
     ]
 
 pub none_before : (journal : List Event) (tasks : List TaskNo) (first task : ℕ) → IsLawful journal → first ≤ task_count journal
