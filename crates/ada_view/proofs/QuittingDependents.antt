@@ -1,5 +1,5 @@
 -- Who depends on a master whose dependents terminate together.
-use Rattle.std.proofs.Common.{◌≡◌, ℕ, true, false, not, ◌&&◌, Some, List, ◌∷◌, sym, refl, ap, ◌∙◌}
+use Rattle.std.proofs.Common.{◌≡◌, ℕ, true, false, not, ◌&&◌, Some, List, ◌∷◌, sym, refl, ◌∙◌}
 use Rattle.std.proofs.lemmas.Bool.{and_from, not_from_false, false_from_ne_true, true≢false}
 use Rattle.ada_events.specs.declared.event.Event.{Event}
 use Rattle.ada_events.specs.declared.event.Event.TheVariants.{Quit}
