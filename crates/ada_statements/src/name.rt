@@ -36,6 +36,14 @@ impl Model for Name {
     ghost invariant = { λ n. n.length ≤ 16 };
 }
 
+// Whether these are the same bytes. They are compared as one number, which no loop does.
+#[inline(always)]
+fn are_same(own: [u8; 16], others: [u8; 16]) -> bool
+    ensures { IsTrue result → own ≡ others }
+{
+    u128::from_le_bytes(own) == u128::from_le_bytes(others)
+}
+
 impl Name {
     /// The name of these bytes, of which there are at most 16.
     pub fn from_bytes(bytes: &[u8]) -> Self
@@ -113,16 +121,12 @@ impl Name {
     }
 
     /// Whether one is a copy of the other. Names that aren't may have the same bytes too.
-    // What lies after the names is compared with them, so that the loop goes over all 16 bytes, without a branch.
+    // What lies after the names is compared with them.
     #[inline(always)]
     pub(crate) fn is_copy_of(&self, other: &Name) -> bool
         ensures { IsTrue result → self.now ≡ other.now }
     {
-        let mut are = self.length == other.length;
-        for i in 0..16 {
-            are &= self.bytes[i] == other.bytes[i];
-        }
-        are
+        are_same(self.bytes, other.bytes) && self.length == other.length
     }
 }
 
