@@ -222,8 +222,7 @@ impl CheckedTables {
         if self.tables.waits(by) {
             return Err(Unmet::Waiting);
         }
-        self.tables.reserve_call().map_err(|_| Unmet::OutOfMemory)?;
-        self.tables.enqueue_reserved(by, callee, entry, call);
+        self.tables.enqueue(by, callee, entry, call);
         Ok(())
     }
 
