@@ -11,15 +11,18 @@ use Rattle.ada_view.proofs.touched.hit.Goals.{then-hits, else-hits}
 
 pub loop-number-init : goal.loop-number-init
 loop-number-init c =
-    let known : c.first_named-first.result ≤ task_count c.args.view.now = omega (arith, c.first_named-first.ensures.few, c.tasks-many.ensures.value, c.tables.ensures.stand.many) in
-    let few : c.first_named-first.result ≤ 256 = omega (arith, c.first_named-first.ensures.few, c.tasks-many.ensures.fits) in
-    let begin = flags_begin c.args.view.now c.args.tasks.now c.first_named-first.result 256 c.from_slice-flags.result c.tables.ensures.lawful known few
-    c.first_named-first.ensures.none (c.from_slice-flags.ensures ∙ ap (λ n. take n (replicate 256 false)) c.from.ensures) in (
+    let first = c.first_named-first.result in
+    let unnamed = c.first_named-first.ensures.none in
+    let known : first ≤ task_count c.args.view.now =
+    omega (arith, c.first_named-first.ensures.few, c.tasks-many.ensures.value, c.tables.ensures.stand.many) in
+    let few : first ≤ 256 = omega (arith, c.first_named-first.ensures.few, c.tasks-many.ensures.fits) in
+    let begin = flags_begin c.args.view.now c.args.tasks.now first 256 c.from_slice-flags.result c.tables.ensures.lawful known few unnamed
+    (c.from_slice-flags.ensures ∙ ap (λ n. take n (replicate 256 false)) c.from.ensures) in (
       begin.0,
       begin.1,
       rw c.new-hit.ensures
-          (lists_nobody c.args.view.now (is_hit c.args.view.now c.args.tasks.now) c.first_named-first.result
-          (λ task. none_before c.args.view.now c.args.tasks.now c.first_named-first.result task c.tables.ensures.lawful known c.first_named-first.ensures.none)),
+          (lists_nobody c.args.view.now (is_hit c.args.view.now c.args.tasks.now) first
+          (λ task. none_before c.args.view.now c.args.tasks.now first task c.tables.ensures.lawful known unnamed)),
     )
 
 pub loop-number-preserved : goal.loop-number-preserved
