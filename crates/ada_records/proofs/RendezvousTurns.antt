@@ -5,7 +5,6 @@ use Rattle.ada_events.specs.declared.event.Event.TheVariants as kind
 use Rattle.ada_events.specs.declared.names.Entry.{Entry}
 use Rattle.ada_events.specs.declared.names.Member.TheVariants.{Rendezvous}
 use Rattle.ada_events.specs.declared.names.TaskNo.{TaskNo}
-use Rattle.ada_events.specs.declared.request.Request.TheVariants as request
 use Rattle.ada_events.specs.Lawful.{IsLawful}
 use Rattle.ada_events.specs.Says.{Call, creation_in, opening_in, call_in, call_at, meeting_in, released_in, held_in, started_in}
 use Rattle.ada_laws.specs.Suspension.{IsSuspendedAt}
