@@ -1,5 +1,6 @@
 pub mod Flagging
 pub mod Hitting
+pub mod Innermost
 pub mod Listing
 pub mod QuittingDependents
 pub mod Counting

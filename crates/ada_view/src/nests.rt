@@ -1,39 +1,29 @@
 //! What a task is within, its frame, and who opened a block.
 
-ghost use Rattle.std.specs.Prelude.{◌≡◌, ◌<◌, ◌∷◌, List};
+ghost use Rattle.std.specs.Prelude.{◌≡◌, ◌<◌};
 ghost use Rattle.std.specs.Option.{option_map};
-ghost use Rattle.ada_events.specs.declared.names.Member.{Member as MemberValue};
 ghost use Rattle.ada_events.specs.declared.names.TaskNo.{TaskNo as Number};
 ghost use Rattle.ada_events.specs.Nests as nests;
 ghost use Rattle.ada_events.specs.Says.{Opening, opening_at};
 ghost use Rattle.ada_events.specs.Tasks.{task_count};
-ghost use Rattle.ada_tables.specs.Layers.{member_of, members};
+ghost use Rattle.ada_tables.specs.Layers.{members};
 
 use crate::View;
 use ada_events::{Event, Master, Member, TaskNo};
 use ada_tables::{Layer, Layers};
 
-// The block that a member is, else this master.
-#[tactic(auto, unfolding(ada_events::specs::Nests::innermost_block))]
-fn with_layer(outer: Master, layer: Layer) -> Master
-    ensures { (rest : List MemberValue) →
-        nests.innermost_block result rest ≡ nests.innermost_block outer (member_of layer ∷ rest) }
-{
-    match layer {
-        Layer::Block { opening, .. } => Master::Block(opening),
-        Layer::Rendezvous { .. } => outer,
-    }
-}
-
-// The last block of some members, else this master.
+// The last block of some members, else this master. It is looked for from the innermost member on, which mostly is it.
 fn innermost_block(outer: Master, layers: &[Layer]) -> Master
     ensures { result ≡ nests.innermost_block outer (members layers.now) }
 {
-    let mut frame = outer;
-    for layer in layers {
-        frame = with_layer(frame, *layer);
+    let mut place = layers.len();
+    while place > 0 {
+        place -= 1;
+        if let Layer::Block { opening, .. } = layers[place] {
+            return Master::Block(opening);
+        }
     }
-    frame
+    outer
 }
 
 impl View<'_> {
