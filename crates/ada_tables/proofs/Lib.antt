@@ -8,6 +8,7 @@ pub mod Keeping
 pub mod Nesting
 pub mod Nests
 pub mod Numbers
+pub mod Once
 pub mod Parents
 pub mod Reaching
 pub mod Readiness

@@ -1,5 +1,5 @@
 //! The nest of one task, with the counts of its blocks.
-ghost use Rattle.std.specs.Prelude.{◌≡◌, None, ◌+◌, ◌-◌, ◌<◌, ◌≤◌, ◌==◌, [], ◌∷◌, ◌++◌, length, take, position, slice_get, if◌then◌else◌};
+ghost use Rattle.std.specs.Prelude.{◌≡◌, ℕ, true, false, None, ◌+◌, ◌-◌, ◌<◌, ◌≤◌, ◌==◌, [], ◌∷◌, ◌++◌, length, take, position, slice_get, if◌then◌else◌};
 ghost use Rattle.std.specs.Option.{option_map};
 ghost use Rattle.std.specs.List.{list_any};
 ghost use Rattle.ada_tables.specs.Layers.{member_of, members};
@@ -170,13 +170,16 @@ fn outside(layers: &[Layer], block: u32) -> Option<u32>
     None
 }
 
-// How many live dependents a block has.
+// How many live dependents a block has. It is looked for from the innermost member on, which mostly is it.
 fn live_in(layers: &[Layer], block: u32) -> u16
+    requires { nests.AreOnce layers.now }
     ensures { result ≡ nests.live_at block layers.now }
 {
-    for layer in layers {
-        if layer.is_block_at(block) {
-            return layer.live();
+    let mut place = layers.len();
+    while place > 0 {
+        place -= 1;
+        if layers[place].is_block_at(block) {
+            return layers[place].live();
         }
     }
     0
@@ -195,6 +198,11 @@ impl Model for Layers {
     ghost Value = { List LayerValue };
 
     ghost view = { λ n. n.layers.items };
+
+    ghost use Rattle.ada_tables.specs.internal.Layers.{AreOnce};
+
+    // A block stands once in a nest.
+    ghost invariant = { λ n. AreOnce n.layers.items };
 }
 
 impl Layers {
@@ -238,9 +246,11 @@ impl Layers {
         Some(layer.member())
     }
 
-    /// Adds the innermost member. There must be room.
+    /// Adds the innermost member. There must be room, and a block may not stand in the nest yet.
     pub(crate) fn push(&mut self, member: Member)
-        requires { length self.old < MOST_MEMBERS }
+        requires room { length self.old < MOST_MEMBERS }
+        requires fresh { (block : ℕ) → nests.is_block_at block (nests.layer_of member) ≡ true
+            → has_block block (members self.old) ≡ false }
         ensures { self.new ≡ self.old ++ nests.layer_of member ∷ [] }
     {
         self.layers.push(Layer::of(member));

@@ -1,7 +1,8 @@
 -- The nest of one task: each member as a layer, outermost first, a block with the number of its live
 -- dependents.
-use Rattle.std.specs.Prelude.{ℕ, Bool, false, ◌==◌, if◌then◌else◌, List, [], ◌∷◌, position, remove}
+use Rattle.std.specs.Prelude.{◌≡◌, ℕ, Bool, true, false, ◌==◌, if◌then◌else◌, List, [], ◌∷◌, position, remove}
 use Rattle.std.specs.Option.{option_map_or}
+use Rattle.std.specs.List.{list_any}
 use Rattle.ada_events.specs.declared.names.Member.{Member}
 use Rattle.ada_events.specs.declared.names.Member.TheVariants.{Block as BlockMember, Rendezvous as RendezvousMember}
 use Rattle.ada_tables.specs.declared.layers.Layer.{Layer}
@@ -46,3 +47,8 @@ moved_to count block (layer ∷ rest) =
 unfoldable pub live_at : ℕ → List Layer → ℕ
 live_at block [] = 0
 live_at block (layer ∷ rest) = if is_block_at block layer then live_of layer else live_at block rest
+
+-- each block stands once
+abbrev pub AreOnce : List Layer → Type 0
+AreOnce [] = Unit {0}
+AreOnce (layer ∷ rest) = ((block : ℕ) → is_block_at block layer ≡ true → list_any (is_block_at block) rest ≡ false) × AreOnce rest
