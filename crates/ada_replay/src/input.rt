@@ -11,7 +11,7 @@ use std::io::Read;
 pub const MOST_BYTES: usize = 823_297;
 
 /// How many bytes are asked for at a time.
-const PIECE: usize = 16_384;
+const PIECE: usize = 65_536;
 
 // So many zeros.
 fn zeros(alloc: Global, count: usize) -> Result<Vec<u8>, RunFault>

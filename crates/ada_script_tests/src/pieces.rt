@@ -68,12 +68,12 @@ fn reads_a_long_input<R: Abort + AllocGlobal>(
     Ok(())
 }
 
-// 50 reads of 16,384 bytes and one of 4,097 are 823,297, with which it is no script; no more is read.
+// 12 reads of 65,536 bytes and one of 36,865 are 823,297, with which it is no script; no more is read.
 #[test]
 fn few_reads(rt: HostRuntime) -> Result<(), Fail> {
-    reads_a_long_input(&rt, 50, 4, 80_800)?;
-    reads_a_long_input(&rt, 51, 1, 76_703)?;
-    reads_a_long_input(&rt, 52, 1, 76_703)
+    reads_a_long_input(&rt, 12, 4, 113_568)?;
+    reads_a_long_input(&rt, 13, 1, 76_703)?;
+    reads_a_long_input(&rt, 14, 1, 76_703)
 }
 
 /// A writer that comes to its end after so many bytes: exactly these are written, and the status is 4.

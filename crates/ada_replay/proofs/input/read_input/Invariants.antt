@@ -4,7 +4,7 @@ use Rattle.ada_replay.proofs.input.read_input.Given as goal
 
 abbrev pub invariant-loop-more : goal.invariant-loop-more
 invariant-loop-more g l =
-    (vec_len l.piece ≡ 16384) × (vec_len l.text ≤ 823297) × (length l.text.items ≡ vec_len l.text)
+    (vec_len l.piece ≡ 65536) × (vec_len l.text ≤ 823297) × (length l.text.items ≡ vec_len l.text)
     × Consumes (g.R.Read.remaining l.initial.reader) (g.R.Read.remaining l.reader) l.text.items
     × (l.more ≡ false → IsAtEnd (g.R.Read.remaining l.reader))
 
