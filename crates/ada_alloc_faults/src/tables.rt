@@ -68,6 +68,13 @@ impl TableTrial {
         self.added = Some(tables.add_task(Master::Body(MAIN), &declared)?);
         Ok(())
     }
+
+    fn reserve(&mut self) -> Result<(), Refusal> {
+        match &mut self.tables {
+            Some(tables) => tables.reserve_call(),
+            None => Err(Refusal::UnknownTask),
+        }
+    }
 }
 
 // The main program isn't terminated.
@@ -88,6 +95,7 @@ impl Trial for TableTrial {
 
     fn go_on(&mut self) {
         let _ = self.add();
+        let _ = self.reserve();
     }
 
     fn is_like(&self, other: &TableTrial) -> bool {

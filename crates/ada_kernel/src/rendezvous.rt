@@ -33,7 +33,7 @@ use ada_steps::make_room;
 use ada_triggers::calls;
 
 impl Index {
-    // Notes a call.
+    // Notes a call, for which there is room.
     #[inline(always)]
     fn note_call(
         &mut self,
@@ -47,6 +47,7 @@ impl Index {
         requires may { MayNote self.old journal.now.events event.now }
         requires calls { MakesCall event.now by callee entry }
         requires due { due ≡ due_in event.now }
+        requires room { 0 < self.old.kept.tables.spare }
         ensures { IsIndexOf self.new (event.now ∷ journal.now.events) }
     {
         let kept = &mut self.kept;
@@ -80,6 +81,7 @@ impl Index {
             return Err(cause);
         }
         make_room(journal)?;
+        self.kept.tables.reserve_call()?;
         let due = call_due(self.view(journal).moment(), patience);
         let event = Event::Called {
             by,

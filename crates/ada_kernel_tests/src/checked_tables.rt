@@ -222,7 +222,8 @@ impl CheckedTables {
         if self.tables.waits(by) {
             return Err(Unmet::Waiting);
         }
-        self.tables.enqueue(by, callee, entry, call);
+        self.tables.reserve_call().map_err(|_| Unmet::OutOfMemory)?;
+        self.tables.enqueue_reserved(by, callee, entry, call);
         Ok(())
     }
 

@@ -7,7 +7,7 @@ use std::test::Fail;
 
 const SERVER: TaskNo = TaskNo(1);
 
-// A journal's room for an event, new tables, a task in them, and its call to itself.
+// A journal's room for an event, new tables, a task in them, and the room for its call to itself.
 #[test]
 fn always_out_of_memory(rt: HostRuntime) -> Result<(), Fail> {
     let mut journal = Journal::new(rt.alloc());

@@ -37,17 +37,19 @@ abbrev pub HaveRequeued : List Event → QueueChange → TableState → TableSta
 HaveRequeued before SameQueues old new = new ≡ old
 HaveRequeued before (Joins by callee entry) old new = new ≡ record old {
   queues = with_last (slot_at old.tasks callee.0 entry) (record { call = suc (length before); caller = by.0 }) old.queues;
+  spare = old.spare - 1;
 }
-HaveRequeued before (Leaves task) old new = new ≡ record old { queues = without task.0 old.queues }
+HaveRequeued before (Leaves task) old new = new ≡ record old { queues = without task.0 old.queues; spare = new.spare }
 
 -- a call came last at that position, which is the next
 pub joined : (old new : TableState) (before : List Event) (by callee : TaskNo) (entry : Entry) (at : ℕ) → length before + 1 ≡ at
-    → new ≡ record old { queues = with_last (slot_at old.tasks callee.0 entry) (record { call = at; caller = by.0 }) old.queues }
+    → new ≡ record old { queues = with_last (slot_at old.tasks callee.0 entry) (record { call = at; caller = by.0 }) old.queues; spare = old.spare - 1 }
     → HaveRequeued before (Joins by callee entry) old new
 joined old new before by callee entry at place is =
     let next : at ≡ suc (length before) = omega (arith, place) in
     subst (λ (n : ℕ). new ≡ record old {
       queues = with_last (slot_at old.tasks callee.0 entry) (record { call = n; caller = by.0 }) old.queues;
+      spare = old.spare - 1;
     }) next is
 
 -- a nest was changed so
@@ -69,11 +71,11 @@ HaveRephased event before (Some task) old new = (kept : Record) × IsRecordOf (e
 
 -- nothing but the queues was changed by the first
 requeued_kept : (before : List Event) (change : QueueChange) (old new : TableState) → HaveRequeued before change old new
-    → (new ≡ record old { queues = new.queues }) × (length new.queues ≡ length old.queues)
+    → (new ≡ record old { queues = new.queues; spare = new.spare }) × (length new.queues ≡ length old.queues)
 requeued_kept before SameQueues old new is = rw is (refl, refl)
 requeued_kept before (Joins by callee entry) old new is = rw is (refl, length-set old.queues _ _)
 requeued_kept before (Leaves task) old new is = (
-  is ∙ ap (λ (s : TableState). record old { queues = s.queues }) (sym is),
+  is ∙ ap (λ (s : TableState). record old { queues = s.queues; spare = new.spare }) (sym is),
   ap (λ (s : TableState). length s.queues) is ∙ length-map old.queues (filter (λ c. not (is_by task.0 c))),
 )
 
@@ -94,7 +96,7 @@ module _ (event : Event) (before : List Event) (old : TableState) (hold : HoldFa
       → HaveRequeued before change old new → HoldQueues new (event ∷ before)
   requeued SameQueues new queues slots changes is = rw is (queues_same event before old queues changes)
   requeued (Joins by callee entry) new queues slots changes is =
-      queues_joined event before old new by.0 callee.0 entry _ hold queues slots changes refl is
+      queues_joined event before old new by.0 callee.0 entry _ _ hold queues slots changes refl is
   requeued (Leaves task) new queues slots changes is = queues_left_by event before old new task.0 queues changes is
 
   renested : (change : NestChange) (new : TableState) → ChangesNests event before change → HaveRenested change old new → AreRenested event before new.tasks

@@ -20,7 +20,7 @@ use Rattle.ada_records.proofs.TableChanges.{tables_follow, same_facts}
 use Rattle.ada_records.proofs.SlotsApart.{same_slots}
 
 module _ (event : Event) (before : List Event) (old queued nested new : TableState) (makes : creation_in event ≡ None) (stand : StandFor old before)
-    (once : queued ≡ record old { queues = queued.queues }) (twice : nested ≡ record queued { tasks = nested.tasks })
+    (once : queued ≡ record old { queues = queued.queues; spare = queued.spare }) (twice : nested ≡ record queued { tasks = nested.tasks })
     (thrice : new ≡ record nested { tasks = new.tasks }) where
   same_queues : new.queues ≡ queued.queues
   same_queues = ap (λ (s : TableState). s.queues) thrice ∙ ap (λ (s : TableState). s.queues) twice

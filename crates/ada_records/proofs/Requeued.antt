@@ -115,7 +115,7 @@ callers_later event before calls made =
 
 -- a task's call leaves
 pub queues_left_by : (event : Event) (before : List Event) (old new : TableState) (u : ℕ) → HoldQueues old before → LeavesQueue event before u
-    → new ≡ record old { queues = without u old.queues } → HoldQueues new (event ∷ before)
+    → new ≡ record old { queues = without u old.queues; spare = new.spare } → HoldQueues new (event ∷ before)
 queues_left_by event before old new u queues leaves is task entry has =
     let was = queues task entry (subst (λ (s : TableState). HasEntry s.tasks task entry) is has) in
     let calls = queue_at old.queues (slot_at old.tasks task entry) in
@@ -148,11 +148,11 @@ map_last [] c = refl
 map_last (x ∷ rest) c = ap (λ (ps : List ℕ). x.call ∷ ps) (map_last rest c)
 
 -- a call comes last at its entry
-pub queues_joined : (event : Event) (before : List Event) (old new : TableState) (by callee : ℕ) (entry : Entry) (call : ℕ) → HoldFacts old.tasks before
+pub queues_joined : (event : Event) (before : List Event) (old new : TableState) (by callee : ℕ) (entry : Entry) (call spare : ℕ) → HoldFacts old.tasks before
     → HoldQueues old before → length old.queues ≡ slot_count before → ComesLast event before by callee entry → call ≡ suc (length before)
-    → new ≡ record old { queues = with_last (slot_at old.tasks callee entry) (record { call = call; caller = by }) old.queues }
+    → new ≡ record old { queues = with_last (slot_at old.tasks callee entry) (record { call = call; caller = by }) old.queues; spare = spare }
     → HoldQueues new (event ∷ before)
-queues_joined event before old new by callee entry call hold queues slots last place is task other has =
+queues_joined event before old new by callee entry call spare hold queues slots last place is task other has =
     subst (λ (s : TableState). AreQueued (event ∷ before) task other (queue_at s.queues (slot_at s.tasks task other))) (sym is)
     (elim (cases_eq (slot_at old.tasks task other) slot) [
       | inl same ↦ subst (AreQueued (event ∷ before) task other)

@@ -1,5 +1,5 @@
 //! Tables in whose queues a task waits no longer.
-ghost use Rattle.std.specs.Prelude.{◌≡◌, ◌<◌, length};
+ghost use Rattle.std.specs.Prelude.{◌≡◌, ◌<◌, ◌≤◌, length};
 ghost use Rattle.ada_tables.specs.Queues.{without};
 
 use ada_events::TaskNo;
@@ -9,7 +9,11 @@ use ada_tables::Tables;
 #[inline(always)]
 pub(crate) fn leave_queue(tables: &mut Tables, task: TaskNo)
     requires { task.0 < length tables.old.tasks }
-    ensures { tables.new ≡ record tables.old { queues = without task.0 tables.old.queues } }
+    ensures queues { tables.new ≡ record tables.old {
+      queues = without task.0 tables.old.queues;
+      spare = tables.new.spare;
+    } }
+    ensures spare { tables.old.spare ≤ tables.new.spare }
 {
     if tables.waits(task) {
         tables.unlink(task);

@@ -38,7 +38,7 @@ pub fn callee_at(journal: &Journal, at: u32) -> TaskNo
 }
 
 /// Lets tables follow a task's call of an entry at a position, which comes last in its queue and holds the task up
-/// (9.5).
+/// (9.5). There is room for one more call.
 #[inline(always)]
 pub fn follow_call(
     tables: &mut Tables,
@@ -52,9 +52,10 @@ pub fn follow_call(
     requires recorded { by.0 < length records.now }
     requires entry { HasEntry tables.old.tasks callee.0 entry }
     requires idle { waits by.0 tables.old.queues ≡ false }
+    requires room { 0 < tables.old.spare }
     ensures { HaveFollowedCall by callee entry at records.now tables.old tables.new }
 {
-    tables.enqueue(by, callee, entry, at);
+    tables.enqueue_reserved(by, callee, entry, at);
     refresh(tables, by, &records[by.0 as usize]);
 }
 

@@ -19,13 +19,14 @@ use Rattle.ada_tables.proofs.Growing.{grown_calls, grown_linked}
 
 -- what a contract sees of nodes and queues
 abbrev pub waiting : KeptNodes → List Queue → Waiting
-waiting kept queues = record { queues = map (calls_in kept.nodes) queues; callers = length kept.nodes }
+waiting kept queues = record { queues = map (calls_in kept.nodes) queues; callers = length kept.nodes; spare = kept.spare }
 
-abbrev waiting_of : List (List QueuedCall) → ℕ → Waiting
-waiting_of queues callers = record { queues = queues; callers = callers }
+abbrev waiting_of : List (List QueuedCall) → ℕ → ℕ → Waiting
+waiting_of queues callers spare = record { queues = queues; callers = callers; spare = spare }
 
-same_waiting : (a b : Waiting) → a.queues ≡ b.queues → a.callers ≡ b.callers → a ≡ b
-same_waiting a b queues callers = ap (λ q. waiting_of q a.callers) queues ∙ ap (waiting_of b.queues) callers
+same_waiting : (a b : Waiting) → a.queues ≡ b.queues → a.callers ≡ b.callers → a.spare ≡ b.spare → a ≡ b
+same_waiting a b queues callers spare =
+    ap (λ q. waiting_of q a.callers a.spare) queues ∙ ap (λ c. waiting_of b.queues c a.spare) callers ∙ ap (waiting_of b.queues b.callers) spare
 
 -- a call is put last
 pub enqueued : (kept once twice : KeptNodes) (queues : List Queue) (read ends : Queue) (by slot call : ℕ) → AreLinked kept.nodes queues → by < length kept.nodes
@@ -34,10 +35,12 @@ pub enqueued : (kept once twice : KeptNodes) (queues : List Queue) (read ends : 
     → ends ≡ record { first = option_or read.first (Some by); last = Some by; len = read.len + 1 }
     → once ≡ record kept {
       nodes = set kept.nodes by (Some (record { call = call; caller = by; slot = slot; before = None; after = None }));
+      spare =
+          kept.spare - 1;
     }
     → twice ≡ record once { nodes = joined read.last (Some by) once.nodes }
     → AreLinked twice.nodes (set queues slot ends) × (waiting twice (set queues slot ends)
-    ≡ record (waiting kept queues) { queues = with_last slot (record { call = call; caller = by }) (map (calls_in kept.nodes) queues) })
+    ≡ record (waiting kept queues) { queues = with_last slot (record { call = call; caller = by }) (map (calls_in kept.nodes) queues); spare = kept.spare - 1 })
 enqueued kept once twice queues read ends by slot call linked known within idle read_is ends_is once_is twice_is =
     let there = get_or_read queues slot read within read_is no_queue in
     let node : Node = record { call = call; caller = by; slot = slot; before = None; after = None } in
@@ -45,7 +48,8 @@ enqueued kept once twice queues read ends by slot call linked known within idle 
       arrived_linked kept.nodes queues by slot call linked known within idle,
       same_waiting _ _
           (arrived_calls kept.nodes queues by slot call linked known within idle)
-          ((joined_holders (get_or queues slot no_queue).last (Some by) (set kept.nodes by (Some node))).len ∙ length-set kept.nodes by (Some node)),
+          ((joined_holders (get_or queues slot no_queue).last (Some by) (set kept.nodes by (Some node))).len ∙ length-set kept.nodes by (Some node))
+          refl,
     )
 
 -- the last caller before has its node
@@ -54,6 +58,8 @@ pub last_known : (kept once : KeptNodes) (queues : List Queue) (read : Queue) (b
     → read ≡ get_or queues slot read
     → once ≡ record kept {
       nodes = set kept.nodes by (Some (record { call = call; caller = by; slot = slot; before = None; after = None }));
+      spare =
+          kept.spare - 1;
     }
     → ForSome read.last (λ caller. is_some (node_of once.nodes caller) ≡ true)
 last_known kept once queues read by slot call linked known within idle read_is once_is =
@@ -64,16 +70,16 @@ last_known kept once queues read by slot call linked known within idle read_is o
 pub unlinked : (kept once twice : KeptNodes) (queues : List Queue) (read ends : Queue) (by : ℕ) (node : Node) → Leaves kept.nodes queues by node
     → read ≡ get_or queues node.slot read
     → ends ≡ left_queue read node
-    → once ≡ record kept { nodes = set kept.nodes by None }
+    → once ≡ record kept { nodes = set kept.nodes by None; spare = kept.spare + 1 }
     → twice ≡ record once { nodes = joined node.before node.after once.nodes }
     → AreLinked twice.nodes (set queues node.slot ends)
     × (waiting twice (set queues node.slot ends) ≡ record (waiting kept queues)
-    { queues = without by (map (calls_in kept.nodes) queues) })
+    { queues = without by (map (calls_in kept.nodes) queues); spare = kept.spare + 1 })
 unlinked kept once twice queues read ends by node leaves read_is ends_is once_is twice_is =
     let there = get_or_read queues node.slot read leaves.within read_is no_queue in
     rw (twice_is, once_is, ends_is, there) (
       leaves.linked,
-      same_waiting _ _ leaves.calls ((joined_holders node.before node.after (set kept.nodes by None)).len ∙ length-set kept.nodes by None),
+      same_waiting _ _ leaves.calls ((joined_holders node.before node.after (set kept.nodes by None)).len ∙ length-set kept.nodes by None) refl,
     )
 
 pub longer_read : (nodes : List (Option Node)) (queues : List Queue) (read : Queue) (by : ℕ) (node : Node) → Leaves nodes queues by node
@@ -89,7 +95,7 @@ pub grown : (kept once : KeptNodes) (queues grown : List Queue) (many : ℕ) →
 grown kept once queues longer many linked few once_is grown_is =
     rw (once_is, grown_is) (
       grown_linked kept.nodes queues many linked few,
-      same_waiting _ _ (grown_calls kept.nodes queues many linked) (length-append kept.nodes (None ∷ [])),
+      same_waiting _ _ (grown_calls kept.nodes queues many linked) (length-append kept.nodes (None ∷ [])) refl,
     )
 
 -- the queues with some more without calls

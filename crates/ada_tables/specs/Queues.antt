@@ -9,10 +9,11 @@ pub record QueuedCall : Type 0 where
   pub call : ℕ
   pub caller : ℕ
 
--- what a contract sees: the queue at each slot, and how many tasks may call
+-- what a contract sees: the queue at each slot, how many tasks may call, and how many more calls find room
 pub record Waiting : Type 0 where
   pub queues : List (List QueuedCall)
   pub callers : ℕ
+  pub spare : ℕ
 
 -- the queue at a slot
 abbrev pub queue_at : List (List QueuedCall) → ℕ → List QueuedCall

@@ -1,4 +1,5 @@
--- What a contract sees of the tables: what is known of each task, and the calls that wait at each slot.
+-- What a contract sees of the tables: what is known of each task, the calls that wait at each slot, and how
+-- many more calls find room.
 use Rattle.std.specs.Prelude.{ℕ, ◌+◌, ◌<◌, Bool, true, false, not, ◌==◌, ◌&&◌, IsSome, List, map, length, take}
 use Rattle.std.specs.List.{sum_by}
 use Rattle.std.specs.Option.{unwrap_or}
@@ -16,6 +17,7 @@ use Rattle.ada_tables.specs.Queues.{QueuedCall, queue_at}
 pub record TableState : Type 0 where
   pub tasks : List Facts
   pub queues : List (List QueuedCall)
+  pub spare : ℕ
 
 -- the entries that each task declares
 abbrev pub declared : List Facts → List (List Family)

@@ -1,5 +1,5 @@
 //! The nodes of queued calls, each found from its caller.
-ghost use Rattle.std.specs.Prelude.{◌≡◌, ◌<◌, ◌==◌, [], ◌∷◌, ◌++◌, Some, None, IsSome, OnOk, OnErr, length, slice_set};
+ghost use Rattle.std.specs.Prelude.{◌≡◌, ◌+◌, ◌-◌, ◌<◌, ◌≤◌, ◌==◌, [], ◌∷◌, ◌++◌, Some, None, IsSome, OnOk, OnErr, length, slice_set};
 ghost use Rattle.std.specs.Option.{option_map, ForSome};
 ghost use Rattle.ada_events.specs.declared.limits.TheConstants.{MOST_TASKS};
 ghost use Rattle.ada_tables.specs.Nodes.{node_of};
@@ -25,8 +25,9 @@ pub(crate) struct Node {
     pub(crate) after: Option<u16>,
 }
 
-/// The nodes of all queued calls. Contracts see the node of each caller.
-// Each caller has its place from the beginning, so a node always finds room, and a look finds the node itself.
+/// The nodes of all queued calls. Contracts see the node of each caller, and for how many more there is
+/// room.
+// Each caller has its place from the beginning, so there is always room, and a look finds the node itself.
 #[derive(Drop)]
 pub(crate) struct Nodes {
     // The node of each caller, by the caller's number.
@@ -36,11 +37,14 @@ pub(crate) struct Nodes {
 impl Model for Nodes {
     ghost use Rattle.std.specs.Prelude.{◌≤◌, length};
     ghost use Rattle.ada_events.specs.declared.limits.TheConstants.{MOST_TASKS};
-    ghost use Rattle.ada_tables.specs.Nodes.{KeptNodes};
+    ghost use Rattle.ada_tables.specs.Nodes.{KeptNodes, spare_of};
 
     ghost Value = { KeptNodes };
 
-    ghost view = { λ n. record { nodes = n.nodes.items } };
+    ghost view = { λ n. record {
+      nodes = n.nodes.items;
+      spare = spare_of n.nodes.items;
+    } };
 
     ghost invariant = { λ n. length n.nodes.items ≤ MOST_TASKS };
 }
@@ -80,6 +84,17 @@ impl Nodes {
         self.nodes.is_empty()
     }
 
+    /// Makes room for one more node.
+    pub(crate) fn reserve(&mut self) -> Result<(), AllocError>
+        ensures ok { OnOk result (0 < self.new.spare) }
+        ensures kept { self.new ≡ record self.old { spare = self.new.spare } }
+        ensures spare { self.old.spare ≤ self.new.spare }
+    {
+        // Needed by the proof, which finds there what the struct promises of its nodes.
+        let _ = &self.nodes;
+        Ok(())
+    }
+
     /// The node of a caller, if it has one.
     pub(crate) fn get(&self, caller: u16) -> Option<Node>
         requires { caller < length self.now.nodes }
@@ -88,12 +103,14 @@ impl Nodes {
         self.nodes[caller as usize]
     }
 
-    /// Keeps the node of a caller that has none.
-    pub(crate) fn insert(&mut self, node: Node)
+    /// Keeps the node of a caller that has none. There must be room.
+    pub(crate) fn insert_reserved(&mut self, node: Node)
         requires known { node.caller < length self.old.nodes }
         requires without { node_of self.old.nodes node.caller ≡ None }
+        requires room { 0 < self.old.spare }
         ensures { self.new ≡ record self.old {
           nodes = slice_set self.old.nodes node.caller (Some node);
+          spare = self.old.spare - 1;
         } }
     {
         self.nodes[node.caller as usize] = Some(node);
@@ -105,6 +122,7 @@ impl Nodes {
         ensures node { node_of self.old.nodes caller ≡ Some result }
         ensures rest { self.new ≡ record self.old {
           nodes = slice_set self.old.nodes caller None;
+          spare = self.old.spare + 1;
         } }
     {
         let Some(node) = self.nodes[caller as usize] else {

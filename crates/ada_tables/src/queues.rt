@@ -69,8 +69,8 @@ impl Queue {
     }
 }
 
-/// The queues of all entries, by slot. Contracts see the list of queued calls at each slot, and how many
-/// tasks may call. No queue is ever walked.
+/// The queues of all entries, by slot. Contracts see the list of queued calls at each slot, how many tasks
+/// may call, and for how many more calls there is room. No queue is ever walked.
 #[derive(Drop)]
 pub struct Queues {
     nodes: Nodes,
@@ -89,6 +89,7 @@ impl Model for Queues {
     ghost view = { λ q. record {
       queues = map (calls_in q.nodes.nodes) q.queues.items;
       callers = length q.nodes.nodes;
+      spare = q.nodes.spare;
     } };
 
     ghost invariant = { λ q. AreLinked q.nodes.nodes q.queues.items };
@@ -148,19 +149,31 @@ impl Queues {
         self.nodes.get(task).is_some()
     }
 
-    /// Puts a call of a task last in the queue at a slot (9.5). No call of the task may be queued.
+    /// Makes room for one more call.
+    pub fn reserve_call(&mut self) -> Result<(), AllocError>
+        ensures ok { OnOk result (0 < self.new.spare) }
+        ensures kept { self.new ≡ record self.old { spare = self.new.spare } }
+        ensures spare { self.old.spare ≤ self.new.spare }
+    {
+        self.nodes.reserve()
+    }
+
+    /// Puts a call of a task last in the queue at a slot (9.5). There must be room, and no call of the task may
+    /// be queued.
     #[inline(always)]
-    pub fn enqueue(&mut self, by: u16, slot: u16, call: u32)
+    pub fn enqueue_reserved(&mut self, by: u16, slot: u16, call: u32)
         requires known { by < self.old.callers }
         requires slot { slot < length self.old.queues }
         requires idle { waits by self.old.queues ≡ false }
+        requires reserved { 0 < self.old.spare }
         ensures { self.new ≡ record self.old {
           queues = with_last slot (record { call = call; caller = by }) self.old.queues;
+          spare = self.old.spare - 1;
         } }
     {
         let queue = self.queues[slot as usize];
         self.queues[slot as usize] = queue.with_last(by);
-        self.nodes.insert(Node {
+        self.nodes.insert_reserved(Node {
             call,
             caller: by,
             slot,
@@ -176,6 +189,7 @@ impl Queues {
         requires { waits by self.old.queues ≡ true }
         ensures { self.new ≡ record self.old {
           queues = without by self.old.queues;
+          spare = self.old.spare + 1;
         } }
     {
         let node = self.nodes.remove(by);

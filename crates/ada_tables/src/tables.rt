@@ -20,7 +20,8 @@ use std::alloc::Global;
 use std::marker::Model;
 
 /// The tables of the kernel: the tasks with their masters, nests and phases, and the queues of all
-/// entries. Contracts see what is known of each task, and the calls that wait at each slot.
+/// entries. Contracts see what is known of each task, the calls that wait at each slot, and for how many
+/// more calls there is room.
 #[derive(Drop)]
 pub struct Tables {
     tasks: Tasks,
@@ -36,6 +37,7 @@ impl Model for Tables {
     ghost view = { λ t. record {
       tasks = t.tasks.tasks;
       queues = t.queues.queues;
+      spare = t.queues.spare;
     } };
 
     ghost invariant = { λ t.
@@ -96,19 +98,33 @@ impl Tables {
         (u64::from(self.tasks.first_slot(task.0)) + number) as u16
     }
 
-    /// Puts a call last in the queue of an entry (9.5). No call of the caller may be queued.
+    /// Makes room for one more queued call. Fails with `OutOfMemory` alone, and then changes nothing.
+    pub fn reserve_call(&mut self) -> Result<(), Refusal>
+        ensures ok { OnOk result (0 < self.new.spare) }
+        ensures kept { self.new ≡ record self.old { spare = self.new.spare } }
+        ensures spare { self.old.spare ≤ self.new.spare }
+        ensures err { IfErr result (λ cause. cause ≡ Refusal.OutOfMemory) }
+    {
+        self.queues.reserve_call()?;
+        Ok(())
+    }
+
+    /// Puts a call last in the queue of an entry (9.5). There must be room, and no call of the caller may be
+    /// queued.
     #[inline(always)]
-    pub fn enqueue(&mut self, by: TaskNo, callee: TaskNo, entry: Entry, call: u32)
+    pub fn enqueue_reserved(&mut self, by: TaskNo, callee: TaskNo, entry: Entry, call: u32)
         requires by { by.0 < length self.old.tasks }
         requires entry { HasEntry self.old.tasks callee.0 entry }
         requires idle { waits by.0 self.old.queues ≡ false }
+        requires reserved { 0 < self.old.spare }
         ensures { self.new ≡ record self.old {
           queues = with_last (slot_at self.old.tasks callee.0 entry)
               (record { call = call; caller = by.0 }) self.old.queues;
+          spare = self.old.spare - 1;
         } }
     {
         let slot = self.slot(callee, entry);
-        self.queues.enqueue(by.0, slot, call);
+        self.queues.enqueue_reserved(by.0, slot, call);
     }
 
     /// Whether a call of a task is queued at an entry.
@@ -125,6 +141,7 @@ impl Tables {
         requires { waits by.0 self.old.queues ≡ true }
         ensures { self.new ≡ record self.old {
           queues = without by.0 self.old.queues;
+          spare = self.old.spare + 1;
         } }
     {
         self.queues.unlink(by.0);

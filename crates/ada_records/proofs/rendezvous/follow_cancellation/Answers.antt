@@ -6,4 +6,4 @@ use Rattle.ada_records.proofs.rendezvous.follow_cancellation.Goals as goal
 pub returns : goal.returns
 returns c = λ before call held lawful.
     known_followed _ _ c.args.records.now _ _ _ _ _ _ _ (cancellation_known _ before call c.args.task refl held lawful)
-    c.leave_queue.ensures refl c.requires.recorded c.refresh.ensures lawful
+    c.leave_queue.ensures.queues refl c.requires.recorded c.refresh.ensures lawful
