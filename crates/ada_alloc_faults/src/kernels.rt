@@ -54,7 +54,7 @@ impl Trial for Making {
 }
 
 /// From here on a request takes memory for the journal, which doubles what it has.
-const FULL: u32 = 4097;
+const FULL: u32 = 1025;
 
 /// A script's play on a kernel: the call is the next request of it.
 #[derive(Drop)]

@@ -30,7 +30,7 @@ settling_more from old new step settling found appended spare = record {
 pub settling_begins : (journal : Kept) → IsLawful journal.events → work_left journal.events ≤ journal.spare → IsSettling journal.events journal
 settling_begins journal lawful room = record { forces = nothing; lawful = lawful; room = room }
 
-pub has_places : (journal : List Event) → IsLawful journal → length journal + 4096 < 4294967296
+pub has_places : (journal : List Event) → IsLawful journal → length journal + 1024 < 4294967296
 has_places journal lawful = omega (arith, events_are_few journal lawful)
 
 -- with the event of a request appended, the journal is lawful and the work left finds room

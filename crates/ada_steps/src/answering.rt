@@ -8,9 +8,8 @@ ghost use Rattle.ada_laws.specs.Work.{work_left};
 use crate::Engine;
 use ada_events::{Journal, Refusal, Request};
 
-/// How many events find room before a request changes anything: more than one request appends, so that a journal that
-/// grows is seldom moved.
-const ROOM: u32 = 4096;
+/// How many events find room before a request changes anything: more than one request appends.
+const ROOM: u32 = 1024;
 
 /// Makes room in a journal for all that one request appends, at most 769 events, and for more. Fails with `OutOfMemory`
 /// alone, and then changes nothing.
