@@ -20,6 +20,7 @@ pub enum Call {
     KernelStep(Scene),
     TablesNew,
     AddTask,
+    ReserveCall,
     JournalReserve,
     Read,
     ScriptNames,
@@ -36,7 +37,7 @@ pub enum Call {
 }
 
 /// All of them.
-pub const CALLS: [Call; 24] = [
+pub const CALLS: [Call; 25] = [
     Call::KernelNew,
     Call::KernelStep(Scene::EachEvent),
     Call::KernelStep(Scene::Termination),
@@ -44,6 +45,7 @@ pub const CALLS: [Call; 24] = [
     Call::KernelStep(Scene::Abort),
     Call::TablesNew,
     Call::AddTask,
+    Call::ReserveCall,
     Call::JournalReserve,
     Call::Read,
     Call::ScriptNames,
@@ -77,6 +79,7 @@ impl Call {
             Call::KernelStep(Scene::Abort) => "Kernel::step:abort",
             Call::TablesNew => "Tables::new",
             Call::AddTask => "Tables::add_task",
+            Call::ReserveCall => "Tables::reserve_call",
             Call::JournalReserve => "Journal::reserve",
             Call::Read => "read",
             Call::ScriptNames => "Script::names",
@@ -98,7 +101,7 @@ impl Call {
     pub fn numbers(self) -> usize {
         match self {
             Call::KernelStep(scene) => scene.requests(),
-            Call::AddTask | Call::Lasting(LastingCall::Create) => TASKS,
+            Call::AddTask | Call::ReserveCall | Call::Lasting(LastingCall::Create) => TASKS,
             Call::Words => LINES,
             Call::WriteEvent => EVENTS,
             Call::WriteShown => 2,
@@ -120,6 +123,7 @@ impl Call {
             Call::KernelStep(scene) => step(alloc, scene, number, reach),
             Call::TablesNew => Ok(table(alloc, TableCall::New, 1, reach)),
             Call::AddTask => Ok(table(alloc, TableCall::AddTask, number, reach)),
+            Call::ReserveCall => Ok(table(alloc, TableCall::ReserveCall, number, reach)),
             Call::JournalReserve => Ok(go(
                 Reserving::prepare(alloc),
                 Reserving::prepare(alloc),

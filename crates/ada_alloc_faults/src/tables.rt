@@ -16,6 +16,7 @@ const MAIN: TaskNo = TaskNo(0);
 pub enum TableCall {
     New,
     AddTask,
+    ReserveCall,
 }
 
 /// Tables, and the call that is made of them: that they are made, or on those with so many tasks beside the main
@@ -89,6 +90,7 @@ impl Trial for TableTrial {
         let outcome = match self.call {
             TableCall::New => self.make(),
             TableCall::AddTask => self.add(),
+            TableCall::ReserveCall => self.reserve(),
         };
         answer_of(outcome.err())
     }

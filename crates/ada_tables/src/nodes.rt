@@ -1,11 +1,11 @@
 //! The nodes of queued calls, each found from its caller.
 ghost use Rattle.std.specs.Prelude.{◌≡◌, ◌+◌, ◌-◌, ◌<◌, ◌≤◌, ◌==◌, [], ◌∷◌, ◌++◌, Some, None, IsSome, OnOk, OnErr, length, slice_set};
 ghost use Rattle.std.specs.Option.{option_map, ForSome};
-ghost use Rattle.ada_events.specs.declared.limits.TheConstants.{MOST_TASKS};
 ghost use Rattle.ada_tables.specs.Nodes.{node_of};
 ghost use Rattle.ada_tables.specs.internal.Nodes.{with_after, with_before};
 ghost use Rattle.ada_tables.specs.internal.Links.{joined};
 
+use slab::Slab;
 use std::alloc::{AllocError, Global};
 use std::marker::Model;
 
@@ -27,26 +27,27 @@ pub(crate) struct Node {
 
 /// The nodes of all queued calls. Contracts see the node of each caller, and for how many more there is
 /// room.
-// Each caller has its place from the beginning, so there is always room, and a look finds the node itself.
 #[derive(Drop)]
 pub(crate) struct Nodes {
-    // The node of each caller, by the caller's number.
-    nodes: Vec<Option<Node>>,
+    slab: Slab<Node>,
+    // The key of each caller's node, by the caller's number.
+    keys: Vec<Option<usize>>,
 }
 
 impl Model for Nodes {
-    ghost use Rattle.std.specs.Prelude.{◌≤◌, length};
-    ghost use Rattle.ada_events.specs.declared.limits.TheConstants.{MOST_TASKS};
-    ghost use Rattle.ada_tables.specs.Nodes.{KeptNodes, spare_of};
+    ghost use Rattle.std.specs.Prelude.{map, ◌-◌};
+    ghost use Rattle.slab.specs.Slab.{slab_len};
+    ghost use Rattle.ada_tables.specs.Nodes.{KeptNodes, node_under};
+    ghost use Rattle.ada_tables.specs.internal.Nodes.{AreOwn};
 
     ghost Value = { KeptNodes };
 
     ghost view = { λ n. record {
-      nodes = n.nodes.items;
-      spare = spare_of n.nodes.items;
+      nodes = map (node_under n.slab) n.keys.items;
+      spare = n.slab.capacity - slab_len n.slab;
     } };
 
-    ghost invariant = { λ n. length n.nodes.items ≤ MOST_TASKS };
+    ghost invariant = { λ n. AreOwn n.slab n.keys.items };
 }
 
 impl Nodes {
@@ -55,18 +56,18 @@ impl Nodes {
         ensures { result.nodes ≡ [] }
     {
         Nodes {
-            nodes: Vec::new(alloc),
+            slab: Slab::new(alloc),
+            keys: Vec::new(alloc),
         }
     }
 
-    /// Adds a caller without a node. There are at most 256. A failure changes nothing.
+    /// Adds a caller without a node. A failure changes nothing.
     pub(crate) fn add_caller(&mut self) -> Result<(), AllocError>
-        requires { length self.old.nodes < MOST_TASKS }
         ensures ok { OnOk result (self.new
             ≡ record self.old { nodes = self.old.nodes ++ None ∷ [] }) }
         ensures err { OnErr result (self.new ≡ self.old) }
     {
-        self.nodes.push(None)?;
+        self.keys.push(None)?;
         Ok(())
     }
 
@@ -74,14 +75,14 @@ impl Nodes {
     pub(crate) fn len(&self) -> usize
         ensures { result ≡ length self.now.nodes }
     {
-        self.nodes.len()
+        self.keys.len()
     }
 
     /// Whether there are no callers.
     pub(crate) fn is_empty(&self) -> bool
         ensures { result ≡ (length self.now.nodes == 0) }
     {
-        self.nodes.is_empty()
+        self.keys.is_empty()
     }
 
     /// Makes room for one more node.
@@ -90,9 +91,7 @@ impl Nodes {
         ensures kept { self.new ≡ record self.old { spare = self.new.spare } }
         ensures spare { self.old.spare ≤ self.new.spare }
     {
-        // Needed by the proof, which finds there what the struct promises of its nodes.
-        let _ = &self.nodes;
-        Ok(())
+        self.slab.reserve(1)
     }
 
     /// The node of a caller, if it has one.
@@ -100,7 +99,7 @@ impl Nodes {
         requires { caller < length self.now.nodes }
         ensures { result ≡ node_of self.now.nodes caller }
     {
-        self.nodes[caller as usize]
+        self.slab.get(self.keys[caller as usize]?).copied()
     }
 
     /// Keeps the node of a caller that has none. There must be room.
@@ -113,7 +112,9 @@ impl Nodes {
           spare = self.old.spare - 1;
         } }
     {
-        self.nodes[node.caller as usize] = Some(node);
+        let caller = node.caller as usize;
+        let key = self.slab.insert_reserved(node);
+        self.keys[caller] = Some(key);
     }
 
     /// Takes out a caller's node.
@@ -125,11 +126,11 @@ impl Nodes {
           spare = self.old.spare + 1;
         } }
     {
-        let Some(node) = self.nodes[caller as usize] else {
+        let Some(key) = self.keys[caller as usize] else {
             unreachable!()
         };
-        self.nodes[caller as usize] = None;
-        node
+        self.keys[caller as usize] = None;
+        self.slab.remove(key)
     }
 
     /// Links a caller's node to another one after it.
@@ -140,8 +141,10 @@ impl Nodes {
               (option_map (with_after after) (node_of self.old.nodes caller));
         } }
     {
-        if let Some(node) = self.nodes[caller as usize] {
-            self.nodes[caller as usize] = Some(Node { after, ..node });
+        if let Some(key) = self.keys[caller as usize] {
+            if let Some(node) = self.slab.get_mut(key) {
+                node.after = after;
+            }
         }
     }
 
@@ -153,8 +156,10 @@ impl Nodes {
               (option_map (with_before before) (node_of self.old.nodes caller));
         } }
     {
-        if let Some(node) = self.nodes[caller as usize] {
-            self.nodes[caller as usize] = Some(Node { before, ..node });
+        if let Some(key) = self.keys[caller as usize] {
+            if let Some(node) = self.slab.get_mut(key) {
+                node.before = before;
+            }
         }
     }
 
