@@ -1,24 +1,24 @@
 -- A call that leaves its queue.
-use Rattle.std.proofs.Common.{◌≡◌, ◌≢◌, ℕ, ◌-◌, ◌<◌, true, false, not, ◌||◌, List, [], ◌∷◌, ◌++◌, length, get_or, set, map, Option, Some, None, is_some}
+use Rattle.std.proofs.Common.{◌≡◌, ◌≢◌, ℕ, ◌-◌, ◌<◌, true, false, not, List, [], ◌∷◌, ◌++◌, length, get_or, set, map, Option, Some, None, is_some}
 use Rattle.std.proofs.Common.{is_none, cond, refl, ap, sym, subst, ◌∙◌, inl, inr, arith, length-append, append-nil}
 use Rattle.std.specs.Prelude.{◌==◌, if◌then◌else◌}
 use Rattle.std.specs.List.{filter}
 use Rattle.std.specs.Option.{ForSome}
-use Rattle.std.proofs.lemmas.Bool.{cases_eq, eq-eqb, ne_eqb, eqb-true, eqb-false, or_parts, or_from, both_ways, false_from_ne_true}
-use Rattle.std.proofs.lemmas.List.{length-set, length-map, ext_get_or, get_or-set_same, get_or-set_other, get_or-map}
+use Rattle.std.proofs.lemmas.Bool.{cases_eq, eq-eqb, ne_eqb, eqb-true, or_parts, or_from, both_ways, false_from_ne_true}
+use Rattle.std.proofs.lemmas.List.{map-append, length-set, length-map, ext_get_or, get_or-set_same, get_or-set_other, get_or-map}
 use Rattle.std.proofs.lemmas.List.Folds.{list_any-append}
 use Rattle.std.proofs.lemmas.List.Sums.{sum_by-set}
 use Rattle.std.proofs.lemmas.Map.Views.{any-filter_same}
 use Rattle.ada_tables.specs.declared.nodes.Node.{Node}
 use Rattle.ada_tables.specs.declared.queues.Queue.{Queue}
-use Rattle.ada_tables.specs.Nodes.{node_of}
+use Rattle.ada_tables.specs.Nodes.{node_of, key_of}
 use Rattle.ada_tables.specs.Queues.{QueuedCall, is_by, waits_in, waits, without}
 use Rattle.ada_tables.specs.Links.{calls_in}
-use Rattle.ada_tables.specs.internal.Links.{first_or, last_or, IsChain, IsQueue, AreLinked, no_queue, joined}
-use Rattle.ada_tables.proofs.Chains.{AreApart, chain_agrees, chain_slot, chain_cut, chain_joined, not_last, not_first, last_waits, last_is_waiting}
-use Rattle.ada_tables.proofs.Chains.{first_is_waiting, chain_has, stands_first, standing}
-use Rattle.ada_tables.proofs.Arriving.{node_within}
-use Rattle.ada_tables.proofs.Linking.{KeepsOthers, each_changed, calls_changed, joined_holders, joined_other, any_place, calls_at}
+use Rattle.ada_tables.specs.internal.Links.{Place, calls_of, has_key, first_or, last_or, node_at, IsChain, IsQueue, AreOwn, AreLinked, no_queue, joined}
+use Rattle.ada_tables.proofs.Chains.{AreApart, chain_agrees, chain_slot, chain_cut, chain_joined, chain_key, not_last, not_first, last_waits, last_stands}
+use Rattle.ada_tables.proofs.Chains.{first_stands, chain_has, stands_first, standing}
+use Rattle.ada_tables.proofs.Linking.{KeepsOthers, each_changed, calls_changed, queue_calls, joined_callers, joined_other, own_kept, any_place, calls_at}
+use Rattle.ada_tables.proofs.Linking.{key_within, node_within}
 
 -- a queue in which the task doesn't wait stays
 filter_idle : (by : ℕ) (calls : List QueuedCall) → waits_in by calls ≡ false → filter (λ call. not (is_by by call)) calls ≡ calls
@@ -52,20 +52,20 @@ waits-gone : (by : ℕ) (queues : List (List QueuedCall)) → waits by (without 
 waits-gone by [] = refl
 waits-gone by (calls ∷ rest) = or_from _ _ (waits_in-gone by calls) (waits-gone by rest)
 
-last_or-append : (before : Option ℕ) (left right : List QueuedCall) → last_or before (left ++ right) ≡ last_or (last_or before left) right
+last_or-append : (before : Option ℕ) (left right : List Place) → last_or before (left ++ right) ≡ last_or (last_or before left) right
 last_or-append before [] right = refl
-last_or-append before (call ∷ rest) right = last_or-append (Some call.caller) rest right
+last_or-append before (place ∷ rest) right = last_or-append (Some place.key) rest right
 
--- the first and the last caller once one has left
-first_left : (left : List QueuedCall) (call : QueuedCall) (right : List QueuedCall)
-    → (if is_none (last_or None left) then first_or None right else first_or None (left ++ call ∷ right)) ≡ first_or None (left ++ right)
-first_left [] call right = refl
-first_left (first ∷ rest) call right = rw (last_waits None first rest).1 refl
+-- the first and the last place once one has left
+first_left : (left : List Place) (place : Place) (right : List Place)
+    → (if is_none (last_or None left) then first_or None right else first_or None (left ++ place ∷ right)) ≡ first_or None (left ++ right)
+first_left [] place right = refl
+first_left (first ∷ rest) place right = rw (last_waits None first rest).1 refl
 
-last_left : (left : List QueuedCall) (call : QueuedCall) (right : List QueuedCall)
-    → (if is_none (first_or None right) then last_or None left else last_or None (left ++ call ∷ right)) ≡ last_or None (left ++ right)
-last_left left call [] = rw append-nil refl
-last_left left call (next ∷ rest) = rw (last_or-append None left (call ∷ (next ∷ rest)), last_or-append None left (next ∷ rest)) refl
+last_left : (left : List Place) (place : Place) (right : List Place)
+    → (if is_none (first_or None right) then last_or None left else last_or None (left ++ place ∷ right)) ≡ last_or None (left ++ right)
+last_left left place [] = rw append-nil refl
+last_left left place (next ∷ rest) = rw (last_or-append None left (place ∷ (next ∷ rest)), last_or-append None left (next ∷ rest)) refl
 
 -- a queue without one of its nodes
 abbrev pub left_queue : Queue → Node → Queue
@@ -76,29 +76,38 @@ left_queue queue node =
       len = queue.len - 1;
     }
 
--- what follows where a task with this node leaves
-pub record Leaves (nodes : List (Option Node)) (queues : List Queue) (by : ℕ) (node : Node) : Type 0 where
+-- what follows where a task with this node, under this key, leaves
+pub record Leaves (nodes : List (Option Node)) (keys : List (Option ℕ)) (queues : List Queue) (by key : ℕ) (node : Node) : Type 0 where
   pub within : node.slot < length queues
   pub longer : 0 < (get_or queues node.slot no_queue).len
-  pub before : ForSome node.before (λ caller. is_some (node_of (set nodes by None) caller) ≡ true)
-  pub after : ForSome node.after (λ caller. is_some (node_of (set nodes by None) caller) ≡ true)
-  pub linked : AreLinked (joined node.before node.after (set nodes by None)) (set queues node.slot (left_queue (get_or queues node.slot no_queue) node))
-  pub calls : map (calls_in (joined node.before node.after (set nodes by None))) (set queues node.slot (left_queue (get_or queues node.slot no_queue) node))
+  pub before : ForSome node.before (λ at. is_some (node_of (set nodes key None) at) ≡ true)
+  pub after : ForSome node.after (λ at. is_some (node_of (set nodes key None) at) ≡ true)
+  pub linked :
+      AreLinked (joined node.before node.after (set nodes key None)) (set keys by None)
+      (set queues node.slot (left_queue (get_or queues node.slot no_queue) node))
+  pub calls : map (calls_in (joined node.before node.after (set nodes key None))) (set queues node.slot (left_queue (get_or queues node.slot no_queue) node))
       ≡ without by (map (calls_in nodes) queues)
 
-module _ (nodes : List (Option Node)) (queues : List Queue) (slot : ℕ) (linked : AreLinked nodes queues) (within : slot < length queues)
-    (left : List QueuedCall) (call : QueuedCall) (right : List QueuedCall) (whole : calls_in nodes (get_or queues slot no_queue) ≡ left ++ call ∷ right) where
+module _ (nodes : List (Option Node)) (keys : List (Option ℕ)) (queues : List Queue) (slot : ℕ) (linked : AreLinked nodes keys queues)
+    (within : slot < length queues) (left : List Place) (place : Place) (right : List Place)
+    (whole : (linked.each slot within).0 ≡ left ++ place ∷ right) where
   abbrev was : Queue
   was = get_or queues slot no_queue
 
   abbrev by : ℕ
-  by = call.caller
+  by = place.called.caller
 
-  abbrev pub its_node : Node
-  its_node = record { call = call.call; caller = call.caller; slot = slot; before = last_or None left; after = first_or None right }
+  abbrev key : ℕ
+  key = place.key
+
+  abbrev its_node : Node
+  its_node = node_at slot (last_or None left) place.called (first_or None right)
 
   abbrev gone : List (Option Node)
-  gone = set nodes by None
+  gone = set nodes key None
+
+  abbrev fewer : List (Option ℕ)
+  fewer = set keys by None
 
   abbrev after : List (Option Node)
   after = joined (last_or None left) (first_or None right) gone
@@ -106,80 +115,109 @@ module _ (nodes : List (Option Node)) (queues : List Queue) (slot : ℕ) (linked
   abbrev queue : Queue
   queue = left_queue was its_node
 
-  is : IsQueue nodes slot was (left ++ call ∷ right)
-  is = subst (IsQueue nodes slot was) whole (linked.each slot within)
+  is : IsQueue nodes slot was (left ++ place ∷ right)
+  is = subst (IsQueue nodes slot was) whole (linked.each slot within).1
 
   record Cut : Type 0 where
-    front : IsChain nodes slot None left (Some by)
-    node : node_of nodes by ≡ Some its_node
-    alone : waits_in by right ≡ false
-    back : IsChain nodes slot (Some by) right None
+    front : IsChain nodes slot None left (Some key)
+    node : node_of nodes key ≡ Some its_node
+    alone : has_key key right ≡ false
+    back : IsChain nodes slot (Some key) right None
     apart : AreApart left right
-    absent : waits_in by left ≡ false
+    absent : has_key key left ≡ false
 
   cut : Cut
   unfolding IsChain
   cut =
-      let parts = chain_cut nodes slot None left (call ∷ right) None is.chain in
+      let parts = chain_cut nodes slot None left (place ∷ right) None is.chain in
       let chain = parts.1 in
       record {
         front = parts.0;
         node = chain.0;
         alone = chain.1;
         back = chain.2;
-        apart = λ caller waiting. (or_parts (call.caller == caller) (waits_in caller right) (parts.2 caller waiting)).1;
-        absent = false_from_ne_true _ (λ waiting. both_ways (waits_in by (call ∷ right)) (parts.2 by waiting) (stands_first call right));
+        apart = λ at stands. (or_parts (place.key == at) (has_key at right) (parts.2 at stands)).1;
+        absent = false_from_ne_true _ (λ stands. both_ways (has_key key (place ∷ right)) (parts.2 key stands) (stands_first place right));
       }
 
-  pub found_node : node_of nodes call.caller ≡ Some its_node
+  pub found_node : node_of nodes place.key ≡ Some its_node
   found_node = cut.node
 
-  other_left : (caller : ℕ) → waits_in caller left ≡ true → caller ≢ by
-  other_left caller waiting same = both_ways (waits_in by left) cut.absent (ap (λ c. waits_in c left) (sym same) ∙ waiting)
+  -- the task keeps the key of the node
+  pub found_key : key_of keys place.called.caller ≡ Some place.key
+  found_key = linked.own.back key its_node cut.node
 
-  other_right : (caller : ℕ) → waits_in caller right ≡ true → caller ≢ by
-  other_right caller waiting same = both_ways (waits_in by right) cut.alone (ap (λ c. waits_in c right) (sym same) ∙ waiting)
+  known : by < length keys
+  known = key_within keys by (ap is_some found_key)
+
+  there : key < length nodes
+  there = node_within nodes key (ap is_some cut.node)
+
+  other_left : (at : ℕ) → has_key at left ≡ true → at ≢ key
+  other_left at stands same = both_ways (has_key key left) cut.absent (ap (λ k. has_key k left) (sym same) ∙ stands)
+
+  other_right : (at : ℕ) → has_key at right ≡ true → at ≢ key
+  other_right at stands same = both_ways (has_key key right) cut.alone (ap (λ k. has_key k right) (sym same) ∙ stands)
 
   is_queue : IsQueue after slot queue (left ++ right)
   is_queue =
-      let front = chain_agrees nodes gone slot None left (Some by) (λ caller waiting. get_or-set_other nodes by caller None None (other_left caller waiting))
+      let front = chain_agrees nodes gone slot None left (Some key) (λ at stands. get_or-set_other nodes key at None None (other_left at stands))
       cut.front in
-      let back = chain_agrees nodes gone slot (Some by) right None (λ caller waiting. get_or-set_other nodes by caller None None (other_right caller waiting))
+      let back = chain_agrees nodes gone slot (Some key) right None (λ at stands. get_or-set_other nodes key at None None (other_right at stands))
       cut.back in
       record {
-        len = omega (arith, is.len, length-append left (call ∷ right), length-append left right);
-        first = ap (λ link. if is_none (last_or None left) then first_or None right else link) is.first ∙ first_left left call right;
-        last = ap (λ link. if is_none (first_or None right) then last_or None left else link) is.last ∙ last_left left call right;
-        chain = chain_joined gone slot (Some by) left right (Some by) front back cut.apart;
+        len = omega (arith, is.len, length-append left (place ∷ right), length-append left right);
+        first = ap (λ link. if is_none (last_or None left) then first_or None right else link) is.first ∙ first_left left place right;
+        last = ap (λ link. if is_none (first_or None right) then last_or None left else link) is.last ∙ last_left left place right;
+        chain = chain_joined gone slot (Some key) left right (Some key) front back cut.apart;
       }
 
-  waits_whole : (caller : ℕ) → waits_in caller (left ++ call ∷ right) ≡ (waits_in caller left || ((by == caller) || waits_in caller right))
-  waits_whole caller = list_any-append (is_by caller) left (call ∷ right)
-
   keeps : KeepsOthers slot nodes after
-  keeps caller other has differs =
-      let absent : waits_in caller (left ++ call ∷ right)
-      ≡ false = false_from_ne_true _ (λ waiting. differs (let at = chain_slot nodes slot None (left ++ call ∷ right) None caller is.chain waiting in cc)) in
-      let sides = or_parts _ _ (sym (waits_whole caller) ∙ absent) in
+  keeps at other has differs =
+      let absent : has_key at (left ++ place ∷ right)
+      ≡ false = false_from_ne_true _ (λ stands. differs (let here = chain_slot nodes slot None (left ++ place ∷ right) None at is.chain stands in cc)) in
+      let sides = or_parts _ _ (sym (list_any-append (λ (p : Place). p.key == at) left (place ∷ right)) ∙ absent) in
       let rest = or_parts _ _ sides.1 in
-      joined_other (last_or None left) (first_or None right) gone caller (not_last left caller sides.0) (not_first right caller rest.1)
-      ∙ get_or-set_other nodes by caller None None (λ same. eqb-false by caller rest.0 (sym same))
+      joined_other (last_or None left) (first_or None right) gone at (not_last left at sides.0) (not_first right at rest.1)
+      ∙ get_or-set_other nodes key at None None (λ same. both_ways (key == at) rest.0 (eq-eqb key at (sym same)))
+
+  idle_left : waits_in by (calls_of left) ≡ false
+  idle_left =
+      false_from_ne_true _ (λ waits. both_ways (has_key key left) cut.absent
+      (chain_key nodes keys slot None left (Some key) by key linked.own cut.front waits found_key))
+
+  idle_right : waits_in by (calls_of right) ≡ false
+  idle_right =
+      false_from_ne_true _ (λ waits. both_ways (has_key key right) cut.alone
+      (chain_key nodes keys slot (Some key) right None by key linked.own cut.back waits found_key))
 
   idle_elsewhere : (at : ℕ) → at < length queues → at ≢ slot → waits_in by (calls_in nodes (get_or queues at no_queue)) ≡ false
   idle_elsewhere at low differs =
-      false_from_ne_true _ (λ waiting. differs (let there = chain_slot nodes at None _ None by (linked.each at low).chain waiting in let here = rw cut.node at
-      there in cc))
+      let other = linked.each at low in
+      false_from_ne_true _ (λ waits. differs (
+      let stands = chain_key nodes keys at None other.0 None by key linked.own other.1.chain (rw (queue_calls nodes at _ other.0 other.1) at waits) found_key in
+      let elsewhere = chain_slot nodes at None other.0 None key other.1.chain stands in
+      let here = rw cut.node at elsewhere in
+      cc))
+
+  here_left : filter (λ call. not (is_by by call)) (calls_in nodes was) ≡ calls_of (left ++ right)
+  here_left =
+      ap (filter (λ call. not (is_by by call)))
+      (queue_calls nodes slot was (left ++ place ∷ right) is ∙ map-append (λ (p : Place). p.called) left (place ∷ right))
+      ∙ filter_out by (calls_of left) place.called (calls_of right) refl idle_left idle_right
+      ∙ sym (map-append (λ (p : Place). p.called) left right)
 
   pub left_calls : map (calls_in after) (set queues slot queue) ≡ without by (map (calls_in nodes) queues)
   left_calls =
-      calls_changed nodes after queues slot queue (left ++ right) linked within keeps is_queue
+      calls_changed nodes after keys queues slot queue (left ++ right) linked within keeps is_queue
       ∙ ext_get_or [] _ _
-      (length-set (map (calls_in nodes) queues) slot (left ++ right) ∙ sym (length-map (map (calls_in nodes) queues) (filter (λ call. not (is_by by call)))))
-      (λ at low. place at (simp (length-set, length-map) at low))
+      (length-set (map (calls_in nodes) queues) slot (calls_of (left ++ right))
+      ∙ sym (length-map (map (calls_in nodes) queues) (filter (λ call. not (is_by by call)))))
+      (λ at low. place_at at (simp (length-set, length-map) at low))
     where
-      place : (at : ℕ) → at < length queues → get_or (set (map (calls_in nodes) queues) slot (left ++ right)) at []
+      place_at : (at : ℕ) → at < length queues → get_or (set (map (calls_in nodes) queues) slot (calls_of (left ++ right))) at []
           ≡ get_or (without by (map (calls_in nodes) queues)) at []
-      place at low =
+      place_at at low =
           let many : at < length (map (calls_in nodes) queues) = rw length-map low in
           let here : slot < length (map (calls_in nodes) queues) = rw length-map within in
           elim (cases_eq at slot) [
@@ -188,76 +226,96 @@ module _ (nodes : List (Option Node)) (queues : List Queue) (slot : ℕ) (linked
                   get_or-map (filter (λ call. not (is_by by call))) (map (calls_in nodes) queues) at [] [] many,
                   same,
                   get_or-set_same
-                      (map (calls_in nodes) queues) slot (left ++ right) [] here,
+                      (map (calls_in nodes) queues) slot (calls_of (left ++ right)) [] here,
                   calls_at nodes queues slot within,
-                  whole,
                 )
-                (sym (filter_out by left call right refl cut.absent cut.alone))
+                (sym here_left)
             | inr differs ↦
                 rw (
                   get_or-map (filter (λ call. not (is_by by call))) (map (calls_in nodes) queues) at [] [] many,
                   get_or-set_other
-                      (map (calls_in nodes) queues) slot at (left ++ right) [] differs,
+                      (map (calls_in nodes) queues) slot at (calls_of (left ++ right)) [] differs,
                   calls_at nodes queues at low,
                 )
                 (sym (filter_idle by _ (idle_elsewhere at low differs)))
           ]
 
-  waiting_now : (task : ℕ) → is_some (node_of after task) ≡ waits task (without by (map (calls_in nodes) queues))
+  own_gone : AreOwn gone fewer
+  own_gone =
+      record {
+        leads = λ caller at has. elim (cases_eq caller by) [
+          | inl same ↦ let none : None ≡ Some at = sym (get_or-set_same keys by None None known) ∙ (rw same at has) in absurd (cc)
+          | inr differs ↦
+              let led = linked.own.leads caller at (sym (get_or-set_other keys by caller None None differs) ∙ has) in
+              let apart : at ≢ key = λ same. differs (let whose = rw (same, cut.node) at led in cc) in
+              rw (get_or-set_other nodes key at None None apart) led
+        ];
+        back = λ at node has. elim (cases_eq at key) [
+          | inl same ↦ let none : None ≡ Some node = sym (get_or-set_same nodes key None None there) ∙ (rw same at has) in absurd (cc)
+          | inr differs ↦
+              let led = linked.own.back at node (sym (get_or-set_other nodes key at None None differs) ∙ has) in
+              let apart : node.caller ≢ by = λ same. differs (
+              let keyed : Some at ≡ Some key = sym led ∙ ap (key_of keys) same ∙ found_key in cc) in
+              get_or-set_other keys by node.caller None None apart ∙ led
+        ];
+      }
+
+  waiting_now : (task : ℕ) → is_some (key_of fewer task) ≡ waits task (without by (map (calls_in nodes) queues))
   waiting_now task =
-      (joined_holders (last_or None left) (first_or None right) gone).holders task
-      ∙ elim (cases_eq task by) [
-        | inl same ↦ rw (same, waits-gone by (map (calls_in nodes) queues))
-            (ap is_some (get_or-set_same nodes by None None (node_within nodes by (ap is_some cut.node))))
+      elim (cases_eq task by) [
+        | inl same ↦ rw (same, waits-gone by (map (calls_in nodes) queues)) (ap is_some (get_or-set_same keys by None None known))
         | inr differs ↦
-            ap is_some (get_or-set_other nodes by task None None differs) ∙ linked.waiting task
+            ap is_some (get_or-set_other keys by task None None differs) ∙ linked.waiting task
             ∙ sym (waits-other task by (map (calls_in nodes) queues) differs)
       ]
 
-  left_linked : AreLinked after (set queues slot queue)
+  left_linked : AreLinked after fewer (set queues slot queue)
   left_linked =
-      let joins = joined_holders (last_or None left) (first_or None right) gone in
-      let known = node_within nodes by (ap is_some cut.node) in
       record {
-        each = each_changed nodes after queues slot queue (left ++ right) linked within keeps is_queue;
+        each = each_changed nodes after keys queues slot queue (left ++ right) linked within keeps is_queue;
+        own = own_kept gone after fewer (joined_callers (last_or None left) (first_or None right) gone) own_gone;
         waiting = λ task. rw left_calls (waiting_now task);
         total =
             let lens = sum_by-set (λ (q : Queue). q.len) queues slot queue no_queue within in
-            let counts = sum_by-set (λ (node : Option Node). cond (is_some node) 1 0) nodes by None None known in
-            let one = rw cut.node at counts in
-            omega (arith, linked.total, joins.count, is.len, length-append left (call ∷ right));
-        few = rw (joins.len, length-set) linked.few;
+            let counts = sum_by-set (λ (at : Option ℕ). cond (is_some at) 1 0) keys by None None known in
+            let one = rw found_key at counts in
+            omega (arith, linked.total, is.len, length-append left (place ∷ right));
+        few = rw length-set linked.few;
       }
 
-  leaves_here : Leaves nodes queues call.caller its_node
+  leaves_here : Leaves nodes keys queues place.called.caller place.key its_node
   leaves_here =
       record {
         within = within;
-        longer = omega (arith, is.len, length-append left (call ∷ right));
-        before = λ caller last.
-            let waiting = last_is_waiting left caller last in
-            ap is_some (get_or-set_other nodes by caller None None (other_left caller waiting))
-            ∙ chain_has nodes slot None left (Some by) caller cut.front waiting;
-        after = λ caller first.
-            let waiting = first_is_waiting right caller first in
-            ap is_some (get_or-set_other nodes by caller None None (other_right caller waiting))
-            ∙ chain_has nodes slot (Some by) right None caller cut.back waiting;
+        longer = omega (arith, is.len, length-append left (place ∷ right));
+        before = λ at last.
+            let stands = last_stands left at last in
+            ap is_some (get_or-set_other nodes key at None None (other_left at stands))
+            ∙ chain_has nodes slot None left (Some key) at cut.front stands;
+        after = λ at first.
+            let stands = first_stands right at first in
+            ap is_some (get_or-set_other nodes key at None None (other_right at stands))
+            ∙ chain_has nodes slot (Some key) right None at cut.back stands;
         linked = left_linked;
         calls = left_calls;
       }
 
 -- a task that waits leaves its queue
-pub leaves : (nodes : List (Option Node)) (queues : List Queue) (by : ℕ) (node : Node) → AreLinked nodes queues → waits by (map (calls_in nodes) queues) ≡ true
-    → node_of nodes by ≡ Some node → Leaves nodes queues by node
-leaves nodes queues by node linked waiting has =
-    let place = any_place (waits_in by) (map (calls_in nodes) queues) [] waiting in
-    let within : place.0 < length queues = rw length-map at place.1 in
-    let there : waits_in by (calls_in nodes (get_or queues place.0 no_queue)) ≡ true = rw (calls_at nodes queues place.0 within) at place.2 in
-    let at = standing by (calls_in nodes (get_or queues place.0 no_queue)) there in
-    let here = leaves_here nodes queues place.0 linked within at.left at.call at.right at.whole in
-    let node_is : its_node nodes queues place.0 linked within at.left at.call at.right at.whole ≡ node =
-    let found = found_node nodes queues place.0 linked within at.left at.call at.right at.whole in
-    let same : Some (its_node nodes queues place.0 linked within at.left at.call at.right at.whole) ≡ Some node = sym found ∙ ap (node_of nodes) at.by
-    ∙ has in cc in
-    subst (Leaves nodes queues by) node_is (subst (λ b. Leaves nodes queues b (its_node nodes queues place.0 linked within at.left at.call at.right at.whole))
-    at.by here)
+pub leaves : (nodes : List (Option Node)) (keys : List (Option ℕ)) (queues : List Queue) (by key : ℕ) (node : Node) → AreLinked nodes keys queues
+    → waits by (map (calls_in nodes) queues) ≡ true → key_of keys by ≡ Some key → node_of nodes key ≡ Some node → Leaves nodes keys queues by key node
+leaves nodes keys queues by key node linked waiting keyed has =
+    let spot = any_place (waits_in by) (map (calls_in nodes) queues) [] waiting in
+    let within : spot.0 < length queues = rw length-map at spot.1 in
+    let there : waits_in by (calls_in nodes (get_or queues spot.0 no_queue)) ≡ true = rw (calls_at nodes queues spot.0 within) at spot.2 in
+    let each = linked.each spot.0 within in
+    let at = standing by each.0 (rw (queue_calls nodes spot.0 _ each.0 each.1) at there) in
+    let here = leaves_here nodes keys queues spot.0 linked within at.left at.place at.right at.whole in
+    let key_is : at.place.key ≡ key =
+    let same : Some at.place.key ≡ Some key = sym (found_key nodes keys queues spot.0 linked within at.left at.place at.right at.whole)
+    ∙ ap (key_of keys) at.by ∙ keyed in cc in
+    let node_is : its_node nodes keys queues spot.0 linked within at.left at.place at.right at.whole ≡ node =
+    let same : Some (its_node nodes keys queues spot.0 linked within at.left at.place at.right at.whole) ≡ Some node =
+    sym (found_node nodes keys queues spot.0 linked within at.left at.place at.right at.whole) ∙ ap (node_of nodes) key_is ∙ has in cc in
+    subst (Leaves nodes keys queues by key) node_is
+    (subst (λ k. Leaves nodes keys queues by k (its_node nodes keys queues spot.0 linked within at.left at.place at.right at.whole)) key_is
+    (subst (λ b. Leaves nodes keys queues b at.place.key (its_node nodes keys queues spot.0 linked within at.left at.place at.right at.whole)) at.by here))

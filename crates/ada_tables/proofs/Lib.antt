@@ -22,7 +22,6 @@ pub mod Chains
 pub mod Emptiness
 pub mod Fronts
 pub mod Growing
-pub mod Keys
 pub mod Leaving
 pub mod Linking
 pub mod Steps

@@ -1,71 +1,64 @@
 -- One queue changes, and all stay linked.
 use Rattle.std.proofs.Common.{◌≡◌, ◌≢◌, ℕ, zero, suc, ◌<◌, Bool, true, false, ◌||◌, List, [], ◌∷◌, length, get_or, set, map, Option, Some, None, is_some, cond}
-use Rattle.std.proofs.Common.{count_by, refl, ap, sym, subst, ◌∙◌, inl, inr, arith}
+use Rattle.std.proofs.Common.{count_by, refl, ap, sym, ◌∙◌, inl, inr, arith}
 use Rattle.std.specs.List.{list_any}
 use Rattle.std.specs.Option.{option_map}
-use Rattle.std.proofs.lemmas.Bool.{cases_eq, cases_lt, or_cases, both_ways, false_from_ne_true}
+use Rattle.std.proofs.lemmas.Bool.{cases_eq, cases_lt, or_cases}
 use Rattle.std.proofs.lemmas.List.{map-set, length-set, length-map, ext_get_or, get_or-set_same, get_or-set_other, set_past, get_or-map}
-use Rattle.std.proofs.lemmas.List.Folds.{list_any_at}
 use Rattle.std.proofs.lemmas.List.Sums.{sum_by-set}
 use Rattle.ada_tables.specs.declared.nodes.Node.{Node}
 use Rattle.ada_tables.specs.declared.queues.Queue.{Queue}
-use Rattle.ada_tables.specs.Nodes.{node_of}
-use Rattle.ada_tables.specs.Queues.{QueuedCall, queue_at, waits_in, waits}
+use Rattle.ada_tables.specs.Nodes.{node_of, key_of}
+use Rattle.ada_tables.specs.Queues.{queue_at, waits}
 use Rattle.ada_tables.specs.Links.{calls_in}
-use Rattle.ada_tables.specs.internal.Links.{IsQueue, AreLinked, no_queue, relinked_after, relinked_before, joined}
-use Rattle.ada_tables.proofs.Chains.{chain_agrees, chain_slot, followed_chain, relinked_after_other, relinked_before_other, changed, changed_same}
-use Rattle.ada_tables.proofs.Chains.{changed_other}
+use Rattle.ada_tables.specs.internal.Links.{Place, calls_of, IsQueue, AreOwn, AreLinked, no_queue, relinked_after, relinked_before, joined}
+use Rattle.ada_tables.proofs.Chains.{chain_agrees, chain_slot, followed_chain, changed, changed_same, changed_other, relinked_after_other}
+use Rattle.ada_tables.proofs.Chains.{relinked_before_other}
 
--- the node of each caller that waits at another slot stays
+-- each node at another slot stays
 abbrev pub KeepsOthers : ℕ → List (Option Node) → List (Option Node) → Type 0
 KeepsOthers slot old new =
-    (caller other : ℕ) → option_map (λ (node : Node). node.slot) (node_of old caller) ≡ Some other → other ≢ slot → node_of new caller ≡ node_of old caller
+    (key other : ℕ) → option_map (λ (node : Node). node.slot) (node_of old key) ≡ Some other → other ≢ slot → node_of new key ≡ node_of old key
 
--- the calls of a queue are those that it was said to have
-pub queue_calls : (nodes : List (Option Node)) (slot : ℕ) (queue : Queue) (calls : List QueuedCall) → IsQueue nodes slot queue calls
-    → calls_in nodes queue ≡ calls
-queue_calls nodes slot queue calls is = rw (is.len, is.first) (followed_chain nodes slot None calls is.chain)
+-- the calls of a queue are those of its places
+pub queue_calls : (nodes : List (Option Node)) (slot : ℕ) (queue : Queue) (places : List Place) → IsQueue nodes slot queue places
+    → calls_in nodes queue ≡ calls_of places
+queue_calls nodes slot queue places is = rw (is.len, is.first) (followed_chain nodes slot None places is.chain)
 
--- a queue is one by its own calls
-pub queue_itself : (nodes : List (Option Node)) (slot : ℕ) (queue : Queue) (calls : List QueuedCall) → IsQueue nodes slot queue calls
-    → IsQueue nodes slot queue (calls_in nodes queue)
-queue_itself nodes slot queue calls is = subst (IsQueue nodes slot queue) (sym (queue_calls nodes slot queue calls is)) is
-
-module _ (nodes new : List (Option Node)) (queues : List Queue) (slot : ℕ) (queue : Queue) (calls : List QueuedCall) (linked : AreLinked nodes queues)
-    (within : slot < length queues) (keeps : KeepsOthers slot nodes new) (is : IsQueue new slot queue calls) where
-  other_stays : (at : ℕ) → at < length queues → at ≢ slot → IsQueue new at (get_or queues at no_queue) (calls_in nodes (get_or queues at no_queue))
+module _ (nodes new : List (Option Node)) (keys : List (Option ℕ)) (queues : List Queue) (slot : ℕ) (queue : Queue) (places : List Place)
+    (linked : AreLinked nodes keys queues) (within : slot < length queues) (keeps : KeepsOthers slot nodes new) (is : IsQueue new slot queue places) where
+  other_stays : (at : ℕ) (low : at < length queues) → at ≢ slot → IsQueue new at (get_or queues at no_queue) (linked.each at low).0
   other_stays at low differs =
-      let was = linked.each at low in
+      let was = (linked.each at low).1 in
       record {
         len = was.len;
         first = was.first;
         last = was.last;
         chain = chain_agrees nodes new at None _ None
-            (λ caller waits. keeps caller at (chain_slot nodes at None _ None caller was.chain waits) differs)
+            (λ key stands. keeps key at (chain_slot nodes at None _ None key was.chain stands) differs)
             was.chain;
       }
 
-  pub each_changed : (at : ℕ) → at < length (set queues slot queue)
-      → IsQueue new at (get_or (set queues slot queue) at no_queue) (calls_in new (get_or (set queues slot queue) at no_queue))
+  pub each_changed : (at : ℕ) → at < length (set queues slot queue) → (some : List Place) × IsQueue new at (get_or (set queues slot queue) at no_queue) some
   each_changed at low =
       elim (cases_eq at slot) [
-        | inl same ↦ rw (same, get_or-set_same queues slot queue no_queue within) (queue_itself new slot queue calls is)
+        | inl same ↦ (places, rw (same, get_or-set_same queues slot queue no_queue within) is)
         | inr differs ↦
             let below : at < length queues = rw length-set at low in
-            rw (get_or-set_other queues slot at queue no_queue differs) (queue_itself new at _ _ (other_stays at below differs))
+            ((linked.each at below).0, rw (get_or-set_other queues slot at queue no_queue differs) (other_stays at below differs))
       ]
 
-  pub calls_changed : map (calls_in new) (set queues slot queue) ≡ set (map (calls_in nodes) queues) slot calls
+  pub calls_changed : map (calls_in new) (set queues slot queue) ≡ set (map (calls_in nodes) queues) slot (calls_of places)
   calls_changed =
       map-set (calls_in new) queues slot queue
-      ∙ ap (set (map (calls_in new) queues) slot) (queue_calls new slot queue calls is)
+      ∙ ap (set (map (calls_in new) queues) slot) (queue_calls new slot queue places is)
       ∙ ext_get_or [] _ _
-      (length-set (map (calls_in new) queues) slot calls ∙ length-map queues (calls_in new) ∙ sym (length-map queues (calls_in nodes))
-      ∙ sym (length-set (map (calls_in nodes) queues) slot calls))
+      (length-set (map (calls_in new) queues) slot (calls_of places) ∙ length-map queues (calls_in new) ∙ sym (length-map queues (calls_in nodes))
+      ∙ sym (length-set (map (calls_in nodes) queues) slot (calls_of places)))
       (λ at low. place at (simp (length-set, length-map) at low))
     where
-      place : (at : ℕ) → at < length queues → get_or (set (map (calls_in new) queues) slot calls) at []
-          ≡ get_or (set (map (calls_in nodes) queues) slot calls) at []
+      place : (at : ℕ) → at < length queues → get_or (set (map (calls_in new) queues) slot (calls_of places)) at []
+          ≡ get_or (set (map (calls_in nodes) queues) slot (calls_of places)) at []
       place at low =
           elim (cases_eq at slot) [
             | inl same ↦
@@ -73,82 +66,89 @@ module _ (nodes new : List (Option Node)) (queues : List Queue) (slot : ℕ) (qu
                 let there : slot < length (map (calls_in nodes) queues) = rw length-map within in
                 rw (
                   same,
-                  get_or-set_same (map (calls_in new) queues) slot calls [] here,
-                  get_or-set_same (map (calls_in nodes) queues) slot calls []
+                  get_or-set_same (map (calls_in new) queues) slot (calls_of places) [] here,
+                  get_or-set_same (map (calls_in nodes) queues) slot (calls_of places) []
                       there,
                 ) refl
             | inr differs ↦
                 rw (
-                  get_or-set_other (map (calls_in new) queues) slot at calls [] differs,
-                  get_or-set_other (map (calls_in nodes) queues) slot at calls []
+                  get_or-set_other (map (calls_in new) queues) slot at (calls_of places) [] differs,
+                  get_or-set_other (map (calls_in nodes) queues) slot at (calls_of places) []
                       differs,
                   get_or-map (calls_in new) queues at no_queue [] low,
                   get_or-map (calls_in nodes) queues at no_queue [] low,
                 )
-                (queue_calls new at _ _ (other_stays at low differs))
+                (queue_calls new at _ _ (other_stays at low differs) ∙ sym (queue_calls nodes at _ _ (linked.each at low).1))
           ]
 
--- a change of a node's links keeps which callers have nodes
-is_some-map : (change : Node → Node) (node : Option Node) → is_some (option_map change node) ≡ is_some node
-is_some-map change None = refl
-is_some-map change (Some node) = refl
+-- the caller of a node, if there is one
+abbrev pub caller_of : Option Node → Option ℕ
+caller_of node = option_map (λ (node : Node). node.caller) node
 
-is_some-changed : (nodes : List (Option Node)) (change : Node → Node) (at caller : ℕ)
-    → is_some (node_of (changed nodes change at) caller) ≡ is_some (node_of nodes caller)
-is_some-changed nodes change at caller =
-    elim (cases_eq caller at) [
-      | inl same ↦ rw same (ap is_some (changed_same nodes change at) ∙ is_some-map change (node_of nodes at))
-      | inr differs ↦ ap is_some (changed_other nodes change at caller differs)
-    ]
-
-count-changed : (nodes : List (Option Node)) (change : Node → Node) (at : ℕ) → count_by is_some (changed nodes change at) ≡ count_by is_some nodes
-count-changed nodes change at =
-    elim (cases_lt at (length nodes)) [
-      | inl within ↦
-          let moved = sum_by-set (λ (node : Option Node). cond (is_some node) 1 0) nodes at (option_map change (node_of nodes at)) None within in
-          omega (arith, rw (is_some-map change (node_of nodes at)) at moved)
-      | inr past ↦ ap (count_by is_some) (set_past nodes at (option_map change (node_of nodes at)) past)
-    ]
-
-pub record SameHolders (old new : List (Option Node)) : Type 0 where
-  pub holders : (caller : ℕ) → is_some (node_of new caller) ≡ is_some (node_of old caller)
+-- each key leads to a node of the same caller, and there are as many nodes
+pub record SameCallers (old new : List (Option Node)) : Type 0 where
+  pub callers : (key : ℕ) → caller_of (node_of new key) ≡ caller_of (node_of old key)
   pub count : count_by is_some new ≡ count_by is_some old
-  pub len : length new ≡ length old
 
-relinked_after_holders : (link after : Option ℕ) (nodes : List (Option Node)) → SameHolders nodes (relinked_after link after nodes)
-relinked_after_holders None after nodes = record { holders = λ caller. refl; count = refl; len = refl }
-relinked_after_holders (Some at) after nodes =
+module _ (change : Node → Node) (keeps : (node : Node) → (change node).caller ≡ node.caller) where
+  caller-map : (node : Option Node) → caller_of (option_map change node) ≡ caller_of node
+  caller-map None = refl
+  caller-map (Some node) = ap Some (keeps node)
+
+  is_some-map : (node : Option Node) → is_some (option_map change node) ≡ is_some node
+  is_some-map None = refl
+  is_some-map (Some node) = refl
+
+  -- a change of a node's links keeps the callers
+  callers-changed : (nodes : List (Option Node)) (at : ℕ) → SameCallers nodes (changed nodes change at)
+  callers-changed nodes at =
+      record {
+        callers = λ key. elim (cases_eq key at) [
+          | inl same ↦ rw same (ap caller_of (changed_same nodes change at) ∙ caller-map (node_of nodes at))
+          | inr differs ↦ ap caller_of (changed_other nodes change at key differs)
+        ];
+        count = elim (cases_lt at (length nodes)) [
+          | inl within ↦
+              let moved = sum_by-set (λ (node : Option Node). cond (is_some node) 1 0) nodes at (option_map change (node_of nodes at)) None within in
+              omega (arith, rw (is_some-map (node_of nodes at)) at moved)
+          | inr past ↦ ap (count_by is_some) (set_past nodes at (option_map change (node_of nodes at)) past)
+        ];
+      }
+
+pub relinked_after_callers : (link after : Option ℕ) (nodes : List (Option Node)) → SameCallers nodes (relinked_after link after nodes)
+relinked_after_callers None after nodes = record { callers = λ key. refl; count = refl }
+relinked_after_callers (Some at) after nodes = callers-changed (λ node. record node { after = after }) (λ node. refl) nodes at
+
+relinked_before_callers : (link before : Option ℕ) (nodes : List (Option Node)) → SameCallers nodes (relinked_before link before nodes)
+relinked_before_callers None before nodes = record { callers = λ key. refl; count = refl }
+relinked_before_callers (Some at) before nodes = callers-changed (λ node. record node { before = before }) (λ node. refl) nodes at
+
+pub joined_callers : (before after : Option ℕ) (nodes : List (Option Node)) → SameCallers nodes (joined before after nodes)
+joined_callers before after nodes =
+    let once = relinked_after_callers before after nodes in
+    let twice = relinked_before_callers after before (relinked_after before after nodes) in
+    record { callers = λ key. twice.callers key ∙ once.callers key; count = twice.count ∙ once.count }
+
+pub some_node : (node : Option Node) (caller : ℕ) → caller_of node ≡ Some caller → (found : Node) × (node ≡ Some found) × (found.caller ≡ caller)
+some_node None caller is = absurd (cc)
+some_node (Some node) caller is = (node, refl, cc)
+
+-- whose callers stay keeps its keys
+pub own_kept : (old new : List (Option Node)) (keys : List (Option ℕ)) → SameCallers old new → AreOwn old keys → AreOwn new keys
+own_kept old new keys same own =
     record {
-      holders = is_some-changed nodes (λ node. record node { after = after }) at;
-      count = count-changed nodes (λ node. record node { after = after }) at;
-      len = length-set nodes at (option_map (λ (node : Node). record node { after = after }) (node_of nodes at));
+      leads = λ caller key has. same.callers key ∙ own.leads caller key has;
+      back = λ key node has.
+          let found = some_node (node_of old key) node.caller (sym (same.callers key) ∙ ap caller_of has) in
+          ap (key_of keys) (sym found.2) ∙ own.back key found.0 found.1;
     }
 
-relinked_before_holders : (link before : Option ℕ) (nodes : List (Option Node)) → SameHolders nodes (relinked_before link before nodes)
-relinked_before_holders None before nodes = record { holders = λ caller. refl; count = refl; len = refl }
-relinked_before_holders (Some at) before nodes =
-    record {
-      holders = is_some-changed nodes (λ node. record node { before = before }) at;
-      count = count-changed nodes (λ node. record node { before = before }) at;
-      len = length-set nodes at (option_map (λ (node : Node). record node { before = before }) (node_of nodes at));
-    }
-
-pub joined_holders : (before after : Option ℕ) (nodes : List (Option Node)) → SameHolders nodes (joined before after nodes)
-joined_holders before after nodes =
-    let once = relinked_after_holders before after nodes in
-    let twice = relinked_before_holders after before (relinked_after before after nodes) in
-    record {
-      holders = λ caller. twice.holders caller ∙ once.holders caller;
-      count = twice.count ∙ once.count;
-      len = twice.len ∙ once.len;
-    }
-
--- a caller at neither of two links keeps its node
-pub joined_other : (before after : Option ℕ) (nodes : List (Option Node)) (caller : ℕ) → before ≢ Some caller → after ≢ Some caller
-    → node_of (joined before after nodes) caller ≡ node_of nodes caller
-joined_other before after nodes caller apart_before apart_after =
-    relinked_before_other (relinked_after before after nodes) after before caller apart_after
-    ∙ relinked_after_other nodes before after caller apart_before
+-- a key at neither of two links keeps its node
+pub joined_other : (before after : Option ℕ) (nodes : List (Option Node)) (key : ℕ) → before ≢ Some key → after ≢ Some key
+    → node_of (joined before after nodes) key ≡ node_of nodes key
+joined_other before after nodes key apart_before apart_after =
+    relinked_before_other (relinked_after before after nodes) after before key apart_after
+    ∙ relinked_after_other nodes before after key apart_before
 
 pub list_any-set : {X : Type 0} (test : X → Bool) (xs : List X) (at : ℕ) (y d : X) → at < length xs → test y ≡ test (get_or xs at d)
     → list_any test (set xs at y) ≡ list_any test xs
@@ -169,17 +169,23 @@ pub calls_at : (nodes : List (Option Node)) (queues : List Queue) (slot : ℕ) �
     → queue_at (map (calls_in nodes) queues) slot ≡ calls_in nodes (get_or queues slot no_queue)
 calls_at nodes queues slot within = get_or-map (calls_in nodes) queues slot no_queue [] within
 
-no_node : (node : Option Node) → is_some node ≡ false → node ≡ None
-no_node None none = refl
-no_node (Some node) none = absurd (cc)
+no_key : (key : Option ℕ) → is_some key ≡ false → key ≡ None
+no_key None none = refl
+no_key (Some key) none = absurd (cc)
 
--- who waits nowhere has no node, and waits at no slot
-pub idle_node : (nodes : List (Option Node)) (queues : List Queue) (task : ℕ) → AreLinked nodes queues → waits task (map (calls_in nodes) queues) ≡ false
-    → node_of nodes task ≡ None
-idle_node nodes queues task linked idle = no_node _ (linked.waiting task ∙ idle)
+-- who waits nowhere has no node
+pub idle_key : (nodes : List (Option Node)) (keys : List (Option ℕ)) (queues : List Queue) (task : ℕ) → AreLinked nodes keys queues
+    → waits task (map (calls_in nodes) queues) ≡ false → key_of keys task ≡ None
+idle_key nodes keys queues task linked idle = no_key _ (linked.waiting task ∙ idle)
 
-pub idle_at : (nodes : List (Option Node)) (queues : List Queue) (task slot : ℕ) → slot < length queues → waits task (map (calls_in nodes) queues) ≡ false
-    → waits_in task (calls_in nodes (get_or queues slot no_queue)) ≡ false
-idle_at nodes queues task slot within idle =
-    false_from_ne_true _ (λ waiting. both_ways _ idle
-    (list_any_at (waits_in task) (map (calls_in nodes) queues) slot [] (rw length-map within) (rw (calls_at nodes queues slot within) waiting)))
+-- who has a node is known
+pub key_within : (keys : List (Option ℕ)) (caller : ℕ) → is_some (key_of keys caller) ≡ true → caller < length keys
+key_within [] caller has = absurd (cc)
+key_within (first ∷ rest) zero has = omega arith
+key_within (first ∷ rest) (suc caller) has = omega (arith, key_within rest caller has)
+
+-- a key that has a node is one of the slab's
+pub node_within : (nodes : List (Option Node)) (key : ℕ) → is_some (node_of nodes key) ≡ true → key < length nodes
+node_within [] key has = absurd (cc)
+node_within (first ∷ rest) zero has = omega arith
+node_within (first ∷ rest) (suc key) has = omega (arith, node_within rest key has)

@@ -1,5 +1,5 @@
--- How linked nodes keep the queues. The node of each queued call names the callers of the calls before
--- and after it, and each slot keeps the first and the last caller and the length of its queue.
+-- How linked nodes keep the queues. The node of each queued call has the keys of the nodes before and after
+-- it, and each slot keeps the keys of the first and the last node and the length of its queue.
 use Rattle.std.specs.Prelude.{ℕ, zero, suc, Option, List, [], ◌∷◌}
 use Rattle.std.specs.Option.{option_map_or, option_and_then}
 use Rattle.ada_tables.specs.declared.nodes.Node.{Node}

@@ -1,19 +1,18 @@
--- The nodes of queued calls. A task has one queued call at most, so a node is found by its caller, and
--- the nodes that it is linked to are named by theirs.
+-- The nodes of queued calls. They lie in a slab, which finds each by a key. A task has one queued call at
+-- most, and keeps the key of its node.
 use Rattle.std.specs.Prelude.{ℕ, Option, None, List, slice_index_or}
-use Rattle.std.specs.Option.{option_and_then}
-use Rattle.slab.specs.Slab.{Slab, get}
+use Rattle.slab.specs.Slab.{Slab}
 use Rattle.ada_tables.specs.declared.nodes.Node.{Node}
 
--- what a contract sees of the nodes: that of each caller, by number, and how many more find room
+-- what a contract sees of the nodes: the slab, and the key of each caller's node, by the caller's number
 pub record KeptNodes : Type 0 where
-  pub nodes : List (Option Node)
-  pub spare : ℕ
+  pub slab : Slab Node
+  pub keys : List (Option ℕ)
 
--- the node of a caller
+-- the node under a key
 abbrev pub node_of : List (Option Node) → ℕ → Option Node
-node_of nodes caller = slice_index_or nodes caller None
+node_of nodes key = slice_index_or nodes key None
 
--- the node under a key, if there is a key
-abbrev pub node_under : Slab Node → Option ℕ → Option Node
-node_under slab key = option_and_then (get slab) key
+-- the key of a caller's node
+abbrev pub key_of : List (Option ℕ) → ℕ → Option ℕ
+key_of keys caller = slice_index_or keys caller None

@@ -9,14 +9,14 @@ use crate::nodes::{Node, Nodes};
 use std::alloc::{AllocError, Global};
 use std::marker::Model;
 
-// The queue of one entry. A call puts its caller in last; a meeting, a failure, a cancellation and the halt of the
+// The queue of one entry. A call puts its node in last; a meeting, a failure, a cancellation and the halt of the
 // caller take it out.
 #[derive(Clone, Copy)]
 struct Queue {
-    // The caller of the first call.
-    first: Option<u16>,
-    // The caller of the last call.
-    last: Option<u16>,
+    // The key of the first call's node.
+    first: Option<usize>,
+    // The key of the last call's node.
+    last: Option<usize>,
     // How many calls there are: COUNT (9.9).
     len: u16,
 }
@@ -28,18 +28,18 @@ const EMPTY: Queue = Queue {
 };
 
 impl Queue {
-    // The queue with one more caller last.
-    fn with_last(self, caller: u16) -> Queue
+    // The queue with one more node last.
+    fn with_last(self, key: usize) -> Queue
         requires { self.len < 65535 }
         ensures { result ≡ record {
-          first = option_or self.first (Some caller);
-          last = Some caller;
+          first = option_or self.first (Some key);
+          last = Some key;
           len = self.len + 1;
         } }
     {
         Queue {
-            first: self.first.or(Some(caller)),
-            last: Some(caller),
+            first: self.first.or(Some(key)),
+            last: Some(key),
             len: self.len + 1,
         }
     }
@@ -78,7 +78,8 @@ pub struct Queues {
 }
 
 impl Model for Queues {
-    ghost use Rattle.std.specs.Prelude.{map, length};
+    ghost use Rattle.std.specs.Prelude.{map, length, ◌-◌};
+    ghost use Rattle.slab.specs.Slab.{slab_len};
     ghost use Rattle.ada_tables.specs.Queues.{Waiting};
 
     ghost Value = { Waiting };
@@ -87,12 +88,12 @@ impl Model for Queues {
     ghost use Rattle.ada_tables.specs.internal.Links.{AreLinked};
 
     ghost view = { λ q. record {
-      queues = map (calls_in q.nodes.nodes) q.queues.items;
-      callers = length q.nodes.nodes;
-      spare = q.nodes.spare;
+      queues = map (calls_in q.nodes.slab.slots) q.queues.items;
+      callers = length q.nodes.keys;
+      spare = q.nodes.slab.capacity - slab_len q.nodes.slab;
     } };
 
-    ghost invariant = { λ q. AreLinked q.nodes.nodes q.queues.items };
+    ghost invariant = { λ q. AreLinked q.nodes.slab.slots q.nodes.keys q.queues.items };
 }
 
 impl Queues {
@@ -146,7 +147,7 @@ impl Queues {
         requires { task < self.now.callers }
         ensures { result ≡ waits task self.now.queues }
     {
-        self.nodes.get(task).is_some()
+        self.nodes.has(task)
     }
 
     /// Makes room for one more call.
@@ -172,15 +173,15 @@ impl Queues {
         } }
     {
         let queue = self.queues[slot as usize];
-        self.queues[slot as usize] = queue.with_last(by);
-        self.nodes.insert_reserved(Node {
+        let key = self.nodes.insert_reserved(Node {
             call,
             caller: by,
             slot,
-            before: None,
+            before: queue.last,
             after: None,
         });
-        self.nodes.join(queue.last, Some(by));
+        self.nodes.set_after(queue.last, Some(key));
+        self.queues[slot as usize] = queue.with_last(key);
     }
 
     /// Takes a task's call out of the queue in which it waits.
@@ -204,8 +205,7 @@ impl Queues {
         ensures { result ≡ front_call (queue_at self.now.queues slot) }
     {
         let first = self.queues[slot as usize].first?;
-        let node = self.nodes.get(first)?;
-        Some(node.call)
+        self.nodes.call(first)
     }
 
     /// How many calls wait at a slot, at most 256: the attribute COUNT (9.9).
