@@ -139,7 +139,7 @@ impl Living {
     }
 
     fn make(&mut self) -> Answer {
-        match LongKernel::new(self.call.threshold(), self.alloc) {
+        match LongKernel::new(self.alloc, self.call.threshold()) {
             Ok(kernel) => {
                 self.kernel = Some(kernel);
                 Answer::Done

@@ -53,7 +53,7 @@ impl Living {
 
     // Makes the kernel and its tasks.
     fn begin(self, rt: &HostRuntime, threshold: u32) -> anyhow::Result<LongKernel> {
-        let mut kernel = LongKernel::new(threshold, rt.alloc())?;
+        let mut kernel = LongKernel::new(rt.alloc(), threshold)?;
         let mut tasks = LastingTasks::new();
         for before in 0..self.tasks {
             kernel.step(LastingRequest::Create {

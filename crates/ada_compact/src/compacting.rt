@@ -46,7 +46,7 @@ fn are_named(kernel: &Kernel, tasks: &[TaskNo], names: &Renaming) -> bool
 ///
 /// [`NotCompacted::NoRoom`] if tasks that are gone have to be replaced by helpers, up to three for a live task and two
 /// more, and there is no room for them; [`NotCompacted::OutOfMemory`]. In each case nothing has changed.
-pub fn compact(kernel: &Kernel, kept: &[TaskNo], alloc: Global) -> Result<Compacted, NotCompacted>
+pub fn compact(alloc: Global, kernel: &Kernel, kept: &[TaskNo]) -> Result<Compacted, NotCompacted>
     ensures stands { IfOk result (λ compacted.
         StandsIn kernel.now compacted.kernel (renaming_of compacted.names)) }
     ensures kept { IfOk result (λ compacted.
@@ -54,7 +54,7 @@ pub fn compact(kernel: &Kernel, kept: &[TaskNo], alloc: Global) -> Result<Compac
     ensures lawful { IfOk result (λ compacted. IsLawful compacted.kernel) }
     ensures settled { IfOk result (λ compacted. IsSettled compacted.kernel) }
 {
-    let compacted = shorten(kernel, kept, alloc)?;
+    let compacted = shorten(alloc, kernel, kept)?;
     let _journal = compacted.kernel.journal();
     if !stands_in(kernel, &compacted.kernel, &compacted.names) {
         return Err(NotCompacted::NotAlike);

@@ -178,9 +178,9 @@ impl Walk<'_> {
 ///
 /// [`NotCompacted::NoRoom`] where there is no room for helpers: up to three for a live task, and two more.
 pub(crate) fn shorten(
+    alloc: Global,
     old: &Kernel,
     kept: &[TaskNo],
-    alloc: Global,
 ) -> Result<Compacted, NotCompacted> {
     let mut walk = Walk::new(alloc, Source::new(old))?;
     walk.run(alloc, kept)?;

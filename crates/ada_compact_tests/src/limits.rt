@@ -92,7 +92,7 @@ fn call_in_vain() -> Request {
 
 /// Why the kernel can't be compacted.
 fn failure_of<R: AllocGlobal>(rt: &R, kernel: &Kernel) -> Option<NotCompacted> {
-    match compact(kernel, &[], rt.alloc()) {
+    match compact(rt.alloc(), kernel, &[]) {
         Ok(_) => None,
         Err(failure) => Some(failure),
     }

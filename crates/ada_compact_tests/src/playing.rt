@@ -47,7 +47,7 @@ pub fn check_once<R: Abort + AllocGlobal>(
     old: &Kernel,
     kept: &[TaskNo],
 ) -> Result<Kernel, Fail> {
-    let compacted = compact(old, kept, rt.alloc())?;
+    let compacted = compact(rt.alloc(), old, kept)?;
     assert_short(rt, old, kept, &compacted.kernel);
     assert_alike(rt, old, kept, &compacted);
     Ok(compacted.kernel)

@@ -26,7 +26,7 @@ pub use event::{Event, EventTail, Way};
 pub use journal::Journal;
 pub use names::{
     Choice, ChoiceList, Choices, DueList, Dues, Entry, Families, Family, FamilyList, Master,
-    Member, Nest, Patience, Pause, Pauses, TaskList, TaskNo, Tasks,
+    Member, Patience, Pause, Pauses, TaskList, TaskNo, Tasks,
 };
 pub use outcome::Outcome;
 pub use refusal::Refusal;

@@ -4,14 +4,13 @@ ghost use Rattle.std.specs.Prelude.{◌≡◌, ◌^◌, ◌-◌, ◌-ℤ◌, min
 ghost use Rattle.std.specs.List.{list_any};
 ghost use Rattle.std.specs.Option.{option_map_or};
 ghost use Rattle.ada_events.specs.Asks.{body_task};
-ghost use Rattle.ada_events.specs.declared.names.Member.TheVariants.{Block};
 ghost use Rattle.ada_events.specs.declared.names.TaskNo.{TaskNo as Task};
 ghost use Rattle.ada_events.specs.Entries as entries;
 ghost use Rattle.ada_events.specs.Phases.{lists_task};
 ghost use Rattle.ada_events.specs.Refusals.{is_rendezvous};
 ghost use Rattle.ada_events.specs.Search.{is_some_and};
 
-use crate::limits::{MOST_CHOICES, MOST_DELAYS, MOST_FAMILIES, MOST_MEMBERS, MOST_TASKS};
+use crate::limits::{MOST_CHOICES, MOST_DELAYS, MOST_FAMILIES, MOST_TASKS};
 use crate::{Bounded, SmallList, Stored};
 
 /// A task by its number, 0 to 255: 0 is the main program, and task `k` was made by the `k`-th
@@ -95,14 +94,6 @@ impl Member {
             Some(member) => member.is_rendezvous(),
             None => true,
         }
-    }
-}
-
-impl Default for Member {
-    ghost is_default = { λ member. member ≡ Block 0 };
-
-    fn default() -> Self {
-        Member::Block(0)
     }
 }
 
@@ -201,9 +192,6 @@ pub type Pauses = Bounded<Pause, MOST_DELAYS>;
 /// The moments at which the delay alternatives of a wait are due, in text order, at most 8. A closed
 /// alternative has none.
 pub type Dues = Bounded<Option<i64>, MOST_DELAYS>;
-
-/// What a task is within, outermost first, at most 32 members.
-pub type Nest = Bounded<Member, MOST_MEMBERS>;
 
 /// The tasks that an activation or an abort named, as its event keeps them.
 pub type TaskList = SmallList<TaskNo, 8, MOST_TASKS>;

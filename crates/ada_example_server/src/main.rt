@@ -124,7 +124,7 @@ fn main(rt: HostRuntime) -> anyhow::Result<()> {
         None => CLIENTS,
     };
     let mut service = Service {
-        kernel: LongKernel::new(THRESHOLD, rt.alloc())?,
+        kernel: LongKernel::new(rt.alloc(), THRESHOLD)?,
         server: MAIN,
         most: 0,
     };

@@ -85,7 +85,7 @@ impl LastingRequest {
 impl LongKernel {
     /// A kernel with an empty journal. The present journal is made shorter when it has `threshold` events, or twice as
     /// many as it had after it was made shorter last, if these are more. Fails with `OutOfMemory` alone.
-    pub fn new(threshold: u32, alloc: Global) -> Result<Self, NotDone>
+    pub fn new(alloc: Global, threshold: u32) -> Result<Self, NotDone>
         ensures { IfOk result (λ kernel. Follows [] kernel) }
     {
         let kernel = match Kernel::new(alloc) {
@@ -146,16 +146,16 @@ impl LongKernel {
         self.known();
         let Ok(kept) = self
             .masters
-            .kept(&self.kernel.view(), &self.names, self.alloc)
+            .kept(self.alloc, &self.kernel.view(), &self.names)
         else {
             return Err(NotDone::NotCompacted(NotCompacted::OutOfMemory));
         };
-        let Compacted { kernel, names } = match compact(&self.kernel, &kept, self.alloc) {
+        let Compacted { kernel, names } = match compact(self.alloc, &self.kernel, &kept) {
             Ok(compacted) => compacted,
             Err(cause) => return Err(NotDone::NotCompacted(cause)),
         };
         let until = kernel.journal().len();
-        let names = match self.names.moved(&names, until, self.alloc) {
+        let names = match self.names.moved(self.alloc, &names, until) {
             Ok(names) => names,
             Err(NotMoved::NoMoreNames) => return Err(NotDone::NoMoreNames),
             Err(NotMoved::OutOfMemory) => {

@@ -141,9 +141,9 @@ impl Masters {
     /// The terminated tasks that have names, and whose masters aren't gone.
     pub(crate) fn kept(
         &self,
+        alloc: Global,
         view: &View,
         names: &Names,
-        alloc: Global,
     ) -> Result<Vec<TaskNo>, AllocError>
         ensures { IfOk result (λ kept.
             All (IsKeptOrGone view.now names.now kept.items) self.now) }

@@ -39,7 +39,7 @@ impl<T: Drop> From<AllocFailed<T>> for NotMoved {
 }
 
 // The rows of the tasks that are named in the new present journal.
-fn moved_tasks(rows: &[Row], renaming: &Renaming, alloc: Global) -> Result<Vec<Row>, AllocError>
+fn moved_tasks(alloc: Global, rows: &[Row], renaming: &Renaming) -> Result<Vec<Row>, AllocError>
     requires { name_tasks rows.now ≡ true }
     ensures rows { IfOk result (λ out. out.items ≡ moved (named renaming.now.tasks) rows.now) }
     ensures small { IfOk result (λ out. name_tasks out.items ≡ true) }
@@ -57,7 +57,7 @@ fn moved_tasks(rows: &[Row], renaming: &Renaming, alloc: Global) -> Result<Vec<R
 }
 
 // The rows of the old places that are named in the new present journal.
-fn moved_rows(rows: &[Row], renaming: &Renaming, alloc: Global) -> Result<Vec<Row>, AllocError>
+fn moved_rows(alloc: Global, rows: &[Row], renaming: &Renaming) -> Result<Vec<Row>, AllocError>
     ensures { IfOk result (λ out. out.items ≡ moved (placed renaming.now.places) rows.now) }
 {
     let mut out = Vec::new(alloc);
@@ -93,9 +93,9 @@ impl Names {
     /// stands for what; none where the lasting journal gets within 2^33 of 2^64.
     pub(crate) fn moved(
         &self,
+        alloc: Global,
         renaming: &Renaming,
         until: u32,
-        alloc: Global,
     ) -> Result<Names, NotMoved>
         ensures { IfOk result (λ names. names ≡ moved_names self.now renaming.now until) }
     {
@@ -103,8 +103,8 @@ impl Names {
         if since > MOST_LASTING {
             return Err(NotMoved::NoMoreNames);
         }
-        let tasks = moved_tasks(&self.tasks, renaming, alloc)?;
-        let mut places = moved_rows(&self.places, renaming, alloc)?;
+        let tasks = moved_tasks(alloc, &self.tasks, renaming)?;
+        let mut places = moved_rows(alloc, &self.places, renaming)?;
         self.add_later(renaming.places(), &mut places)?;
         Ok(Names {
             tasks,

@@ -75,11 +75,11 @@ fn is_left(plain: &Kernel, by: TaskNo, block: u32) -> bool {
 
 impl Both {
     /// Both with empty journals.
-    pub fn new(threshold: u32, alloc: Global) -> Result<Self, Unlike> {
+    pub fn new(alloc: Global, threshold: u32) -> Result<Self, Unlike> {
         let Ok(plain) = Kernel::new(alloc) else {
             return Err(Unlike::OutOfMemory);
         };
-        let Ok(long) = LongKernel::new(threshold, alloc) else {
+        let Ok(long) = LongKernel::new(alloc, threshold) else {
             return Err(Unlike::OutOfMemory);
         };
         let mut both = Both {

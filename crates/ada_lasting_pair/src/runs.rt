@@ -86,7 +86,7 @@ impl Run {
     /// Plays the run from two fresh kernels. What both answer and append is compared after each request, and what they
     /// show after each tenth.
     pub fn play(&self, alloc: Global, sum: &mut Sum) -> Result<(), Found> {
-        let mut both = match Both::new(self.threshold, alloc) {
+        let mut both = match Both::new(alloc, self.threshold) {
             Ok(both) => both,
             Err(unlike) => return Err(Found { request: 0, unlike }),
         };

@@ -42,7 +42,7 @@ struct Living {
 /// Lives so many generations.
 pub fn live(alloc: Global, generations: u64) -> anyhow::Result<Life> {
     let mut living = Living {
-        kernel: LongKernel::new(THRESHOLD, alloc)?,
+        kernel: LongKernel::new(alloc, THRESHOLD)?,
         life: Life::default(),
     };
     for number in 0..generations {

@@ -30,7 +30,7 @@ pub fn play_shown(rt: &HostRuntime, number: u64, length: u64) -> anyhow::Result<
         "up to {} requests, threshold {}",
         run.length, run.threshold
     )?;
-    let mut both = Both::new(run.threshold, rt.alloc())?;
+    let mut both = Both::new(rt.alloc(), run.threshold)?;
     show_all(rt, &run, &mut both)
 }
 

@@ -31,7 +31,7 @@ fn assert_nothing<R: Abort>(rt: &R, kernel: &LongKernel, task: u64) {
 
 #[test]
 fn attributes_are_those_of_the_task_that_is_named(rt: HostRuntime) -> Result<(), Fail> {
-    let mut kernel = LongKernel::new(LATE, rt.alloc())?;
+    let mut kernel = LongKernel::new(rt.alloc(), LATE)?;
     start_to_call(&rt, &mut kernel);
     assert_attributes(&rt, &kernel, MAIN, [false, true, true]);
     assert_attributes(&rt, &kernel, 2, [false, true, true]);
@@ -50,7 +50,7 @@ fn attributes_are_those_of_the_task_that_is_named(rt: HostRuntime) -> Result<(),
 
 #[test]
 fn nothing_is_told_of_who_was_given_up_or_never_made(rt: HostRuntime) -> Result<(), Fail> {
-    let mut kernel = LongKernel::new(LATE, rt.alloc())?;
+    let mut kernel = LongKernel::new(rt.alloc(), LATE)?;
     start_to_call(&rt, &mut kernel);
     for task in UNNAMED {
         assert_nothing(&rt, &kernel, task);
@@ -75,7 +75,7 @@ fn assert_accepted_it<R: Abort>(rt: &R, kernel: &LongKernel, task: u64) {
 
 #[test]
 fn outcomes_are_those_of_the_task_that_is_named(rt: HostRuntime) -> Result<(), Fail> {
-    let mut kernel = LongKernel::new(LATE, rt.alloc())?;
+    let mut kernel = LongKernel::new(rt.alloc(), LATE)?;
     start_to_call(&rt, &mut kernel);
     assert_outcome(&rt, &kernel, MAIN, Outcome::ActivationOk);
     assert_outcome(&rt, &kernel, 2, Outcome::Nothing);
@@ -111,7 +111,7 @@ fn assert_uncounted<R: Abort>(rt: &R, kernel: &LongKernel, by: u64, entry: Entry
 
 #[test]
 fn count_is_that_of_the_task_that_is_named(rt: HostRuntime) -> Result<(), Fail> {
-    let mut kernel = LongKernel::new(LATE, rt.alloc())?;
+    let mut kernel = LongKernel::new(rt.alloc(), LATE)?;
     start_to_call(&rt, &mut kernel);
     assert_count(&rt, &kernel, 2, ENTRY, Ok(1));
     assert_uncounted(&rt, &kernel, 3, ENTRY, Refusal::NotRunning);
@@ -122,7 +122,7 @@ fn count_is_that_of_the_task_that_is_named(rt: HostRuntime) -> Result<(), Fail> 
 
 #[test]
 fn count_is_refused_for_its_cause(rt: HostRuntime) -> Result<(), Fail> {
-    let mut kernel = LongKernel::new(LATE, rt.alloc())?;
+    let mut kernel = LongKernel::new(rt.alloc(), LATE)?;
     start_to_call(&rt, &mut kernel);
     let family = Entry {
         family: 1,
@@ -144,7 +144,7 @@ fn count_is_refused_for_its_cause(rt: HostRuntime) -> Result<(), Fail> {
 
 #[test]
 fn it_has_finished_once_the_main_program_is_terminated(rt: HostRuntime) -> Result<(), Fail> {
-    let mut kernel = LongKernel::new(LATE, rt.alloc())?;
+    let mut kernel = LongKernel::new(rt.alloc(), LATE)?;
     start_to_call(&rt, &mut kernel);
     // With it the called task is halted, the call fails, and the task is gone.
     assert_accepted(&rt, &mut kernel, abort(MAIN, 2), 19);

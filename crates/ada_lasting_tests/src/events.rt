@@ -81,7 +81,7 @@ fn assert_no_events<R: Abort>(rt: &R, kernel: &LongKernel) {
 
 #[test]
 fn events_have_lasting_names(rt: HostRuntime) -> Result<(), Fail> {
-    let mut kernel = LongKernel::new(4096, rt.alloc())?;
+    let mut kernel = LongKernel::new(rt.alloc(), 4096)?;
     start_to_call(&rt, &mut kernel);
     assert_no_events(&rt, &kernel);
     assert_accepted(&rt, &mut kernel, accept(2), 19);
@@ -98,7 +98,7 @@ fn events_have_lasting_names(rt: HostRuntime) -> Result<(), Fail> {
 
 #[test]
 fn what_the_present_journal_lacks_has_no_name(rt: HostRuntime) -> Result<(), Fail> {
-    let mut kernel = LongKernel::new(4096, rt.alloc())?;
+    let mut kernel = LongKernel::new(rt.alloc(), 4096)?;
     start_to_call(&rt, &mut kernel);
     let names = kernel.names();
     let present = kernel.present();

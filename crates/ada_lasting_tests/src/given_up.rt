@@ -16,7 +16,7 @@ const LATE: u32 = 4096;
 fn a_release_is_refused_for_who_never_was_the_main_program_and_who_lives(
     rt: HostRuntime,
 ) -> Result<(), Fail> {
-    let mut kernel = LongKernel::new(LATE, rt.alloc())?;
+    let mut kernel = LongKernel::new(rt.alloc(), LATE)?;
     assert_release(
         &rt,
         &mut kernel,
@@ -55,7 +55,7 @@ fn assert_unnamed<R: Abort>(rt: &R, kernel: &mut LongKernel) {
 
 #[test]
 fn a_released_task_is_never_named_again(rt: HostRuntime) -> Result<(), Fail> {
-    let mut kernel = LongKernel::new(LATE, rt.alloc())?;
+    let mut kernel = LongKernel::new(rt.alloc(), LATE)?;
     live_and_end(&rt, &mut kernel, MAIN, MAIN_BODY, 1);
     assert_release(&rt, &mut kernel, 1, Ok(()));
     assert_unnamed(&rt, &mut kernel);
@@ -70,7 +70,7 @@ fn a_released_task_is_never_named_again(rt: HostRuntime) -> Result<(), Fail> {
 
 #[test]
 fn a_task_is_given_up_once_its_block_is_left(rt: HostRuntime) -> Result<(), Fail> {
-    let mut kernel = LongKernel::new(LATE, rt.alloc())?;
+    let mut kernel = LongKernel::new(rt.alloc(), LATE)?;
     assert_accepted(&rt, &mut kernel, LastingRequest::Open { by: MAIN }, 1);
     live_and_end(&rt, &mut kernel, MAIN, LastingMaster::Block(1), 2);
     assert_compacts(&rt, &mut kernel);
@@ -89,7 +89,7 @@ fn a_task_is_given_up_once_its_block_is_left(rt: HostRuntime) -> Result<(), Fail
 
 #[test]
 fn a_task_is_given_up_once_its_master_terminates(rt: HostRuntime) -> Result<(), Fail> {
-    let mut kernel = LongKernel::new(LATE, rt.alloc())?;
+    let mut kernel = LongKernel::new(rt.alloc(), LATE)?;
     make_up(&rt, &mut kernel, MAIN, MAIN_BODY, 1);
     live_and_end(&rt, &mut kernel, 1, LastingMaster::Body(1), 5);
     assert_compacts(&rt, &mut kernel);
@@ -106,7 +106,7 @@ fn a_task_is_given_up_once_its_master_terminates(rt: HostRuntime) -> Result<(), 
 fn a_task_is_given_up_once_its_block_ended_with_the_task_that_opened_it(
     rt: HostRuntime,
 ) -> Result<(), Fail> {
-    let mut kernel = LongKernel::new(LATE, rt.alloc())?;
+    let mut kernel = LongKernel::new(rt.alloc(), LATE)?;
     make_up(&rt, &mut kernel, MAIN, MAIN_BODY, 1);
     assert_accepted(&rt, &mut kernel, LastingRequest::Open { by: 1 }, 5);
     live_and_end(&rt, &mut kernel, 1, LastingMaster::Block(5), 6);
@@ -137,7 +137,7 @@ fn assert_shorter<R: Abort>(rt: &R, kernel: &mut LongKernel) {
 
 #[test]
 fn a_refused_request_may_give_tasks_up(rt: HostRuntime) -> Result<(), Fail> {
-    let mut kernel = LongKernel::new(9, rt.alloc())?;
+    let mut kernel = LongKernel::new(rt.alloc(), 9)?;
     begin_due(&rt, &mut kernel);
     assert_refused(&rt, &mut kernel, complete(2), Refusal::UnknownTask);
     assert_shorter(&rt, &mut kernel);
@@ -146,12 +146,12 @@ fn a_refused_request_may_give_tasks_up(rt: HostRuntime) -> Result<(), Fail> {
 
 #[test]
 fn a_request_may_give_up_the_very_task_that_it_names(rt: HostRuntime) -> Result<(), Fail> {
-    let mut kernel = LongKernel::new(9, rt.alloc())?;
+    let mut kernel = LongKernel::new(rt.alloc(), 9)?;
     begin_due(&rt, &mut kernel);
     assert_given_up(&rt, &mut kernel, abort(MAIN, 1), 1);
     assert_shorter(&rt, &mut kernel);
     // Here the journal isn't due yet, and an abort of a terminated task is accepted.
-    let mut kernel = LongKernel::new(10, rt.alloc())?;
+    let mut kernel = LongKernel::new(rt.alloc(), 10)?;
     begin_due(&rt, &mut kernel);
     assert_accepted(&rt, &mut kernel, abort(MAIN, 1), 10);
     Ok(())

@@ -24,7 +24,7 @@ fn fill<R: Abort>(rt: &R, kernel: &mut LongKernel) {
 fn no_task_is_made_beside_256_until_a_terminated_one_is_released(
     rt: HostRuntime,
 ) -> Result<(), Fail> {
-    let mut kernel = LongKernel::new(4096, rt.alloc())?;
+    let mut kernel = LongKernel::new(rt.alloc(), 4096)?;
     fill(&rt, &mut kernel);
     assert_refused(
         &rt,
@@ -76,7 +76,7 @@ fn meet<R: Abort>(rt: &R, kernel: &mut LongKernel, rounds: u64) {
 #[test]
 fn positions_are_the_same_at_each_threshold(rt: HostRuntime) -> Result<(), Fail> {
     for threshold in [0, 1, 12, 65_535, 65_536, 65_537, u32::MAX] {
-        let mut kernel = LongKernel::new(threshold, rt.alloc())?;
+        let mut kernel = LongKernel::new(rt.alloc(), threshold)?;
         make_two(&rt, &mut kernel);
         meet(&rt, &mut kernel, 100);
     }
@@ -100,7 +100,7 @@ fn assert_length<R: Abort>(rt: &R, kernel: &LongKernel, length: u32) {
 #[test]
 fn the_present_journal_is_made_shorter_at_its_threshold(rt: HostRuntime) -> Result<(), Fail> {
     for threshold in [8u32, 100, 4096] {
-        let mut kernel = LongKernel::new(threshold, rt.alloc())?;
+        let mut kernel = LongKernel::new(rt.alloc(), threshold)?;
         let ticks = u64::from(threshold);
         tick(&rt, &mut kernel, 0, ticks);
         assert_length(&rt, &kernel, threshold);
@@ -115,7 +115,7 @@ fn the_present_journal_is_made_shorter_at_its_threshold(rt: HostRuntime) -> Resu
 fn the_journal_is_never_full(rt: HostRuntime) -> Result<(), Fail> {
     let ticks = MOST_EVENTS as u64 + 1000;
     for threshold in [4096, u32::MAX] {
-        let mut kernel = LongKernel::new(threshold, rt.alloc())?;
+        let mut kernel = LongKernel::new(rt.alloc(), threshold)?;
         tick(&rt, &mut kernel, 0, ticks);
         assert!(&rt; (kernel.present().journal().len() as usize) < MOST_EVENTS);
     }
@@ -136,7 +136,7 @@ fn call_in_vain() -> LastingRequest {
 fn with_no_room_for_a_helper_a_full_present_journal_takes_no_more(
     rt: HostRuntime,
 ) -> Result<(), Fail> {
-    let mut kernel = LongKernel::new(4096, rt.alloc())?;
+    let mut kernel = LongKernel::new(rt.alloc(), 4096)?;
     fill(&rt, &mut kernel);
     assert_accepted(&rt, &mut kernel, activate(MAIN, 1), 256);
     assert_accepted(&rt, &mut kernel, up(1), 257);

@@ -86,7 +86,7 @@ impl Meaning {
     {
         match self {
             Meaning::Task { entries, made } => Ok(Meaning::Task {
-                entries: copy_of(entries, alloc)?,
+                entries: copy_of(alloc, entries)?,
                 made: *made,
             }),
             Meaning::Block { opened } => Ok(Meaning::Block { opened: *opened }),
@@ -124,7 +124,7 @@ impl Meaning {
 }
 
 /// Other names of the same bytes.
-fn copy_of(names: &EntryNames, alloc: Global) -> Result<EntryNames, AllocError>
+fn copy_of(alloc: Global, names: &EntryNames) -> Result<EntryNames, AllocError>
     ensures { IfOk result (λ copy. copy ≡ names.now) }
 {
     let mut copy = EntryNames::new(alloc);

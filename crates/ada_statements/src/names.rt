@@ -428,7 +428,7 @@ impl Names {
         ensures err { OnErr result (self.new ≡ self.old) }
         ensures memory { IsOkUnless result Cause.OutOfMemory }
     {
-        let entries = names_of(families.as_slice(), *self.table.allocator())?;
+        let entries = names_of(*self.table.allocator(), families.as_slice())?;
         self.insert(
             task,
             Meaning::Task {
@@ -495,7 +495,7 @@ fn with_place(places: Option<Places>, meaning: &Meaning, place: usize) -> Option
 }
 
 /// The names of some families.
-fn names_of(families: &[Declaration], alloc: Global) -> Result<EntryNames, AllocError>
+fn names_of(alloc: Global, families: &[Declaration]) -> Result<EntryNames, AllocError>
     requires { length families.now ≤ MOST_FAMILIES }
     ensures { IfOk result (λ names. names ≡ map (λ f. f.name) families.now) }
 {
