@@ -18,6 +18,8 @@ use std::sync::Wait;
 pub enum Call {
     KernelNew,
     KernelStep(Scene),
+    /// A call of an entry, for which there is room in the journal, but not among the queued calls.
+    KernelCall,
     TablesNew,
     AddTask,
     ReserveCall,
@@ -37,12 +39,14 @@ pub enum Call {
 }
 
 /// All of them.
-pub const CALLS: [Call; 25] = [
+pub const CALLS: [Call; 27] = [
     Call::KernelNew,
     Call::KernelStep(Scene::EachEvent),
     Call::KernelStep(Scene::Termination),
+    Call::KernelStep(Scene::Quit),
     Call::KernelStep(Scene::SelfAbort),
     Call::KernelStep(Scene::Abort),
+    Call::KernelCall,
     Call::TablesNew,
     Call::AddTask,
     Call::ReserveCall,
@@ -68,15 +72,16 @@ pub const CALLS: [Call; 25] = [
 /// How many tasks there may be before one is added in a trial of it.
 const TASKS: usize = 9;
 
+/// The requests of the queue at which there is no room among the queued calls: the first call, and the fifth.
+const CALLS_WITHOUT_ROOM: [usize; 2] = [12, 16];
+
 impl Call {
     /// Its name.
     pub fn name(self) -> &'static str {
         match self {
             Call::KernelNew => "Kernel::new",
-            Call::KernelStep(Scene::EachEvent) => "Kernel::step",
-            Call::KernelStep(Scene::Termination) => "Kernel::step:termination",
-            Call::KernelStep(Scene::SelfAbort) => "Kernel::step:self_abort",
-            Call::KernelStep(Scene::Abort) => "Kernel::step:abort",
+            Call::KernelStep(scene) => step_name(scene),
+            Call::KernelCall => "Kernel::step:call",
             Call::TablesNew => "Tables::new",
             Call::AddTask => "Tables::add_task",
             Call::ReserveCall => "Tables::reserve_call",
@@ -105,6 +110,7 @@ impl Call {
             Call::Words => LINES,
             Call::WriteEvent => EVENTS,
             Call::WriteShown => 2,
+            Call::KernelCall => CALLS_WITHOUT_ROOM.len(),
             Call::HallSay => saying::LINES,
             _ => 1,
         }
@@ -121,6 +127,7 @@ impl Call {
         match self {
             Call::KernelNew => Ok(go(Making::prepare(alloc), Making::prepare(alloc), reach)),
             Call::KernelStep(scene) => step(alloc, scene, number, reach),
+            Call::KernelCall => call_entry(alloc, number, reach),
             Call::TablesNew => Ok(table(alloc, TableCall::New, 1, reach)),
             Call::AddTask => Ok(table(alloc, TableCall::AddTask, number, reach)),
             Call::ReserveCall => Ok(table(alloc, TableCall::ReserveCall, number, reach)),
@@ -145,6 +152,17 @@ impl Call {
     }
 }
 
+fn step_name(scene: Scene) -> &'static str {
+    match scene {
+        Scene::EachEvent => "Kernel::step",
+        Scene::Termination => "Kernel::step:termination",
+        Scene::Quit => "Kernel::step:quit",
+        Scene::SelfAbort => "Kernel::step:self_abort",
+        Scene::Abort => "Kernel::step:abort",
+        Scene::Queue => "Kernel::step:queue",
+    }
+}
+
 fn shown(number: usize) -> Printed {
     if number == 1 {
         Printed::Truth
@@ -156,6 +174,16 @@ fn shown(number: usize) -> Printed {
 fn step(alloc: Global, scene: Scene, number: usize, reach: Reach) -> anyhow::Result<Option<Seen>> {
     let trial = Play::prepare(alloc, scene, number)?;
     let twin = Play::prepare(alloc, scene, number)?;
+    Ok(go(trial, twin, reach))
+}
+
+fn call_entry(alloc: Global, number: usize, reach: Reach) -> anyhow::Result<Option<Seen>> {
+    let request = CALLS_WITHOUT_ROOM
+        .get(number.saturating_sub(1))
+        .copied()
+        .unwrap_or(0);
+    let trial = Play::before(alloc, Scene::Queue, request)?;
+    let twin = Play::before(alloc, Scene::Queue, request)?;
     Ok(go(trial, twin, reach))
 }
 

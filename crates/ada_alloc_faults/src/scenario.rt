@@ -82,15 +82,68 @@ main: call S E
 S: abort S
 ";
 
+/// The same tasks terminate at once, since no call holds them up.
+const QUIT: &[u8] = b"main: create C under main
+main: activate C
+C: up
+main: open B
+main: create X under B E
+main: create Y under B E
+main: activate X Y
+X: create Z under X E
+X: activate Z
+Z: up
+X: up
+Y: up
+X: select 0 accept E or terminate
+Y: select 0 accept E or terminate
+Z: select 0 closed accept E or terminate
+main: close
+";
+
 /// A caller is aborted within its rendezvous, which then ends.
-const ABORT: &[u8] = b"main: create S under main E
+const ABORT: &[u8] = b"main: create S under main E G
 main: create A under main
-main: activate S A
+main: create B under main
+main: activate S A B
 S: up
 A: up
+B: up
 S: accept E
 A: call S E
 main: abort A
+main: show callable A
+main: show terminated A
+S: end
+main: show terminated A
+";
+
+/// Five calls wait in one queue, and are served in the order of their arrival.
+const QUEUE: &[u8] = b"main: create S under main E
+main: create A under main
+main: create B under main
+main: create C under main
+main: create D under main
+main: activate S A B C D
+S: up
+A: up
+B: up
+C: up
+D: up
+A: call S E
+B: call S E
+C: call S E
+D: call S E
+main: call S E
+S: accept E
+S: end
+S: accept E
+S: end
+S: accept E
+S: end
+S: accept E
+S: end
+S: accept E
 S: end
 ";
 
@@ -100,8 +153,10 @@ pub enum Scene {
     /// The script that leads to each kind of event.
     EachEvent,
     Termination,
+    Quit,
     SelfAbort,
     Abort,
+    Queue,
 }
 
 impl Scene {
@@ -109,18 +164,22 @@ impl Scene {
         match self {
             Scene::EachEvent => SCRIPT,
             Scene::Termination => TERMINATION,
+            Scene::Quit => QUIT,
             Scene::SelfAbort => SELF_ABORT,
             Scene::Abort => ABORT,
+            Scene::Queue => QUEUE,
         }
     }
 
-    /// How many requests the script begins with.
+    /// How many requests the script makes.
     pub fn requests(self) -> usize {
         match self {
             Scene::EachEvent => REQUESTS,
             Scene::Termination => 18,
+            Scene::Quit => 16,
             Scene::SelfAbort => 13,
-            Scene::Abort => 9,
+            Scene::Abort => 11,
+            Scene::Queue => 26,
         }
     }
 
@@ -128,9 +187,9 @@ impl Scene {
     fn names(self) -> &'static [&'static [u8]] {
         match self {
             Scene::EachEvent => &[b"main", b"B", b"S", b"A", b"C"],
-            Scene::Termination => &[b"main", b"C", b"B", b"X", b"Y", b"Z"],
-            Scene::SelfAbort => &[b"main", b"S", b"A", b"B"],
-            Scene::Abort => &[b"main", b"S", b"A"],
+            Scene::Termination | Scene::Quit => &[b"main", b"C", b"B", b"X", b"Y", b"Z"],
+            Scene::SelfAbort | Scene::Abort => &[b"main", b"S", b"A", b"B"],
+            Scene::Queue => &[b"main", b"S", b"A", b"B", b"C", b"D"],
         }
     }
 
