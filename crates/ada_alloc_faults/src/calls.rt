@@ -5,6 +5,7 @@ use crate::halls::{HallCall, try_hall};
 use crate::journals::Reserving;
 use crate::kernels::{Making, Play};
 use crate::lasting::{LastingCall, Living};
+use crate::playing::{Playing, try_playing};
 use crate::saying;
 use crate::scenario::{EVENTS, LINES, Scene};
 use crate::scripts::{Copying, Printed, Printing, Reading, Spelling};
@@ -12,6 +13,7 @@ use crate::tables::{TableCall, TableTrial};
 use crate::trial::{Reach, Seen, go};
 use std::alloc::Global;
 use std::sync::Wait;
+use std::thread::Threads;
 
 /// A library call that takes memory.
 #[derive(Clone, Copy, Debug, PartialEq, Eq)]
@@ -35,11 +37,12 @@ pub enum Call {
     HallNew,
     HallStep,
     HallSay,
+    Playing(Playing),
     Lasting(LastingCall),
 }
 
 /// All of them.
-pub const CALLS: [Call; 27] = [
+pub const CALLS: [Call; 30] = [
     Call::KernelNew,
     Call::KernelStep(Scene::EachEvent),
     Call::KernelStep(Scene::Termination),
@@ -62,6 +65,9 @@ pub const CALLS: [Call; 27] = [
     Call::HallNew,
     Call::HallStep,
     Call::HallSay,
+    Call::Playing(Playing::Replay),
+    Call::Playing(Playing::Run),
+    Call::Playing(Playing::ReadAndRun),
     Call::Lasting(LastingCall::New),
     Call::Lasting(LastingCall::Create),
     Call::Lasting(LastingCall::DueTick),
@@ -81,7 +87,7 @@ impl Call {
         match self {
             Call::KernelNew => "Kernel::new",
             Call::KernelStep(scene) => step_name(scene),
-            Call::KernelCall => "Kernel::step:call",
+            Call::KernelCall => step_name(Scene::Queue),
             Call::TablesNew => "Tables::new",
             Call::AddTask => "Tables::add_task",
             Call::ReserveCall => "Tables::reserve_call",
@@ -97,12 +103,13 @@ impl Call {
             Call::HallNew => "Hall::new",
             Call::HallStep => "Hall::step",
             Call::HallSay => "Hall::say",
+            Call::Playing(call) => call.name(),
             Call::Lasting(call) => call.name(),
         }
     }
 
     /// How many trials of it there are: of each request, line or event, of a truth and of a number, of each number of
-    /// tasks.
+    /// tasks, of each script.
     pub fn numbers(self) -> usize {
         match self {
             Call::KernelStep(scene) => scene.requests(),
@@ -112,12 +119,13 @@ impl Call {
             Call::WriteShown => 2,
             Call::KernelCall => CALLS_WITHOUT_ROOM.len(),
             Call::HallSay => saying::LINES,
+            Call::Playing(_) => 2,
             _ => 1,
         }
     }
 
     /// Goes so far in a trial of it, and gives what was seen of a whole one.
-    pub fn go<R: Wait + AllocGlobal>(
+    pub fn go<R: Threads + Wait + Sync + AllocGlobal>(
         self,
         rt: &R,
         number: usize,
@@ -147,6 +155,7 @@ impl Call {
             Call::HallNew => try_hall(rt, HallCall::New, reach),
             Call::HallStep => try_hall(rt, HallCall::Step, reach),
             Call::HallSay => try_hall(rt, HallCall::Say(number), reach),
+            Call::Playing(call) => try_playing(rt, call, number, reach),
             Call::Lasting(call) => Ok(lasting(alloc, call, number, reach)),
         }
     }
@@ -159,7 +168,7 @@ fn step_name(scene: Scene) -> &'static str {
         Scene::Quit => "Kernel::step:quit",
         Scene::SelfAbort => "Kernel::step:self_abort",
         Scene::Abort => "Kernel::step:abort",
-        Scene::Queue => "Kernel::step:queue",
+        Scene::Queue => "Kernel::step:call",
     }
 }
 

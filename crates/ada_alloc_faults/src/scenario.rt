@@ -118,6 +118,27 @@ S: end
 main: show terminated A
 ";
 
+/// What it prints.
+const ABORT_PRINTED: &[u8] = b"1 main created S under main with E(0..0) G(0..0)
+2 main created A under main
+3 main created B under main
+4 main started S A B
+5 S up
+6 A up
+7 B up
+8 activated 4 ok
+9 S waits 0 accept E(0)
+10 A called S.E(0)
+11 met 10 9
+12 main aborted A
+shown line 11: false
+shown line 12: false
+13 S ended 10
+14 halted A
+15 gone A
+shown line 14: true
+";
+
 /// Five calls wait in one queue, and are served in the order of their arrival.
 const QUEUE: &[u8] = b"main: create S under main E
 main: create A under main
@@ -168,6 +189,14 @@ impl Scene {
             Scene::SelfAbort => SELF_ABORT,
             Scene::Abort => ABORT,
             Scene::Queue => QUEUE,
+        }
+    }
+
+    /// What the script prints, where that was worked out by hand.
+    pub fn printed(self) -> Option<&'static [u8]> {
+        match self {
+            Scene::Abort => Some(ABORT_PRINTED),
+            _ => None,
         }
     }
 
