@@ -5,6 +5,7 @@ use crate::halls::{HallCall, try_hall};
 use crate::journals::Reserving;
 use crate::kernels::{Making, Play};
 use crate::lasting::{LastingCall, Living};
+use crate::playing::{Playing, try_playing};
 use crate::saying;
 use crate::scenario::{EVENTS, LINES, Scene};
 use crate::scripts::{Copying, Printed, Printing, Reading, Spelling};
@@ -12,12 +13,15 @@ use crate::tables::{TableCall, TableTrial};
 use crate::trial::{Reach, Seen, go};
 use std::alloc::Global;
 use std::sync::Wait;
+use std::thread::Threads;
 
 /// A library call that takes memory.
 #[derive(Clone, Copy, Debug, PartialEq, Eq)]
 pub enum Call {
     KernelNew,
     KernelStep(Scene),
+    /// A call of an entry, for which there is room in the journal, but not among the queued calls.
+    KernelCall,
     TablesNew,
     AddTask,
     ReserveCall,
@@ -33,16 +37,19 @@ pub enum Call {
     HallNew,
     HallStep,
     HallSay,
+    Playing(Playing),
     Lasting(LastingCall),
 }
 
 /// All of them.
-pub const CALLS: [Call; 25] = [
+pub const CALLS: [Call; 30] = [
     Call::KernelNew,
     Call::KernelStep(Scene::EachEvent),
     Call::KernelStep(Scene::Termination),
+    Call::KernelStep(Scene::Quit),
     Call::KernelStep(Scene::SelfAbort),
     Call::KernelStep(Scene::Abort),
+    Call::KernelCall,
     Call::TablesNew,
     Call::AddTask,
     Call::ReserveCall,
@@ -58,6 +65,9 @@ pub const CALLS: [Call; 25] = [
     Call::HallNew,
     Call::HallStep,
     Call::HallSay,
+    Call::Playing(Playing::Replay),
+    Call::Playing(Playing::Run),
+    Call::Playing(Playing::ReadAndRun),
     Call::Lasting(LastingCall::New),
     Call::Lasting(LastingCall::Create),
     Call::Lasting(LastingCall::DueTick),
@@ -68,15 +78,16 @@ pub const CALLS: [Call; 25] = [
 /// How many tasks there may be before one is added in a trial of it.
 const TASKS: usize = 9;
 
+/// The requests of the queue at which there is no room among the queued calls: the first call, and the fifth.
+const CALLS_WITHOUT_ROOM: [usize; 2] = [12, 16];
+
 impl Call {
     /// Its name.
     pub fn name(self) -> &'static str {
         match self {
             Call::KernelNew => "Kernel::new",
-            Call::KernelStep(Scene::EachEvent) => "Kernel::step",
-            Call::KernelStep(Scene::Termination) => "Kernel::step:termination",
-            Call::KernelStep(Scene::SelfAbort) => "Kernel::step:self_abort",
-            Call::KernelStep(Scene::Abort) => "Kernel::step:abort",
+            Call::KernelStep(scene) => step_name(scene),
+            Call::KernelCall => step_name(Scene::Queue),
             Call::TablesNew => "Tables::new",
             Call::AddTask => "Tables::add_task",
             Call::ReserveCall => "Tables::reserve_call",
@@ -92,12 +103,13 @@ impl Call {
             Call::HallNew => "Hall::new",
             Call::HallStep => "Hall::step",
             Call::HallSay => "Hall::say",
+            Call::Playing(call) => call.name(),
             Call::Lasting(call) => call.name(),
         }
     }
 
     /// How many trials of it there are: of each request, line or event, of a truth and of a number, of each number of
-    /// tasks.
+    /// tasks, of each script.
     pub fn numbers(self) -> usize {
         match self {
             Call::KernelStep(scene) => scene.requests(),
@@ -105,13 +117,15 @@ impl Call {
             Call::Words => LINES,
             Call::WriteEvent => EVENTS,
             Call::WriteShown => 2,
+            Call::KernelCall => CALLS_WITHOUT_ROOM.len(),
             Call::HallSay => saying::LINES,
+            Call::Playing(_) => 2,
             _ => 1,
         }
     }
 
     /// Goes so far in a trial of it, and gives what was seen of a whole one.
-    pub fn go<R: Wait + AllocGlobal>(
+    pub fn go<R: Threads + Wait + Sync + AllocGlobal>(
         self,
         rt: &R,
         number: usize,
@@ -121,6 +135,7 @@ impl Call {
         match self {
             Call::KernelNew => Ok(go(Making::prepare(alloc), Making::prepare(alloc), reach)),
             Call::KernelStep(scene) => step(alloc, scene, number, reach),
+            Call::KernelCall => call_entry(alloc, number, reach),
             Call::TablesNew => Ok(table(alloc, TableCall::New, 1, reach)),
             Call::AddTask => Ok(table(alloc, TableCall::AddTask, number, reach)),
             Call::ReserveCall => Ok(table(alloc, TableCall::ReserveCall, number, reach)),
@@ -140,8 +155,20 @@ impl Call {
             Call::HallNew => try_hall(rt, HallCall::New, reach),
             Call::HallStep => try_hall(rt, HallCall::Step, reach),
             Call::HallSay => try_hall(rt, HallCall::Say(number), reach),
+            Call::Playing(call) => try_playing(rt, call, number, reach),
             Call::Lasting(call) => Ok(lasting(alloc, call, number, reach)),
         }
+    }
+}
+
+fn step_name(scene: Scene) -> &'static str {
+    match scene {
+        Scene::EachEvent => "Kernel::step",
+        Scene::Termination => "Kernel::step:termination",
+        Scene::Quit => "Kernel::step:quit",
+        Scene::SelfAbort => "Kernel::step:self_abort",
+        Scene::Abort => "Kernel::step:abort",
+        Scene::Queue => "Kernel::step:call",
     }
 }
 
@@ -156,6 +183,16 @@ fn shown(number: usize) -> Printed {
 fn step(alloc: Global, scene: Scene, number: usize, reach: Reach) -> anyhow::Result<Option<Seen>> {
     let trial = Play::prepare(alloc, scene, number)?;
     let twin = Play::prepare(alloc, scene, number)?;
+    Ok(go(trial, twin, reach))
+}
+
+fn call_entry(alloc: Global, number: usize, reach: Reach) -> anyhow::Result<Option<Seen>> {
+    let request = CALLS_WITHOUT_ROOM
+        .get(number.saturating_sub(1))
+        .copied()
+        .unwrap_or(0);
+    let trial = Play::before(alloc, Scene::Queue, request)?;
+    let twin = Play::before(alloc, Scene::Queue, request)?;
     Ok(go(trial, twin, reach))
 }
 

@@ -4,7 +4,8 @@ use crate::scenario::Scene;
 use crate::trial::{Answer, Trial};
 use ada_events::{Entry, Refusal, Request, TaskNo};
 use ada_kernel::Kernel;
-use ada_script::{Names, Script, Statement, read, request_of};
+use ada_replay::shows::shown;
+use ada_script::{Names, Script, Statement, Value, read, request_of};
 use std::alloc::Global;
 
 /// The answer of a call that the kernel or its tables refused, or didn't.
@@ -56,7 +57,11 @@ impl Trial for Making {
 /// From here on a request takes memory for the journal, which doubles what it has.
 const FULL: u32 = 1025;
 
-/// A script's play on a kernel: the call is the next request of it.
+/// There is room for what so many lines show.
+const SHOWS: usize = 3;
+
+/// A script's play on a kernel: the call is the next request of it, and the lines behind that which show attributes
+/// are played with it.
 #[derive(Drop)]
 pub struct Play {
     scene: Scene,
@@ -65,6 +70,8 @@ pub struct Play {
     kernel: Kernel,
     /// How many lines were played.
     played: usize,
+    /// What they showed.
+    shown: Vec<Option<Value>>,
     /// The moment, and the position of the last request's event.
     moment: i64,
     at: u32,
@@ -82,15 +89,22 @@ impl Play {
             names,
             kernel,
             played: 0,
+            shown: Vec::with_capacity(alloc, SHOWS)?,
             moment: 0,
             at: 0,
         })
     }
 
-    /// Before the request of this number, from 1, with no room for it in the journal.
-    pub fn prepare(alloc: Global, scene: Scene, number: usize) -> anyhow::Result<Play> {
+    /// Before the request of this number, from 1.
+    pub fn before(alloc: Global, scene: Scene, number: usize) -> anyhow::Result<Play> {
         let mut play = Play::new(alloc, scene)?;
         play.play_to(number.saturating_sub(1));
+        Ok(play)
+    }
+
+    /// Before the request of this number, from 1, with no room for it in the journal.
+    pub fn prepare(alloc: Global, scene: Scene, number: usize) -> anyhow::Result<Play> {
+        let mut play = Play::before(alloc, scene, number)?;
         play.fill();
         Ok(play)
     }
@@ -108,6 +122,21 @@ impl Play {
             if self.kernel.journal().len() < FULL {
                 let _ = self.kernel.step(Request::Tick { now: self.moment });
             }
+        }
+    }
+
+    // Plays the next lines that show attributes.
+    fn show(&mut self) {
+        for _ in 0..SHOWS {
+            let Some(line) = self.script.lines().get(self.played) else {
+                return;
+            };
+            if !line.statement.is_show() {
+                return;
+            }
+            let value = shown(&self.kernel, &self.names, &line.statement).ok();
+            let _ = self.shown.push(value);
+            self.played = self.played.saturating_add(1);
         }
     }
 
@@ -141,6 +170,7 @@ impl Trial for Play {
                 if let Statement::Tick { now } = line.statement {
                     self.moment = now;
                 }
+                self.show();
                 Answer::Done
             }
             Err(cause) => Answer::from(cause),
@@ -154,6 +184,7 @@ impl Trial for Play {
     fn is_like(&self, other: &Play) -> bool {
         self.played == other.played
             && self.at == other.at
+            && self.shown.as_slice() == other.shown.as_slice()
             && self.scene.has_same_names(&self.names, &other.names)
             && are_same(&self.kernel, &other.kernel)
     }

@@ -1,8 +1,9 @@
-//! Makes each call of the kernel, the one that lives on, the tables, the journal, scripts, printing, the board and the
-//! hall that takes memory, for `tools/try_refusals`, which refuses each growth of it in turn: the call answers want of
-//! memory and leaves all that can be asked as it was, and made again it answers as if nothing had been refused; or a
-//! hall's step stands, and what is published is behind until the next one; or a request to the kernel that lives on
-//! stands, and its present journal is made shorter later.
+//! Makes each call of the kernel, the one that lives on, the tables, the journal, scripts, printing, the board, the
+//! hall, replays and runs that takes memory, for `tools/try_refusals`, which refuses each growth of it in turn: the
+//! call answers want of memory or of a thread, and leaves all that can be asked as it was, or a beginning of its
+//! output; and made again it answers as if nothing had been refused; or a hall's step stands, and what is published is
+//! behind until the next one; or a request to the kernel that lives on stands, and its present journal is made shorter
+//! later.
 #![tactic(auto)]
 
 mod boards;
@@ -12,6 +13,7 @@ mod journals;
 mod kernels;
 mod lasting;
 mod orders;
+mod playing;
 mod saying;
 mod scenario;
 mod scripts;
@@ -24,6 +26,7 @@ use orders::{Order, check, order_of, report};
 use std::env;
 use std::io::Print;
 use std::sync::Wait;
+use std::thread::Threads;
 use trial::Reach;
 
 /// Without a word, makes each trial, and prints its name and number where it came out as promised. With the words
@@ -41,7 +44,7 @@ fn main(rt: HostRuntime) -> anyhow::Result<()> {
     }
 }
 
-fn try_all<R: Wait + AllocGlobal + Print>(rt: &R) -> anyhow::Result<()> {
+fn try_all<R: Threads + Wait + Sync + AllocGlobal + Print>(rt: &R) -> anyhow::Result<()> {
     for call in CALLS {
         try_each(rt, call)?;
     }
@@ -49,7 +52,10 @@ fn try_all<R: Wait + AllocGlobal + Print>(rt: &R) -> anyhow::Result<()> {
 }
 
 // Makes each trial of a call.
-fn try_each<R: Wait + AllocGlobal + Print>(rt: &R, call: Call) -> anyhow::Result<()> {
+fn try_each<R: Threads + Wait + Sync + AllocGlobal + Print>(
+    rt: &R,
+    call: Call,
+) -> anyhow::Result<()> {
     for before in 0..call.numbers() {
         let number = before + 1;
         if let Some(seen) = call.go(rt, number, Reach::Whole)? {
@@ -61,7 +67,7 @@ fn try_each<R: Wait + AllocGlobal + Print>(rt: &R, call: Call) -> anyhow::Result
 }
 
 // Goes so far in a trial of the call of this name.
-fn try_one<R: Wait + AllocGlobal + Print>(
+fn try_one<R: Threads + Wait + Sync + AllocGlobal + Print>(
     rt: &R,
     reach: Reach,
     name: &str,

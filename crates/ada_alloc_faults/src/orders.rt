@@ -51,6 +51,7 @@ fn name_of(answer: Answer) -> &'static str {
         Answer::Done => "done",
         Answer::Behind => "behind",
         Answer::Refused => "refused",
+        Answer::NoThread => "thread refused",
         Answer::Failed => "failed",
     }
 }

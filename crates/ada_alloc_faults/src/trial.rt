@@ -11,6 +11,8 @@ pub enum Answer {
     Behind,
     /// It was refused for want of memory.
     Refused,
+    /// A thread was refused to it.
+    NoThread,
     /// It failed for another cause.
     Failed,
 }
@@ -18,6 +20,11 @@ pub enum Answer {
 impl Answer {
     fn is_done(self) -> bool {
         matches!(self, Answer::Done | Answer::Behind)
+    }
+
+    /// Whether the call is to be made again.
+    pub fn is_refused(self) -> bool {
+        matches!(self, Answer::Refused | Answer::NoThread)
     }
 }
 
@@ -79,9 +86,10 @@ pub fn go<T: Trial>(mut trial: T, mut twin: T, reach: Reach) -> Option<Seen> {
 fn look<T: Trial>(trial: &mut T, twin: &mut T) -> Seen {
     let answer = trial.call();
     let unchanged = answer.is_done() || trial.is_like(twin);
-    let last = match answer {
-        Answer::Refused => trial.call(),
-        _ => answer,
+    let last = if answer.is_refused() {
+        trial.call()
+    } else {
+        answer
     };
     let done = last.is_done() && twin.call() == Answer::Done;
     let alike = trial.is_like(twin);
