@@ -60,8 +60,8 @@ const FULL: u32 = 1025;
 /// There is room for what so many lines show.
 const SHOWS: usize = 3;
 
-/// A script's play on a kernel: the call is the next request of it, and the lines behind that which show attributes
-/// are played with it.
+/// A script's play on a kernel. The call is the next request of it, with the lines after it up to the next request,
+/// which show attributes.
 #[derive(Drop)]
 pub struct Play {
     scene: Scene,

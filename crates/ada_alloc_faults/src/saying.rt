@@ -38,7 +38,7 @@ struct Attributes {
     count: Option<u16>,
 }
 
-/// What a reader sees behind the whole script: the first task is terminated.
+/// What a reader sees after the whole script: the first task is terminated.
 const LAST: Attributes = Attributes {
     callable: [Some(true), Some(false), Some(true)],
     terminated: [Some(false), Some(true), Some(false)],
@@ -61,7 +61,7 @@ fn seen_by<J: Session>(reader: &mut BoardReader<J>) -> Attributes {
     }
 }
 
-/// Says the line of this number, from 1, behind those before it.
+/// Says the line of this number, from 1, after those before it.
 pub fn try_say<J: Session, R: Wait>(
     rt: &R,
     hall: &mut Hall<'_, J>,

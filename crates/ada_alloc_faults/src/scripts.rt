@@ -155,7 +155,7 @@ pub enum Printed {
     Number,
 }
 
-/// The printing of a line, behind another.
+/// The printing of a line, after another.
 #[derive(Drop)]
 pub struct Printing {
     printed: Printed,

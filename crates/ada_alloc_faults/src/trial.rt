@@ -42,7 +42,7 @@ impl From<Refusal> for Answer {
 pub enum Reach {
     /// Up to the call.
     Before,
-    /// The call, and nothing behind it that takes memory.
+    /// The call, and nothing after it that takes memory.
     Call,
     /// What the call left is looked at, it is made again where it was refused, and what follows is played.
     Whole,
