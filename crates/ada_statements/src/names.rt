@@ -87,14 +87,11 @@ impl Names {
     }
 
     /// What a name of these bytes stands for, if it is declared.
-    #[inline(always)]
+    #[inline(never)]
     pub fn meaning(&self, name: &[u8]) -> Option<&Meaning>
         ensures { option_copied result ≡ meaning_of self.now name.now }
     {
-        match self.declared(name) {
-            Some((_, meaning)) => Some(meaning),
-            None => None,
-        }
+        self.table.get(name)
     }
 
     /// What a name stands for, if it is declared.
@@ -123,7 +120,8 @@ impl Names {
     }
 
     /// The name of these bytes as it was declared, with what it stands for, if it is declared.
-    #[inline(never)]
+    // Inlined into those that look names up, which give less back and stand apart.
+    #[inline(always)]
     fn declared(&self, name: &[u8]) -> Option<(&Name, &Meaning)>
         ensures name { IfSome result (λ entry. entry.0.now ≡ name.now) }
         ensures meaning { option_map (λ p. p.1.now) result ≡ meaning_of self.now name.now }
@@ -148,7 +146,7 @@ impl Names {
 
     /// The name of these bytes as it was declared, if it is. Copying it is cheaper than making a name of the bytes, and
     /// the copy is found at once.
-    #[inline(always)]
+    #[inline(never)]
     pub fn declared_name(&self, name: &[u8]) -> Option<&Name>
         ensures { option_copied result
             ≡ (if is_declared self.now name.now then Some name.now else None) }
@@ -160,7 +158,7 @@ impl Names {
     }
 
     /// The name of these bytes as it was declared, if it is a task's.
-    #[inline(always)]
+    #[inline(never)]
     pub fn task_name(&self, name: &[u8]) -> Option<&Name>
         ensures { option_copied result
             ≡ (if is_task self.now name.now then Some name.now else None) }
