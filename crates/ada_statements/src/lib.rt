@@ -2,7 +2,6 @@
 #![tactic(auto)]
 
 pub mod fault;
-mod hints;
 pub mod meaning;
 pub mod name;
 pub mod names;

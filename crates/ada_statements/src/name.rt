@@ -106,7 +106,7 @@ impl Name {
     // One after another, since names are short.
     #[inline(always)]
     pub(crate) fn is(&self, bytes: &[u8]) -> bool
-        ensures { result ≡ bytes_eq self.now bytes.now }
+        ensures { result ≡ bytes_eq bytes.now self.now }
     {
         let own = self.as_bytes();
         if own.len() != bytes.len() {
@@ -169,7 +169,8 @@ impl Equivalent<Name> for &[u8] {
 
     ghost respects_eq = { λ q x y. nat_list_eq_equiv.congr q.now x y };
 
+    #[inline(always)]
     fn equivalent(&self, key: &Name) -> bool {
-        *self == key.as_bytes()
+        key.is(*self)
     }
 }

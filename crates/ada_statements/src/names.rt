@@ -9,7 +9,6 @@ ghost use Rattle.ada_statements.specs.Binding.{place_of as found_place};
 ghost use Rattle.ada_statements.specs.internal.Places.{kept, AreKept, IsNoted};
 ghost use Rattle.ada_events.specs.declared.limits.TheConstants.{MOST_FAMILIES};
 
-use crate::hints::Hints;
 use crate::meaning::{Binding, Bound};
 use crate::places::Places;
 use crate::statement::Declarations;
@@ -24,8 +23,6 @@ use std::marker::Model;
 #[derive(Drop)]
 pub struct Names {
     table: IndexMap<Name, Meaning>,
-    /// Where a name is looked for first, so that mostly no hash is reckoned.
-    hints: Hints,
     /// Where the bound names stand in the table, if that is kept.
     places: Option<Places>,
 }
@@ -66,7 +63,6 @@ impl Names {
         table.insert(Name::from_bytes(b"main"), main)?;
         Ok(Names {
             table,
-            hints: Hints::new(),
             places: None,
         })
     }
@@ -79,7 +75,6 @@ impl Names {
         let alloc = *self.table.allocator();
         let mut names = Names {
             table: IndexMap::with_capacity(alloc, self.table.len())?,
-            hints: Hints::new(),
             places: None,
         };
         for place in 0..self.table.len() {
@@ -92,14 +87,11 @@ impl Names {
     }
 
     /// What a name of these bytes stands for, if it is declared.
-    #[inline(always)]
+    #[inline(never)]
     pub fn meaning(&self, name: &[u8]) -> Option<&Meaning>
         ensures { option_copied result ≡ meaning_of self.now name.now }
     {
-        match self.declared(name) {
-            Some((_, meaning)) => Some(meaning),
-            None => None,
-        }
+        self.table.get(name)
     }
 
     /// What a name stands for, if it is declared.
@@ -128,42 +120,13 @@ impl Names {
     }
 
     /// The name of these bytes as it was declared, with what it stands for, if it is declared.
+    // Inlined into those that look names up, which give less back and stand apart.
     #[inline(always)]
     fn declared(&self, name: &[u8]) -> Option<(&Name, &Meaning)>
         ensures name { IfSome result (λ entry. entry.0.now ≡ name.now) }
         ensures meaning { option_map (λ p. p.1.now) result ≡ meaning_of self.now name.now }
     {
-        match self.hinted(name) {
-            Some(entry) => Some(entry),
-            None => self.looked_up(name),
-        }
-    }
-
-    /// The same, looked up by its hash.
-    #[inline(never)]
-    fn looked_up(&self, name: &[u8]) -> Option<(&Name, &Meaning)>
-        ensures name { IfSome result (λ entry. entry.0.now ≡ name.now) }
-        ensures meaning { option_map (λ p. p.1.now) result ≡ meaning_of self.now name.now }
-    {
         self.table.get_key_value(name)
-    }
-
-    /// The same, if it stands where it is looked for first.
-    #[inline(always)]
-    fn hinted(&self, name: &[u8]) -> Option<(&Name, &Meaning)>
-        ensures name { IfSome result (λ entry. entry.0.now ≡ name.now) }
-        ensures meaning { IfSome result (λ p. meaning_of self.now name.now ≡ Some p.1.now) }
-    {
-        let place = self.hints.place(name);
-        if place >= self.table.len() {
-            return None;
-        }
-        let (found, meaning) = self.table.get_index(place)?;
-        if found.is(name) {
-            Some((found, meaning))
-        } else {
-            None
-        }
     }
 
     /// Whether a name of these bytes is declared.
@@ -183,7 +146,7 @@ impl Names {
 
     /// The name of these bytes as it was declared, if it is. Copying it is cheaper than making a name of the bytes, and
     /// the copy is found at once.
-    #[inline(always)]
+    #[inline(never)]
     pub fn declared_name(&self, name: &[u8]) -> Option<&Name>
         ensures { option_copied result
             ≡ (if is_declared self.now name.now then Some name.now else None) }
@@ -195,7 +158,7 @@ impl Names {
     }
 
     /// The name of these bytes as it was declared, if it is a task's.
-    #[inline(always)]
+    #[inline(never)]
     pub fn task_name(&self, name: &[u8]) -> Option<&Name>
         ensures { option_copied result
             ≡ (if is_task self.now name.now then Some name.now else None) }
@@ -447,7 +410,6 @@ impl Names {
         self.places = None;
         let place = self.table.len();
         self.table.insert(name.copy_at(place), meaning)?;
-        self.hints.note(name.as_bytes(), place);
         Ok(())
     }
 }

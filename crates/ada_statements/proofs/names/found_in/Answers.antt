@@ -1,5 +1,5 @@
 use Rattle.std.proofs.Common.{◌≡◌, Some, None, true, false, if◌then◌else◌, sym, ap, ◌∙◌}
-use Rattle.std.specs.Cmp.Lexicographic.{bytes_decides, nat_list_eq_equiv}
+use Rattle.std.specs.Cmp.Lexicographic.{bytes_decides}
 use Rattle.std.specs.List.{list_any}
 use Rattle.std.specs.Str.{bytes_eq}
 use Rattle.ada_statements.proofs.BoundNames.{among_found, among_passed, among_over}
@@ -10,7 +10,7 @@ returns-then-is c =
     let bytes = c.args.bytes.now in
     let names = c.args.names.now in
     let name = c.name-item.result in
-    let same : bytes_eq bytes name ≡ true = nat_list_eq_equiv.symm bytes name ∙ sym c.is.ensures ∙ c.if-is.true in
+    let same : bytes_eq bytes name ≡ true = sym c.is.ensures ∙ c.if-is.true in
     let among : list_any (bytes_eq bytes) names ≡ true =
     sym c.loop-name.invariant ∙ among_found bytes names c.loop-name.name-index name c.loop-name-test.true c.name-item.is same in
     ap Some (sym ((bytes_decides bytes name).0 same)) ∙ sym (ap (λ t. if t then Some bytes else None) among)
@@ -19,7 +19,7 @@ pub loop-name-preserved : goal.loop-name-preserved
 loop-name-preserved c =
     let bytes = c.args.bytes.now in
     let name = c.name-item.result in
-    let differs : bytes_eq bytes name ≡ false = nat_list_eq_equiv.symm bytes name ∙ sym c.is.ensures ∙ c.if-is.false in
+    let differs : bytes_eq bytes name ≡ false = sym c.is.ensures ∙ c.if-is.false in
     among_passed bytes c.args.names.now c.loop-name.name-index name c.loop-name-test.true c.name-item.is differs ∙ c.loop-name.invariant
 
 pub returns : goal.returns
