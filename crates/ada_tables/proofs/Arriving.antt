@@ -9,7 +9,8 @@ use Rattle.std.proofs.lemmas.List.Folds.{list_any-append, list_any_at}
 use Rattle.std.proofs.lemmas.List.Sums.{sum_by-set}
 use Rattle.ada_tables.specs.declared.nodes.Node.{Node}
 use Rattle.ada_tables.specs.declared.queues.Queue.{Queue}
-use Rattle.ada_tables.specs.Nodes.{node_of, key_of}
+use Rattle.ada_tables.specs.Nodes.{node_of}
+use Rattle.ada_tables.specs.internal.Nodes.{key_of}
 use Rattle.ada_tables.specs.Queues.{QueuedCall, queue_at, is_by, waits_in, waits, with_last}
 use Rattle.ada_tables.specs.Links.{calls_in}
 use Rattle.ada_tables.specs.internal.Links.{Place, has_key, first_or, last_or, node_at, IsChain, IsQueue, AreOwn, AreLinked, no_queue, relinked_after}

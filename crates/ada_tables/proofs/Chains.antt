@@ -6,7 +6,8 @@ use Rattle.std.proofs.lemmas.Bool.{eq-eqb, ne_eqb, eqb-true, or_parts, or_left, 
 use Rattle.std.proofs.lemmas.List.{get_or-set_same, get_or-set_other, set_past, get_or_past}
 use Rattle.std.proofs.lemmas.List.Folds.{list_any-append}
 use Rattle.ada_tables.specs.declared.nodes.Node.{Node}
-use Rattle.ada_tables.specs.Nodes.{node_of, key_of}
+use Rattle.ada_tables.specs.Nodes.{node_of}
+use Rattle.ada_tables.specs.internal.Nodes.{key_of}
 use Rattle.ada_tables.specs.Queues.{waits_in}
 use Rattle.ada_tables.specs.Links.{followed}
 use Rattle.ada_tables.specs.internal.Links.{Place, calls_of, has_key, first_or, last_or, node_at, IsChain, AreOwn, relinked_after, relinked_before, joined}

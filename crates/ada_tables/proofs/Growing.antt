@@ -8,7 +8,7 @@ use Rattle.std.proofs.lemmas.List.Folds.{list_any-append}
 use Rattle.std.proofs.lemmas.List.Sums.{sum_by-append, sum_by-cons}
 use Rattle.ada_tables.specs.declared.nodes.Node.{Node}
 use Rattle.ada_tables.specs.declared.queues.Queue.{Queue}
-use Rattle.ada_tables.specs.Nodes.{key_of}
+use Rattle.ada_tables.specs.internal.Nodes.{key_of}
 use Rattle.ada_tables.specs.Queues.{QueuedCall, waits_in, waits}
 use Rattle.ada_tables.specs.Links.{followed, calls_in}
 use Rattle.ada_tables.specs.internal.Links.{Place, IsChain, IsQueue, AreOwn, AreLinked, no_queue}

@@ -8,7 +8,8 @@ use Rattle.std.proofs.lemmas.List.{map-set, length-set, length-map, ext_get_or, 
 use Rattle.std.proofs.lemmas.List.Sums.{sum_by-set}
 use Rattle.ada_tables.specs.declared.nodes.Node.{Node}
 use Rattle.ada_tables.specs.declared.queues.Queue.{Queue}
-use Rattle.ada_tables.specs.Nodes.{node_of, key_of}
+use Rattle.ada_tables.specs.Nodes.{node_of}
+use Rattle.ada_tables.specs.internal.Nodes.{key_of}
 use Rattle.ada_tables.specs.Queues.{queue_at, waits}
 use Rattle.ada_tables.specs.Links.{calls_in}
 use Rattle.ada_tables.specs.internal.Links.{Place, calls_of, IsQueue, AreOwn, AreLinked, no_queue, relinked_after, relinked_before, joined}

@@ -6,7 +6,8 @@ use Rattle.std.proofs.lemmas.List.{length-set, get_or_read, take_all}
 use Rattle.slab.specs.Slab.{get, slab_len, HasRoomFor, Updates}
 use Rattle.ada_tables.specs.declared.nodes.Node.{Node}
 use Rattle.ada_tables.specs.declared.queues.Queue.{Queue}
-use Rattle.ada_tables.specs.Nodes.{KeptNodes, node_of, key_of}
+use Rattle.ada_tables.specs.Nodes.{KeptNodes, node_of}
+use Rattle.ada_tables.specs.internal.Nodes.{key_of}
 use Rattle.ada_tables.specs.Queues.{QueuedCall, waits, with_last, without, Waiting}
 use Rattle.ada_tables.specs.Links.{calls_in}
 use Rattle.ada_tables.specs.internal.Links.{AreLinked, no_queue, relinked_after, joined}
@@ -57,10 +58,12 @@ module _ (kept once : KeptNodes) (queues : List Queue) (read : Queue) (by slot c
       })
   enqueued twice ends ends_is twice_is =
       let callers = relinked_after_callers (get_or queues slot no_queue).last (Some key) once.slab.slots in
+      let vacant = inserted.vacant in
+      let others = inserted.nodes.others in
       rw (twice_is, ends_is, there, inserted.keys) (
-        arrived_linked kept.slab.slots once.slab.slots kept.keys queues by slot call key linked known within idle inserted.vacant here inserted.nodes.others,
+        arrived_linked kept.slab.slots once.slab.slots kept.keys queues by slot call key linked known within idle vacant here others,
         same_waiting _ _
-            (arrived_calls kept.slab.slots once.slab.slots kept.keys queues by slot call key linked known within idle inserted.vacant here inserted.nodes.others)
+            (arrived_calls kept.slab.slots once.slab.slots kept.keys queues by slot call key linked known within idle vacant here others)
             (length-set kept.keys by (Some key))
             (omega (arith, inserted.len, inserted.capacity, callers.count)),
       )

@@ -12,7 +12,3 @@ pub record KeptNodes : Type 0 where
 -- the node under a key
 abbrev pub node_of : List (Option Node) → ℕ → Option Node
 node_of nodes key = slice_index_or nodes key None
-
--- the key of a caller's node
-abbrev pub key_of : List (Option ℕ) → ℕ → Option ℕ
-key_of keys caller = slice_index_or keys caller None

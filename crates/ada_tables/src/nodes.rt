@@ -2,7 +2,7 @@
 ghost use Rattle.std.specs.Prelude.{◌≡◌, ◌+◌, ◌<◌, ◌≤◌, ◌==◌, [], ◌∷◌, ◌++◌, Some, None, IsSome, OnOk, OnErr, is_some, option_map, length, slice_set};
 ghost use Rattle.std.specs.Option.{option_and_then, ForSome};
 ghost use Rattle.slab.specs.Slab.{get, slab_len, HasRoomFor, Updates};
-ghost use Rattle.ada_tables.specs.Nodes.{key_of};
+ghost use Rattle.ada_tables.specs.internal.Nodes.{key_of};
 ghost use Rattle.ada_tables.specs.internal.Links.{relinked_after, relinked_before, joined};
 
 use slab::Slab;

@@ -6,7 +6,8 @@ use Rattle.std.specs.List.{sum_by, list_any}
 use Rattle.std.specs.Option.{option_map}
 use Rattle.ada_tables.specs.declared.nodes.Node.{Node}
 use Rattle.ada_tables.specs.declared.queues.Queue.{Queue}
-use Rattle.ada_tables.specs.Nodes.{node_of, key_of}
+use Rattle.ada_tables.specs.Nodes.{node_of}
+use Rattle.ada_tables.specs.internal.Nodes.{key_of}
 use Rattle.ada_tables.specs.Queues.{QueuedCall, waits}
 use Rattle.ada_tables.specs.Links.{calls_in}
 
