@@ -14,8 +14,8 @@ use Rattle.ada_records.proofs.Owners.{block_in_nest}
 use Rattle.ada_standing.specs.Names.{Names, placed, rises_from, renaming_of}
 use Rattle.ada_standing.specs.Holds.{is_same_kind}
 use Rattle.ada_standing.specs.StandsIn.{is_block, KeepsPositions}
-use Rattle.ada_compact.specs.declared.kinds.Kind.{Kind}
-use Rattle.ada_compact.specs.declared.kinds.Kind.TheVariants.{Call, Wait, Delay, Start, Close, Block}
+use Rattle.ada_compact.specs.declared.comparison.kinds.Kind.{Kind}
+use Rattle.ada_compact.specs.declared.comparison.kinds.Kind.TheVariants.{Call, Wait, Delay, Start, Close, Block}
 use Rattle.ada_compact.specs.internal.Kinds.{has_kind, is_kind_at, IsAlikePlace, AreAlikePlaces, rises_among}
 use Rattle.ada_compact.proofs.Positions.{placed_all, order_among}
 

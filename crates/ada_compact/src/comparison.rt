@@ -1,5 +1,11 @@
 //! Two journals, and the names by which what matters of the first is found in the second.
 
+pub mod holds;
+pub mod kinds;
+pub mod nests;
+pub mod standing;
+pub mod tasks;
+
 ghost use Rattle.std.specs.Prelude.{◌≡◌, true, Some, Option};
 ghost use Rattle.std.specs.Option.{option_and_then};
 ghost use Rattle.ada_events.specs.declared.names.Master.{Master as MasterValue};

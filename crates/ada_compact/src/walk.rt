@@ -1,14 +1,27 @@
-//! A new kernel is asked for what still matters of an old one.
+//! A new kernel is asked for what still matters of an old one. No clause says what comes of that: what is made is
+//! checked.
+
+pub mod acting;
+pub mod ending;
+pub mod entering;
+pub mod fresh;
+pub mod helpers;
+pub mod items;
+pub mod making;
+pub mod names;
+pub mod posts;
+pub mod source;
+pub mod suspending;
 
 use crate::failure::NotCompacted;
-use crate::fresh::Fresh;
-use crate::items::{Item, Items};
-use crate::names::Names;
-use crate::posts::Posts;
-use crate::source::{MAIN, Source};
 use ada_events::{Master, TaskNo};
 use ada_kernel::Kernel;
 use ada_standing::Renaming;
+use fresh::Fresh;
+use items::{Item, Items};
+use names::Names;
+use posts::Posts;
+use source::{MAIN, Source};
 use std::alloc::Global;
 
 /// A kernel with a shorter journal, and the names that lead to it from the old one.

@@ -1,2 +1,4 @@
 pub mod Questions
 pub mod Reasons
+pub mod Sealed
+pub mod internal

@@ -19,6 +19,8 @@ ghost use Rattle.ada_border.specs.Requests as spec;
 ghost use Rattle.ada_embed.specs.Questions as asked;
 
 pub mod answering;
+pub mod handle;
+pub mod parts;
 pub mod questions;
 pub mod reasons;
 
@@ -30,9 +32,9 @@ use ada_border::outcomes::PlainOutcome;
 use ada_border::parts::{PlainChoice, PlainFamily, PlainPause};
 use ada_border::requests;
 use ada_events::{Refusal, Request};
-use ada_handle::Handle;
 use ada_kernel::Kernel;
 use answering::{answer, tell, tell_count};
+use handle::Handle;
 use reasons::PlainReason;
 use std::alloc::Global;
 

@@ -44,8 +44,6 @@ mod scenes;
 #[cfg(test)]
 mod side_by_side;
 #[cfg(test)]
-mod stopping;
-#[cfg(test)]
 mod table_memory;
 #[cfg(test)]
 mod tally;

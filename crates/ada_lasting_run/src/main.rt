@@ -1,33 +1,44 @@
-//! Tries a kernel that lives on for long: random runs beside a kernel that keeps everything, and a life of as many
-//! requests as are asked for.
+//! Tries a kernel that lives on for long: a life of as many requests as are asked for, and random runs beside a kernel
+//! that keeps everything. Both kernels answer and append the same, with other names for tasks and positions, and answer
+//! every question alike.
 #![tactic(auto)]
 
+mod both;
 mod life;
+mod lines;
+mod mixes;
+mod plainly;
+mod questions;
 mod random;
+mod requests;
+mod runs;
+mod scenes;
+mod unlike;
 
 use life::{Life, live};
-use random::{play_all, play_shown};
+use random::{play_all, play_shown, want_much};
 use std::{env, fs};
 
 /// How many random runs there are, if nothing else is asked for, and about how many requests each has.
-const RUNS: u64 = 8;
+const RUNS: u64 = 24;
 
-const LENGTH: u64 = 128;
+const LENGTH: u64 = 256;
 
 /// How many generations a life has, if nothing else is asked for.
 const GENERATIONS: u64 = 2;
 
-/// Without a word, tries both on little, and prints what it came to. With `random` and perhaps a first number, how
-/// many runs, and about how many requests each has, plays these runs; with `shown` and a number, prints the requests of
-/// a run; with `life` and a number, lives so many generations of about 5,000 requests, and prints the memory that it
-/// took.
+/// Without a word, tries both on little, in which much has to come up, and prints what it came to. With `random` and
+/// perhaps a first number, how many runs, and about how many requests each has, plays these runs; with `shown` and a
+/// number, prints the requests of a run; with `life` and a number, lives so many generations of about 5,000 requests,
+/// and prints the memory that it took.
 fn main(rt: HostRuntime) -> anyhow::Result<()> {
     let words: Vec<String> = env::args(&rt)?.collect(rt.alloc())?;
     match words.get(1) {
         Some(word) if word.as_str() == "random" => {
             let first = number(&words, 2, 0);
             let runs = number(&words, 3, RUNS);
-            play_all(&rt, first, runs, number(&words, 4, LENGTH))
+            play_all(&rt, first, runs, number(&words, 4, LENGTH))?;
+            Ok(())
         }
         Some(word) if word.as_str() == "shown" => {
             play_shown(&rt, number(&words, 2, 0), number(&words, 3, LENGTH))
@@ -37,7 +48,7 @@ fn main(rt: HostRuntime) -> anyhow::Result<()> {
             print_memory(&rt)
         }
         _ => {
-            play_all(&rt, 0, RUNS, LENGTH)?;
+            want_much(&play_all(&rt, 0, RUNS, LENGTH)?)?;
             print_life(&rt, GENERATIONS)
         }
     }

@@ -1,12 +1,13 @@
 //! Random runs.
 
+use crate::both::Both;
+use crate::runs::{ALL_KINDS, Found, Run, Sum};
 use ada_lasting::LastingRequest;
-use ada_lasting_pair::{Both, Found, Run, Sum};
 use anyhow::anyhow;
 
 /// Plays these runs, and prints what came up. Fails at the first difference, which it tells with the number of the run
 /// and of the request.
-pub fn play_all(rt: &HostRuntime, first: u64, runs: u64, length: u64) -> anyhow::Result<()> {
+pub fn play_all(rt: &HostRuntime, first: u64, runs: u64, length: u64) -> anyhow::Result<Sum> {
     let mut sum = Sum::default();
     for offset in 0..runs {
         let number = first.wrapping_add(offset);
@@ -15,6 +16,21 @@ pub fn play_all(rt: &HostRuntime, first: u64, runs: u64, length: u64) -> anyhow:
             return Err(anyhow!("run {number}, request {request}: {unlike}"));
         }
     }
+    print_sum(rt, &sum)?;
+    Ok(sum)
+}
+
+/// Fails unless every kind of event came up, and tasks were given up: runs that bring up less are a sham.
+pub fn want_much(sum: &Sum) -> anyhow::Result<()> {
+    let much = sum.kinds == ALL_KINDS && sum.accepted > 2000 && sum.given_up > 100;
+    if much {
+        Ok(())
+    } else {
+        Err(anyhow!("too little came up: {sum:?}"))
+    }
+}
+
+fn print_sum(rt: &HostRuntime, sum: &Sum) -> anyhow::Result<()> {
     println!(rt;
         "{} runs: {} requests, {} accepted, {} events, {} tasks, {} of them given up, \
          {} compactions without room",

@@ -1,11 +1,16 @@
-//! Tests of a kernel that lives on: random requests beside a kernel that keeps everything, what it answers once its
-//! journal was made shorter, tasks that are given up, and limits.
+//! Tests of a kernel that lives on and of shorter journals: what such a kernel answers once its journal was made
+//! shorter, tasks that are given up, and limits; states that are hard to bring about again, each made by a script, with
+//! the tasks and the outcomes that a second kernel has in their place, and what it refuses; and of callers.
 #![tactic(auto)]
 
+#[cfg(test)]
+mod alike;
 #[cfg(test)]
 mod answers;
 #[cfg(test)]
 mod asking;
+#[cfg(test)]
+mod callers;
 #[cfg(test)]
 mod events;
 #[cfg(test)]
@@ -13,4 +18,12 @@ mod given_up;
 #[cfg(test)]
 mod limits;
 #[cfg(test)]
-mod random;
+mod no_room;
+#[cfg(test)]
+mod outcomes;
+#[cfg(test)]
+mod playing;
+#[cfg(test)]
+mod states;
+#[cfg(test)]
+mod wrong;

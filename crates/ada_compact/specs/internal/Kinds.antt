@@ -5,8 +5,8 @@ use Rattle.ada_events.specs.declared.event.Event.{Event}
 use Rattle.ada_events.specs.Search.{is_some_and, event_at}
 use Rattle.ada_events.specs.Says.{call_in, wait_in, delay_in, start_in, closing_in, opening_in}
 use Rattle.ada_standing.specs.declared.renaming.Place.{Place}
-use Rattle.ada_compact.specs.declared.kinds.Kind.{Kind}
-use Rattle.ada_compact.specs.declared.kinds.Kind.TheVariants.{Call, Wait, Delay, Start, Close, Block}
+use Rattle.ada_compact.specs.declared.comparison.kinds.Kind.{Kind}
+use Rattle.ada_compact.specs.declared.comparison.kinds.Kind.TheVariants.{Call, Wait, Delay, Start, Close, Block}
 
 abbrev pub has_kind : Kind → Event → Bool
 has_kind Call event = is_some (call_in event)

@@ -1,2 +1,0 @@
-pub mod Sealed
-pub mod internal
