@@ -23,33 +23,60 @@ package Adatask is
    --  Answers  --
    ---------------
 
-   --  Why a request is refused, in the order in which the causes are checked, up to Out_Of_Memory; and then what is
-   --  wrong with the numbers that were passed. docs/RULES.md has each cause.
+   --  Why a request is refused; and, from Too_Long on, what is wrong with the numbers that were passed. Each keeps its
+   --  number.
    type Answer is
      (Accepted,
-      Unknown_Task,         --  a task that is named doesn't exist
-      Not_Running,          --  the task that asks isn't running
-      During_Activation,    --  it has to end its activation first (9.3)
-      Not_Activating,       --  it has ended its activation, or is the main program (9.3)
-      Not_Your_Master,      --  it isn't within this master (9.4)
-      Empty_List,           --  a list of tasks or of delay alternatives is empty (9.7.1, 9.10)
-      Not_Your_Task,        --  a task isn't its to activate, or is named twice (9.3)
-      No_Accept,            --  a wait has no accept alternative (9.7.1)
-      No_Such_Family,       --  a family of entries isn't declared (9.5)
-      Breaks_Constraint,    --  an index is outside of its family's range: CONSTRAINT_ERROR (9.5)
-      Same_Family_Nested,   --  an accept within a rendezvous of the same family (9.5)
-      Terminate_In_Accept,  --  a terminate alternative within a rendezvous (9.7.1)
-      Not_In_Accept,        --  the innermost construct isn't a rendezvous (9.5)
-      No_Block,             --  the innermost construct isn't a block (9.4)
-      Still_Nested,         --  an end of an activation or a body within a construct (9.4)
-      Main_Task,            --  an abort of the main program (9.10)
-      Moment_Back,          --  the moment would move back (9.6)
-      Moment_Too_Large,     --  a moment above 9_000_000_000_000 (9.6)
-      Too_Many_Tasks,       --  there are 256 tasks, those that are gone counted
-      Too_Many_Slots,       --  there would be more than 1,024 entries
-      Too_Deep,             --  the task is within 32 constructs
-      Journal_Full,         --  the journal of 65,536 events hasn't room for another request, which is 769
-      Out_Of_Memory,        --  memory was refused; the same request may be made again
+      --  Written by tools/write_tables from docs/tables/causes.ini
+      --  The asking task, the callee, a listed task or the task of a master doesn't exist.
+      Unknown_Task,
+      --  The asking task isn't running.
+      Not_Running,
+      --  A wait, end or completion by a task that is still being activated (9.3).
+      During_Activation,
+      --  The end of an activation by a task that has ended it already, or by the main program (9.3).
+      Not_Activating,
+      --  A creation under a master that the asking task is neither in nor depends on (9.4).
+      Not_Your_Master,
+      --  A list of tasks or of delay alternatives is empty (9.7.1, 9.10).
+      Empty_List,
+      --  An activation of a task that the asking task didn't make, that an activation named before, or that is listed
+      --  twice (9.3).
+      Not_Your_Task,
+      --  A wait has no accept alternative (9.7.1).
+      No_Accept,
+      --  The family of a call or of any accept alternative isn't declared (9.5).
+      No_Such_Family,
+      --  The index of a call or of an open accept alternative lies outside its family's range (9.5).
+      Breaks_Constraint,
+      --  An accept alternative, open or closed, for the family of a rendezvous that the task is within (9.5).
+      Same_Family_Nested,
+      --  A terminate alternative, open or closed, within a rendezvous (9.7.1).
+      Terminate_In_Accept,
+      --  An end while the task is in no rendezvous, or in a block within it (9.5).
+      Not_In_Accept,
+      --  A close while the task is in no block, or in a rendezvous within it (9.4).
+      No_Block,
+      --  A completion, or the end of an activation, within a block or a rendezvous (9.4).
+      Still_Nested,
+      --  An abort of the main program (9.10).
+      Main_Task,
+      --  A tick to a moment before the present one (9.6).
+      Moment_Back,
+      --  A tick, or the due moment of a timed call, a delay or an open delay alternative, above 9,000,000,000,000
+      --  milliseconds (9.6).
+      Moment_Too_Large,
+      --  A creation while there are 256 tasks, the main program and those that are gone counted.
+      Too_Many_Tasks,
+      --  A creation with which there would be more than 1,024 entries over all tasks.
+      Too_Many_Slots,
+      --  An opening or a wait within 32 blocks and rendezvous.
+      Too_Deep,
+      --  The journal of 65,536 events hasn't room for the 769 that one request may append.
+      Journal_Full,
+      --  Memory was refused, and no other cause applies.
+      Out_Of_Memory,
+      --  End of what tools/write_tables wrote
       Too_Long,             --  a list is longer than the kernel takes
       No_Such_Kind,         --  a kind that is none, as an invalid value of a type of kinds here
       Out_Of_Range,         --  a number that is too large for a task, a position or a family
@@ -60,11 +87,15 @@ package Adatask is
       No_Kernel)            --  the kernel was dropped, or memory for it was refused
      with Convention => C, Size => 32;
    for Answer use
-     (Accepted => 0, Unknown_Task => 1, Not_Running => 2, During_Activation => 3, Not_Activating => 4,
-      Not_Your_Master => 5, Empty_List => 6, Not_Your_Task => 7, No_Accept => 8, No_Such_Family => 9,
-      Breaks_Constraint => 10, Same_Family_Nested => 11, Terminate_In_Accept => 12, Not_In_Accept => 13, No_Block => 14,
-      Still_Nested => 15, Main_Task => 16, Moment_Back => 17, Moment_Too_Large => 18, Too_Many_Tasks => 19,
-      Too_Many_Slots => 20, Too_Deep => 21, Journal_Full => 22, Out_Of_Memory => 23, Too_Long => 100,
+     (Accepted => 0,
+      --  Written by tools/write_tables from docs/tables/causes.ini
+      Unknown_Task => 1, Not_Running => 2, During_Activation => 3, Not_Activating => 4, Not_Your_Master => 5,
+      Empty_List => 6, Not_Your_Task => 7, No_Accept => 8, No_Such_Family => 9, Breaks_Constraint => 10,
+      Same_Family_Nested => 11, Terminate_In_Accept => 12, Not_In_Accept => 13, No_Block => 14, Still_Nested => 15,
+      Main_Task => 16, Moment_Back => 17, Moment_Too_Large => 18, Too_Many_Tasks => 19, Too_Many_Slots => 20,
+      Too_Deep => 21, Journal_Full => 22, Out_Of_Memory => 23,
+      --  End of what tools/write_tables wrote
+      Too_Long => 100,
       No_Such_Kind => 101, Out_Of_Range => 102, No_Such_Event => 103, No_Such_Item => 104, No_Such_Task => 105,
       No_Such_Entry => 106, No_Kernel => 107);
 
@@ -175,11 +206,62 @@ package Adatask is
    --  Events  --
    --------------
 
-   --  Opened to Ticked are what tasks ask for, Halted to Left is forced. docs/FORMAT.md says what each means.
+   --  What tasks ask for, and what is forced, with the components and functions of Event that say more. Each keeps its
+   --  number.
    type Event_Kind is
      (No_Event,
-      Opened, Created, Started, Elaborated, Called, Waiting, Paused, Ended, Closed, Completed, Aborted, Ticked,
-      Halted, Failed, Met, Cancelled, Passed, Woken, Activated, Gone, Quit, Left)
+      --  Written by tools/write_tables from docs/tables/events.ini
+      --  A task entered a block (5.6, 9.4). It has By, Under_Of.
+      Opened,
+      --  A task was made, under the task or the block on which it depends (9.1, 9.4). It has By, Under_Of, Master_Of;
+      --  lists: Families.
+      Created,
+      --  A task started to activate others (9.3). It has By; lists: Tasks.
+      Started,
+      --  A task ended its own activation, by an exception if it isn't ok (9.3). It has By, Is_Ok.
+      Elaborated,
+      --  A task called an entry; a timed call is due at a moment (9.5, 9.7.2, 9.7.3). It has By, Callee, Item,
+      --  Call_Kind_Of, Is_Timed, Moment, Length.
+      Called,
+      --  A task waits selectively, or at an accept statement (9.5, 9.7.1). It has By, Number (the pick), Last_Part_Of;
+      --  lists: Choices, Delays.
+      Waiting,
+      --  A task is delayed until a moment (9.6). It has By, Moment.
+      Paused,
+      --  A rendezvous ended, by an exception if it is raised (9.5, 11.5). It has By, Call, Is_Raised.
+      Ended,
+      --  A task came to the end of a block (9.4). It has By, At_Position (of the block).
+      Closed,
+      --  A task came to the end of its statements (9.4). It has By.
+      Completed,
+      --  A task asked for an abort of tasks (9.10). It has By; lists: Tasks.
+      Aborted,
+      --  The moment moved (9.6). It has Moment.
+      Ticked,
+      --  Forced: a task was completed by an abort (9.10). It has By.
+      Halted,
+      --  Forced: a call raised TASKING_ERROR (9.5, 9.10). It has Call.
+      Failed,
+      --  Forced: a wait took a call, and their rendezvous began (9.5, 9.7.1). It has Call, At_Position (of the wait).
+      Met,
+      --  Forced: a conditional or timed call left its queue (9.7.2, 9.7.3). It has Call.
+      Cancelled,
+      --  Forced: a wait ended without a rendezvous (9.7.1). It has At_Position (of the wait), Way_Of, Number (of the
+      --  delay alternative).
+      Passed,
+      --  Forced: a delay is over (9.6). It has At_Position (of the delay).
+      Woken,
+      --  Forced: an activation ended, with TASKING_ERROR in its task if it isn't ok (9.3). It has At_Position (of the
+      --  start), Is_Ok.
+      Activated,
+      --  Forced: a task terminated by itself (9.3, 9.4). It has By.
+      Gone,
+      --  Forced: all that depended on a master and weren't terminated yet terminated together (9.4). It has Master_Of.
+      Quit,
+      --  Forced: a task left the block that it had closed (9.4). It has At_Position (of the close).
+      Left
+      --  End of what tools/write_tables wrote
+     )
      with Convention => C, Size => 32;
 
    --  How a wait ended without a rendezvous (9.7.1).

@@ -2,9 +2,9 @@
 /*
  * The run-time kernel beneath Ada tasks, for C99, C11 and C++17. docs/EMBEDDING.md says how to use it.
  *
- * Each function that may fail answers 0, or a code: 1 to 23 for the causes for which a request is refused, in the order
- * in which they are checked, and 100 and more for what is wrong with the numbers that were passed. It writes through its
- * pointers only where it answers 0, and changes the kernel only by an accepted request.
+ * Each function that may fail answers 0, or a code: below 100 for the cause for which a request is refused, and 100 or
+ * more for what is wrong with the numbers that were passed. It writes through its pointers only where it answers 0, and
+ * changes the kernel only by an accepted request. Codes and the numbers of kinds never change; new ones are added.
  *
  * A kernel may move between threads, and is used by one thread at a time; order the calls by a lock. There is no global
  * state: a process may have many kernels. An `ada_kernel` is owned by whoever made it, and is dropped once; copies of
@@ -29,29 +29,56 @@ typedef struct {
 
 enum {
   ADA_ACCEPTED = 0,
-  ADA_UNKNOWN_TASK = 1,          /* a task that is named doesn't exist */
-  ADA_NOT_RUNNING = 2,           /* the task that asks isn't running */
-  ADA_DURING_ACTIVATION = 3,     /* it has to end its activation first */
-  ADA_NOT_ACTIVATING = 4,        /* it has ended its activation, or is the main program */
-  ADA_NOT_YOUR_MASTER = 5,       /* it isn't within this master */
-  ADA_EMPTY_LIST = 6,            /* a list of tasks or of delay alternatives is empty */
-  ADA_NOT_YOUR_TASK = 7,         /* a task isn't its to activate, or is named twice */
-  ADA_NO_ACCEPT = 8,             /* a wait has no accept alternative */
-  ADA_NO_SUCH_FAMILY = 9,        /* a family of entries isn't declared */
-  ADA_CONSTRAINT_ERROR = 10,     /* an index is outside of its family's range */
-  ADA_SAME_FAMILY_NESTED = 11,   /* an accept within a rendezvous of the same family */
-  ADA_TERMINATE_IN_ACCEPT = 12,  /* a terminate alternative within a rendezvous */
-  ADA_NOT_IN_ACCEPT = 13,        /* the innermost construct isn't a rendezvous */
-  ADA_NO_BLOCK = 14,             /* the innermost construct isn't a block */
-  ADA_STILL_NESTED = 15,         /* an end of an activation or a body within a construct */
-  ADA_MAIN_TASK = 16,            /* an abort of the main program */
-  ADA_MOMENT_BACK = 17,          /* the moment would move back */
-  ADA_MOMENT_TOO_LARGE = 18,     /* a moment above 9,000,000,000,000 milliseconds */
-  ADA_TOO_MANY_TASKS = 19,       /* there are 256 tasks */
-  ADA_TOO_MANY_SLOTS = 20,       /* there would be more than 1,024 entries */
-  ADA_TOO_DEEP = 21,             /* the task is within 32 constructs */
-  ADA_JOURNAL_FULL = 22,         /* the journal hasn't room for another request */
-  ADA_OUT_OF_MEMORY = 23,        /* memory was refused */
+  /* Written by tools/write_tables from docs/tables/causes.ini */
+  /* The asking task, the callee, a listed task or the task of a master doesn't exist. */
+  ADA_UNKNOWN_TASK = 1,
+  /* The asking task isn't running. */
+  ADA_NOT_RUNNING = 2,
+  /* A wait, end or completion by a task that is still being activated (9.3). */
+  ADA_DURING_ACTIVATION = 3,
+  /* The end of an activation by a task that has ended it already, or by the main program (9.3). */
+  ADA_NOT_ACTIVATING = 4,
+  /* A creation under a master that the asking task is neither in nor depends on (9.4). */
+  ADA_NOT_YOUR_MASTER = 5,
+  /* A list of tasks or of delay alternatives is empty (9.7.1, 9.10). */
+  ADA_EMPTY_LIST = 6,
+  /* An activation of a task that the asking task didn't make, that an activation named before, or that is listed
+     twice (9.3). */
+  ADA_NOT_YOUR_TASK = 7,
+  /* A wait has no accept alternative (9.7.1). */
+  ADA_NO_ACCEPT = 8,
+  /* The family of a call or of any accept alternative isn't declared (9.5). */
+  ADA_NO_SUCH_FAMILY = 9,
+  /* The index of a call or of an open accept alternative lies outside its family's range (9.5). */
+  ADA_CONSTRAINT_ERROR = 10,
+  /* An accept alternative, open or closed, for the family of a rendezvous that the task is within (9.5). */
+  ADA_SAME_FAMILY_NESTED = 11,
+  /* A terminate alternative, open or closed, within a rendezvous (9.7.1). */
+  ADA_TERMINATE_IN_ACCEPT = 12,
+  /* An end while the task is in no rendezvous, or in a block within it (9.5). */
+  ADA_NOT_IN_ACCEPT = 13,
+  /* A close while the task is in no block, or in a rendezvous within it (9.4). */
+  ADA_NO_BLOCK = 14,
+  /* A completion, or the end of an activation, within a block or a rendezvous (9.4). */
+  ADA_STILL_NESTED = 15,
+  /* An abort of the main program (9.10). */
+  ADA_MAIN_TASK = 16,
+  /* A tick to a moment before the present one (9.6). */
+  ADA_MOMENT_BACK = 17,
+  /* A tick, or the due moment of a timed call, a delay or an open delay alternative, above 9,000,000,000,000
+     milliseconds (9.6). */
+  ADA_MOMENT_TOO_LARGE = 18,
+  /* A creation while there are 256 tasks, the main program and those that are gone counted. */
+  ADA_TOO_MANY_TASKS = 19,
+  /* A creation with which there would be more than 1,024 entries over all tasks. */
+  ADA_TOO_MANY_SLOTS = 20,
+  /* An opening or a wait within 32 blocks and rendezvous. */
+  ADA_TOO_DEEP = 21,
+  /* The journal of 65,536 events hasn't room for the 769 that one request may append. */
+  ADA_JOURNAL_FULL = 22,
+  /* Memory was refused, and no other cause applies. */
+  ADA_OUT_OF_MEMORY = 23,
+  /* End of what tools/write_tables wrote */
   ADA_TOO_LONG = 100,            /* a list is longer than the kernel takes */
   ADA_NO_SUCH_KIND = 101,        /* a kind that is none */
   ADA_OUT_OF_RANGE = 102,        /* a number that is too large for a task, a position or a family */
@@ -76,30 +103,60 @@ enum { ADA_NOTHING = 0, ADA_ELSE = 1, ADA_DELAYS = 2, ADA_TERMINATE = 3, ADA_CLO
 /* The way in which a wait ended without a rendezvous (9.7.1). */
 enum { ADA_BY_ELSE = 0, ADA_BY_DELAY = 1, ADA_BY_PROGRAM_ERROR = 2 };
 
-/* Events: 1 to 12 are what tasks ask for, 13 to 22 what is forced. */
+/* Events: what tasks ask for, and what is forced. */
 enum {
+  /* Written by tools/write_tables from docs/tables/events.ini */
+  /* A task entered a block (5.6, 9.4). It has task, under_kind, under. */
   ADA_OPENED = 1,
+  /* A task was made, under the task or the block on which it depends (9.1, 9.4). It has task, under_kind, under,
+     master_kind, master; lists: families. */
   ADA_CREATED = 2,
+  /* A task started to activate others (9.3). It has task; lists: tasks. */
   ADA_STARTED = 3,
+  /* A task ended its own activation, by an exception if it isn't ok (9.3). It has task, form (ok). */
   ADA_ELABORATED = 4,
+  /* A task called an entry; a timed call is due at a moment (9.5, 9.7.2, 9.7.3). It has task, callee, family, index,
+     form (kind of call), is_timed, moment, duration. */
   ADA_CALLED = 5,
+  /* A task waits selectively, or at an accept statement (9.5, 9.7.1). It has task, number (the pick), form (last
+     part); lists: choices, delays. */
   ADA_WAITING = 6,
+  /* A task is delayed until a moment (9.6). It has task, moment. */
   ADA_PAUSED = 7,
+  /* A rendezvous ended, by an exception if it is raised (9.5, 11.5). It has task, call, form (raised). */
   ADA_ENDED = 8,
+  /* A task came to the end of a block (9.4). It has task, position (of the block). */
   ADA_CLOSED = 9,
+  /* A task came to the end of its statements (9.4). It has task. */
   ADA_COMPLETED = 10,
+  /* A task asked for an abort of tasks (9.10). It has task; lists: tasks. */
   ADA_ABORTED = 11,
+  /* The moment moved (9.6). It has moment. */
   ADA_TICKED = 12,
+  /* Forced: a task was completed by an abort (9.10). It has task. */
   ADA_HALTED = 13,
+  /* Forced: a call raised TASKING_ERROR (9.5, 9.10). It has call. */
   ADA_FAILED = 14,
+  /* Forced: a wait took a call, and their rendezvous began (9.5, 9.7.1). It has call, position (of the wait). */
   ADA_MET = 15,
+  /* Forced: a conditional or timed call left its queue (9.7.2, 9.7.3). It has call. */
   ADA_CANCELLED = 16,
+  /* Forced: a wait ended without a rendezvous (9.7.1). It has position (of the wait), form (way), number (of the
+     delay alternative). */
   ADA_PASSED = 17,
+  /* Forced: a delay is over (9.6). It has position (of the delay). */
   ADA_WOKEN = 18,
+  /* Forced: an activation ended, with TASKING_ERROR in its task if it isn't ok (9.3). It has position (of the
+     start), form (ok). */
   ADA_ACTIVATED = 19,
+  /* Forced: a task terminated by itself (9.3, 9.4). It has task. */
   ADA_GONE = 20,
+  /* Forced: all that depended on a master and weren't terminated yet terminated together (9.4). It has master_kind,
+     master. */
   ADA_QUIT = 21,
+  /* Forced: a task left the block that it had closed (9.4). It has position (of the close). */
   ADA_LEFT = 22
+  /* End of what tools/write_tables wrote */
 };
 
 /* What became of a task's latest call, wait, delay, activation or close. */
@@ -157,7 +214,7 @@ typedef struct {
 
 /* An event. What its kind has no use for is 0. */
 typedef struct {
-  uint32_t kind;        /* ADA_OPENED .. ADA_LEFT */
+  uint32_t kind;        /* that of an event */
   uint32_t form;        /* ok or raised, 0 or 1; or the kind of a call, of a last part, of a way */
   uint64_t task;        /* the task that asked for it, or to which it happened */
   uint64_t callee;      /* the task whose entry was called */

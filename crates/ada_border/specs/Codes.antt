@@ -1,4 +1,4 @@
--- The codes of answers.
+-- The codes of answers. A code never changes, since hosts are compiled with it: a new cause takes the next one.
 use Rattle.std.specs.Prelude.{◌≡◌, ℕ, ◌+◌, ℤ, pos, Some, List, [], ◌∷◌, slice_get}
 use Rattle.ada_events.specs.declared.refusal.Refusal.{Refusal}
 use Rattle.ada_events.specs.declared.refusal.Refusal.TheVariants.{UnknownTask, NotRunning, DuringActivation, NotActivating, NotYourMaster, EmptyList}
@@ -8,13 +8,13 @@ use Rattle.ada_events.specs.declared.refusal.Refusal.TheVariants.{MomentTooLarge
 use Rattle.ada_border.specs.declared.bad.Bad.{Bad}
 use Rattle.ada_border.specs.declared.bad.Bad.TheVariants.{TooLong, NoSuchKind, OutOfRange, NoSuchEvent, NoSuchItem, NoSuchTask, NoSuchEntry}
 
--- the causes of a refusal, in the order in which they are checked
+-- the causes of a refusal, in the order of their codes; a new one stands last, wherever it is checked
 abbrev pub causes : List Refusal
 causes = UnknownTask ∷ NotRunning ∷ DuringActivation ∷ NotActivating ∷ NotYourMaster ∷ EmptyList ∷ NotYourTask ∷ NoAccept ∷ NoSuchFamily ∷ ConstraintError ∷
     SameFamilyNested ∷ TerminateInAccept
     ∷ NotInAccept ∷ NoBlock ∷ StillNested ∷ MainTask ∷ MomentBack ∷ MomentTooLarge ∷ TooManyTasks ∷ TooManySlots ∷ TooDeep ∷ JournalFull ∷ OutOfMemory ∷ []
 
--- their codes, from 1
+-- the code of a cause
 abbrev pub refusal_code : Refusal → ℤ
 refusal_code UnknownTask = pos 1
 refusal_code NotRunning = pos 2
@@ -50,6 +50,6 @@ bad_code NoSuchItem = pos 104
 bad_code NoSuchTask = pos 105
 bad_code NoSuchEntry = pos 106
 
--- the code of a cause is its place among the causes
+-- the codes are 1, 2, .. in the order of that list: so each cause has its own, and none is left out
 abbrev pub AreNumbered : Type 0
 AreNumbered = (cause : Refusal) → (place : ℕ) × (refusal_code cause ≡ pos (place + 1)) × (slice_get causes place ≡ Some cause)

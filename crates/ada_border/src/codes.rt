@@ -1,5 +1,5 @@
-//! The codes of answers: 0 for an accepted request, 1 to 23 for the causes of refusals in the order in which they are
-//! checked, and 100 and more for bad numbers.
+//! The codes of answers: 0 for an accepted request, below 100 for causes of refusals, and from 100 for bad numbers. A
+//! code never changes, since hosts are compiled with it: a new cause takes the next one, wherever it is checked.
 ghost use Rattle.std.specs.Prelude.{◌≡◌};
 ghost use Rattle.ada_border.specs.Codes.{refusal_code as code_of_refusal, bad_code as code_of_bad};
 

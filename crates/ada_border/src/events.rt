@@ -8,7 +8,7 @@ use ada_events::{Entry, Event, EventTail, Master, Patience, TaskNo, Way};
 #[repr(C)]
 #[derive(Clone, Copy, Debug, PartialEq, Eq)]
 pub struct PlainEvent {
-    /// 1 to 12 for what tasks ask for, in the order of the requests, and 13 to 22 for what is forced.
+    /// The number of the kind, from 1, which never changes.
     pub kind: u32,
     /// Whether it is ok or raised; the kind of a call, of the last part of a wait, or of the way in which a wait ended.
     pub form: u32,

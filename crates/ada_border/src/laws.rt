@@ -8,7 +8,7 @@ pub fn events_are_read_back()
     ensures { AreReadBack }
 {}
 
-/// The code of a cause is its place, from 1, among the causes in the order in which they are checked.
+/// Each cause has a code of its own, and none is left out: from 1 they are those of the list `causes`.
 pub fn causes_are_numbered()
     ensures { AreNumbered }
 {}

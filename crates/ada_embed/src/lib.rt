@@ -1,7 +1,7 @@
 //! The kernel for programs in C and Ada: its requests and questions in numbers.
 //!
-//! A function that may fail answers 0, or a code: 1 to 23 for the causes of refusals, in the order in which they are
-//! checked, and 100 and more for bad numbers. It writes only where it answers 0.
+//! A function that may fail answers 0, or a code: below 100 that of a cause of a refusal, and from 100 that of what is
+//! wrong with the numbers. It writes only where it answers 0.
 #![tactic(auto)]
 
 ghost use Rattle.std.specs.Prelude.{◌≡◌, length};

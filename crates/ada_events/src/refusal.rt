@@ -12,51 +12,54 @@ use thiserror::Error;
 #[derive(Clone, Copy, Debug, PartialEq, Eq, Error)]
 #[error("{}", self.name())]
 pub enum Refusal {
-    /// A task that the request names doesn't exist.
+    /// The asking task, the callee, a listed task or the task of a master doesn't exist.
     UnknownTask,
     /// The asking task isn't running.
     NotRunning,
-    /// A wait, end or completion by a task that hasn't ended its activation.
+    /// A wait, end or completion by a task that is still being activated (9.3).
     DuringActivation,
-    /// The task has ended its activation already, or is the main program.
+    /// The end of an activation by a task that has ended it already, or by the main program (9.3).
     NotActivating,
-    /// The master of a new task is none that the asking task is within.
+    /// A creation under a master that the asking task is neither in nor depends on (9.4).
     NotYourMaster,
-    /// A list of tasks or of delay alternatives is empty.
+    /// A list of tasks or of delay alternatives is empty (9.7.1, 9.10).
     EmptyList,
-    /// An activation names a task that isn't the asking task's to activate, or names one twice.
+    /// An activation of a task that the asking task didn't make, that an activation named before,
+    /// or that is listed twice (9.3).
     NotYourTask,
-    /// A wait has no accept alternative.
+    /// A wait has no accept alternative (9.7.1).
     NoAccept,
-    /// A family of entries isn't declared.
+    /// The family of a call or of any accept alternative isn't declared (9.5).
     NoSuchFamily,
-    /// An index lies outside its family's range.
+    /// The index of a call or of an open accept alternative lies outside its family's range (9.5).
     ConstraintError,
-    /// An accept within a rendezvous of the same family.
+    /// An accept alternative, open or closed, for the family of a rendezvous that the task is
+    /// within (9.5).
     SameFamilyNested,
-    /// A terminate alternative within a rendezvous.
+    /// A terminate alternative, open or closed, within a rendezvous (9.7.1).
     TerminateInAccept,
-    /// The task's innermost construct isn't a rendezvous.
+    /// An end while the task is in no rendezvous, or in a block within it (9.5).
     NotInAccept,
-    /// The task's innermost construct isn't a block.
+    /// A close while the task is in no block, or in a rendezvous within it (9.4).
     NoBlock,
-    /// The task ends its activation or its body within a block or a rendezvous.
+    /// A completion, or the end of an activation, within a block or a rendezvous (9.4).
     StillNested,
-    /// An abort names the main program.
+    /// An abort of the main program (9.10).
     MainTask,
-    /// The moment would move back.
+    /// A tick to a moment before the present one (9.6).
     MomentBack,
-    /// A moment above 9,000,000,000,000 milliseconds.
+    /// A tick, or the due moment of a timed call, a delay or an open delay alternative, above
+    /// 9,000,000,000,000 milliseconds (9.6).
     MomentTooLarge,
-    /// There are 256 tasks, the main program counted.
+    /// A creation while there are 256 tasks, the main program and those that are gone counted.
     TooManyTasks,
-    /// There would be more than 1,024 entries over all tasks.
+    /// A creation with which there would be more than 1,024 entries over all tasks.
     TooManySlots,
-    /// The task is within 32 blocks and rendezvous.
+    /// An opening or a wait within 32 blocks and rendezvous.
     TooDeep,
-    /// The journal hasn't room for the 769 events that one request may append.
+    /// The journal of 65,536 events hasn't room for the 769 that one request may append.
     JournalFull,
-    /// A growth was refused.
+    /// Memory was refused, and no other cause applies.
     OutOfMemory,
 }
 
