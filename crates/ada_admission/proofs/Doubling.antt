@@ -111,6 +111,3 @@ seen_twice tasks seen n place d low was is few known =
     (ap has_double_task (from_there tasks n d low was.within)
     ∙ ap (λ k. lists_task k (drop n tasks) || has_double_task (drop n tasks)) (sym is)
     ∙ rw (sym (was.each place here) ∙ known) refl)
-
-pub all_seen : (tasks : List TaskNo) (seen : List Bool) (n : ℕ) → n ≤ 0 → HasSeen tasks seen n → has_double_task tasks ≡ false
-all_seen tasks seen n low is = ap (λ k. has_double_task (drop k tasks)) (let e : 0 ≡ n = omega arith in e) ∙ is.single

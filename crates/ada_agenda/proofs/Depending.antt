@@ -69,11 +69,6 @@ quits_ready journal m u quits depends live =
           ]
     ]
 
-pub quits_complete : (journal : List Event) (m : Master) → is_to_quit journal m ≡ true → is_complete journal m ≡ true
-unfolding is_to_quit
-quits_complete journal m quits =
-    (and_parts (is_complete journal m) (not (all_terminated journal m)) (and_parts (is_complete journal m && not (all_terminated journal m)) _ quits).0).0
-
 -- what a task depends on was known before the event
 pub depended_known : (event : Event) (before : List Event) (u : ℕ) (m : Master) → IsLawful (event ∷ before) → depends_on (event ∷ before) u m ≡ true
     → IsKnown before m

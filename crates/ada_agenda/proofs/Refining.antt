@@ -8,7 +8,6 @@ use Rattle.std.specs.List.{list_all, Contains}
 use Rattle.std.proofs.lemmas.Bool.{and_parts, or_cases, or_parts, false≢true, true≢false}
 use Rattle.std.proofs.lemmas.Option.{none-some, same_Some, option_and_then_some}
 use Rattle.ada_events.specs.declared.event.Event.{Event}
-use Rattle.ada_events.specs.declared.event.Event.TheVariants as event
 use Rattle.ada_events.specs.declared.event.Event.TheVariants.{Halted, Failed, Met, Cancelled, Passed, Woken, Quit, Left}
 use Rattle.ada_events.specs.declared.event.Way.{Way}
 use Rattle.ada_events.specs.declared.names.TaskNo.{TaskNo}
@@ -310,17 +309,6 @@ quits_block event step before p gives =
     option_and_then_some (at_event (event ∷ before) QuittingBlock p) (event_at (event ∷ before) p) step gives (λ e at given.
     option_and_then_some (λ (_ : Opening). then_some (is_to_quit (event ∷ before) (Block p)) (Quit (Block p))) (opening_in e) step given (λ o says last.
     (then_some-some (is_to_quit (event ∷ before) (Block p)) (Quit (Block p)) step last).0))
-
--- a tick does nothing else
-pub record OnlyTicks (event : Event) : Type 0 where
-  pub calls : call_in event ≡ None
-  pub waits : wait_in event ≡ None
-  pub delays : delay_in event ≡ None
-
-only_ticks : (e : Event) (now : ℤ) → moment_in e ≡ Some now → OnlyTicks e
-unfolding moment_in call_in wait_in delay_in
-only_ticks (event.Ticked moment) now says = record { calls = refl; waits = refl; delays = refl }
-only_ticks _ now says = absurd (none-some now says)
 
 -- what a row gave before, or a key that is touched
 abbrev pub IsGivenOrTouched : Event → List Event → Row → ℕ → Type 0

@@ -1,8 +1,6 @@
 //! Two journals, and the names by which what matters of the first is found in the second.
 
-ghost use Rattle.std.specs.Prelude.{◌≡◌, true, Some, Option};
-ghost use Rattle.std.specs.Option.{option_and_then};
-ghost use Rattle.ada_events.specs.declared.names.Master.{Master as MasterValue};
+ghost use Rattle.std.specs.Prelude.{◌≡◌, true, Some};
 ghost use Rattle.ada_standing.specs.Names.{renaming_of};
 ghost use Rattle.ada_standing.specs.Renaming.{renamed_master, renamed_member, renamed_outcome};
 

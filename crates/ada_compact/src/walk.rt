@@ -6,7 +6,7 @@ use crate::items::{Item, Items};
 use crate::names::Names;
 use crate::posts::Posts;
 use crate::source::{MAIN, Source};
-use ada_events::{Master, TaskNo};
+use ada_events::TaskNo;
 use ada_kernel::Kernel;
 use ada_standing::Renaming;
 use std::alloc::Global;

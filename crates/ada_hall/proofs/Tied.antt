@@ -14,16 +14,10 @@ use Rattle.ada_events.specs.Steps.{IsAccepted}
 use Rattle.ada_events.specs.Boards.{IsShownBy, AreTrueOf, board_of}
 use Rattle.ada_laws.proofs.Forcing.{forces_keeps}
 use Rattle.ada_laws.proofs.Publishing.{published_next, published_still}
-use Rattle.ada_laws.proofs.ShowingLaws.{no_boards_are_true}
-use Rattle.ada_laws.proofs.GroupLaws.{empty_is_settled}
 use Rattle.ada_board.specs.Answers.{latest_behind, latest}
 use Rattle.ada_board.specs.Sights.{Posted}
 use Rattle.ada_board.proofs.Truth.{latest_added}
 use Rattle.ada_hall.specs.PublishedKernels.{IsTied}
-
--- nothing published is true of the empty journal, and not behind it
-pub tied_at_first : IsTied [] [] false
-tied_at_first = record { true_of = no_boards_are_true [] tt; settled = empty_is_settled; is_behind = refl }
 
 -- what a request led to is the old journal with more before it
 grown : (old new : List Event) (request : Request) (at : ℕ) → IsAccepted old request at new → (steps : List Event) × (new ≡ steps ++ old) × (0 < length steps)

@@ -11,7 +11,6 @@ ghost use Rattle.ada_kernel.specs.internal.Indexes.{IsIndexOf};
 ghost use Rattle.ada_kernel.specs.internal.Stepping.{MayBegin, MayNote, HasNoted, MayTake, Takes};
 ghost use Rattle.ada_steps.specs.Beginning.{HasBegun};
 ghost use Rattle.ada_records.specs.TableEvents.{MakesTask};
-ghost use Rattle.ada_events.specs.Forced.{is_to_quit};
 
 use crate::index::Index;
 use ada_admission::masters::{

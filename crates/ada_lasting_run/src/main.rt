@@ -7,7 +7,7 @@ mod random;
 
 use life::{Life, live};
 use random::{play_all, play_shown};
-use std::{env, fs};
+use std::env;
 
 /// How many random runs there are, if nothing else is asked for, and about how many requests each has.
 const RUNS: u64 = 8;

@@ -1,7 +1,6 @@
 //! Random runs.
 
-use ada_lasting::LastingRequest;
-use ada_lasting_pair::{Both, Found, Run, Sum};
+use ada_lasting_pair::{Found, Run, Sum};
 use anyhow::anyhow;
 
 /// Plays these runs, and prints what came up. Fails at the first difference, which it tells with the number of the run

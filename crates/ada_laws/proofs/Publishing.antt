@@ -1,14 +1,12 @@
 -- Boards that are published behind accepted requests, and those that stay behind.
-use Rattle.std.proofs.Common.{◌≡◌, ℕ, ◌<◌, List, [], ◌∷◌, ◌++◌, length, take, sym, subst, arith, append_assoc, ◌∙◌}
-use Rattle.std.proofs.lemmas.List.{get_or-take, length-take}
-use Rattle.std.proofs.lemmas.List.Elements.{All-take}
+use Rattle.std.proofs.Common.{◌≡◌, ℕ, List, [], ◌∷◌, ◌++◌, sym, subst, append_assoc, ◌∙◌}
 use Rattle.ada_events.specs.declared.event.Event.{Event}
 use Rattle.ada_events.specs.declared.board.Board.{Board}
 use Rattle.ada_events.specs.declared.request.Request.{Request}
 use Rattle.ada_events.specs.Asks.{asked_event}
 use Rattle.ada_events.specs.Lawful.{IsLawful, IsSettled}
 use Rattle.ada_events.specs.Steps.{IsAccepted}
-use Rattle.ada_events.specs.Boards.{AreTrueOf, IsShownBy, board_of}
+use Rattle.ada_events.specs.Boards.{AreTrueOf, board_of}
 use Rattle.ada_laws.proofs.Forcing.{forces_keeps}
 use Rattle.ada_laws.proofs.ShowingLaws.{boards_stay_true, answers_are_shown}
 
@@ -27,14 +25,3 @@ published_still old new request at published true_of accepted lawful =
     let P : List Event → Type 0 = λ j. AreTrueOf j published in
     let Q : List Event → Type 0 = λ j. IsLawful j in
     subst P (sym whole) (boards_stay_true (steps.0 ++ asked_event old request ∷ []) old published true_of (subst Q whole lawful))
-
--- the first of true boards are true
-pub first_boards_are_true : (n : ℕ) (journal : List Event) (boards : List Board) → AreTrueOf journal boards → AreTrueOf journal (take n boards)
-first_boards_are_true n journal boards true_of = record {
-  lawful = true_of.lawful;
-  rise = λ i j d less within.
-      let low : j < n = omega (arith, length-take n boards) in
-      let there : j < length boards = omega (arith, length-take n boards) in
-      rw (get_or-take n boards i d (omega arith), get_or-take n boards j d low) (true_of.rise i j d less there);
-  each = All-take (IsShownBy journal) n boards true_of.each;
-}

@@ -1,10 +1,10 @@
 -- What a call touches: itself, and the wait of the task that it calls.
-use Rattle.std.proofs.Common.{◌≡◌, ℕ, suc, Bool, true, false, not, ◌&&◌, ◌||◌, Option, Some, None, List, [], ◌∷◌, length, sym, refl, ap, ◌∙◌, inl, inr, eqb}
+use Rattle.std.proofs.Common.{◌≡◌, ℕ, suc, Bool, true, false, not, ◌&&◌, ◌||◌, Option, Some, None, List, [], ◌∷◌, length, sym, refl, ap, ◌∙◌, eqb}
 use Rattle.std.proofs.Common.{if◌then◌else◌}
 use Rattle.std.specs.Option.{option_map_or, option_or, option_and_then}
 use Rattle.std.specs.List.{list_any}
-use Rattle.std.proofs.lemmas.Bool.{and_parts, or_parts, not-true, or_cases, not_from_false, true≢false, both_ways}
-use Rattle.std.proofs.lemmas.Option.{same_Some, none-some}
+use Rattle.std.proofs.lemmas.Bool.{and_parts, or_parts, not-true, not_from_false, true≢false, both_ways}
+use Rattle.std.proofs.lemmas.Option.{none-some}
 use Rattle.ada_events.specs.declared.event.Event.{Event}
 use Rattle.ada_events.specs.declared.event.Event.TheVariants as event
 use Rattle.ada_events.specs.declared.names.TaskNo.{TaskNo}
@@ -19,16 +19,13 @@ use Rattle.ada_events.specs.Forced.{is_done_activating}
 use Rattle.ada_events.specs.Termination.{is_complete_block, is_complete, is_abandoned, is_open_terminate, has_empty_queues, is_ready_to_quit}
 use Rattle.ada_laws.specs.Calls.{IsWaitAt}
 use Rattle.ada_laws.proofs.Searching.{event_at-newest}
-use Rattle.ada_laws.proofs.Saying.{held_in-call}
 use Rattle.ada_rows.specs.Rows.{goes_by_task, at_event, step_at}
 use Rattle.ada_rows.specs.declared.row.Row.{Row}
 use Rattle.ada_rows.specs.declared.row.Row.TheVariants.{Halting, Failing, Meeting, Cancelling, Passing, Waking, Activating, Terminating, QuittingBody}
 use Rattle.ada_rows.specs.declared.row.Row.TheVariants.{QuittingBlock, Leaving}
-use Rattle.ada_rows.specs.TouchedKeys.{is_uncallable, is_idle, IsNewlyBelow, MayQuit, Touches}
-use Rattle.ada_rows.specs.TouchedKeys.Touches.{newest, task_made, aborts, frees, loses, calls, moves, elaborates, completes, abandons, ends_below, body_quits}
-use Rattle.ada_rows.specs.TouchedKeys.Touches.{block_quits, ends_within}
-use Rattle.ada_rows.specs.TouchedKeys.MayQuit.{complete, idle, made}
-use Rattle.ada_records.proofs.Holding.{IsQuiet, OnlyHolds, hold_only, quiet_ends, quiet_ended}
+use Rattle.ada_rows.specs.TouchedKeys.{IsNewlyBelow}
+use Rattle.ada_rows.specs.TouchedKeys.Touches.{aborts, elaborates, completes}
+use Rattle.ada_records.proofs.Holding.{IsQuiet, OnlyHolds, quiet_ends, quiet_ended}
 use Rattle.ada_records.proofs.QueueChanges.{ends_caller, queued-more}
 use Rattle.ada_records.proofs.Nesting.{any_event-agree, given_same}
 
@@ -148,20 +145,6 @@ ready_before e before v only waits ready =
     let empty : not (any_event (calls_it before v) before) ≡ true = ap not (sym (same_calls e before v only)) ∙ fewer_calls e before v first.1 in
     rw (waiting, live, empty) refl
 
-idle_before : (e : Event) (before : List Event) (v : ℕ) → OnlyHolds e → wait_in e ≡ None → is_idle before v ≡ false → is_idle (e ∷ before) v ≡ true → ⊥
-idle_before e before v only waits was now =
-    let parts = or_parts (is_terminated before v) (is_ready_to_quit before v) was in
-    elim (or_cases (is_terminated (e ∷ before) v) (is_ready_to_quit (e ∷ before) v) now) [
-      | inl terminated ↦ both_ways (is_terminated before v) parts.0 (sym (same_terminated e before v only.quiet) ∙ terminated)
-      | inr ready ↦ both_ways (is_ready_to_quit before v) parts.1 (ready_before e before v only waits ready)
-    ]
-
--- a call lets no master quit
-no_quit : (e : Event) (before : List Event) (m : Master) → OnlyHolds e → SaysCall e → MayQuit e before m → ⊥
-no_quit e before m only says (complete was now) = both_ways (is_complete before m) was (sym (same_complete e before m only.quiet says.closes says.opens) ∙ now)
-no_quit e before m only says (idle below) = idle_before e before below.task only says.waits below.was below.now
-no_quit e before m only says (made task new) = none-some new.creation (sym only.quiet.makes ∙ new.says)
-
 pub no_end : (e : Event) (before : List Event) (m : Master) → IsQuiet e → IsNewlyBelow is_terminated e before m → ⊥
 no_end e before m quiet below = both_ways (is_terminated before below.task) below.was (sym (same_terminated e before below.task quiet) ∙ below.now)
 
@@ -194,31 +177,3 @@ itself e before call Leaving step says by gives =
 itself e before call Halting step says by gives = absurd (true≢false by)
 itself e before call Terminating step says by gives = absurd (true≢false by)
 itself e before call QuittingBody step says by gives = absurd (true≢false by)
-
--- a call touches itself and the wait of the task that it calls, and nothing else
-pub called_touches : (e : Event) (before : List Event) (call : Call) (row : Row) (key : ℕ) (step : Event) → call_in e ≡ Some call
-    → step_at (e ∷ before) row key ≡ Some step → Touches e before row key → CalledKey before call row key
-called_touches e before call row key step named gives touched =
-    by_touch (hold_only e call.by (held_in-call e call named)) (says_call e call named) row key gives touched
-  where
-    by_touch : OnlyHolds e → SaysCall e → (row : Row) (key : ℕ) → step_at (e ∷ before) row key ≡ Some step → Touches e before row key
-        → CalledKey before call row key
-    by_touch only says row key gives (newest same by) = itself e before call row step says by gives
-    by_touch only says row key gives (task_made same c by makes) = absurd (none-some c (sym only.quiet.makes ∙ makes))
-    by_touch only says row key gives (aborts u was now) = absurd (both_ways (is_abnormal before u) was (sym (same_abnormal e before u only.quiet) ∙ now))
-    by_touch only says row key gives (frees u p c released at by) = absurd (none-some p (sym only.releases ∙ released))
-    by_touch only says row key gives (loses p c at was now) = absurd
-        (both_ways (is_uncallable before c.callee) was (sym (rw
-        (quiet_ended e before c.callee only.quiet, same_abnormal e before c.callee only.quiet) refl) ∙ now))
-    by_touch only says row key gives (calls p wait at of) = may_meet p wait at
-        (sym of.of ∙ ap (λ (c : Call). c.callee) (same_Some of.call call (sym of.says ∙ named)))
-    by_touch only says row key gives (moves same p timed some) = absurd (some says.moment)
-    by_touch only says row key gives (elaborates p f start t at starts among was now) = absurd
-        (both_ways (is_done_activating before t) was (sym (not_done e before t only.quiet) ∙ now))
-    by_touch only says row key gives (completes u ends) = absurd (none-some u (sym only.quiet.completes ∙ ends))
-    by_touch only says row key gives (abandons u was now) = absurd
-        (both_ways (is_abandoned before u) was (sym (same_abandoned e before u only.quiet says) ∙ now))
-    by_touch only says row key gives (ends_below u below) = absurd (no_end e before _ only.quiet below)
-    by_touch only says row key gives (body_quits u may) = absurd (no_quit e before _ only says may)
-    by_touch only says row key gives (block_quits p may) = absurd (no_quit e before _ only says may)
-    by_touch only says row key gives (ends_within p f c at closes below) = absurd (no_end e before _ only.quiet below)

@@ -1,7 +1,7 @@
 -- Within a task's nest the tables find the parents that the journal says.
 use Rattle.ada_laws.proofs.Parents.{masters_reach_by_parents, tasks_depend_by_parents}
 use Rattle.ada_laws.specs.Masters.{parent_of}
-use Rattle.std.proofs.Common.{◌≡◌, ℕ, ◌<◌, Bool, true, false, ◌||◌, eqb, Option, Some, None, List, [], ◌∷◌, refl, sym, ap, ◌∙◌, subst, inl, inr}
+use Rattle.std.proofs.Common.{◌≡◌, ℕ, ◌<◌, Bool, true, false, ◌||◌, eqb, Option, Some, List, [], ◌∷◌, refl, sym, ap, ◌∙◌, subst, inl, inr}
 use Rattle.std.specs.Option.{option_map_or}
 use Rattle.std.proofs.lemmas.Bool.{cases_eq, eq-eqb, ne_eqb, eqb-true, false≢true}
 use Rattle.ada_events.specs.declared.event.Event.{Event}
@@ -14,27 +14,9 @@ use Rattle.ada_events.specs.Tasks.{task_count}
 use Rattle.ada_events.specs.Masters.{same_master, reaches, depends_on}
 use Rattle.ada_events.specs.Nests.{nest, innermost_block, frame}
 use Rattle.ada_events.specs.Lawful.{IsLawful}
-use Rattle.ada_tables.specs.Dependents.{has_block, up_to, holds, encloses, outside, parent_within}
+use Rattle.ada_tables.specs.Dependents.{has_block, up_to, holds, encloses}
 use Rattle.ada_records.specs.Holders.{IsUnder, AreNested}
 use Rattle.ada_records.proofs.NestedBlocks.{nest_properly}
-
-under_outside : (journal : List Event) (p : ℕ) (before : Option ℕ) (body : Master) (members : List Member)
-    → AreNested journal (option_map_or BlockMaster before body) members → has_block p members ≡ true
-    → IsUnder journal p (option_map_or BlockMaster (outside p before members) body)
-unfolding outside
-under_outside journal p before body [] nested has = absurd (false≢true has)
-under_outside journal p before body (Block q ∷ rest) nested has =
-    elim (cases_eq q p) [
-      | inl same ↦ rw (eq-eqb q p same) (subst (λ (n : ℕ). IsUnder journal n (option_map_or BlockMaster before body)) same nested.0)
-      | inr other ↦ rw (ne_eqb q p other) (under_outside journal p (Some q) body rest nested.1 (rw (ne_eqb q p other) at has))
-    ]
-under_outside journal p before body (Rendezvous call ∷ rest) nested has = under_outside journal p before body rest nested has
-
--- in a lawful journal a block of a nest was opened within the parent that the tables find
-pub opened_within : (journal : List Event) (task p : ℕ) → IsLawful journal → has_block p (nest journal task) ≡ true
-    → IsUnder journal p (parent_within task (nest journal task) p)
-opened_within journal task p lawful has =
-    under_outside journal p None (Body (record { 0 = task })) (nest journal task) (nest_properly journal task lawful) has
 
 parent_under : (journal : List Event) (p : ℕ) (outer : Master) → IsUnder journal p outer → parent_of journal (BlockMaster p) ≡ Some outer
 parent_under journal p outer is = rw (is.stands, is.says) (ap Some is.under)

@@ -43,14 +43,6 @@ pub no_newest : (event : Event) (before : List Event) (task : ℕ) (entry : Entr
 unfolding is_call_of
 no_newest event before task entry none = rw none refl
 
--- a queue after an event that makes no call, releases nothing, meets nobody and ends nobody
-pub queue_same : (event : Event) (before : List Event) (task : ℕ) (entry : Entry) → IsQuiet event → released_in event ≡ None → meeting_in event ≡ None
-    → call_in event ≡ None → queue (event ∷ before) task entry ≡ queue before task entry
-queue_same event before task entry quiet frees_none meets_none calls_none =
-    queue_more event before task entry (λ _. true)
-    (λ p e at. queued-more event before p e ∙ rw (frees_none, quiet_callers event before (call_in e) quiet, meets_none) refl)
-    ∙ rw (no_newest event before task entry calls_none, filter_all (queue before task entry), append-nil (queue before task entry)) refl
-
 -- a queue after a call: the call comes last in the queue of its entry
 pub newest_is : (event : Event) (before : List Event) (task : ℕ) (entry : Entry) (call : Call) → IsLawful (event ∷ before) → call_in event ≡ Some call
     → newest_call event before task entry ≡ option_to_list (then_some (eqb call.callee task && same_entry call.entry entry) (suc (length before)))

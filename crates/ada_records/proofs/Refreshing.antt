@@ -198,7 +198,3 @@ all_named event before by tasks first old new many kept lawful starts makes whol
     start_touches event before by tasks t starts lawful (λ same. true≢false (sym (eq-eqb t by.0 same) ∙ both.0))
     (ap (lists_task t) (sym (take_all many tasks whole)) ∙ both.1))
     (refreshed_more event before (λ t. lists_task t (take many tasks)) old by.0 kept named.0 known right))
-
-pub start_makes : (event : Event) (by : TaskNo) (tasks : List TaskNo) → event ≡ Started by tasks → creation_in event ≡ None
-unfolding creation_in
-start_makes event by tasks is = ap creation_in is

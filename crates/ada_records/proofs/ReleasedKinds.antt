@@ -67,9 +67,6 @@ forced_ends_call event before p (inr asked) ends = absurd (none-some p (sym (ap 
 pub failed_open : (event : Event) (before : List Event) (p : ℕ) → IsLawful (event ∷ before) → event ≡ kind.Failed p → HasOpenCall before p
 failed_open event before p lawful is = forced_ends_call event before p lawful.1 (ap forced_call is)
 
-pub cancelled_open : (event : Event) (before : List Event) (p : ℕ) → IsLawful (event ∷ before) → event ≡ kind.Cancelled p → HasOpenCall before p
-cancelled_open event before p lawful is = forced_ends_call event before p lawful.1 (ap forced_call is)
-
 abbrev cancelled_call : Event → Option ℕ
 cancelled_call (kind.Cancelled call) = Some call
 cancelled_call _ = None

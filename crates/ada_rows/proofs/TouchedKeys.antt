@@ -32,7 +32,7 @@ use Rattle.ada_laws.proofs.Searching.{any_event-from, all_below-fails, all_below
 use Rattle.ada_laws.proofs.Gathering.{Contains-first, Contains-later}
 use Rattle.ada_laws.proofs.Growing.{is_terminated-more, has_ended-before, task_count-more}
 use Rattle.ada_laws.proofs.Depending.{depends_on-cases, depends_on-later, depends_exists}
-use Rattle.ada_rows.specs.Rows.{goes_by_task, goes_by_moment, at_event, of_task, known_step, step_at, IsAgenda}
+use Rattle.ada_rows.specs.Rows.{goes_by_task, goes_by_moment, at_event, of_task, known_step, step_at}
 use Rattle.ada_rows.specs.declared.row.Row.{Row}
 use Rattle.ada_rows.specs.declared.row.Row.TheVariants.{Halting, Failing, Meeting as MeetingRow, Cancelling}
 use Rattle.ada_rows.specs.declared.row.Row.TheVariants.{Passing, Waking, Activating, Terminating, QuittingBody}
@@ -418,16 +418,3 @@ newly event before Activating k step gives =
 newly event before QuittingBlock k step gives =
     at_position event before QuittingBlock k step refl gives (λ e at given. quits_block_newly event before k e step given)
 newly event before Leaving k step gives = at_position event before Leaving k step refl gives (λ e at given. leaves_newly event before k e step at given)
-
--- the agenda after one more event: the keys that were kept, and those that the event touches
-pub agenda_more : (event : Event) (before : List Event) (has more : Row → ℕ → Bool) → IsAgenda before has
-    → ((row : Row) (key : ℕ) → has row key ≡ true → more row key ≡ true)
-    → ((row : Row) (key : ℕ) (step : Event) → step_at (event ∷ before) row key ≡ Some step → Touches event before row key → more row key ≡ true)
-    → IsAgenda (event ∷ before) more
-agenda_more event before has more agenda keeps adds = record {
-  kept = λ row key step gives.
-      elim (newly event before row key step gives) [
-        | inl was ↦ keeps row key (agenda.kept row key was.0 was.1)
-        | inr touched ↦ adds row key step gives touched
-      ];
-}

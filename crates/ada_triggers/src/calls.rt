@@ -1,6 +1,6 @@
 //! What calls and waits add to an agenda.
 
-ghost use Rattle.std.specs.Prelude.{◌≡◌, ℕ, Bool, true, false, [], ◌∷◌};
+ghost use Rattle.std.specs.Prelude.{◌≡◌, ℕ, Bool, true, [], ◌∷◌};
 ghost use Rattle.std.specs.Option.{is_some, option_map};
 ghost use Rattle.ada_events.specs.Says.{Call, call_at};
 ghost use Rattle.ada_events.specs.declared.event.Event.TheVariants.{Cancelled as CancelledEvent, Ended as EndedEvent, Failed as FailedEvent};

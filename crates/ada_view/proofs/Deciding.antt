@@ -1,5 +1,5 @@
 -- The rows of abnormal tasks and of entry calls, decided by records.
-use Rattle.std.proofs.Common.{◌≡◌, ◌≢◌, ℕ, zero, suc, ◌<◌, Bool, true, false, not, ◌&&◌, ◌||◌, eqb, ltb, Option, Some, None, List, refl, sym, ap, ◌∙◌, subst}
+use Rattle.std.proofs.Common.{◌≡◌, ◌≢◌, ℕ, zero, suc, ◌<◌, Bool, true, false, not, ◌&&◌, ◌||◌, eqb, ltb, Some, List, refl, sym, ap, ◌∙◌, subst}
 use Rattle.std.proofs.Common.{arith}
 use Rattle.std.specs.Option.{option_and_then}
 use Rattle.std.specs.Bool.{then_some}
@@ -95,11 +95,6 @@ met_told journal task kept lawful right = same_truth (is_met_by kept) (is_caller
         let (d, opened_calls, opened) = is_open_at-call journal p e stands joined.0 in
         let same : d.by ≡ task = ap (λ (x : Call). x.by) (same_Some d c (sym opened_calls ∙ calls)) ∙ eqb-true c.by task by in
         met_by journal d p kept lawful (subst (λ (u : ℕ). IsRecordOf journal u kept) (sym same) right) opened joined.1
-
-halting_bits : (a e m : Bool) (step : Event) (o : Option Event) → (a ≡ true → o ≡ then_some (a && not e && not m) step) → (a ≡ false → o ≡ None)
-    → o ≡ then_some (a && not e && not m) step
-halting_bits true e m step o known unknown = known refl
-halting_bits false e m step o known unknown = unknown refl
 
 -- a task is halted where its record says so
 pub halts_told : (journal : List Event) (task : ℕ) (kept : Record) → IsLawful journal → IsRecordOf journal task kept

@@ -63,10 +63,6 @@ complete_body : (journal : List Event) (x : Master) (u : ℕ) → x ≡ Body (ta
 unfolding is_complete
 complete_body journal x u is = rw is refl
 
-complete_block : (journal : List Event) (x : Master) (task p : ℕ) → x ≡ Block p → IsBlockOf journal task p
-    → is_complete journal x ≡ (is_closed journal p || has_ended journal task)
-complete_block journal x task p is block = rw is (block_complete journal task p block)
-
 module _ (old new : List Event) (names : Renaming) (event other : Event) (next : AreNext old new names event other) where
   -- the parent of an older task
   parent_later : (u : ℕ) (o : Option Master) → IsLivedIn old (Body (task_no u)) → parent_of old (Body (task_no u)) ≡ o
