@@ -1,14 +1,11 @@
 -- A task that was just made isn't abnormal, terminated or ready to quit, and nobody depends on its body.
-use Rattle.std.proofs.Common.{◌≡◌, ℕ, ◌<◌, ◌≤◌, true, Some, None, List, [], ◌∷◌, sym, refl, ap, ◌∙◌, subst, arith, inl, inr}
+use Rattle.std.proofs.Common.{◌≡◌, ℕ, ◌<◌, ◌≤◌, true, Some, None, List, [], ◌∷◌, refl, arith, inl, inr}
 use Rattle.std.proofs.lemmas.Bool.{cases_Bool, false≢true}
-use Rattle.std.proofs.lemmas.Option.{none-some, same_Some}
+use Rattle.std.proofs.lemmas.Option.{none-some}
 use Rattle.ada_events.specs.declared.event.Event.{Event}
 use Rattle.ada_events.specs.declared.event.Event.TheVariants as event
-use Rattle.ada_events.specs.declared.request.Request.{Request}
-use Rattle.ada_events.specs.declared.request.Request.TheVariants as request
 use Rattle.ada_events.specs.declared.names.Master.{Master}
 use Rattle.ada_events.specs.Says.{Creation, creation_in, gone_in, quit_in, aborted_in, held_in}
-use Rattle.ada_events.specs.Asks.{asked_event}
 use Rattle.ada_events.specs.Tasks.{task_count}
 use Rattle.ada_events.specs.Masters.{depends_on}
 use Rattle.ada_events.specs.Phases.{is_terminated, is_abnormal}
@@ -16,7 +13,6 @@ use Rattle.ada_events.specs.Termination.{is_ready_to_quit}
 use Rattle.ada_events.specs.Forced.{is_to_quit}
 use Rattle.ada_events.specs.Lawful.{IsLawful, MayFollow}
 use Rattle.ada_laws.proofs.Growing.{task_count-more}
-use Rattle.ada_laws.proofs.Rows.{IsRow, forced-row}
 use Rattle.ada_laws.proofs.Rows.IsRow.{goes}
 use Rattle.ada_laws.proofs.Suspending.{suspended_before, suspended_exists}
 use Rattle.ada_laws.proofs.Depending.{IsMadeUnder, depends_exists, depends_on-made}
@@ -24,6 +20,7 @@ use Rattle.ada_laws.proofs.DependentLaws.{IsEnd, is_terminated-cases}
 use Rattle.ada_laws.proofs.DependentLaws.IsEnd.{alone, together, earlier}
 use Rattle.ada_agenda.proofs.Depending.{quits_ready, abnormal_exists}
 use Rattle.ada_agenda.proofs.Waiting.{at_wait, ready_parts}
+use Rattle.ada_records.proofs.Existing.{gone_exists}
 
 -- a creation terminates, aborts and holds up nobody
 pub record OnlyMakes (event : Event) : Type 0 where
@@ -36,20 +33,6 @@ pub only_makes : (e : Event) (c : Creation) → creation_in e ≡ Some c → Onl
 unfolding creation_in gone_in quit_in aborted_in held_in
 only_makes (event.Created by under master families) c says = record { goes = refl; quits = refl; aborts = refl; holds = refl }
 only_makes _ c says = absurd (none-some c says)
-
-row_gone : (journal : List Event) (e : Event) (task : ℕ) → IsRow journal e → gone_in e ≡ Some task → task < task_count journal
-unfolding gone_in
-row_gone journal e task (goes u below go) says = subst (λ (n : ℕ). n < task_count journal) (same_Some u task says) below
-row_gone journal e task _ says = absurd (none-some task says)
-
-asked_gone : (journal : List Event) (r : Request) → gone_in (asked_event journal r) ≡ None
-unfolding gone_in asked_event
-asked_gone journal (request.Open by) = refl
-asked_gone journal _ = refl
-
-gone_exists : (e : Event) (before : List Event) (task : ℕ) → MayFollow before e → gone_in e ≡ Some task → task < task_count before
-gone_exists e before task (inl forces) says = row_gone before e task (forced-row before e forces) says
-gone_exists e before task (inr asked) says = absurd (none-some task (sym (asked_gone before asked.request) ∙ (ap gone_in (sym asked.becomes) ∙ says)))
 
 -- a terminated task exists
 end_exists : (e : Event) (before : List Event) (task : ℕ) → MayFollow before e → (is_terminated before task ≡ true → task < task_count before)

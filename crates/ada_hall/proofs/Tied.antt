@@ -1,6 +1,6 @@
 -- What is published stays true of the journal that goes on, and falls behind where it isn't added to.
 use Rattle.std.proofs.Common.{◌≡◌, ℕ, ◌+◌, ◌<◌, ◌≤◌, Bool, true, false, Option, Some, None, List, [], ◌∷◌, ◌++◌, length}
-use Rattle.std.proofs.Common.{refl, ap, sym, subst, append_assoc, ◌∙◌, arith, length-append, MatchOption}
+use Rattle.std.proofs.Common.{ap, sym, subst, append_assoc, ◌∙◌, arith, length-append, MatchOption}
 use Rattle.std.specs.Prelude.{is_some, not}
 use Rattle.std.proofs.lemmas.Bool.{not-true, not-false}
 use Rattle.std.specs.List.{All}
@@ -14,6 +14,7 @@ use Rattle.ada_events.specs.Steps.{IsAccepted}
 use Rattle.ada_events.specs.Boards.{IsShownBy, AreTrueOf, board_of}
 use Rattle.ada_laws.proofs.Forcing.{forces_keeps}
 use Rattle.ada_laws.proofs.Publishing.{published_next, published_still}
+use Rattle.ada_laws.proofs.ShowingLaws.{board_events}
 use Rattle.ada_board.specs.Answers.{latest_behind, latest}
 use Rattle.ada_board.specs.Sights.{Posted}
 use Rattle.ada_board.proofs.Truth.{latest_added}
@@ -27,10 +28,6 @@ grown old new request at accepted =
       steps.1 ∙ sym (append_assoc steps.0 (asked_event old request ∷ []) old),
       omega (arith, length-append steps.0 (asked_event old request ∷ [])),
     )
-
-board_events : (journal : List Event) → (board_of journal).events ≡ length journal
-unfolding board_of
-board_events journal = refl
 
 -- the board of a list is no newer than its boards
 events_within : (n : ℕ) (before : Board) (boards : List Board) → before.events ≤ n → All (λ (b : Board). b.events ≤ n) boards

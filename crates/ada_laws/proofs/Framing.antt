@@ -12,6 +12,7 @@ use Rattle.ada_events.specs.Nests.{nest, innermost_block, frame}
 use Rattle.ada_laws.proofs.Members.{IsMember, nest_member}
 use Rattle.ada_laws.proofs.Members.IsMember.{block_in}
 use Rattle.ada_laws.proofs.Gathering.{Contains-first, Contains-later}
+use Rattle.ada_laws.proofs.Searching.{event_at-older}
 
 -- a block that the task opened at the position
 pub record IsBlockOf (journal : List Event) (task position : ℕ) : Type 0 where
@@ -20,6 +21,16 @@ pub record IsBlockOf (journal : List Event) (task position : ℕ) : Type 0 where
   pub stands : event_at journal position ≡ Some event
   pub says : opening_in event ≡ Some opening
   pub by : opening.by ≡ task
+
+-- it stays one
+pub block_later : (event : Event) (before : List Event) (task p : ℕ) → IsBlockOf before task p → IsBlockOf (event ∷ before) task p
+block_later event before task p block = record {
+  event = block.event;
+  opening = block.opening;
+  stands = event_at-older event before p block.event block.stands;
+  says = block.says;
+  by = block.by;
+}
 
 innermost_block-is : (outer : Master) (members : List Member) → (innermost_block outer members ≡ outer)
     ⊎ ((p : ℕ) × Contains members (Block p) × (innermost_block outer members ≡ BlockMaster p))

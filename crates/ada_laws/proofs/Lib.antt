@@ -34,3 +34,5 @@ pub mod SlotOrder
 pub mod OutcomeLaws
 pub mod KeepingLaws
 pub mod Publishing
+pub mod Leaving
+pub mod Innermost

@@ -50,11 +50,11 @@ boards_stay_true steps old boards true_of lawful = record {
   each = All-weaker (IsShownBy old) (IsShownBy (steps ++ old)) (λ board shown. shown_later steps old board shown) boards true_of.each;
 }
 
-board_events : (journal : List Event) → (board_of journal).events ≡ length journal
+pub board_events : (journal : List Event) → (board_of journal).events ≡ length journal
 unfolding board_of
 board_events journal = refl
 
-newest_shown : (journal : List Event) → IsSettled journal → IsShownBy journal (board_of journal)
+pub newest_shown : (journal : List Event) → IsSettled journal → IsShownBy journal (board_of journal)
 newest_shown journal settled =
     let many : (board_of journal).events ≡ length journal = board_events journal in
     let same : first_events (board_of journal).events journal ≡ journal = all_events journal (board_of journal).events many in

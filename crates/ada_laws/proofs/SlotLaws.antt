@@ -1,13 +1,12 @@
 -- Slots: how many there are, and where they lie.
-use Rattle.std.proofs.Common.{◌≡◌, ℕ, ℤ, ◌+◌, ◌-◌, ◌<◌, ◌≤◌, ◌⊎◌, cond, Bool, true, false, Option, Some, None, List, [], ◌∷◌, take, get_or, refl, ap, arith}
+use Rattle.std.proofs.Common.{◌≡◌, ℕ, ◌+◌, ◌-◌, ◌<◌, ◌≤◌, ◌⊎◌, cond, Bool, true, false, Option, Some, None, List, [], ◌∷◌, take, get_or, refl, ap, arith}
 use Rattle.std.proofs.Common.{inl, inr}
-use Rattle.std.specs.Prelude.{slice_get, unsigned_abs, ◌-ℤ◌, int_le, ◌==◌, nat_lt}
+use Rattle.std.specs.Prelude.{slice_get, unsigned_abs, ◌-ℤ◌, ◌==◌, nat_lt}
 use Rattle.std.specs.Option.{option_map, option_map_or, option_and_then, option_len}
 use Rattle.std.specs.Bool.{then_some}
-use Rattle.std.proofs.lemmas.Bool.{ltb-false, and_parts}
+use Rattle.std.proofs.lemmas.Bool.{ltb-false}
 use Rattle.std.proofs.lemmas.Option.{none-some, slice_get_within, get_or_from_slice_get}
 use Rattle.std.proofs.lemmas.List.Sums.{sum_by_more_le}
-use Rattle.std.proofs.lemmas.Int.{ints}
 use Rattle.ada_events.specs.declared.event.Event.{Event}
 use Rattle.ada_events.specs.declared.request.Request.{Request}
 use Rattle.ada_events.specs.declared.request.Request.TheVariants as request
@@ -21,6 +20,7 @@ use Rattle.ada_events.specs.Refusals.{refusal}
 use Rattle.ada_events.specs.declared.limits.TheConstants.{MOST_SLOTS}
 use Rattle.ada_events.specs.Limits.{slot_count, makes_too_many_slots}
 use Rattle.ada_events.specs.Slots.{Place, number_within, slot_made, slot_of, entry_within, entry_made, entry_at}
+use Rattle.ada_events.proofs.Families.{offset_below}
 use Rattle.ada_laws.specs.Slots.{SlotsAreFew, SlotsAreNumbered, SlotsAreOfTasks}
 use Rattle.ada_laws.proofs.Searching.{then_some-some, option_or-some, option_map-some, if_some}
 use Rattle.ada_laws.proofs.Accepting.{is_accepted}
@@ -48,13 +48,6 @@ slots_are_few (event ∷ before) lawful =
       | inl forces ↦ rw (slot_count-same event before (forced-step before event forces).makes_none) few
       | inr asked ↦ rw asked.becomes (creates_slots_within before asked.request asked.accepted few)
     ]
-
--- an index in a family's range, counted from its low bound
-pub offset_below : (f : Family) (index : ℤ) → is_in_range f index ≡ true → unsigned_abs (index -ℤ f.low) < entry_count f
-unfolding entry_count
-offset_below f index in_range =
-    let both = and_parts (int_le f.low index) (int_le index f.high) in_range in
-    grind (arith, ints)
 
 number_found : (families : List Family) (entry : Entry) (n : ℕ) (o : Option Family) → slice_get families entry.family ≡ o
     → option_and_then (λ (f : Family). then_some (is_in_range f entry.index) (entries_in (take entry.family families) + unsigned_abs (entry.index -ℤ f.low))) o

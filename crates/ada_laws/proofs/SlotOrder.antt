@@ -17,11 +17,7 @@ use Rattle.ada_events.specs.Slots.{Place, number_within, slot_made, slot_of}
 use Rattle.ada_laws.specs.Slots.{ComesBefore, SlotsAreInOrder}
 use Rattle.ada_laws.proofs.Searching.{option_or-some, option_map-some, if_some}
 use Rattle.ada_laws.proofs.SlotLaws.{slots_are_numbered}
-use Rattle.ada_laws.proofs.SlotPlaces.{entries_in-cons, entry_within-found, number_is, no_slot}
-
-none_in : entries_in [] ≡ 0
-unfolding entries_in
-none_in = refl
+use Rattle.ada_laws.proofs.SlotPlaces.{entries_in-cons, entry_within-found, number_is, no_slot, none_in}
 
 -- the entries of a family come before those of the families behind it
 earlier_family : (fs : List Family) (i j : ℕ) (f : Family) → i < j → slice_get fs i ≡ Some f → entries_in (take i fs) + entry_count f ≤ entries_in (take j fs)

@@ -17,9 +17,10 @@ use Rattle.ada_events.specs.Tasks.{task_count, creation_of, families_of}
 use Rattle.ada_events.specs.Refusals.{lacks_family, is_outside}
 use Rattle.ada_events.specs.Limits.{slot_count}
 use Rattle.ada_events.specs.Slots.{Place, number_within, slot_made, slot_of, entry_within, entry_made, entry_at}
+use Rattle.ada_events.proofs.Families.{offset_below}
 use Rattle.ada_laws.specs.Slots.{EntriesStandAtTheirSlots, SlotsAreOfTheirEntries, SlotsAreFilled, DeclaredEntriesHaveSlots}
 use Rattle.ada_laws.proofs.Searching.{then_some-some, option_or-some, option_map-some, if_some}
-use Rattle.ada_laws.proofs.SlotLaws.{slots_are_numbered, slots_are_of_tasks, offset_below}
+use Rattle.ada_laws.proofs.SlotLaws.{slots_are_numbered, slots_are_of_tasks}
 
 -- an index counted from the low bound, and back
 index_back : (f : Family) (index : ℤ) → is_in_range f index ≡ true → f.low +ℤ pos (unsigned_abs (index -ℤ f.low)) ≡ index
@@ -189,7 +190,7 @@ slots_are_of_their_entries (event ∷ before) slot place found =
           rw (eq-eqb place.task (task_count before) parts.0, parts.1) refl
     ]
 
-none_in : entries_in [] ≡ 0
+pub none_in : entries_in [] ≡ 0
 unfolding entries_in
 none_in = refl
 

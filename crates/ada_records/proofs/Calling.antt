@@ -27,7 +27,7 @@ use Rattle.ada_rows.specs.TouchedKeys.{IsNewlyBelow}
 use Rattle.ada_rows.specs.TouchedKeys.Touches.{aborts, elaborates, completes}
 use Rattle.ada_records.proofs.Holding.{IsQuiet, OnlyHolds, quiet_ends, quiet_ended}
 use Rattle.ada_records.proofs.QueueChanges.{ends_caller, queued-more}
-use Rattle.ada_records.proofs.Nesting.{any_event-agree, given_same}
+use Rattle.ada_records.proofs.Nesting.{any_event-agree, given_same, and_true}
 
 -- the keys that a call touches: its own, where it may fail or be cancelled, and a wait of the task that it calls
 pub data CalledKey (before : List Event) (call : Call) : Row → ℕ → Type 0 where
@@ -67,10 +67,6 @@ pub same_elaborated : (e : Event) (before : List Event) (u : ℕ) → IsQuiet e 
 unfolding is_elaborated
 same_elaborated e before u quiet = rw quiet.elaborates refl
 
-and_false : (b : Bool) → (b && false) ≡ false
-and_false true = refl
-and_false false = refl
-
 pub same_complete : (e : Event) (before : List Event) (m : Master) → IsQuiet e → closing_in e ≡ None → opening_in e ≡ None
     → is_complete (e ∷ before) m ≡ is_complete before m
 unfolding is_complete is_complete_block
@@ -102,10 +98,6 @@ same_abandoned e before u quiet says =
 
 later_part : (a b : Bool) → not (a || b) ≡ true → not b ≡ true
 later_part a b all = not_from_false b (or_parts a b (not-true (a || b) all)).1
-
-and_true : (b : Bool) → (b && true) ≡ b
-and_true true = refl
-and_true false = refl
 
 quiet_caller : (e : Event) (before : List Event) (o : Option Call) → IsQuiet e → ends_caller e before o ≡ false
 quiet_caller e before None quiet = refl

@@ -20,14 +20,10 @@ use Rattle.ada_events.specs.Refusals.{refusal, lacks_family, is_outside, names_n
 use Rattle.ada_events.specs.Slots.{number_within, entry_within}
 use Rattle.ada_events.specs.Lawful.{IsLawful, MayFollow}
 use Rattle.ada_laws.proofs.Searching.{option_or-some, if_some, event_at-cases}
-use Rattle.ada_laws.proofs.SlotPlaces.{entries_in-cons, entry_is}
+use Rattle.ada_laws.proofs.SlotPlaces.{entries_in-cons, entry_is, none_in}
 use Rattle.ada_laws.proofs.Accepting.{is_accepted}
 use Rattle.ada_laws.proofs.Stepping.{forced-step}
 use Rattle.ada_laws.proofs.Saying.{held_in-call}
-
-none_in : entries_in [] ≡ 0
-unfolding entries_in
-none_in = refl
 
 some_within : (p : ℕ) (fs : List Family) (n : ℕ) → n < entries_in fs → (e : Entry) × (entry_within p fs n ≡ Some e)
 unfolding entry_within

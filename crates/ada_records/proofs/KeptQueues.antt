@@ -20,7 +20,7 @@ queued_stays event before p e lawful completes at queued =
     let (c, says, opened) = is_open_at-call before p e at (and_parts (is_open_at before p e) (not (is_met before p)) queued).0 in
     rw says (caller_stays event before c p lawful opened completes)
 
-all_kept : (q a : Bool) → (q ≡ true → a ≡ false) → (q && (true && not a && true)) ≡ (q && true)
+pub all_kept : (q a : Bool) → (q ≡ true → a ≡ false) → (q && (true && not a && true)) ≡ (q && true)
 all_kept true a lives = rw (lives refl) refl
 all_kept false a lives = refl
 

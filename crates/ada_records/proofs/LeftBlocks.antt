@@ -1,6 +1,6 @@
 -- Blocks that are left.
-use Rattle.std.proofs.Common.{◌≡◌, ℕ, suc, true, false, ◌&&◌, eqb, Some, List, [], ◌∷◌, length, sym, ◌∙◌, subst, ◌⊎◌, inl, inr}
-use Rattle.std.proofs.lemmas.Bool.{and_parts, and_from, or_cases, or_left, or_right, eqb-true, false_from_ne_true, true≢false, false≢true}
+use Rattle.std.proofs.Common.{◌≡◌, ℕ, suc, true, ◌&&◌, eqb, Some, List, [], ◌∷◌, length, sym, ◌∙◌, subst, ◌⊎◌, inl, inr}
+use Rattle.std.proofs.lemmas.Bool.{and_parts, and_from, or_cases, or_left, or_right, eqb-true, true≢false, false≢true}
 use Rattle.std.proofs.lemmas.Option.{none-some}
 use Rattle.ada_events.specs.declared.event.Event.{Event}
 use Rattle.ada_events.specs.declared.event.Event.TheVariants as event
@@ -9,23 +9,8 @@ use Rattle.ada_events.specs.Says.{Closing, closing_in, left_in, released_in}
 use Rattle.ada_events.specs.Phases.{is_released}
 use Rattle.ada_events.specs.Nests.{is_left_close, is_left}
 use Rattle.ada_events.specs.Lawful.{IsLawful}
-use Rattle.ada_laws.proofs.Searching.{event_at-older, event_at-cases, any_event-found, any_event-from, is_number-some, is_number-from, option_map_or-true}
+use Rattle.ada_laws.proofs.Searching.{event_at-cases, any_event-found, any_event-from, is_number-some, is_number-from, option_map_or-true}
 use Rattle.ada_records.proofs.Within.{next_unreleased}
-
--- a block that is left stays left
-pub left_more : (event : Event) (before : List Event) (p : ℕ) → is_left before p ≡ true → is_left (event ∷ before) p ≡ true
-unfolding is_left is_left_close
-left_more event before p left =
-    let (q, e, at, passes) = any_event-found (λ q e. is_some_and (closing_in e) (λ (c : Closing). eqb c.block p) && is_left_close before q) before left in
-    let both = and_parts (is_some_and (closing_in e) (λ (c : Closing). eqb c.block p)) (is_left_close before q) passes in
-    any_event-from (λ q e. is_some_and (closing_in e) (λ (c : Closing). eqb c.block p) && is_left_close (event ∷ before) q) (event ∷ before) q e
-    (event_at-older event before q e at)
-    (and_from (is_some_and (closing_in e) (λ (c : Closing). eqb c.block p)) (is_left_close (event ∷ before) q) both.0
-    (or_right (is_number q (left_in event)) (is_left_close before q) both.1))
-
-pub unleft_before : (event : Event) (before : List Event) (p : ℕ) → is_left (event ∷ before) p ≡ false → is_left before p ≡ false
-unleft_before event before p unleft =
-    false_from_ne_true (is_left before p) (λ left. true≢false (sym (left_more event before p left) ∙ unleft))
 
 pub left_frees : (e : Event) (c : ℕ) → left_in e ≡ Some c → released_in e ≡ Some c
 unfolding left_in released_in

@@ -1,15 +1,14 @@
 -- In a lawful journal a live task was made under a master that a live task holds.
-use Rattle.std.proofs.Common.{◌≡◌, ℕ, Bool, true, false, cond, ◌||◌, eqb, Some, None, List, [], ◌∷◌, refl, sym, ap, ◌∙◌, subst, inl, inr}
+use Rattle.std.proofs.Common.{◌≡◌, ℕ, Bool, true, false, cond, ◌||◌, eqb, Some, List, [], ◌∷◌, refl, sym, ap, ◌∙◌, subst, inl, inr}
 use Rattle.std.proofs.lemmas.Bool.{and_parts, or_cases, or_left, or_right, eq-eqb, true≢false, false≢true, false_from_ne_true}
 use Rattle.std.proofs.lemmas.Option.{none-some}
 use Rattle.ada_events.specs.declared.event.Event.{Event}
-use Rattle.ada_events.specs.declared.event.Event.TheVariants as event
 use Rattle.ada_events.specs.declared.names.Master.{Master}
 use Rattle.ada_events.specs.declared.names.Master.TheVariants.{Body, Block as BlockMaster}
 use Rattle.ada_events.specs.declared.names.Member.{Member}
 use Rattle.ada_events.specs.declared.names.Member.TheVariants.{Block, Rendezvous}
 use Rattle.ada_events.specs.Search.{any_event, event_at}
-use Rattle.ada_events.specs.Says.{creation_in, opening_in, left_in}
+use Rattle.ada_events.specs.Says.{opening_in}
 use Rattle.ada_events.specs.Masters.{same_master, parent_in, reaches, depends_on}
 use Rattle.ada_events.specs.Phases.{is_terminated}
 use Rattle.ada_events.specs.Calls.{is_pending}
@@ -27,6 +26,7 @@ use Rattle.ada_laws.proofs.Reaching.{frame_known}
 use Rattle.ada_laws.proofs.Depending.{IsMadeUnder, depends_on-cases, depends_on-made, depends_on-later, depends_exists, depends_reaches, depends_after}
 use Rattle.ada_laws.proofs.DependentLaws.{all_terminated_at, a_terminated_body_has_no_live_dependent}
 use Rattle.ada_laws.proofs.Parents.{master_known, tasks_depend_by_parents}
+use Rattle.ada_laws.proofs.Leaving.{leaving_makes_none}
 use Rattle.ada_tables.specs.Dependents.{is_block, has_block, up_to, holds, encloses}
 use Rattle.ada_records.specs.Holders.{IsHeld, ALeftBlockHasNoLiveDependent, MastersAreHeld}
 use Rattle.ada_records.proofs.LeftBlocks.{Leaves, left_cases}
@@ -81,12 +81,6 @@ depends_further (event ∷ before) u x y lawful depends further =
           (depends_reaches before (record { 0 = u }) x older) in
           depends_on-later event before u y (depends_further before u x y lawful.0 older (reaches_down event before x y there further))
     ]
-
--- leaving a block makes no task
-leaving_makes_none : (e : Event) (c : ℕ) → left_in e ≡ Some c → creation_in e ≡ None
-unfolding left_in creation_in
-leaving_makes_none (event.Left close) c says = refl
-leaving_makes_none _ c says = absurd (none-some c says)
 
 cut_within : (b : ℕ) (test : Bool) (members rest : List Member) → has_block b (cond test [] members) ≡ true
     → (has_block b members ≡ true → has_block b rest ≡ true) → has_block b rest ≡ true

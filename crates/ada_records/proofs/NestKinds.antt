@@ -34,14 +34,16 @@ use Rattle.ada_laws.proofs.Meeting.{meeting_in-met, meeting_at}
 use Rattle.ada_laws.proofs.Queueing.{is_open_at-from, is_open_at-call}
 use Rattle.ada_laws.proofs.Saying.{held_in-closing}
 use Rattle.ada_laws.proofs.Stepping.{forced-step}
+use Rattle.ada_laws.proofs.Leaving.{left_more}
 use Rattle.ada_records.specs.Changes.{is_beside_block, BlocksAreEntered, BlocksAreLeft, OthersKeepNests}
 use Rattle.ada_records.proofs.Callers.{joined_caller_stays}
-use Rattle.ada_records.proofs.LeftBlocks.{left_more, left_frees, left_cases}
+use Rattle.ada_records.proofs.LeftBlocks.{left_frees, left_cases}
 use Rattle.ada_records.proofs.QueueChanges.{has_ended-more}
 use Rattle.ada_records.proofs.Unnesting.{kept, gathered-filtered}
+use Rattle.ada_records.proofs.Nesting.{and_true}
 
 -- the member stays in its nest
-abbrev stays : Event → List Event → Member → Bool
+abbrev pub stays : Event → List Event → Member → Bool
 stays event before (Block p) = not (is_left (event ∷ before) p)
 stays event before (Rendezvous call) = is_open_call (event ∷ before) call
 
@@ -288,10 +290,6 @@ newest_unleft event before o lawful says =
           let within : k.block ≤ length before = closing_within before q e k lawful.0 at closes in
           omega (arith, within, eqb-true k.block (suc (length before)) same)
     ])
-
-and_true : (b : Bool) → (b && true) ≡ b
-and_true true = refl
-and_true false = refl
 
 or_none : (x : Option Member) → option_or x None ≡ x
 or_none None = refl

@@ -41,6 +41,7 @@ use Rattle.ada_laws.proofs.Saying.{held_in-closing, held_in-wait}
 use Rattle.ada_laws.proofs.Searching.{event_at-within, option_map_or-true}
 use Rattle.ada_laws.proofs.Stepping.{pending_parts, row-opens_none}
 use Rattle.ada_laws.proofs.Suspending.{suspended_exists}
+use Rattle.ada_laws.proofs.Innermost.{innermost_last}
 use Rattle.ada_records.specs.Changes.{is_apart_from, is_beside_block, AreDistinct}
 use Rattle.ada_records.proofs.Distinct.{rendezvous_place, nests_are_distinct}
 use Rattle.ada_records.proofs.Nesting.{nest_met}
@@ -55,7 +56,6 @@ use Rattle.ada_records.proofs.Renesting.{IsIdleIn, ChangesNests}
 use Rattle.ada_records.proofs.Renesting.NestChange.{Nothing, Enters, LeavesBlock, EndsRendezvous}
 use Rattle.ada_records.proofs.Cuts.{all_apart, cuts_keep_the_rest}
 use Rattle.ada_records.proofs.Entries.{call_names_entry, declarer_exists}
-use Rattle.ada_records.proofs.NestedBlocks.{innermost_last}
 use Rattle.ada_records.proofs.OnePhaseKinds.{not_in_nest}
 use Rattle.ada_records.proofs.Owners.{block_in_nest, one_holder}
 use Rattle.ada_records.proofs.PendingNests.{EndsWith, has_innermost, closed_last, waiting_shallow}

@@ -2,7 +2,7 @@
 -- task's nest, or else within the task's body.
 use Rattle.ada_records.specs.Holders.{IsUnder, AreNested}
 use Rattle.std.proofs.Common.{◌≡◌, ℕ, suc, ◌-◌, ◌<◌, ◌≤◌, Bool, true, false, cond, not, ◌&&◌, eqb, Option, Some, None, List, [], ◌∷◌, ◌++◌, length, refl, sym}
-use Rattle.std.proofs.Common.{ap, ◌∙◌, subst, arith, inl, inr, append-nil, length-append}
+use Rattle.std.proofs.Common.{ap, ◌∙◌, subst, arith, inl, inr, append-nil}
 use Rattle.std.specs.Option.{option_map_or, option_or, option_to_list}
 use Rattle.std.specs.Bool.{then_some}
 use Rattle.std.specs.List.{filter, Contains, slice_get}
@@ -38,9 +38,11 @@ use Rattle.ada_events.specs.Calls.{is_pending}
 use Rattle.ada_events.specs.Termination.{all_terminated}
 use Rattle.ada_events.specs.Lawful.{IsLawful, MayFollow}
 use Rattle.ada_laws.proofs.Searching.{event_at-older, event_at-newest, event_at-within, event_at-cases, then_some-some, option_or-some}
+use Rattle.ada_laws.proofs.Leaving.{left_more, left_in-asked}
+use Rattle.ada_laws.proofs.Innermost.{latest}
 use Rattle.ada_records.proofs.Unnesting.{gathered-filtered}
 use Rattle.ada_records.proofs.Nesting.{gathered-agree}
-use Rattle.ada_records.proofs.LeftBlocks.{left_more, Leaves, left_cases}
+use Rattle.ada_records.proofs.LeftBlocks.{Leaves, left_cases}
 
 -- the member is a block
 abbrev pub is_block_member : Member → Bool
@@ -223,36 +225,6 @@ shrink event before task outer (e ∷ earlier) last nested =
             let parts = member_parts (event ∷ before) task (suc (length earlier)) (suc (length earlier)) e (is ∙ newest_is x is) in
             true≢false (sym left ∙ parts.3)
 
-pub slice_last : (members : List Member) (x : Member) → slice_get (members ++ x ∷ []) (length members) ≡ Some x
-slice_last [] x = refl
-slice_last (y ∷ rest) x = slice_last rest x
-
-pub innermost_last : (members : List Member) (x : Member) → innermost (members ++ x ∷ []) ≡ Some x
-innermost_last members x =
-    let many : length (members ++ x ∷ []) - 1 ≡ length members = omega (arith, length-append members (x ∷ [])) in
-    ap (slice_get (members ++ x ∷ [])) many ∙ slice_last members x
-
--- the innermost block of what is gathered is the latest
-latest : (give : ℕ → Event → Option Member) (journal : List Event) (p b : ℕ) (e : Event) → ((q r : ℕ) (f : Event) → give q f ≡ Some (Block r) → q ≡ r)
-    → event_at journal p ≡ Some e → give p e ≡ Some (Block p) → innermost (gathered give journal) ≡ Some (Block b) → p ≤ b
-unfolding gathered event_at
-latest give [] p b e placed at gives last = absurd (none-some e at)
-latest give (newest ∷ earlier) p b e placed at gives last =
-    by_newest (give (suc (length earlier)) newest) refl last (λ older rest. latest give earlier p b e placed older gives rest)
-  where
-    by_newest : (o : Option Member) → give (suc (length earlier)) newest ≡ o → innermost (gathered give earlier ++ option_to_list o) ≡ Some (Block b)
-        → (event_at earlier p ≡ Some e → innermost (gathered give earlier) ≡ Some (Block b) → p ≤ b) → p ≤ b
-    by_newest None is last again =
-        elim (event_at-cases newest earlier p e at) [
-          | inl now ↦ absurd (none-some (Block p) (sym is ∙ ap (give (suc (length earlier))) now.1 ∙ ap (λ n. give n e) (sym now.0) ∙ gives))
-          | inr older ↦ again older (ap innermost (sym (append-nil (gathered give earlier))) ∙ last)
-        ]
-    by_newest (Some x) is last again =
-        let same : Some x ≡ Some (Block b) = sym (innermost_last (gathered give earlier) x) ∙ last in
-        let place : suc (length earlier) ≡ b = placed (suc (length earlier)) b newest (is ∙ same) in
-        let low : p ≤ length (newest ∷ earlier) = event_at-within (newest ∷ earlier) p e at in
-        omega (arith, place, low)
-
 placed_member : (journal : List Event) (task q r : ℕ) (e : Event) → member_at journal task q e ≡ Some (Block r) → q ≡ r
 unfolding member_at
 placed_member journal task q r e gives =
@@ -394,11 +366,6 @@ row_leaving journal event c e k (leaves p f closing at closes leave) says stands
     let same : closing ≡ k = same_Some closing k (sym closes ∙ ap closing_in one ∙ closed) in
     subst (λ (n : ℕ). is_to_leave journal n k ≡ true) place (subst (λ (x : Closing). is_to_leave journal p x ≡ true) same leave)
 row_leaving journal event c e k _ says stands closed = absurd (none-some c says)
-
-left_in-asked : (journal : List Event) (r : Request) → left_in (asked_event journal r) ≡ None
-unfolding left_in asked_event
-left_in-asked journal (request.Open by) = refl
-left_in-asked journal _ = refl
 
 -- a block is left where its close is pending and all of its dependents are terminated
 pub leaves_ready : (event : Event) (before : List Event) (p : ℕ) → MayFollow before event → (gone : Leaves event before p)

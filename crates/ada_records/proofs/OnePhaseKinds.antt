@@ -1,5 +1,5 @@
 -- The end of a wait, a delay or a start, and the completion of a task that isn't suspended, change one phase alone.
-use Rattle.std.proofs.Common.{◌≡◌, ◌≢◌, ℕ, Bool, true, false, not, ◌&&◌, eqb, Some, None, List, [], ◌∷◌, refl, sym, ap, ◌∙◌, subst, append-nil}
+use Rattle.std.proofs.Common.{◌≡◌, ◌≢◌, ℕ, true, false, not, eqb, Some, None, List, [], ◌∷◌, refl, sym, ap, ◌∙◌, subst, append-nil}
 use Rattle.std.specs.Option.{option_and_then}
 use Rattle.std.specs.List.{filter, Contains}
 use Rattle.std.proofs.lemmas.Bool.{and_parts, ne_eqb, true≢false, false_from_ne_true}
@@ -31,6 +31,7 @@ use Rattle.ada_laws.proofs.Members.{nest_open}
 use Rattle.ada_records.specs.TableChanges.{ReleasesChangeOnePhase, CompletionsChangeOnePhase}
 use Rattle.ada_records.proofs.Cuts.{all_apart}
 use Rattle.ada_records.proofs.KeptPhases.{others_keep_phases}
+use Rattle.ada_records.proofs.KeptQueues.{all_kept}
 
 called_at : (journal : List Event) (p : ℕ) (e : Event) (c : Call) → event_at journal p ≡ Some e → call_in e ≡ Some c → call_at journal p ≡ Some c
 called_at journal p e c at says = ap (option_and_then call_in) at ∙ says
@@ -105,10 +106,6 @@ queued_stays event before task p e lawful completes free at queued =
     (false_from_ne_true (ends event before c.by) (λ ended.
     let by : c.by ≡ task = same_Some c.by task (sym (end_of_caller event before c p lawful opened ended).completes ∙ completes) in
     true≢false (sym (is_suspended-from before c.by p (open_call_suspends before c p opened)) ∙ ap (is_suspended before) by ∙ free)))
-
-all_kept : (q a : Bool) → (q ≡ true → a ≡ false) → (q && (true && not a && true)) ≡ (q && true)
-all_kept true a lives = rw (lives refl) refl
-all_kept false a lives = refl
 
 pub completed_queue : (event : Event) (before : List Event) (task other : ℕ) (entry : Entry) → IsLawful (event ∷ before) → completed_in event ≡ Some task
     → is_suspended before task ≡ false → OnlyCompletes event → queue (event ∷ before) other entry ≡ queue before other entry

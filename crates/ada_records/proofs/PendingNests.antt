@@ -35,14 +35,15 @@ use Rattle.ada_laws.proofs.Saying.{held_in-closing, held_in-wait}
 use Rattle.ada_laws.proofs.Searching.{event_at-cases, option_map_or-true}
 use Rattle.ada_laws.proofs.Stepping.{forced-step, pending_parts}
 use Rattle.ada_laws.proofs.Suspending.{is_suspended-from, suspended_once}
+use Rattle.ada_laws.proofs.Innermost.{innermost_last}
 use Rattle.ada_records.proofs.Holding.{hold_only}
 use Rattle.ada_records.proofs.LeftBlocks.{left_cases, left_frees}
 use Rattle.ada_records.proofs.Nesting.{wait_same}
-use Rattle.ada_records.proofs.NestKinds.{nest_more, others_keep_nests}
+use Rattle.ada_records.proofs.NestKinds.{nest_more, others_keep_nests, stays}
 use Rattle.ada_records.proofs.Saying.{met_frees}
 use Rattle.ada_tables.specs.Dependents.{has_block, is_block}
 use Rattle.ada_records.specs.Pending.{ClosedBlocksAreInnermost, WaitsHaveRoom, OpenTerminatesAreInNoRendezvous}
-use Rattle.ada_records.proofs.NestedBlocks.{innermost_last, leaves_ready}
+use Rattle.ada_records.proofs.NestedBlocks.{leaves_ready}
 use Rattle.ada_records.proofs.OnePhase.{held_opens_none}
 use Rattle.ada_records.proofs.Owners.{block_in_nest, one_holder}
 
@@ -126,11 +127,6 @@ enters_none event before task p lawful held unreleased = by_opening (opening_in 
         None) ≡ None
     by_opening None says = by_meeting (meeting_in event) refl
     by_opening (Some o) says = rw (other_opens o says) (by_meeting (meeting_in event) refl)
-
--- the member stays in its nest
-abbrev stays : Event → List Event → Member → Bool
-stays event before (Block p) = not (is_left (event ∷ before) p)
-stays event before (Rendezvous call) = is_open_call (event ∷ before) call
 
 -- the nest of a task that stays suspended loses members at most
 held_nest : (event : Event) (before : List Event) (task p : ℕ) → IsLawful (event ∷ before) → IsSuspendedAt before task p

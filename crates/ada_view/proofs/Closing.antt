@@ -24,8 +24,8 @@ use Rattle.ada_laws.proofs.Rows.{IsRow, forced-row}
 use Rattle.ada_laws.proofs.Rows.IsRow.{halts, fails, meets, cancels, passes, wakes, activates, goes, quits, leaves}
 use Rattle.ada_laws.proofs.Saying.{held_in-closing}
 use Rattle.ada_laws.proofs.Searching.{event_at-newest, event_at-older, any_event-from, is_number-some, is_number-from, option_map_or-true}
-use Rattle.ada_records.proofs.LeftBlocks.{unleft_before}
 use Rattle.ada_laws.proofs.Members.{nest_open, end_within}
+use Rattle.ada_laws.proofs.Leaving.{unleft_before}
 use Rattle.ada_records.proofs.Within.{next_unreleased}
 use Rattle.ada_agenda.specs.Kinds.{IsCloseAt}
 use Rattle.ada_agenda.proofs.Completions.{one_owner}

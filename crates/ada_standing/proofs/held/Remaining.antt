@@ -18,7 +18,7 @@ use Rattle.ada_laws.specs.Calls.{IsOpenCallAt}
 use Rattle.ada_laws.proofs.Searching.{event_at-older, event_at-newest, event_at-other, option_map_or-true}
 use Rattle.ada_laws.proofs.Growing.{is_released-before, has_ended-before}
 use Rattle.ada_laws.proofs.Queueing.{is_open_at-call, is_open_at-from}
-use Rattle.ada_standing.proofs.lawful.Leaving.{unleft_before}
+use Rattle.ada_laws.proofs.Leaving.{unleft_before}
 use Rattle.ada_standing.proofs.held.Fitting.{FitsHeld}
 
 -- the member is still there
