@@ -6,7 +6,7 @@ use Rattle.ada_events.specs.declared.board.Board.{Board}
 use Rattle.ada_events.specs.Lawful.{IsLawful, IsSettled}
 use Rattle.ada_events.specs.Boards.{IsShownBy, AreTrue, AreTrueOf, board_of}
 use Rattle.ada_board.specs.Sights.{Posted}
-use Rattle.ada_laws.proofs.ShowingLaws.{newest_shown}
+use Rattle.ada_laws.proofs.boards.ShowingLaws.{newest_shown}
 
 alone : (journal : List Event) → IsLawful journal → IsSettled journal → AreTrueOf journal (board_of journal ∷ [])
 alone journal lawful settled = record {

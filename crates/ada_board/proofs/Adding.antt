@@ -4,7 +4,7 @@ use Rattle.std.proofs.Common.{length-append}
 use Rattle.std.proofs.lemmas.Bool.Decides.{nat_tests}
 use Rattle.ada_events.specs.declared.board.Board.{Board}
 use Rattle.ada_events.specs.Boards.{AreTrue, board_of}
-use Rattle.ada_laws.proofs.ShowingLaws.{true_boards_are_few}
+use Rattle.ada_laws.proofs.boards.ShowingLaws.{true_boards_are_few}
 use Rattle.ada_board.specs.Answers.{latest}
 use Rattle.ada_board.specs.internal.Histories.{IsEdition}
 use Rattle.ada_board.proofs.Truth.{latest_added}

@@ -12,9 +12,9 @@ use Rattle.ada_events.specs.Asks.{asked_event}
 use Rattle.ada_events.specs.Lawful.{IsLawful, IsSettled}
 use Rattle.ada_events.specs.Steps.{IsAccepted}
 use Rattle.ada_events.specs.Boards.{IsShownBy, AreTrueOf, board_of}
-use Rattle.ada_laws.proofs.Forcing.{forces_keeps}
-use Rattle.ada_laws.proofs.Publishing.{published_next, published_still}
-use Rattle.ada_laws.proofs.ShowingLaws.{board_events}
+use Rattle.ada_laws.proofs.forced.Forcing.{forces_keeps}
+use Rattle.ada_laws.proofs.boards.Publishing.{published_next, published_still}
+use Rattle.ada_laws.proofs.boards.ShowingLaws.{board_events}
 use Rattle.ada_board.specs.Answers.{latest_behind, latest}
 use Rattle.ada_board.specs.Sights.{Posted}
 use Rattle.ada_board.proofs.Truth.{latest_added}

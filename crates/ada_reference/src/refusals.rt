@@ -472,7 +472,7 @@ fn refused_limit(events: &[Event], request: &Request) -> Option<Refusal>
 }
 
 /// The cause for which a request is refused, if there is one.
-#[tactic(auto, unfolding(ada_events::specs::Refusals::refusal), using(ada_laws::proofs::CauseParts::first_cause_in_parts))]
+#[tactic(auto, unfolding(ada_events::specs::Refusals::refusal), using(ada_laws::proofs::asking::CauseParts::first_cause_in_parts))]
 pub fn refusal(events: &[Event], request: &Request) -> Option<Refusal>
     requires { length events.now < 2 ^ 32 }
     ensures { result ≡ refusals.refusal (reverse events.now) request.now }

@@ -12,14 +12,14 @@ use Rattle.ada_events.specs.Tasks.{task_count, moment}
 use Rattle.ada_events.specs.Waits.{is_due, earlier}
 use Rattle.ada_events.specs.Lawful.{IsLawful}
 use Rattle.ada_events.proofs.Earlier.{one_comes}
-use Rattle.ada_laws.proofs.LastingLaws.{moments_never_go_back}
-use Rattle.ada_laws.proofs.Searching.{event_at-newest, event_at-older}
-use Rattle.ada_laws.proofs.Suspending.{suspended_cases, suspended_exists}
-use Rattle.ada_rows.specs.declared.row.Row.{Row}
-use Rattle.ada_records.specs.Records.{IsHeldAt}
+use Rattle.ada_laws.proofs.held.LastingLaws.{moments_never_go_back}
+use Rattle.ada_laws.proofs.searching.Searching.{event_at-newest, event_at-older}
+use Rattle.ada_laws.proofs.held.Suspending.{suspended_cases, suspended_exists}
+use Rattle.ada_step_laws.specs.declared.row.Row.{Row}
 use Rattle.ada_agenda.specs.Keeping.{KeepsUp}
-use Rattle.ada_agenda.specs.Kinds.{due_in, OfTick, Adds}
-use Rattle.ada_agenda.specs.Kinds.OfTick.{comes_due}
+use Rattle.ada_step_laws.specs.Kinds.{due_in, OfTick, Adds}
+use Rattle.ada_step_laws.specs.Kinds.OfTick.{comes_due}
+use Rattle.ada_step_laws.specs.Held.{IsHeldAt}
 use Rattle.ada_agenda.proofs.Noting.{noted, grows_same, held_there}
 use Rattle.ada_triggers.specs.Bounds.{IsSuspendedUntil, IsDueBound}
 use Rattle.ada_triggers.specs.internal.Bounds.{IsBoundOfFirst, IsDueAfter}

@@ -17,18 +17,18 @@ use Rattle.ada_events.specs.Lawful.{IsLawful}
 use Rattle.ada_laws.specs.Suspension.{IsSuspendedAt}
 use Rattle.ada_laws.specs.Calls.{IsOpenCallAt}
 use Rattle.std.proofs.lemmas.Option.{same_Some}
-use Rattle.ada_laws.proofs.Saying.{held_in-call}
-use Rattle.ada_laws.proofs.Queueing.{open_call_suspends, is_open_at-call}
-use Rattle.ada_laws.proofs.CallLaws.{one_meeting_for_a_joined_call}
-use Rattle.ada_laws.proofs.Parents.{same_truth}
-use Rattle.ada_laws.proofs.Searching.{any_event-found, option_map_or-true}
-use Rattle.ada_rows.specs.declared.row.Row.TheVariants.{Halting}
-use Rattle.ada_rows.specs.Rows.{step_at}
+use Rattle.ada_laws.proofs.searching.Saying.{held_in-call}
+use Rattle.ada_laws.proofs.queues.Queueing.{open_call_suspends, is_open_at-call}
+use Rattle.ada_laws.proofs.queues.CallLaws.{one_meeting_for_a_joined_call}
+use Rattle.ada_laws.proofs.within.Parents.{same_truth}
+use Rattle.ada_laws.proofs.searching.Searching.{any_event-found, option_map_or-true}
+use Rattle.ada_step_laws.specs.declared.row.Row.TheVariants.{Halting}
+use Rattle.ada_step_laws.specs.Rows.{step_at}
 use Rattle.ada_records.specs.declared.record.Record.{Record}
 use Rattle.ada_records.specs.Records.{IsRecordOf}
-use Rattle.ada_records.proofs.Callers.{joined_caller}
-use Rattle.ada_records.proofs.Existing.{positive}
-use Rattle.ada_records.proofs.Unmade.{unmade}
+use Rattle.ada_step_laws.proofs.changing.Callers.{joined_caller}
+use Rattle.ada_step_laws.proofs.changing.Existing.{positive}
+use Rattle.ada_records.proofs.recording.Unmade.{unmade}
 use Rattle.ada_view.specs.internal.Deciding.{is_met_by, is_to_halt_by, is_done_by, is_uncallable_by, is_queued_by}
 use Rattle.ada_view.proofs.Pending.{held_there, pending_told}
 

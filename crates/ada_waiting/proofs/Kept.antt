@@ -11,11 +11,11 @@ use Rattle.ada_events.specs.Phases.{is_terminated, is_completed, is_started, is_
 use Rattle.ada_events.specs.Calls.{is_met}
 use Rattle.ada_events.specs.Lawful.{IsLawful}
 use Rattle.ada_laws.specs.Suspension.{IsSuspendedAt}
-use Rattle.ada_laws.proofs.Suspending.{is_suspended-at, suspended_exists}
+use Rattle.ada_laws.proofs.held.Suspending.{is_suspended-at, suspended_exists}
 use Rattle.ada_records.specs.declared.record.Record.{Record}
 use Rattle.ada_records.specs.Records.{IsRecordOf}
-use Rattle.ada_records.proofs.Existing.{positive}
-use Rattle.ada_rows.proofs.Keys.{none_from}
+use Rattle.ada_step_laws.proofs.changing.Existing.{positive}
+use Rattle.ada_step_laws.proofs.rows.Keys.{none_from}
 use Rattle.ada_waiting.specs.declared.reasons.Reason.{Reason}
 use Rattle.ada_waiting.specs.declared.reasons.Reason.TheVariants as reason
 use Rattle.ada_waiting.specs.Reasons.{reason_by, reason_at, held_reason, reason_of}

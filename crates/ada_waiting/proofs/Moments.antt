@@ -16,15 +16,15 @@ use Rattle.ada_events.specs.Forced.{is_conditional, is_to_cancel}
 use Rattle.ada_events.specs.Lawful.{IsLawful, IsSettled}
 use Rattle.ada_events.proofs.Earlier.{one_comes}
 use Rattle.ada_laws.specs.Suspension.{IsSuspendedAt}
-use Rattle.ada_laws.proofs.Searching.{then_some-some, option_and_then-some}
-use Rattle.ada_laws.proofs.Suspending.{is_suspended-from, suspended_exists}
-use Rattle.ada_rows.specs.declared.row.Row.{Row}
-use Rattle.ada_rows.specs.declared.row.Row.TheVariants.{Cancelling}
-use Rattle.ada_rows.specs.Rows.{at_event, step_at}
-use Rattle.ada_rows.proofs.Keys.{none_from, forced_nothing}
-use Rattle.ada_agenda.specs.Kinds.{due_in, due_row, OfTick}
-use Rattle.ada_agenda.specs.Kinds.OfTick.{comes_due}
-use Rattle.ada_agenda.proofs.Adding.{agendas_grow}
+use Rattle.ada_laws.proofs.searching.Searching.{then_some-some, option_and_then-some}
+use Rattle.ada_laws.proofs.held.Suspending.{is_suspended-from, suspended_exists}
+use Rattle.ada_step_laws.specs.declared.row.Row.{Row}
+use Rattle.ada_step_laws.specs.declared.row.Row.TheVariants.{Cancelling}
+use Rattle.ada_step_laws.specs.Rows.{at_event, step_at}
+use Rattle.ada_step_laws.proofs.rows.Keys.{none_from, forced_nothing}
+use Rattle.ada_step_laws.specs.Kinds.{due_in, due_row, OfTick}
+use Rattle.ada_step_laws.specs.Kinds.OfTick.{comes_due}
+use Rattle.ada_step_laws.proofs.newly.Adding.{agendas_grow}
 use Rattle.ada_waiting.specs.Reasons.{suspended_at}
 use Rattle.ada_waiting.specs.Standstill.{due_at, due_by, due_of, first_due_below, first_due}
 use Rattle.ada_waiting.proofs.Holding.{suspended_at_is, suspended_at_from}

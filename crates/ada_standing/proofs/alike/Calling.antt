@@ -9,9 +9,9 @@ use Rattle.ada_events.specs.Phases.{is_released, has_ended}
 use Rattle.ada_events.specs.Calls.{is_pending, is_met, is_open_at, is_joined_at, is_queued_at, is_caller_in_rendezvous}
 use Rattle.ada_events.specs.Termination.{is_open_terminate, has_empty_queues, is_at_open_terminate, is_ready_to_quit}
 use Rattle.ada_laws.specs.Suspension.{IsSuspendedAt}
-use Rattle.ada_laws.proofs.Searching.{option_map_or-true}
-use Rattle.ada_laws.proofs.Saying.{held_in-call, held_in-wait}
-use Rattle.ada_laws.proofs.Queueing.{is_open_at-call, open_call_suspends}
+use Rattle.ada_laws.proofs.searching.Searching.{option_map_or-true}
+use Rattle.ada_laws.proofs.searching.Saying.{held_in-call, held_in-wait}
+use Rattle.ada_laws.proofs.queues.Queueing.{is_open_at-call, open_call_suspends}
 use Rattle.ada_standing.specs.Renaming.{Renaming}
 use Rattle.ada_standing.specs.StandsIn.{StandsIn}
 use Rattle.ada_standing.proofs.alike.Orderly.{IsOrderly}

@@ -13,9 +13,9 @@ use Rattle.ada_events.specs.Phases.{has_start, is_completed, is_terminated, has_
 use Rattle.ada_events.specs.Termination.{is_complete, is_abandoned}
 use Rattle.ada_events.specs.Forced.{task_no}
 use Rattle.ada_laws.specs.Masters.{parent_of}
-use Rattle.ada_laws.proofs.Searching.{option_map-some}
-use Rattle.ada_laws.proofs.Growing.{is_terminated-more}
-use Rattle.ada_laws.proofs.Framing.{IsBlockOf, block_later}
+use Rattle.ada_laws.proofs.searching.Searching.{option_map-some}
+use Rattle.ada_laws.proofs.searching.Growing.{is_terminated-more}
+use Rattle.ada_laws.proofs.within.Framing.{IsBlockOf, block_later}
 use Rattle.ada_standing.specs.Renaming.{Renaming, renamed_master, renamed_parent}
 use Rattle.ada_standing.specs.internal.Next.{next_names}
 use Rattle.ada_standing.specs.StandsIn.{IsSameDependent, made_within}

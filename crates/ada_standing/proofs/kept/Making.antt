@@ -15,10 +15,10 @@ use Rattle.ada_events.specs.Says.{Creation, Opening, Closing, creation_in, openi
 use Rattle.ada_events.specs.Tasks.{creation_of}
 use Rattle.ada_events.specs.Phases.{has_start, is_completed, is_terminated, has_ended}
 use Rattle.ada_events.specs.Termination.{is_complete_block, is_complete, is_abandoned}
-use Rattle.ada_laws.proofs.Searching.{event_at-other, event_at-within, then_some-some}
-use Rattle.ada_laws.proofs.Growing.{is_completed-more, has_ended-more}
-use Rattle.ada_laws.proofs.Framing.{IsBlockOf, block_later}
-use Rattle.ada_laws.proofs.Depending.{created_positive}
+use Rattle.ada_laws.proofs.searching.Searching.{event_at-other, event_at-within, then_some-some}
+use Rattle.ada_laws.proofs.searching.Growing.{is_completed-more, has_ended-more}
+use Rattle.ada_laws.proofs.within.Framing.{IsBlockOf, block_later}
+use Rattle.ada_laws.proofs.within.Depending.{created_positive}
 use Rattle.ada_standing.specs.Renaming.{Renaming}
 use Rattle.ada_standing.specs.internal.Next.{next_names}
 use Rattle.ada_standing.specs.StandsIn.{activator_of}

@@ -10,7 +10,7 @@ use Rattle.ada_events.specs.Search.{is_number}
 use Rattle.ada_events.specs.Says.{started_in, aborted_in, elaborated_in, completed_in}
 use Rattle.ada_events.specs.Masters.{depends_on}
 use Rattle.ada_events.specs.Phases.{lists_task, has_start, is_elaborated, is_completed, is_terminated, has_ended, is_abnormal, is_started}
-use Rattle.ada_laws.proofs.Growing.{has_ended-before}
+use Rattle.ada_laws.proofs.searching.Growing.{has_ended-before}
 use Rattle.ada_standing.specs.Renaming.{Renaming, renamed_master, renamed_task, renamed_tasks}
 use Rattle.ada_standing.specs.internal.Next.{next_names}
 use Rattle.ada_standing.proofs.alike.Pairs.{live_from, active_parts, ended_alike}

@@ -17,7 +17,7 @@ use Rattle.ada_events.specs.Says.{Creation, Closing, creation_in, closing_in, mo
 use Rattle.ada_events.specs.Says.{completed_in, gone_in, quit_in, held_in, released_in}
 use Rattle.ada_events.specs.Outcomes.{raised_in}
 use Rattle.ada_events.specs.Forced.{task_no}
-use Rattle.ada_laws.proofs.Searching.{option_map-some, option_and_then-some}
+use Rattle.ada_laws.proofs.searching.Searching.{option_map-some, option_and_then-some}
 use Rattle.ada_standing.specs.Renaming.{Renaming, renamed_master, renamed_task, renamed_tasks, renamed_event, from_both}
 use Rattle.ada_standing.proofs.alike.Kinds.{AreBoth}
 use Rattle.ada_standing.proofs.alike.Mastering.{eqb_alike}

@@ -10,10 +10,10 @@ use Rattle.ada_events.specs.Says.{Closing, closing_in, left_in}
 use Rattle.ada_events.specs.Nests.{is_left_close, is_left}
 use Rattle.ada_events.specs.Forced.{is_to_leave}
 use Rattle.ada_laws.specs.Unlimited.{IsLawfulUnlimited, MayFollowUnlimited}
-use Rattle.ada_laws.proofs.Searching.{event_at-cases, event_at-within, any_event-found, any_event-from, is_number-some, option_map_or-true}
-use Rattle.ada_laws.proofs.Rows.{IsRow, forced-row}
-use Rattle.ada_laws.proofs.Rows.IsRow.{leaves}
-use Rattle.ada_laws.proofs.Leaving.{left_in-asked}
+use Rattle.ada_laws.proofs.searching.Searching.{event_at-cases, event_at-within, any_event-found, any_event-from, is_number-some, option_map_or-true}
+use Rattle.ada_laws.proofs.forced.Rows.{IsRow, forced-row}
+use Rattle.ada_laws.proofs.forced.Rows.IsRow.{leaves}
+use Rattle.ada_laws.proofs.within.Leaving.{left_in-asked}
 
 -- a close that is followed by leaving its block
 pub record IsLeaving (journal : List Event) (close : ℕ) : Type 0 where

@@ -18,17 +18,18 @@ use Rattle.ada_events.specs.Termination.{all_terminated}
 use Rattle.ada_events.specs.Forced.{task_no, is_to_leave}
 use Rattle.ada_laws.specs.Masters.{parent_of, IsKnown}
 use Rattle.ada_laws.specs.Unlimited.{IsLawfulUnlimited}
-use Rattle.ada_laws.proofs.Searching.{event_at-cases}
-use Rattle.ada_laws.proofs.Growing.{is_terminated-more, has_ended-terminated}
-use Rattle.ada_laws.proofs.Accepting.{running_live}
-use Rattle.ada_laws.proofs.Framing.{IsBlockOf, frame_is}
-use Rattle.ada_laws.proofs.Reaching.{reaches-same, reaches_up, reaches_down, parent_in-opened, creation_asked-unlimited, opening_asked-unlimited}
-use Rattle.ada_laws.proofs.Reaching.{reaches_known-unlimited, reaches_trans-unlimited}
-use Rattle.ada_laws.proofs.Reaching.{frame_known}
-use Rattle.ada_laws.proofs.Depending.{IsMadeUnder, depends_on-cases, depends_on-made, depends_on-later, depends_exists, depends_reaches, reaches_from_body}
-use Rattle.ada_laws.proofs.DependentLaws.{all_terminated_at, a_terminated_body_has_no_live_dependent-unlimited}
-use Rattle.ada_laws.proofs.Parents.{masters_reach_by_parents-unlimited}
-use Rattle.ada_laws.proofs.Leaving.{leaving_makes_none}
+use Rattle.ada_laws.proofs.searching.Searching.{event_at-cases}
+use Rattle.ada_laws.proofs.searching.Growing.{is_terminated-more, has_ended-terminated}
+use Rattle.ada_laws.proofs.asking.Accepting.{running_live}
+use Rattle.ada_laws.proofs.within.Framing.{IsBlockOf, frame_is}
+use Rattle.ada_laws.proofs.within.Reaching.{reaches-same, reaches_up, reaches_down, parent_in-opened, creation_asked-unlimited, opening_asked-unlimited}
+use Rattle.ada_laws.proofs.within.Reaching.{reaches_known-unlimited, reaches_trans-unlimited}
+use Rattle.ada_laws.proofs.within.Reaching.{frame_known}
+use Rattle.ada_laws.proofs.within.Depending.{IsMadeUnder, depends_on-cases, depends_on-made, depends_on-later, depends_exists, depends_reaches}
+use Rattle.ada_laws.proofs.within.Depending.{reaches_from_body}
+use Rattle.ada_laws.proofs.within.DependentLaws.{all_terminated_at, a_terminated_body_has_no_live_dependent-unlimited}
+use Rattle.ada_laws.proofs.within.Parents.{masters_reach_by_parents-unlimited}
+use Rattle.ada_laws.proofs.within.Leaving.{leaving_makes_none}
 use Rattle.ada_standing.specs.StandsIn.{is_live}
 use Rattle.ada_standing.proofs.alike.Orderly.{IsClimb, IsLivedIn}
 use Rattle.ada_standing.proofs.alike.Pairs.{live_from, live_parts}

@@ -25,20 +25,20 @@ use Rattle.ada_events.specs.Termination.{all_terminated}
 use Rattle.ada_events.specs.Forced.{is_to_leave}
 use Rattle.ada_laws.specs.Masters.{parent_of}
 use Rattle.ada_laws.specs.Unlimited.{IsLawfulUnlimited, MayFollowUnlimited, refusal_but_limits}
-use Rattle.ada_laws.proofs.Limitless.{is_accepted-unlimited}
-use Rattle.ada_laws.proofs.Accepting.{running_free}
-use Rattle.ada_laws.proofs.Searching.{event_at-newest, event_at-other, event_at-within, event_at-cases, then_some-some, option_or-some}
-use Rattle.ada_laws.proofs.Stepping.{forced-step, pending_parts}
-use Rattle.ada_laws.proofs.Saying.{held_in-closing}
-use Rattle.ada_laws.proofs.Suspending.{is_suspended-from}
-use Rattle.ada_laws.proofs.Growing.{is_released-before, has_ended-before}
-use Rattle.ada_laws.proofs.Gathering.{Contains-first, Contains-later, gathered-from}
-use Rattle.ada_laws.proofs.Members.{IsMember, nest_member}
-use Rattle.ada_laws.proofs.Members.IsMember.{block_in}
-use Rattle.ada_laws.proofs.Framing.{IsBlockOf, block_later}
-use Rattle.ada_laws.proofs.Reaching.{opening_asked-unlimited}
-use Rattle.ada_laws.proofs.Innermost.{latest}
-use Rattle.ada_laws.proofs.Leaving.{unleft_before}
+use Rattle.ada_laws.proofs.asking.Limitless.{is_accepted-unlimited}
+use Rattle.ada_laws.proofs.asking.Accepting.{running_free}
+use Rattle.ada_laws.proofs.searching.Searching.{event_at-newest, event_at-other, event_at-within, event_at-cases, then_some-some, option_or-some}
+use Rattle.ada_laws.proofs.forced.Stepping.{forced-step, pending_parts}
+use Rattle.ada_laws.proofs.searching.Saying.{held_in-closing}
+use Rattle.ada_laws.proofs.held.Suspending.{is_suspended-from}
+use Rattle.ada_laws.proofs.searching.Growing.{is_released-before, has_ended-before}
+use Rattle.ada_laws.proofs.searching.Gathering.{Contains-first, Contains-later, gathered-from}
+use Rattle.ada_laws.proofs.within.Members.{IsMember, nest_member}
+use Rattle.ada_laws.proofs.within.Members.IsMember.{block_in}
+use Rattle.ada_laws.proofs.within.Framing.{IsBlockOf, block_later}
+use Rattle.ada_laws.proofs.within.Reaching.{opening_asked-unlimited}
+use Rattle.ada_laws.proofs.within.Innermost.{latest}
+use Rattle.ada_laws.proofs.within.Leaving.{unleft_before}
 use Rattle.ada_standing.specs.StandsIn.{is_block}
 use Rattle.ada_standing.proofs.lawful.Leaving.{Leaves, left_cases}
 
