@@ -1,6 +1,6 @@
 -- The account of a play: the answers to its lines, and what they print, each over the journal and the bindings that the
 -- lines before it left.
-use Rattle.std.specs.Prelude.{◌≡◌, ℕ, List, [], ◌∷◌, ◌++◌, length}
+use Rattle.std.specs.Prelude.{ℕ, List, [], ◌∷◌, ◌++◌, length}
 use Rattle.ada_script.specs.declared.script.Line.{Line}
 use Rattle.ada_replay.specs.declared.answer.Answer.{Answer}
 use Rattle.ada_replay.specs.Answers.{answer_to}

@@ -14,9 +14,9 @@ use Rattle.ada_events.specs.Tasks.{creation_of}
 use Rattle.ada_events.specs.Phases.{lists_task, has_start}
 use Rattle.ada_events.specs.Lawful.{IsLawful}
 use Rattle.ada_events.specs.Refusals.{may_activate, has_double_task}
-use Rattle.ada_laws.proofs.LimitLaws.{tasks_are_few}
-use Rattle.ada_laws.proofs.Searching.{option_map_or-true}
-use Rattle.ada_records.proofs.Entries.{creation_exists}
+use Rattle.ada_laws.proofs.asking.LimitLaws.{tasks_are_few}
+use Rattle.ada_laws.proofs.searching.Searching.{option_map_or-true}
+use Rattle.ada_records.proofs.following.Entries.{creation_exists}
 
 own_is_few : (journal : List Event) (by task : ℕ) → IsLawful journal → not (may_activate journal by task) ≡ false → task < MOST_TASKS
 unfolding may_activate
@@ -111,6 +111,3 @@ seen_twice tasks seen n place d low was is few known =
     (ap has_double_task (from_there tasks n d low was.within)
     ∙ ap (λ k. lists_task k (drop n tasks) || has_double_task (drop n tasks)) (sym is)
     ∙ rw (sym (was.each place here) ∙ known) refl)
-
-pub all_seen : (tasks : List TaskNo) (seen : List Bool) (n : ℕ) → n ≤ 0 → HasSeen tasks seen n → has_double_task tasks ≡ false
-all_seen tasks seen n low is = ap (λ k. has_double_task (drop k tasks)) (let e : 0 ≡ n = omega arith in e) ∙ is.single

@@ -11,28 +11,28 @@ use Rattle.ada_events.specs.Tasks.{task_count}
 use Rattle.ada_events.specs.Phases.{is_suspended}
 use Rattle.ada_events.specs.Lawful.{IsLawful}
 use Rattle.ada_laws.specs.Suspension.{IsSuspendedAt}
-use Rattle.ada_laws.proofs.LimitLaws.{events_are_few}
-use Rattle.ada_laws.proofs.Searching.{event_at-within}
-use Rattle.ada_laws.proofs.Suspending.{is_suspended-from, suspended_once}
-use Rattle.ada_rows.specs.declared.row.Row.{Row}
-use Rattle.ada_rows.specs.declared.row.Row.TheVariants.{Failing, Meeting, Cancelling, Waking, Activating, Terminating}
-use Rattle.ada_rows.specs.CalledTasks.{IsCallOf}
-use Rattle.ada_rows.specs.Rows.{rank, step_at}
+use Rattle.ada_laws.proofs.asking.LimitLaws.{events_are_few}
+use Rattle.ada_laws.proofs.searching.Searching.{event_at-within}
+use Rattle.ada_laws.proofs.held.Suspending.{is_suspended-from, suspended_once}
+use Rattle.ada_step_laws.specs.declared.row.Row.{Row}
+use Rattle.ada_step_laws.specs.declared.row.Row.TheVariants.{Failing, Meeting, Cancelling, Waking, Activating, Terminating}
+use Rattle.ada_step_laws.specs.CalledTasks.{IsCallOf}
+use Rattle.ada_step_laws.specs.Rows.{rank, step_at}
 use Rattle.ada_agenda.specs.declared.numbers.TheConstants.{MOST_KEYS}
 use Rattle.ada_agenda.specs.Rows.{keeps}
-use Rattle.ada_records.specs.Records.{IsHeldAt}
 use Rattle.ada_agenda.specs.Keeping.{has_key, IsAgendaOf, Grows, Puts, AsKey, When}
 use Rattle.ada_agenda.specs.Keeping.{KeepsUpWithStart, KeepsUpWithDelay, KeepsUpWithCreation, KeepsUpWithCall}
 use Rattle.ada_agenda.specs.internal.Keeping.{Both}
 use Rattle.ada_agenda.specs.Keeping.AsKey.{itself as that_key}
 use Rattle.ada_agenda.specs.Keeping.When.{holds_so}
-use Rattle.ada_rows.specs.TouchedKeys.{is_uncallable}
-use Rattle.ada_agenda.specs.Kinds.{itself, is_immediate, is_immediate_call, OfCreation, OfStart, OfCall, OfDelay, Adds}
-use Rattle.ada_agenda.specs.Kinds.OfCreation.{goes}
-use Rattle.ada_agenda.specs.Kinds.OfStart.{is_over}
-use Rattle.ada_agenda.specs.Kinds.OfCall.{fails, is_cancelled, is_taken}
-use Rattle.ada_agenda.specs.Kinds.OfDelay.{wakes}
-use Rattle.ada_agenda.proofs.Adding.{agendas_grow}
+use Rattle.ada_step_laws.specs.TouchedKeys.{is_uncallable}
+use Rattle.ada_step_laws.specs.Kinds.{itself, is_immediate, is_immediate_call, OfCreation, OfStart, OfCall, OfDelay, Adds}
+use Rattle.ada_step_laws.specs.Kinds.OfCreation.{goes}
+use Rattle.ada_step_laws.specs.Kinds.OfStart.{is_over}
+use Rattle.ada_step_laws.specs.Kinds.OfCall.{fails, is_cancelled, is_taken}
+use Rattle.ada_step_laws.specs.Kinds.OfDelay.{wakes}
+use Rattle.ada_step_laws.proofs.newly.Adding.{agendas_grow}
+use Rattle.ada_step_laws.specs.Held.{IsHeldAt}
 
 -- the position of the next event finds room in a row
 pub next_fits : (before : List Event) → IsLawful before → length before + 1 < MOST_KEYS

@@ -2,9 +2,9 @@
 use Rattle.std.proofs.Common.{◌≡◌, ◌≢◌, ◌⊎◌, ℕ, zero, suc, ◌-◌, ◌≤◌, false, List, [], ◌∷◌, ◌++◌, length, get_or, refl, sym, ap, ◌∙◌, arith, inl, inr}
 use Rattle.std.proofs.lemmas.Bool.{cases_lt, true≢false, false_from_ne_true}
 use Rattle.std.proofs.lemmas.List.{get_or_past, get_or_append_left, get_or-append_right}
-use Rattle.ada_rows.specs.declared.row.Row.{Row}
-use Rattle.ada_rows.specs.Rows.{rank}
-use Rattle.ada_rows.proofs.Ranks.{one_rank}
+use Rattle.ada_step_laws.specs.declared.row.Row.{Row}
+use Rattle.ada_step_laws.specs.Rows.{rank}
+use Rattle.ada_step_laws.proofs.rows.Ranks.{one_rank}
 use Rattle.ada_agenda.specs.Bits.{has}
 use Rattle.ada_agenda.specs.Keeping.{has_key}
 use Rattle.ada_agenda.specs.Rows.{keeps}

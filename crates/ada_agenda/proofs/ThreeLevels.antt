@@ -7,7 +7,7 @@ use Rattle.std.proofs.lemmas.List.{length-set, length-replicate, get_or_past, ge
 use Rattle.std.proofs.lemmas.Nat.Bits.{bit_at-zero}
 use Rattle.ada_agenda.specs.Bits.{has}
 use Rattle.ada_agenda.specs.internal.Bits.{with_bit, without_bit, AreHeads, AreLevels}
-use Rattle.ada_agenda.proofs.Words.{heads_put, heads_emptied, heads_kept, heads_within, word_some}
+use Rattle.ada_agenda.proofs.Words.{heads_put, heads_emptied, heads_within, word_some}
 
 -- setting or clearing a bit leaves the number of words
 pub length-with_bit : (words : List ℕ) (n : ℕ) → length (with_bit words n) ≡ length words
@@ -27,17 +27,6 @@ levels_put low mid top n levels within =
       mid_heads = heads_put mid top (n / 64) levels.mid_heads middle;
     }
 
--- a number is taken out of a word that keeps others
-pub levels_kept : (low mid top : List ℕ) (n : ℕ) → AreLevels low mid top → n < 64 * length low → (get_or (without_bit low n) (n / 64) 0 == 0) ≡ false
-    → AreLevels (without_bit low n) mid top
-levels_kept low mid top n levels within some = record {
-  words = omega (arith, length-without_bit low n, levels.words);
-  heads = levels.heads;
-  one = levels.one;
-  low_heads = heads_kept low mid n levels.low_heads within some;
-  mid_heads = levels.mid_heads;
-}
-
 -- a number is taken out of a word that it empties, and the word's bit above
 pub levels_emptied : (low mid top top' : List ℕ) (n : ℕ) → AreLevels low mid top → n < 64 * length low → get_or (without_bit low n) (n / 64) 0 ≡ 0
     → AreHeads (without_bit mid (n / 64)) top' → length top' ≡ length top → AreLevels (without_bit low n) (without_bit mid (n / 64)) top'
@@ -47,21 +36,6 @@ levels_emptied low mid top top' n levels within empty heads many = record {
   one = many ∙ levels.one;
   low_heads = heads_emptied low mid n levels.low_heads within empty;
   mid_heads = heads;
-}
-
--- more words of no bit
-pub levels_longer : (low low' mid top : List ℕ) → AreLevels low mid top → ((w : ℕ) → get_or low' w 0 ≡ get_or low w 0) → length low' ≤ 1088
-    → AreLevels low' mid top
-levels_longer low low' mid top levels same few = record {
-  words = few;
-  heads = levels.heads;
-  one = levels.one;
-  low_heads = record {
-    room = omega (arith, few, levels.heads);
-    heads = λ w. rw (same w) (levels.low_heads.heads w);
-    few = omega (arith, few);
-  };
-  mid_heads = levels.mid_heads;
 }
 
 -- where the topmost word is 0, no number is in the set

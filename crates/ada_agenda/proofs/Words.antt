@@ -161,30 +161,6 @@ heads_emptied low high n tied within empty =
       few = omega (arith, length-set low (n / 64) word, tied.few);
     }
 
--- a number is taken out of a word that keeps others
-pub heads_kept : (low high : List ℕ) (n : ℕ) → AreHeads low high → n < 64 * length low → (get_or (without_bit low n) (n / 64) 0 == 0) ≡ false
-    → AreHeads (without_bit low n) high
-heads_kept low high n tied within some =
-    let word = bit_and (get_or low (n / 64) 0) (2 ^ 64 - 1 - 1 * 2 ^ (n % 64) % 2 ^ 64) in
-    let place : n / 64 < length low = omega arith in
-    record {
-      room = omega (arith, length-set low (n / 64) word, tied.room);
-      heads = λ w.
-          elim (cases_eq w (n / 64)) [
-            | inl same ↦
-                let here : get_or (without_bit low n) (n / 64) 0 ≡ word = get_or-set_same low (n / 64) word 0 place in
-                let was : (get_or low (n / 64) 0 == 0) ≡ false =
-                ne_eqb (get_or low (n / 64) 0) 0 (λ none.
-                let less : word ≤ get_or low (n / 64) 0 = and_le_l (get_or low (n / 64) 0) (2 ^ 64 - 1 - 1 * 2 ^ (n % 64) % 2 ^ 64) in
-                let gone : word ≡ 0 = omega arith in
-                true≢false (sym (eq-eqb _ 0 (here ∙ gone)) ∙ some)) in
-                rw (same, some, tied.heads (n / 64), was) refl
-            | inr other ↦
-                rw (get_or-set_other low (n / 64) w word 0 other) (tied.heads w)
-          ];
-      few = omega (arith, length-set low (n / 64) word, tied.few);
-    }
-
 -- a word that is told by the upper level is there
 pub heads_within : (low high : List ℕ) (w : ℕ) → AreHeads low high → has high w ≡ true → w < length low
 heads_within low high w tied stands = elim (cases_lt w (length low)) [

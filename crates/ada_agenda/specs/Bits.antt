@@ -1,7 +1,6 @@
 -- Sets of numbers, each a bit.
 use Rattle.std.specs.Prelude.{ℕ, ◌/◌, ◌%◌, Bool, List, slice_index_or, ◌==◌}
 use Rattle.std.specs.Int.{bit_at}
-use Rattle.std.specs.Prelude.{◌-◌}
 use Rattle.std.specs.List.{sum_by}
 
 -- the number is in the set

@@ -5,12 +5,12 @@ use Rattle.ada_events.specs.declared.event.Event.{Event}
 use Rattle.ada_events.specs.Lawful.{IsLawful}
 use Rattle.ada_events.specs.Says.{start_in, delay_in, creation_in}
 use Rattle.ada_events.specs.Tasks.{task_count}
-use Rattle.ada_rows.specs.declared.row.Row.{Row}
-use Rattle.ada_rows.specs.CalledTasks.{IsCallOf}
-use Rattle.ada_rows.specs.Rows.{rank, IsAgenda}
-use Rattle.ada_rows.specs.TouchedKeys.{is_uncallable}
-use Rattle.ada_records.specs.Records.{IsHeldAt}
-use Rattle.ada_agenda.specs.Kinds.{is_immediate_call}
+use Rattle.ada_step_laws.specs.declared.row.Row.{Row}
+use Rattle.ada_step_laws.specs.CalledTasks.{IsCallOf}
+use Rattle.ada_step_laws.specs.Rows.{rank, IsAgenda}
+use Rattle.ada_step_laws.specs.TouchedKeys.{is_uncallable}
+use Rattle.ada_step_laws.specs.Kinds.{is_immediate_call}
+use Rattle.ada_step_laws.specs.Held.{IsHeldAt}
 use Rattle.ada_agenda.specs.Rows.{keeps}
 
 -- the key is kept for the row

@@ -1,13 +1,13 @@
 //! Sets of numbers in rows, of which the first comes first.
 
 ghost use Rattle.std.specs.Prelude.{◌≡◌, ◌≢◌, ◌<◌, ◌⊎◌, ℕ, true, false, IfOk, IfSome, IfNone};
-ghost use Rattle.ada_rows.specs.Rows.{IsFirst};
+ghost use Rattle.ada_step_laws.specs.Rows.{IsFirst};
 ghost use Rattle.ada_agenda.specs.declared.numbers.TheConstants.{MOST_KEYS};
 ghost use Rattle.ada_agenda.specs.Keeping.{has_key};
 ghost use Rattle.ada_agenda.specs.Rows.{weight};
 
 use crate::{Numbers, bits};
-use ada_rows::Row;
+use ada_step_laws::Row;
 use std::alloc::{AllocError, Global};
 use std::marker::Model;
 

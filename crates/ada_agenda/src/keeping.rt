@@ -7,7 +7,7 @@ ghost use Rattle.ada_agenda.specs.Keeping.{Puts, AsKey, When};
 ghost use Rattle.ada_agenda.specs.Keeping.{KeepsUpWithStart, KeepsUpWithDelay, KeepsUpWithCreation, KeepsUpWithCall};
 
 use crate::Agenda;
-use ada_rows::Row;
+use ada_step_laws::Row;
 
 /// Puts a key, below `MOST_KEYS`, into a row.
 #[tactic(auto, using(crate::proofs::Noting::key_put))]

@@ -1,34 +1,18 @@
 -- The board of a journal may be offered where nothing was.
-use Rattle.std.proofs.Common.{◌≡◌, ℕ, ◌-◌, List, [], ◌∷◌, ◌++◌, length, drop, refl, sym, ap, ◌∙◌, subst, arith}
+use Rattle.std.proofs.Common.{◌≡◌, List, [], ◌∷◌, ◌++◌, sym, ap, ◌∙◌, subst, arith}
 use Rattle.std.proofs.lemmas.List.Elements.{All-push, All-nil}
 use Rattle.ada_events.specs.declared.event.Event.{Event}
 use Rattle.ada_events.specs.declared.board.Board.{Board}
 use Rattle.ada_events.specs.Lawful.{IsLawful, IsSettled}
-use Rattle.ada_events.specs.Boards.{IsShownBy, AreTrue, AreTrueOf, board_of, first_events}
+use Rattle.ada_events.specs.Boards.{IsShownBy, AreTrue, AreTrueOf, board_of}
 use Rattle.ada_board.specs.Sights.{Posted}
-
-board_events : (journal : List Event) → (board_of journal).events ≡ length journal
-unfolding board_of
-board_events journal = refl
-
-all_events : (journal : List Event) (n : ℕ) → n ≡ length journal → first_events n journal ≡ journal
-all_events journal n same = ap (λ k. drop k journal) (let e : length journal - n ≡ 0 = omega arith in e)
-
-shown : (journal : List Event) → IsSettled journal → IsShownBy journal (board_of journal)
-shown journal settled =
-    let many : (board_of journal).events ≡ length journal = board_events journal in
-    let same : first_events (board_of journal).events journal ≡ journal = all_events journal (board_of journal).events many in
-    record {
-      within = omega arith;
-      settled = subst (λ (j : List Event). IsSettled j) (sym same) settled;
-      shows = ap board_of (sym same);
-    }
+use Rattle.ada_laws.proofs.boards.ShowingLaws.{newest_shown}
 
 alone : (journal : List Event) → IsLawful journal → IsSettled journal → AreTrueOf journal (board_of journal ∷ [])
 alone journal lawful settled = record {
   lawful = lawful;
   rise = λ i j d less below. absurd (omega arith);
-  each = All-push (IsShownBy journal) [] (board_of journal) (All-nil (IsShownBy journal)) (shown journal settled);
+  each = All-push (IsShownBy journal) [] (board_of journal) (All-nil (IsShownBy journal)) (newest_shown journal settled);
 }
 
 pub may_offer : (journal : List Event) (posted : Posted) (board : Board) → IsLawful journal → IsSettled journal

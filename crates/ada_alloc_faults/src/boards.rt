@@ -1,6 +1,5 @@
 //! Trials of the board.
 ghost use Rattle.std.specs.Prelude.{◌≡◌, [], ◌++◌};
-ghost use Rattle.ada_board.specs.Sights.{Posted};
 
 use crate::trial::{Answer, Reach, Seen};
 use ada_board::answers::{callable_on, count_on, opening_board, terminated_on};

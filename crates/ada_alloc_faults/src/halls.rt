@@ -1,6 +1,5 @@
 //! Trials of the hall.
 ghost use Rattle.std.specs.Prelude.{◌≡◌, ◌<◌, []};
-ghost use Rattle.ada_board.specs.Sights.{Posted};
 
 use crate::saying::{SCRIPT, is_at, try_say};
 use crate::stepping::try_step;

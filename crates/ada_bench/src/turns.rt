@@ -1,7 +1,6 @@
 //! How long some work takes, over several turns.
 
-use std::alloc::{AllocError, Global};
-use std::time::{Duration, Instant};
+use std::time::Duration;
 
 /// The longest that turns are repeated, in nanoseconds.
 const LONGEST: u64 = 1_000_000_000;

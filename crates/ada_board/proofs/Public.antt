@@ -1,5 +1,5 @@
 -- The rule between any two steps is kept by looks, publications and new places.
-use Rattle.std.proofs.Common.{◌≡◌, ℕ, ◌≢◌, List, [], ◌∷◌, ◌++◌, fold, set, refl, ap, ◌∙◌, subst, ⊎_elim}
+use Rattle.std.proofs.Common.{◌≡◌, ℕ, ◌≢◌, List, [], ◌∷◌, ◌++◌, set, refl, subst, ⊎_elim}
 use mathlib.Core.List.{IsPrefix}
 use mathlib.Core.Option.{some}
 use lib.ListN.{get_elem?}
@@ -10,9 +10,6 @@ use Rattle.ada_events.specs.Boards.{AreTrue}
 use Rattle.ada_board.specs.Histories.{KnownHistory}
 use Rattle.ada_board.specs.Publishing.{IsPublic, Follows}
 use Rattle.ada_board.proofs.Beginnings.{prefix_refl, prefix_trans}
-
-nothing_at : (place : ℕ) (boards : List Board) → get_elem? [] place ≡ some boards → ⊥
-nothing_at place boards at = cc at
 
 -- a place that has seen nothing
 pub joined : (book : Book) (published : KnownHistory) (seen : List (List Board)) → IsPublic book published seen → IsPublic book published (seen ++ [] ∷ [])
@@ -47,18 +44,3 @@ follows book place seen before after named kept grows all rule at = (
     whole = refl;
   },
 )
-
--- the rule where one place, the writer's, has seen nothing
-pub public_at_first : (book : Book) (published : KnownHistory) → published.book ≡ book → AreTrue published.boards → IsPublic book published ([] ∷ [])
-public_at_first book published named kept = record {
-  book_is = named;
-  true_list = kept;
-  each = λ place boards at. ⊎_elim (λ (old : get_elem? [] place ≡ some boards). absurd (nothing_at place boards old))
-      (λ (e : [] ≡ boards). let P : List Board → Type 0 = λ l. IsPrefix l published.boards in subst P e (published.boards, refl))
-      (at_snoc [] [] boards place at);
-}
-
--- one operation that was applied
-pub applied_once : {S O : Type 0} (f : S → O → S) (after before : S) (operation : O) (operations : List O) → operations ≡ operation ∷ []
-    → after ≡ fold f before operations → after ≡ f before operation
-applied_once f after before operation operations one is = is ∙ ap (λ l. fold f before l) one

@@ -6,7 +6,7 @@ use mathlib.Core.List.{IsPrefix}
 use Rattle.logbook.specs.Pages.{Book}
 use Rattle.ada_events.specs.declared.board.Board.{Board}
 use Rattle.ada_events.specs.Boards.{AreTrue}
-use Rattle.ada_laws.proofs.Gathering.{Contains-first, Contains-later}
+use Rattle.ada_laws.proofs.searching.Gathering.{Contains-first, Contains-later}
 use Rattle.ada_board.specs.Histories.{KnownHistory}
 use Rattle.ada_board.specs.internal.Readers.{IsReader}
 use Rattle.ada_board.specs.Sights.{Sight, Reads}

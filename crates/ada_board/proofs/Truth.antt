@@ -2,7 +2,7 @@
 use Rattle.std.proofs.Common.{◌≡◌, ℕ, true, List, [], ◌∷◌, ◌++◌, length, refl, sym, ap, ◌∙◌, subst}
 use Rattle.ada_events.specs.declared.board.Board.{Board}
 use Rattle.ada_events.specs.Boards.{AreTrue, board_of}
-use Rattle.ada_laws.proofs.ShowingLaws.{no_boards_are_true}
+use Rattle.ada_laws.proofs.boards.ShowingLaws.{no_boards_are_true}
 use Rattle.ada_board.specs.Answers.{latest_behind, latest}
 use Rattle.ada_board.specs.Histories.{IsHistoryIn}
 use Rattle.ada_board.specs.internal.Histories.{IsEdition}

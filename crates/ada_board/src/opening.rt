@@ -1,8 +1,7 @@
 //! Opening a board, and the places of its readers.
-ghost use Rattle.std.specs.Prelude.{◌≡◌, ◌+◌, ◌<◌, ◌≤◌, ◌^◌, [], ◌∷◌, drop, IfOk, MatchResult, IsTrue, vec_len, vec_capacity};
+ghost use Rattle.std.specs.Prelude.{◌≡◌, ◌+◌, ◌<◌, ◌≤◌, [], drop, IfOk, MatchResult, IsTrue, vec_len, vec_capacity};
 ghost use Rattle.std.specs.List.{All};
 ghost use Rattle.left_right.specs.Sides.{view as sight_of};
-ghost use Rattle.ada_board.specs.Sights.{Posted, Sight};
 
 use crate::edition::Edition;
 use crate::fault::BoardFault;

@@ -1,9 +1,8 @@
 //! A reader of the board.
-ghost use Rattle.std.specs.Prelude.{◌≡◌, [], ◌∷◌, IfSome};
+ghost use Rattle.std.specs.Prelude.{◌≡◌, [], ◌∷◌};
 ghost use Rattle.std.specs.List.{Contains};
 ghost use mathlib.Core.List.{IsPrefix};
 ghost use Rattle.left_right.specs.Sides.{view as sight_of};
-ghost use Rattle.ada_events.specs.Boards.{AreTrue};
 ghost use Rattle.ada_board.specs.Answers.{latest, callable_on, terminated_on, count_on};
 ghost use Rattle.ada_board.specs.Sights.{Sight, Reads, met_by};
 

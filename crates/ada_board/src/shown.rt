@@ -1,5 +1,4 @@
 //! What readers enter: one board, of which the writer keeps two copies.
-ghost use Rattle.std.specs.Prelude.{◌≡◌};
 
 use crate::edition::Edition;
 use left_right::Absorb;

@@ -32,7 +32,6 @@ pub struct BoardWriter<J: Naming> {
 impl<J: Naming> Model for BoardWriter<J> {
     ghost use Rattle.std.specs.Prelude.{◌≡◌, [], drop};
     ghost use Rattle.std.specs.Option.{option_map_or};
-    ghost use Rattle.ada_board.specs.Histories.{KnownHistory};
     ghost use Rattle.ada_board.specs.internal.Histories.{head_of};
     ghost use Rattle.ada_board.specs.Sights.{Posted};
     ghost use Rattle.ada_board.specs.Writers.{posted};

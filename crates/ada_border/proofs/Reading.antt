@@ -11,10 +11,6 @@ abbrev pub joined : {T : Type 0} → List T → Result (List T) Bad → Result (
 joined before (Ok rest) = Ok (before ++ rest)
 joined before (Err bad) = Err bad
 
-pub joined-none : {T : Type 0} (r : Result (List T) Bad) → joined [] r ≡ r
-joined-none (Ok rest) = refl
-joined-none (Err bad) = refl
-
 joined-one : {T : Type 0} (before : List T) (one : T) (r : Result (List T) Bad)
     → joined before (with_read r (λ more. Ok (one ∷ more))) ≡ joined (before ++ one ∷ []) r
 joined-one before one (Ok rest) = ap Ok (sym (append_assoc before (one ∷ []) rest))

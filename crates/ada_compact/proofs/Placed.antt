@@ -8,9 +8,9 @@ use Rattle.ada_events.specs.declared.names.Member.TheVariants.{Block as BlockMem
 use Rattle.ada_events.specs.Search.{event_at}
 use Rattle.ada_events.specs.Says.{call_in, wait_in, delay_in, start_in, closing_in}
 use Rattle.ada_events.specs.Nests.{nest}
-use Rattle.ada_laws.proofs.Searching.{event_at-within, option_map_or-true}
+use Rattle.ada_laws.proofs.searching.Searching.{event_at-within, option_map_or-true}
 use Rattle.ada_tables.specs.Dependents.{has_block}
-use Rattle.ada_records.proofs.Owners.{block_in_nest}
+use Rattle.ada_records.proofs.holding.Owners.{block_in_nest}
 use Rattle.ada_standing.specs.Names.{Names, placed, rises_from, renaming_of}
 use Rattle.ada_standing.specs.Holds.{is_same_kind}
 use Rattle.ada_standing.specs.StandsIn.{is_block, KeepsPositions}

@@ -8,7 +8,7 @@ use Rattle.std.specs.Option.{option_map}
 use Rattle.std.proofs.lemmas.Option.{slice_get_within}
 use Rattle.ada_events.specs.declared.names.TaskNo.{TaskNo}
 use Rattle.ada_events.specs.Tasks.{task_count, has_task, moment}
-use Rattle.ada_laws.proofs.Searching.{option_and_then-some}
+use Rattle.ada_laws.proofs.searching.Searching.{option_and_then-some}
 use Rattle.ada_standing.specs.Renaming.{Renaming}
 use Rattle.ada_standing.specs.Names.{Names, named, renaming_of}
 use Rattle.ada_standing.specs.StandsIn.{is_live, IsSameTask, IsSameDependent, IsSameNest, KeepsPositions, StandsIn}

@@ -7,7 +7,7 @@ use Rattle.ada_events.specs.Search.{event_at}
 use Rattle.ada_events.specs.Phases.{is_suspended}
 use Rattle.ada_events.specs.Lawful.{IsLawful}
 use Rattle.ada_laws.specs.Suspension.{IsSuspendedAt}
-use Rattle.ada_laws.proofs.Suspending.{is_suspended-from, suspended_once}
+use Rattle.ada_laws.proofs.held.Suspending.{is_suspended-from, suspended_once}
 use Rattle.ada_standing.specs.Renaming.{Renaming}
 use Rattle.ada_standing.specs.Holds.{IsSameHold}
 use Rattle.ada_compact.specs.internal.Suspending.{IsHeldTheSame}

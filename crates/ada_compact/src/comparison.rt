@@ -6,9 +6,7 @@ pub mod nests;
 pub mod standing;
 pub mod tasks;
 
-ghost use Rattle.std.specs.Prelude.{◌≡◌, true, Some, Option};
-ghost use Rattle.std.specs.Option.{option_and_then};
-ghost use Rattle.ada_events.specs.declared.names.Master.{Master as MasterValue};
+ghost use Rattle.std.specs.Prelude.{◌≡◌, true, Some};
 ghost use Rattle.ada_standing.specs.Names.{renaming_of};
 ghost use Rattle.ada_standing.specs.Renaming.{renamed_master, renamed_member, renamed_outcome};
 

@@ -14,7 +14,7 @@ pub mod source;
 pub mod suspending;
 
 use crate::failure::NotCompacted;
-use ada_events::{Master, TaskNo};
+use ada_events::TaskNo;
 use ada_kernel::Kernel;
 use ada_standing::Renaming;
 use fresh::Fresh;

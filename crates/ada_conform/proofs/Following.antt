@@ -11,7 +11,7 @@ use Rattle.ada_conform.specs.declared.judgement.Judgement.{Judgement}
 use Rattle.ada_conform.specs.declared.judgement.Stop.{Stop}
 use Rattle.ada_conform.specs.declared.judgement.Stop.TheVariants as stops
 use Rattle.ada_conform.specs.Lines.{IsInRange, Says, Passes, Refuses, declared}
-use Rattle.ada_conform.specs.Courses.{IsStop, Stops, IsCourse}
+use Rattle.ada_conform.specs.Courses.{IsStop, IsCourse}
 use Rattle.ada_conform.specs.internal.Stopping.{IsTurnedDown, judged}
 
 -- what was read is what a line says

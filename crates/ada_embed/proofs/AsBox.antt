@@ -8,7 +8,6 @@ use Rattle.std_heap.specs.contracts.GlobalAllocator.TheImpl.{ghosts, dict}
 use Rattle.std_heap.proofs.Global.TheLaws as heap
 use Rattle.ada_embed.specs.Sealed.{kernel_row}
 use Rattle.ada_kernel.proofs.kernel.Kernel.TheLaws as home
-use Rattle.ada_embed.specs.contracts.parts.Parts as Parts
 use Rattle.ada_embed.specs.contracts.handle.Handle as Sealed
 
 abbrev pub E : Bx
@@ -24,9 +23,6 @@ E = record {
         tnil dnil;
   };
 }
-
-abbrev pub FromParts : Slot 0
-FromParts = plain (λ _. Parts.the_row kernel_row Heap.the_row ghosts)
 
 abbrev pub FromSeal : Slot 0
 FromSeal = plain (λ _. Sealed.the_row)

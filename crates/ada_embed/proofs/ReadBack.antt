@@ -1,5 +1,5 @@
 -- A reason is told whole by its numbers.
-use Rattle.std.proofs.Common.{◌≡◌, Some, None, refl}
+use Rattle.std.proofs.Common.{Some, None, refl}
 use Rattle.ada_waiting.specs.declared.reasons.Reason.TheVariants as reason
 use Rattle.ada_embed.specs.Reasons.{plain_reason, reason_at, AreReasonsReadBack}
 

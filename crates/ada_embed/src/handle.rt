@@ -1,5 +1,5 @@
 //! A handle to a kernel, which C keeps as a pointer.
-ghost use Rattle.std.specs.Prelude.{◌≡◌, IfOk};
+ghost use Rattle.std.specs.Prelude.{◌≡◌};
 ghost use Rattle.ada_kernel.specs.declared.kernel.Kernel.{Kernel};
 ghost use Rattle.ada_embed.specs.Sealed.{handle_owns};
 ghost use Rattle.ada_embed.specs.internal.Coded.{kernel_coded};

@@ -16,8 +16,8 @@ use Rattle.ada_events.specs.Attributes.{is_callable}
 use Rattle.ada_events.specs.Lawful.{Forces}
 use Rattle.ada_events.specs.Lawful.Forces.{nothing, one_more}
 use Rattle.ada_events.specs.Steps.{IsAccepted}
-use Rattle.ada_laws.proofs.Accepting.{is_accepted}
-use Rattle.ada_laws.proofs.LastingLaws.{terminated_tasks_stay_so, uncallable_tasks_stay_so}
+use Rattle.ada_laws.proofs.asking.Accepting.{is_accepted}
+use Rattle.ada_laws.proofs.held.LastingLaws.{terminated_tasks_stay_so, uncallable_tasks_stay_so}
 
 forced_steps_keep : (from new : List Event) (task : ℕ) → Forces from new → is_callable from task ≡ false → is_callable new task ≡ false
 forced_steps_keep from _ task nothing was = was

@@ -5,11 +5,11 @@
 pub mod keeping;
 pub mod playing;
 pub mod sleeping;
-pub mod stopping;
+pub mod aborting;
 pub mod watching;
 
 pub use keeping::give_up;
 pub use playing::journal_of;
 pub use sleeping::sleep_until;
-pub use stopping::stop;
+pub use aborting::stop;
 pub use watching::is_gone;

@@ -1,5 +1,5 @@
 //! A script is played in memory.
-ghost use Rattle.std.specs.Prelude.{◌≡◌, Some, [], IfOk};
+ghost use Rattle.std.specs.Prelude.{Some, [], IfOk};
 ghost use Rattle.ada_replay.specs.Replay.{Replays};
 
 use ada_replay::{Ending, RunFault, replay};

@@ -3,7 +3,7 @@
 use ada_account::Scene;
 use ada_events::journal::event_in;
 use ada_events::{Choice, Entry, Event, EventTail, TaskNo};
-use ada_reference::calls::{is_call_of, is_met, is_queued_at};
+use ada_reference::calls::{is_call_of, is_queued_at};
 use ada_waiting::Reason;
 use ada_waiting::awaited::awaits;
 use ada_waiting::holds::latest_hold;

@@ -1,37 +1,15 @@
 -- The answers at their places, beside the list in the order in which they were given.
-use Rattle.std.proofs.Common.{◌≡◌, ◌≢◌, ◌⊎◌, ⊎_elim, ℕ, ◌<◌, ◌==◌, Bool, true, false, cond, Option, Some, None, List, [], ◌∷◌, ◌++◌, length}
-use Rattle.std.proofs.Common.{get_or, replicate, set, refl, sym, ap, ◌∙◌, arith}
-use Rattle.std.specs.Prelude.{find, option_map, slice_get}
-use Rattle.std.specs.Option.{option_or, unwrap_or}
-use Rattle.std.proofs.lemmas.Bool.{cases_eq, cases_lt, eqb-true}
-use Rattle.std.proofs.lemmas.List.{get_or-replicate, get_or_past, length-replicate, get_or-set_same, get_or-set_other}
+use Rattle.std.proofs.Common.{◌≡◌, ◌≢◌, ⊎_elim, ℕ, ◌<◌, ◌==◌, Bool, true, false, cond, Option, Some, None, List, [], ◌∷◌, ◌++◌, length}
+use Rattle.std.proofs.Common.{get_or, set, refl, sym, ap, ◌∙◌, arith}
+use Rattle.std.specs.Prelude.{find, option_map}
+use Rattle.std.specs.Option.{option_or}
+use Rattle.std.proofs.lemmas.Bool.{cases_eq, eqb-true}
+use Rattle.std.proofs.lemmas.List.{get_or-set_same, get_or-set_other}
 use Rattle.std.proofs.lemmas.List.Folds.{find-append}
-use Rattle.std.proofs.lemmas.Option.{unwrap_or-slice_get}
 use Rattle.ada_replay.specs.declared.answer.Answer.{Answer}
 use Rattle.ada_hall.specs.declared.answer.KeptAnswer.{KeptAnswer}
 use Rattle.ada_hall.specs.Answers.{answer_at}
 use Rattle.ada_hall.specs.internal.Answers.{AreByPlace}
-
--- at first no place has an answer
-pub none_yet : (places : ℕ) → AreByPlace (replicate places None) []
-none_yet places place =
-    let empty : Option Answer = None in
-    ⊎_elim
-    (λ below. get_or-replicate places place empty empty below)
-    (λ past. get_or_past (replicate places empty) place empty (omega (arith, past, length-replicate places empty)))
-    (cases_lt place places)
-
--- what stands at a place is its answer
-pub answer_there : (by_place : List (Option Answer)) (answers : List KeptAnswer) (place : ℕ) (found : Option Answer) → AreByPlace by_place answers
-    → slice_get by_place place ≡ Some found → found ≡ answer_at answers place
-answer_there by_place answers place found are there =
-    sym (ap (λ o. unwrap_or o None) there) ∙ unwrap_or-slice_get by_place place None ∙ are place
-
--- and where there is no such place, there is none
-pub no_answer_there : (by_place : List (Option Answer)) (answers : List KeptAnswer) (place : ℕ) → AreByPlace by_place answers
-    → slice_get by_place place ≡ None → answer_at answers place ≡ None
-no_answer_there by_place answers place are nowhere =
-    sym (are place) ∙ sym (unwrap_or-slice_get by_place place None) ∙ ap (λ o. unwrap_or o None) nowhere
 
 is_at : ℕ → KeptAnswer → Bool
 is_at place kept = kept.place == place

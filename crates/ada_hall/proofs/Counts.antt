@@ -6,8 +6,8 @@ use Rattle.ada_events.specs.declared.request.Request.TheVariants.{Open, Create, 
 use Rattle.ada_events.specs.Asks.{asked_event}
 use Rattle.ada_events.specs.Lawful.{Forces, After}
 use Rattle.ada_events.specs.Lawful.Forces.{nothing, one_more}
-use Rattle.ada_laws.proofs.Rows.{IsRow, forced-row}
-use Rattle.ada_laws.proofs.Rows.IsRow.{halts, fails, meets, cancels, passes, wakes, activates, goes, quits, leaves}
+use Rattle.ada_laws.proofs.forced.Rows.{IsRow, forced-row}
+use Rattle.ada_laws.proofs.forced.Rows.IsRow.{halts, fails, meets, cancels, passes, wakes, activates, goes, quits, leaves}
 use Rattle.ada_hall.specs.Counting.{is_asked, asked_count}
 
 row_unasked : (journal : List Event) {event : Event} → IsRow journal event → is_asked event ≡ false

@@ -8,19 +8,16 @@ use Rattle.std.proofs.lemmas.Option.{slice_get_within}
 use Rattle.ada_events.specs.declared.event.Event.{Event}
 use Rattle.ada_events.specs.declared.names.TaskNo.{TaskNo}
 use Rattle.ada_events.specs.declared.request.Request.{Request}
-use Rattle.ada_events.specs.declared.refusal.Refusal.{Refusal}
 use Rattle.ada_events.specs.Asks.{asked_event}
 use Rattle.ada_events.specs.Forced.{task_no}
 use Rattle.ada_events.specs.Tasks.{task_count}
-use Rattle.ada_laws.proofs.Forcing.{forces_keeps}
+use Rattle.ada_laws.proofs.forced.Forcing.{forces_keeps}
 use Rattle.ada_script.specs.declared.script.Line.{Line}
-use Rattle.ada_script.specs.Script.{scope_of}
 use Rattle.ada_statements.specs.Scope.{Scope}
 use Rattle.ada_statements.specs.Binding.{bind, request_of}
 use Rattle.ada_printing.specs.declared.value.Value.{Value}
-use Rattle.ada_printing.specs.Texts.{refusal_text, shown_text}
+use Rattle.ada_printing.specs.Texts.{shown_text}
 use Rattle.ada_replay.specs.Play.{PlayState, group_text}
-use Rattle.ada_replay.specs.Replay.{beginning}
 use Rattle.ada_replay.specs.declared.fault.RunFault.{RunFault}
 use Rattle.ada_replay.specs.declared.fault.RunFault.TheVariants.{Write}
 use Rattle.ada_replay.specs.Ends.{IsShortage, IsWritten, IsCutShort}
@@ -98,35 +95,11 @@ prints_group line events kept names bound text more first last made answer bound
     ∙ ap (λ j. group_text new.names (length old.journal) j) journal_is ∙ sym group.says.printed in
     (printed ∙ ap (λ t. text ++ t) said_is, names_are)
 
-refusal_of : (line : Line) (old new : PlayState) (cause : Refusal) (said : List ℕ) (asked : Option Request)
-    → MatchOption asked (AnswersShow line old (Refused cause) said new) (AnswersRequest line old (Refused cause) said new)
-    → (new ≡ old) × (said ≡ refusal_text line.line cause)
-refusal_of line old new cause said None answers = answers
-refusal_of line old new cause said (Some request) answers = (answers.unchanged, answers.printed)
-
-pub prints_refusal : (line : Line) (events : List Event) (kept : KeptAnswer) (names : Scope) (text more : List ℕ) (cause : Refusal)
-    → kept.answer ≡ Refused cause → more ≡ text ++ refusal_text line.line cause → PrintsOne line events kept names names text more
-prints_refusal line events kept names text more cause answer printed script old new said given same named continues =
-    let answers : IsAnswerTo given.line old (Refused cause) said new = subst (λ a. IsAnswerTo given.line old a said new) answer given.answers in
-    let (unchanged, said_is) = refusal_of given.line old new cause said (request_of old.names given.line.statement) answers in (
-      printed ∙ ap (λ (l : Line). text ++ refusal_text l.line cause) (sym same) ∙ ap (λ t. text ++ t) (sym said_is),
-      sym named ∙ sym (ap (λ (s : PlayState). s.names) unchanged),
-    )
-
 value_of : (line : Line) (old new : PlayState) (value : Value) (said : List ℕ) (asked : Option Request)
     → MatchOption asked (AnswersShow line old (Shown value) said new) (AnswersRequest line old (Shown value) said new)
     → (new ≡ old) × (said ≡ shown_text line.line value)
 value_of line old new value said None answers = answers
 value_of line old new value said (Some request) answers = absurd answers
-
-pub prints_value : (line : Line) (events : List Event) (kept : KeptAnswer) (names : Scope) (text more : List ℕ) (value : Value)
-    → kept.answer ≡ Shown value → more ≡ text ++ shown_text line.line value → PrintsOne line events kept names names text more
-prints_value line events kept names text more value answer printed script old new said given same named continues =
-    let answers : IsAnswerTo given.line old (Shown value) said new = subst (λ a. IsAnswerTo given.line old a said new) answer given.answers in
-    let (unchanged, said_is) = value_of given.line old new value said (request_of old.names given.line.statement) answers in (
-      printed ∙ ap (λ (l : Line). text ++ shown_text l.line value) (sym same) ∙ ap (λ t. text ++ t) (sym said_is),
-      sym named ∙ sym (ap (λ (s : PlayState). s.names) unchanged),
-    )
 
 -- ---- one answer after another
 
@@ -141,20 +114,6 @@ pub record IsLeft (script : List Line) (answers left : List KeptAnswer) (events 
   pub given : AreGiven script left now rest last
   pub named : now.names ≡ names
   pub appended : Appends old new written
-
-pub none_printed : (script : List Line) (answers : List KeptAnswer) (events : List Event) (names : Scope) (bytes : Option (List ℕ)) → names ≡ scope_of script
-    → (text : List ℕ) × (last : PlayState) × ArePrinted script answers (reverse events) text last
-    → IsLeft script answers (drop 0 answers) events names bytes bytes []
-none_printed script answers events names bytes begins (text, last, printed) = record {
-  written = [];
-  rest = text;
-  now = beginning script;
-  last = last;
-  printed = printed;
-  given = printed.0;
-  named = sym begins;
-  appended = appends_nothing bytes;
-}
 
 -- the next of the answers that are left
 pub record Next (script : List Line) (kept : KeptAnswer) (events : List Event) : Type 0 where

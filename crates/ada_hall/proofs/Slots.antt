@@ -14,7 +14,7 @@ use Rattle.ada_events.specs.Calls.{count_of}
 use Rattle.ada_events.specs.Refusals.{cause, first_cause, lacks_family, is_outside}
 use Rattle.ada_events.specs.Attributes.{count_refusal, own_count}
 use Rattle.ada_events.specs.Slots.{slot_of}
-use Rattle.ada_laws.proofs.SlotPlaces.{declared_entries_have_slots}
+use Rattle.ada_laws.proofs.entries.SlotPlaces.{declared_entries_have_slots}
 
 none_applies : (a b c d : Bool)
     → first_cause (cause a UnknownTask ∷ cause b NotRunning ∷ cause c NoSuchFamily ∷ cause d ConstraintError ∷ []) ≡ None → (c || d) ≡ false

@@ -13,7 +13,7 @@ use Rattle.ada_events.specs.Forced.{task_no}
 use Rattle.ada_events.specs.Lawful.{IsLawful, IsSettled}
 use Rattle.ada_events.specs.Steps.{IsAccepted, IsRefused}
 use Rattle.ada_events.specs.Tasks.{task_count}
-use Rattle.ada_laws.proofs.Forcing.{forces_keeps}
+use Rattle.ada_laws.proofs.forced.Forcing.{forces_keeps}
 use Rattle.ada_script.specs.declared.script.Line.{Line}
 use Rattle.ada_statements.specs.Scope.{Scope}
 use Rattle.ada_statements.specs.Binding.{bind, is_show, request_of}

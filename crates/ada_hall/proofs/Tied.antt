@@ -1,6 +1,6 @@
 -- What is published stays true of the journal that goes on, and falls behind where it isn't added to.
 use Rattle.std.proofs.Common.{◌≡◌, ℕ, ◌+◌, ◌<◌, ◌≤◌, Bool, true, false, Option, Some, None, List, [], ◌∷◌, ◌++◌, length}
-use Rattle.std.proofs.Common.{refl, ap, sym, subst, append_assoc, ◌∙◌, arith, length-append, MatchOption}
+use Rattle.std.proofs.Common.{ap, sym, subst, append_assoc, ◌∙◌, arith, length-append, MatchOption}
 use Rattle.std.specs.Prelude.{is_some, not}
 use Rattle.std.proofs.lemmas.Bool.{not-true, not-false}
 use Rattle.std.specs.List.{All}
@@ -12,18 +12,13 @@ use Rattle.ada_events.specs.Asks.{asked_event}
 use Rattle.ada_events.specs.Lawful.{IsLawful, IsSettled}
 use Rattle.ada_events.specs.Steps.{IsAccepted}
 use Rattle.ada_events.specs.Boards.{IsShownBy, AreTrueOf, board_of}
-use Rattle.ada_laws.proofs.Forcing.{forces_keeps}
-use Rattle.ada_laws.proofs.Publishing.{published_next, published_still}
-use Rattle.ada_laws.proofs.ShowingLaws.{no_boards_are_true}
-use Rattle.ada_laws.proofs.GroupLaws.{empty_is_settled}
+use Rattle.ada_laws.proofs.forced.Forcing.{forces_keeps}
+use Rattle.ada_laws.proofs.boards.Publishing.{published_next, published_still}
+use Rattle.ada_laws.proofs.boards.ShowingLaws.{board_events}
 use Rattle.ada_board.specs.Answers.{latest_behind, latest}
 use Rattle.ada_board.specs.Sights.{Posted}
 use Rattle.ada_board.proofs.Truth.{latest_added}
 use Rattle.ada_hall.specs.PublishedKernels.{IsTied}
-
--- nothing published is true of the empty journal, and not behind it
-pub tied_at_first : IsTied [] [] false
-tied_at_first = record { true_of = no_boards_are_true [] tt; settled = empty_is_settled; is_behind = refl }
 
 -- what a request led to is the old journal with more before it
 grown : (old new : List Event) (request : Request) (at : ℕ) → IsAccepted old request at new → (steps : List Event) × (new ≡ steps ++ old) × (0 < length steps)
@@ -33,10 +28,6 @@ grown old new request at accepted =
       steps.1 ∙ sym (append_assoc steps.0 (asked_event old request ∷ []) old),
       omega (arith, length-append steps.0 (asked_event old request ∷ [])),
     )
-
-board_events : (journal : List Event) → (board_of journal).events ≡ length journal
-unfolding board_of
-board_events journal = refl
 
 -- the board of a list is no newer than its boards
 events_within : (n : ℕ) (before : Board) (boards : List Board) → before.events ≤ n → All (λ (b : Board). b.events ≤ n) boards

@@ -1,11 +1,8 @@
 //! A kernel whose boards are published.
-ghost use Rattle.std.specs.Prelude.{◌≡◌, true, false, [], ◌∷◌, ◌++◌, MatchBool, MatchOption, IfOk, IfErr, OnErr};
-ghost use Rattle.std.specs.Option.{option_map};
-ghost use Rattle.ada_events.specs.Boards.{AreTrue, AreTrueOf, board_of};
+ghost use Rattle.std.specs.Prelude.{◌≡◌, false, [], ◌∷◌, ◌++◌, MatchOption, IfOk, IfErr, OnErr};
+ghost use Rattle.ada_events.specs.Boards.{AreTrue, AreTrueOf};
 ghost use Rattle.ada_events.specs.Lawful.{IsLawful, IsSettled};
 ghost use Rattle.ada_events.specs.Steps.{IsAccepted, IsRefused};
-ghost use Rattle.ada_board.specs.Answers.{latest};
-ghost use Rattle.ada_board.specs.Sights.{Posted};
 ghost use Rattle.ada_hall.specs.PublishedKernels.{Publishes, IsTied};
 
 use ada_board::{BoardWriter, Mark, Naming};

@@ -1,5 +1,5 @@
 //! The answers to the lines of a script.
-ghost use Rattle.std.specs.Prelude.{◌≡◌, ◌+◌, ℕ, false, Some, List, IfOk, IfErr, OnErr};
+ghost use Rattle.std.specs.Prelude.{◌≡◌, ◌+◌, ℕ, false, List, IfOk, IfErr, OnErr};
 ghost use Rattle.std.specs.Option.{option_copied};
 ghost use Rattle.ada_events.specs.Lawful.{IsLawful};
 ghost use Rattle.ada_statements.specs.Binding.{is_show};

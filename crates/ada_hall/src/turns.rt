@@ -1,6 +1,5 @@
 //! Who may go on.
 ghost use Rattle.std.specs.Prelude.{◌≡◌, ◌==◌, true};
-ghost use Rattle.ada_events.specs.Phases.{is_running};
 ghost use Rattle.ada_hall.specs.Going.{may_play};
 ghost use Rattle.ada_hall.specs.Turns.{changed, first_turns, left, passed, waited};
 

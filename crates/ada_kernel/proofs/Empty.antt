@@ -8,10 +8,10 @@ use Rattle.ada_events.specs.Masters.{reaches, depends_on}
 use Rattle.ada_events.specs.Phases.{has_start, is_completed, is_terminated, has_ended, is_abnormal}
 use Rattle.ada_events.specs.Termination.{all_terminated, is_complete, is_abandoned}
 use Rattle.ada_events.specs.Forced.{is_to_halt, is_to_go, is_to_quit}
-use Rattle.ada_rows.specs.declared.row.Row.{Row}
-use Rattle.ada_rows.specs.declared.row.Row.TheVariants.{Halting, Failing, Meeting, Cancelling, Passing, Waking, Activating, Terminating, QuittingBody}
-use Rattle.ada_rows.specs.declared.row.Row.TheVariants.{QuittingBlock, Leaving}
-use Rattle.ada_rows.specs.Rows.{step_at}
+use Rattle.ada_step_laws.specs.declared.row.Row.{Row}
+use Rattle.ada_step_laws.specs.declared.row.Row.TheVariants.{Halting, Failing, Meeting, Cancelling, Passing, Waking, Activating, Terminating, QuittingBody}
+use Rattle.ada_step_laws.specs.declared.row.Row.TheVariants.{QuittingBlock, Leaving}
+use Rattle.ada_step_laws.specs.Rows.{step_at}
 use Rattle.ada_agenda.specs.Keeping.{IsAgendaOf}
 
 -- no row gives a step

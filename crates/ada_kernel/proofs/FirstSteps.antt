@@ -5,8 +5,8 @@ use Rattle.ada_agenda.specs.Rows.{weight}
 use Rattle.ada_events.specs.declared.event.Event.{Event}
 use Rattle.ada_events.specs.Forced.{forced}
 use Rattle.ada_events.specs.Journals.{Kept}
-use Rattle.ada_rows.specs.declared.row.Row.{Row}
-use Rattle.ada_rows.specs.Rows.{IsFirst}
+use Rattle.ada_step_laws.specs.declared.row.Row.{Row}
+use Rattle.ada_step_laws.specs.Rows.{IsFirst}
 use Rattle.ada_agenda.specs.Keeping.{has_key, IsAgendaOf}
 use Rattle.ada_kernel.specs.declared.index.Index.{Index}
 use Rattle.ada_kernel.specs.internal.Indexes.{IsIndexOf}

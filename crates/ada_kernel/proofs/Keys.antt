@@ -4,10 +4,10 @@ use Rattle.std.proofs.lemmas.Bool.{cases_eq}
 use Rattle.std.proofs.lemmas.Option.{none-some}
 use Rattle.ada_events.specs.declared.event.Event.{Event}
 use Rattle.ada_events.specs.Forced.{forced}
-use Rattle.ada_rows.specs.declared.row.Row.{Row}
-use Rattle.ada_rows.specs.Rows.{rank, step_at, IsFirst}
-use Rattle.ada_rows.proofs.Ranks.{one_rank}
-use Rattle.ada_rows.proofs.Keys.{forced_first, forced_nothing, agenda_less}
+use Rattle.ada_step_laws.specs.declared.row.Row.{Row}
+use Rattle.ada_step_laws.specs.Rows.{rank, step_at, IsFirst}
+use Rattle.ada_step_laws.proofs.rows.Ranks.{one_rank}
+use Rattle.ada_step_laws.proofs.rows.Keys.{forced_first, forced_nothing, agenda_less}
 use Rattle.ada_agenda.specs.Keeping.{has_key, IsAgendaOf}
 
 -- what the row of the first key gives there is forced

@@ -7,15 +7,15 @@ use Rattle.ada_events.specs.Outcomes.{raised_in, released_to}
 use Rattle.ada_events.specs.Says.{call_in, held_in, started_in, released_in, meeting_in}
 use Rattle.ada_events.specs.Tasks.{task_count}
 use Rattle.ada_laws.specs.Suspension.{IsSuspendedAt}
-use Rattle.ada_laws.proofs.Suspending.{suspended_exists}
+use Rattle.ada_laws.proofs.held.Suspending.{suspended_exists}
 use Rattle.ada_records.specs.declared.record.Record.{Record}
 use Rattle.ada_records.specs.Noted.{HaveNotedAfter, HaveNotedHold, HaveNotedRelease, waits_at_open_terminate}
 use Rattle.ada_records.specs.Followed.{HaveFollowedAfter, HaveFollowedHold}
 use Rattle.ada_records.specs.Records.{AreRecords}
 use Rattle.ada_tables.specs.Standing.{StandFor}
 use Rattle.ada_tables.specs.Tables.{TableState}
-use Rattle.ada_records.proofs.EventKinds.{holds_of, releases_of}
-use Rattle.ada_records.proofs.Holding.{holder_ran}
+use Rattle.ada_records.proofs.recording.EventKinds.{holds_of, releases_of}
+use Rattle.ada_step_laws.proofs.changing.Holding.{holder_ran}
 
 -- there is a record of each task that exists, also in the slice of them that is lent
 pub recorded_task : (records lent : List Record) (journal : List Event) (task : ℕ) → lent ≡ records → AreRecords records journal → task < task_count journal

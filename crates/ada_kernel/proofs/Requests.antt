@@ -7,8 +7,8 @@ use Rattle.ada_events.specs.Journals.{Kept}
 use Rattle.ada_events.specs.Lawful.{IsLawful, IsSettled}
 use Rattle.ada_events.specs.Refusals.{refusal}
 use Rattle.ada_events.specs.Tasks.{task_count}
-use Rattle.ada_laws.proofs.Accepting.{asker_exists}
-use Rattle.ada_laws.proofs.LimitLaws.{asked_lawful}
+use Rattle.ada_laws.proofs.asking.Accepting.{asker_exists}
+use Rattle.ada_laws.proofs.asking.LimitLaws.{asked_lawful}
 use Rattle.ada_steps.specs.Beginning.{HasBegun}
 use Rattle.ada_kernel.specs.declared.index.Index.{Index}
 use Rattle.ada_kernel.specs.internal.Indexes.{IsIndexOf}

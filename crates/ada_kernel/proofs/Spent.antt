@@ -14,13 +14,13 @@ use Rattle.ada_events.specs.Lawful.{IsLawful}
 use Rattle.ada_events.specs.Phases.{is_abnormal, is_completed, is_terminated, has_ended, is_released}
 use Rattle.ada_events.specs.Says.{Call, Wait, call_in, wait_in, completed_in, gone_in, released_in}
 use Rattle.ada_events.specs.Search.{is_some_and, event_at}
-use Rattle.ada_rows.specs.declared.row.Row.{Row}
-use Rattle.ada_rows.specs.declared.row.Row.TheVariants.{Halting, Failing, Meeting, Terminating}
-use Rattle.ada_rows.specs.Rows.{at_event, step_at}
-use Rattle.ada_laws.proofs.LimitLaws.{events_are_few}
-use Rattle.ada_laws.proofs.Searching.{event_at-within}
-use Rattle.ada_records.proofs.Nesting.{and_false}
-use Rattle.ada_records.proofs.RecordChanges.{met_holds, release_holds}
+use Rattle.ada_step_laws.specs.declared.row.Row.{Row}
+use Rattle.ada_step_laws.specs.declared.row.Row.TheVariants.{Halting, Failing, Meeting, Terminating}
+use Rattle.ada_step_laws.specs.Rows.{at_event, step_at}
+use Rattle.ada_laws.proofs.asking.LimitLaws.{events_are_few}
+use Rattle.ada_laws.proofs.searching.Searching.{event_at-within}
+use Rattle.ada_step_laws.proofs.changing.Nesting.{and_false}
+use Rattle.ada_records.proofs.recording.RecordChanges.{met_holds, release_holds}
 use Rattle.ada_kernel.specs.declared.index.Index.{Index}
 use Rattle.ada_kernel.specs.internal.Indexes.{IsIndexOf}
 use Rattle.ada_kernel.proofs.Keys.{key_dropped}

@@ -6,12 +6,11 @@ ghost use Rattle.ada_events.specs.declared.event.Event.TheVariants.{Opened as Op
 ghost use Rattle.ada_events.specs.declared.event.Event.TheVariants.{Completed as CompletedEvent, Gone as GoneEvent, Quit as QuitEvent};
 ghost use Rattle.ada_events.specs.declared.names.Master.{Master as Owner};
 ghost use Rattle.ada_events.specs.declared.request.Request.TheVariants as asked;
-ghost use Rattle.ada_rows.specs.declared.row.Row.TheVariants as row;
+ghost use Rattle.ada_step_laws.specs.declared.row.Row.TheVariants as row;
 ghost use Rattle.ada_kernel.specs.internal.Indexes.{IsIndexOf};
 ghost use Rattle.ada_kernel.specs.internal.Stepping.{MayBegin, MayNote, HasNoted, MayTake, Takes};
 ghost use Rattle.ada_steps.specs.Beginning.{HasBegun};
 ghost use Rattle.ada_records.specs.TableEvents.{MakesTask};
-ghost use Rattle.ada_events.specs.Forced.{is_to_quit};
 
 use crate::index::Index;
 use ada_admission::masters::{
@@ -30,7 +29,7 @@ use ada_records::records::{
     record_termination,
 };
 use ada_records::suspension::follow_hold;
-use ada_rows::Row;
+use ada_step_laws::Row;
 use ada_steps::make_room;
 use ada_triggers::endings::{after_completion, after_quit, after_termination};
 use ada_triggers::kinds::after_close;

@@ -8,11 +8,11 @@ ghost use Rattle.ada_events.specs.declared.event.Event.TheVariants.{Ended as End
 ghost use Rattle.ada_events.specs.declared.event.Event.TheVariants.{Met as MetEvent, Waiting as WaitingEvent, Cancelled as CancelledEvent};
 ghost use Rattle.ada_events.specs.declared.names.Entry.{Entry as EntryName};
 ghost use Rattle.ada_events.specs.declared.request.Request.TheVariants as asked;
-ghost use Rattle.ada_rows.specs.declared.row.Row.TheVariants as row;
+ghost use Rattle.ada_step_laws.specs.declared.row.Row.TheVariants as row;
 ghost use Rattle.ada_kernel.specs.internal.Indexes.{IsIndexOf};
 ghost use Rattle.ada_kernel.specs.internal.Stepping.{MayBegin, MayNote, HasNoted, MayTake, Takes};
 ghost use Rattle.ada_steps.specs.Beginning.{HasBegun};
-ghost use Rattle.ada_agenda.specs.Kinds.{due_in};
+ghost use Rattle.ada_step_laws.specs.Kinds.{due_in};
 ghost use Rattle.ada_records.specs.TableEvents.{MakesCall};
 ghost use Rattle.ada_events.specs.declared.event.EventTail.TheVariants.{Nothing as NoTail};
 ghost use Rattle.ada_events.specs.declared.request.Tail.TheVariants.{Nothing};
@@ -28,7 +28,7 @@ use ada_records::rendezvous::{
     callee_at, follow_call, follow_cancellation, follow_end, follow_failure, follow_meeting,
 };
 use ada_records::suspension::follow_hold;
-use ada_rows::Row;
+use ada_step_laws::Row;
 use ada_steps::make_room;
 use ada_triggers::calls;
 

@@ -6,7 +6,7 @@ ghost use Rattle.ada_agenda.specs.declared.numbers.TheConstants.{MOST_KEYS};
 
 use crate::index::Index;
 use ada_events::Journal;
-use ada_rows::Row;
+use ada_step_laws::Row;
 
 impl Index {
     // Drops a key at which its row gives nothing any more.

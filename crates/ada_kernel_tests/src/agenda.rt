@@ -1,7 +1,7 @@
 //! What comes first in an agenda.
 
 use ada_agenda::{Agenda, Numbers};
-use ada_rows::Row;
+use ada_step_laws::Row;
 use std::test::Fail;
 
 // The first and last numbers of words on each level, and of the whole set.

@@ -13,7 +13,7 @@ use Rattle.ada_events.specs.Outcomes.{outcome_of}
 use Rattle.ada_events.specs.declared.names.Entry.{Entry}
 use Rattle.ada_events.specs.declared.refusal.Refusal.TheVariants.{UnknownTask}
 use Rattle.ada_standing.specs.Renaming.{renamed_outcome}
-use Rattle.ada_laws.proofs.Limitless.{lawful_unlimited}
+use Rattle.ada_laws.proofs.asking.Limitless.{lawful_unlimited}
 use Rattle.ada_standing.specs.Asking.{AnswersAlike}
 use Rattle.ada_standing.proofs.asked.Answering.{answered_alike}
 use Rattle.ada_lasting.specs.Naming.{found, renaming_of}

@@ -10,7 +10,7 @@ use Rattle.ada_events.specs.Phases.{is_terminated, is_completed}
 use Rattle.ada_events.specs.Nests.{nest}
 use Rattle.ada_events.specs.Search.{event_at, gathered}
 use Rattle.ada_events.specs.Outcomes.{outcome_of, last_given}
-use Rattle.ada_laws.proofs.GroupLaws.{empty_is_settled}
+use Rattle.ada_laws.proofs.asking.GroupLaws.{empty_is_settled}
 use Rattle.ada_standing.specs.Renaming.{Renaming, renamed_outcome, renamed_member}
 use Rattle.ada_standing.specs.StandsIn.{StandsIn, is_live, activator_of}
 use Rattle.ada_lasting.specs.Naming.{found, renaming_of}

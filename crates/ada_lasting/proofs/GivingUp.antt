@@ -10,8 +10,8 @@ use Rattle.ada_events.specs.Says.{Creation}
 use Rattle.ada_events.specs.Tasks.{task_count, creation_of}
 use Rattle.ada_events.specs.Phases.{is_terminated, lists_task}
 use Rattle.ada_events.specs.Forced.{task_no}
-use Rattle.ada_laws.proofs.Parents.{master_known-unlimited}
-use Rattle.ada_laws.proofs.Searching.{option_map-some}
+use Rattle.ada_laws.proofs.within.Parents.{master_known-unlimited}
+use Rattle.ada_laws.proofs.searching.Searching.{option_map-some}
 use Rattle.ada_standing.specs.Names.{Names, named, renaming_of as standing_of}
 use Rattle.ada_standing.specs.StandsIn.{StandsIn}
 use Rattle.ada_standing.proofs.alike.Pairs.{live_from}

@@ -12,8 +12,8 @@ use Rattle.ada_events.specs.Says.{creation_in}
 use Rattle.ada_events.specs.Tasks.{task_count}
 use Rattle.ada_events.specs.Asks.{asked_event}
 use Rattle.ada_events.specs.Lawful.{After, Forces}
-use Rattle.ada_laws.proofs.Growing.{task_count-same}
-use Rattle.ada_laws.proofs.Stepping.{forced-step}
+use Rattle.ada_laws.proofs.searching.Growing.{task_count-same}
+use Rattle.ada_laws.proofs.forced.Stepping.{forced-step}
 use Rattle.ada_standing.specs.Leading.{LedAlike}
 use Rattle.ada_lasting.specs.declared.rows.Row.{Row}
 use Rattle.ada_lasting.specs.Naming.{Naming, found, rises_between, position_of, renaming_of, length_of}

@@ -53,7 +53,7 @@ lasting-past names position after past = rw (lt-ltb names.from position after, l
 lasting-before : (names : Naming) (position : ℕ) → position ≤ names.from → lasting_of names position ≡ named_by names.places position
 lasting-before names position before = rw (le-ltb names.from position before) refl
 
--- the lasting position of something is one at which it is found
+-- the lasting position of something is one at which it is found: for readers, as the next
 pub lasting_of-position : (names : Naming) (position lasting : ℕ) → rises_between 0 (suc names.since) names.places ≡ true
     → lasting_of names position ≡ Some lasting → position_of names lasting ≡ Some position
 lasting_of-position names position lasting rises is = elim (cases_lt names.from position) [
@@ -75,7 +75,7 @@ lasting_of-position names position lasting rises is = elim (cases_lt names.from 
       ]
 ]
 
--- what is found at a lasting position has one, as far as the present journal is
+-- what is found at a lasting position has one, as far as the present journal is: for readers
 pub position-lasting_of : (names : Naming) (lasting position : ℕ) → position_of names lasting ≡ Some position → position ≤ names.until
     → (name : ℕ) × (lasting_of names position ≡ Some name)
 position-lasting_of names lasting position is within = elim (cases_lt names.from position) [

@@ -9,7 +9,7 @@ use Rattle.ada_events.specs.declared.refusal.Refusal.TheVariants.{TooManyTasks, 
 use Rattle.ada_events.specs.Limits.{makes_too_many_tasks, makes_too_many_slots, is_full}
 use Rattle.ada_events.specs.Refusals.{refusal, first_cause}
 use Rattle.ada_laws.specs.Unlimited.{refusal_but_limits, limit_refusal}
-use Rattle.ada_laws.proofs.Limitless.{limits_refuse_at_last}
+use Rattle.ada_laws.proofs.asking.Limitless.{limits_refuse_at_last}
 use Rattle.ada_lasting.specs.Refusing.{IsLimit, IsWant, IsCause}
 use Rattle.ada_lasting.specs.internal.Causes.{named_cause}
 use Rattle.ada_lasting.specs.Following.{Long}

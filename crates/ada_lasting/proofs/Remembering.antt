@@ -16,8 +16,8 @@ use Rattle.ada_events.specs.Says.{Creation, creation_in}
 use Rattle.ada_events.specs.Tasks.{task_count, creation_of}
 use Rattle.ada_events.specs.Asks.{asked_event}
 use Rattle.ada_events.specs.Lawful.{After, Forces}
-use Rattle.ada_laws.proofs.Searching.{option_or-some, option_map-some}
-use Rattle.ada_records.proofs.Entries.{creation_exists}
+use Rattle.ada_laws.proofs.searching.Searching.{option_or-some, option_map-some}
+use Rattle.ada_records.proofs.following.Entries.{creation_exists}
 use Rattle.ada_standing.proofs.kept.Naming.{creation_older, creation_newest}
 use Rattle.ada_lasting.specs.declared.masters.Dependent.{Dependent}
 use Rattle.ada_lasting.specs.declared.requests.LastingMaster.{LastingMaster}

@@ -8,7 +8,7 @@ use Rattle.std.proofs.lemmas.Option.{none-some}
 use Rattle.ada_events.specs.declared.event.Event.{Event}
 use Rattle.ada_events.specs.Tasks.{has_task}
 use Rattle.ada_events.specs.Phases.{is_terminated}
-use Rattle.ada_laws.proofs.Searching.{option_and_then-some}
+use Rattle.ada_laws.proofs.searching.Searching.{option_and_then-some}
 use Rattle.ada_standing.specs.Names.{Names, named, renaming_of as standing_of}
 use Rattle.ada_standing.specs.Renaming.{chained}
 use Rattle.ada_standing.specs.StandsIn.{StandsIn, is_live}

@@ -7,9 +7,9 @@ use Rattle.ada_events.specs.declared.request.Request.{Request}
 use Rattle.ada_events.specs.Tasks.{task_count}
 use Rattle.ada_events.specs.Steps.{IsAccepted}
 use Rattle.ada_laws.specs.Unlimited.{refusal_but_limits}
-use Rattle.ada_laws.proofs.Limitless.{lawful_unlimited, accepted_without_limits}
-use Rattle.ada_laws.proofs.LimitLaws.{leads_on-unlimited}
-use Rattle.ada_laws.proofs.RequestLaws.{after-unlimited}
+use Rattle.ada_laws.proofs.asking.Limitless.{lawful_unlimited, accepted_without_limits}
+use Rattle.ada_laws.proofs.asking.LimitLaws.{leads_on-unlimited}
+use Rattle.ada_laws.proofs.asking.RequestLaws.{after-unlimited}
 use Rattle.ada_standing.specs.Renaming.{Renaming, renamed_event}
 use Rattle.ada_standing.specs.StandsIn.{StandsIn}
 use Rattle.ada_standing.specs.Asking.{names_kept, renamed_request}

@@ -1,6 +1,6 @@
 //! What has lasting names, where a shorter present journal takes the place of the present one.
 
-ghost use Rattle.std.specs.Prelude.{◌≡◌, ◌≤◌, ◌+◌, ◌++◌, ◌^◌, IfOk, OnOk, true};
+ghost use Rattle.std.specs.Prelude.{◌≡◌, ◌+◌, ◌++◌, IfOk, OnOk, true};
 ghost use Rattle.ada_lasting.specs.internal.Keeping.{name_tasks};
 ghost use Rattle.ada_lasting.specs.internal.Moving.{later, moved, moved_names};
 ghost use Rattle.ada_standing.specs.Names.{named, placed};

@@ -1,8 +1,9 @@
 -- The six laws of a lawful and settled journal.
 use Rattle.ada_laws.specs.Laws.{JournalsKeepTheLaws}
-use Rattle.ada_laws.proofs.CallLaws.{one_open_call_each, open_calls_suspend, calls_that_suspend_are_open, open_calls_are_joined_or_queued, queues_rise}
-use Rattle.ada_laws.proofs.CallLaws.{fronts_are_met, one_meeting_for_a_joined_call, no_open_call_to_a_finished_task, no_acceptor_waits_at_a_queued_choice}
-use Rattle.ada_laws.proofs.DependentLaws.{a_terminated_body_has_no_live_dependent}
+use Rattle.ada_laws.proofs.queues.CallLaws.{one_open_call_each, open_calls_suspend, calls_that_suspend_are_open, open_calls_are_joined_or_queued, queues_rise}
+use Rattle.ada_laws.proofs.queues.CallLaws.{fronts_are_met, one_meeting_for_a_joined_call, no_open_call_to_a_finished_task}
+use Rattle.ada_laws.proofs.queues.CallLaws.{no_acceptor_waits_at_a_queued_choice}
+use Rattle.ada_laws.proofs.within.DependentLaws.{a_terminated_body_has_no_live_dependent}
 
 pub journals_keep_the_laws : JournalsKeepTheLaws
 journals_keep_the_laws journal lawful settled = record {

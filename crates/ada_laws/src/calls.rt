@@ -14,7 +14,7 @@ pub fn one_open_call_each()
 
 /// Queues rise and fronts are met: calls stand in a queue in the order of their arrival, and each
 /// rendezvous began with the call at the front of the queue of an open choice.
-#[tactic(auto, using(crate::proofs::CallLaws::queues_rise, crate::proofs::CallLaws::fronts_are_met))]
+#[tactic(auto, using(crate::proofs::queues::CallLaws::queues_rise, crate::proofs::queues::CallLaws::fronts_are_met))]
 pub fn queues_rise_and_fronts_are_met()
     ensures rise { OfEvery QueuesRise }
     ensures met { OfLawful FrontsAreMet }
@@ -22,7 +22,7 @@ pub fn queues_rise_and_fronts_are_met()
 
 /// One meeting for a joined call: with a call one rendezvous begins at most, by a wait of the task
 /// called.
-#[tactic(auto, using(crate::proofs::CallLaws::one_meeting_for_a_joined_call))]
+#[tactic(auto, using(crate::proofs::queues::CallLaws::one_meeting_for_a_joined_call))]
 pub fn one_meeting_for_a_joined_call()
     ensures { OfLawful OneMeetingForAJoinedCall }
 {}

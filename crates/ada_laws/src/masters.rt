@@ -3,7 +3,7 @@ ghost use Rattle.ada_laws.specs.Masters.{MastersReachByParents, TasksDependByPar
 
 /// A master reaches itself and what its parent reaches, and a task depends on the parent of its body and
 /// on what this reaches.
-#[tactic(auto, using(crate::proofs::Parents::masters_reach_by_parents, crate::proofs::Parents::tasks_depend_by_parents))]
+#[tactic(auto, using(crate::proofs::within::Parents::masters_reach_by_parents, crate::proofs::within::Parents::tasks_depend_by_parents))]
 pub fn masters_reach_by_parents()
     ensures reach { MastersReachByParents }
     ensures depend { TasksDependByParents }

@@ -15,7 +15,7 @@ pub fn new_boards_are_true()
 {}
 
 /// A true list has at most 65,537 boards.
-#[tactic(auto, using(crate::proofs::ShowingLaws::true_boards_are_few))]
+#[tactic(auto, using(crate::proofs::boards::ShowingLaws::true_boards_are_few))]
 pub fn true_boards_are_few()
     ensures { TrueBoardsAreFew }
 {}

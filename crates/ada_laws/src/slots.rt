@@ -3,13 +3,13 @@ ghost use Rattle.ada_laws.specs.Slots.{SlotsAreFew, QueuesAreShort, QueuesHoldOn
 ghost use Rattle.ada_laws.specs.Slots.{SlotsAreOfTheirEntries, SlotsAreFilled, DeclaredEntriesHaveSlots, SlotsAreInOrder};
 
 /// A lawful journal has at most 1,024 entries over all tasks.
-#[tactic(auto, using(crate::proofs::SlotLaws::slots_are_few))]
+#[tactic(auto, using(crate::proofs::entries::SlotLaws::slots_are_few))]
 pub fn slots_are_few()
     ensures { SlotsAreFew }
 {}
 
 /// In a lawful journal at most 256 calls are queued at an entry: each is of a task of its own.
-#[tactic(auto, using(crate::proofs::Counting::queues_are_short))]
+#[tactic(auto, using(crate::proofs::queues::Counting::queues_are_short))]
 pub fn queues_are_short()
     ensures { QueuesAreShort }
 {}
@@ -20,13 +20,13 @@ pub fn queues_hold_one_call_of_each()
 {}
 
 /// The slots are the numbers below the number of entries.
-#[tactic(auto, using(crate::proofs::SlotLaws::slots_are_numbered))]
+#[tactic(auto, using(crate::proofs::entries::SlotLaws::slots_are_numbered))]
 pub fn slots_are_numbered()
     ensures { SlotsAreNumbered }
 {}
 
 /// The entry at a slot is that of a task that exists.
-#[tactic(auto, using(crate::proofs::SlotLaws::slots_are_of_tasks))]
+#[tactic(auto, using(crate::proofs::entries::SlotLaws::slots_are_of_tasks))]
 pub fn slots_are_of_tasks()
     ensures { SlotsAreOfTasks }
 {}
@@ -41,7 +41,7 @@ pub fn slots_and_entries_belong_together()
 
 /// Exactly the entries that tasks declare have slots: of a task that exists, a family that it declares
 /// and an index in that family's range.
-#[tactic(auto, using(crate::proofs::SlotPlaces::declared_entries_have_slots))]
+#[tactic(auto, using(crate::proofs::entries::SlotPlaces::declared_entries_have_slots))]
 pub fn declared_entries_have_slots()
     ensures { DeclaredEntriesHaveSlots }
 {}

@@ -13,7 +13,7 @@ pub fn suspended_at_one_position()
 {}
 
 /// One event at most releases a call, wait, delay, start or close.
-#[tactic(auto, using(crate::proofs::Releasing::one_release_each))]
+#[tactic(auto, using(crate::proofs::held::Releasing::one_release_each))]
 pub fn one_release_each()
     ensures { OneReleaseEach }
 {}

@@ -2,7 +2,7 @@
 ghost use Rattle.ada_laws.specs.Unlimited.{LawfulIsUnlimited, LeadsOnUnlimited, StaysLawfulUnlimited};
 
 /// A lawful journal is lawful where tasks, slots and events have no limit, too.
-#[tactic(auto, using(crate::proofs::Limitless::lawful_unlimited))]
+#[tactic(auto, using(crate::proofs::asking::Limitless::lawful_unlimited))]
 pub fn lawful_is_unlimited()
     ensures { LawfulIsUnlimited }
 {}

@@ -1,5 +1,5 @@
 //! What is found in a text.
-ghost use Rattle.std.specs.Prelude.{◌≡◌, IfOk, IfErr, List, MatchOption};
+ghost use Rattle.std.specs.Prelude.{IfOk, List, MatchOption};
 ghost use Rattle.ada_script.specs.declared.script.Line.{Line};
 ghost use Rattle.ada_script.specs.Script.{IsScript, IsFirstFault};
 

@@ -16,7 +16,7 @@ use Rattle.ada_events.specs.Lawful.{IsLawful}
 use Rattle.ada_tables.specs.Dependents.{holds, cut}
 use Rattle.ada_tables.specs.Tables.{TableState}
 use Rattle.ada_tables.specs.Standing.{StandFor}
-use Rattle.ada_records.specs.Changes.{is_apart_from}
+use Rattle.ada_step_laws.specs.Changes.{is_apart_from}
 use Rattle.ada_records.specs.Facing.{HoldFacts, HoldQueues}
 
 -- the block was opened within the master

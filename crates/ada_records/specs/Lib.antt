@@ -1,5 +1,3 @@
-pub mod Changes
-pub mod Latest
 pub mod Records
 pub mod RecordedStates
 pub mod internal

@@ -12,7 +12,6 @@ use Rattle.ada_events.specs.Says.{creation_in, held_in, started_in, released_in,
 use Rattle.ada_events.specs.Tasks.{task_count, creation_of}
 use Rattle.ada_events.specs.Masters.{depends_on}
 use Rattle.ada_events.specs.Phases.{has_start, is_started, is_elaborated, has_failed, is_completed, has_ended, is_abnormal, is_terminated, lists_task}
-use Rattle.ada_events.specs.Phases.{is_suspended}
 use Rattle.ada_events.specs.Calls.{is_met}
 use Rattle.ada_events.specs.Termination.{is_at_open_terminate}
 use Rattle.ada_events.specs.Outcomes.{raised_in}
@@ -20,7 +19,8 @@ use Rattle.ada_laws.specs.Suspension.{IsSuspendedAt}
 use Rattle.ada_records.specs.declared.record.Suspension.{Suspension}
 use Rattle.ada_records.specs.declared.record.Stage.{Stage}
 use Rattle.ada_records.specs.declared.record.Record.{Record}
-use Rattle.ada_records.specs.Latest.{latest_outcome}
+use Rattle.ada_step_laws.specs.Latest.{latest_outcome}
+use Rattle.ada_step_laws.specs.Held.{IsHeldAt}
 
 -- what is left of a task's latest suspension once it isn't suspended any more
 abbrev pub freed : Outcome → Suspension
@@ -48,11 +48,6 @@ no_record = record { suspension = freed Dead; stage = no_stage; created = 0 }
 
 abbrev pub record_at : List Record → ℕ → Record
 record_at records task = slice_index_or records task no_record
-
--- the task is suspended at that position, or at none where it is 0
-pub record IsHeldAt (journal : List Event) (task at : ℕ) : Type 0 where
-  pub free : at ≡ 0 → is_suspended journal task ≡ false
-  pub held : 0 < at → IsSuspendedAt journal task at
 
 -- what is kept of the task's latest suspension is right
 pub record IsSuspensionOf (journal : List Event) (task : ℕ) (kept : Suspension) : Type 0 where

@@ -7,33 +7,33 @@ ghost use Rattle.ada_records.specs.TableChanges.{TablesFollow, HoldsChangeOnePha
 
 /// Each block that a task is within was opened within the block before it, the first within the task's body
 /// (9.4).
-#[tactic(auto, using(crate::proofs::NestedBlocks::nest_properly))]
+#[tactic(auto, using(crate::proofs::holding::NestedBlocks::nest_properly))]
 pub fn blocks_nest_properly()
     ensures { BlocksNestProperly }
 {}
 
 /// A master is held by one task at most: a body by its task, a block by the task that is within it.
-#[tactic(auto, using(crate::proofs::Owners::one_holder))]
+#[tactic(auto, using(crate::proofs::holding::Owners::one_holder))]
 pub fn one_holder_each()
     ensures { OneHolderEach }
 {}
 
 /// No block that was left has a dependent that isn't terminated (9.4).
-#[tactic(auto, using(crate::proofs::LiveHolders::a_left_block_has_no_live_dependent))]
+#[tactic(auto, using(crate::proofs::holding::LiveHolders::a_left_block_has_no_live_dependent))]
 pub fn a_left_block_has_no_live_dependent()
     ensures { ALeftBlockHasNoLiveDependent }
 {}
 
 /// What a task that isn't terminated was made under is held by one task, which was made before it and isn't
 /// terminated either (9.4).
-#[tactic(auto, using(crate::proofs::LiveHolders::masters_are_held))]
+#[tactic(auto, using(crate::proofs::holding::LiveHolders::masters_are_held))]
 pub fn masters_are_held()
     ensures { MastersAreHeld }
 {}
 
 /// Tables that hold what a lawful journal says of each task and each queue stand for it, the counts of dependents
 /// included.
-#[tactic(auto, using(crate::proofs::Standing::held_tables_stand))]
+#[tactic(auto, using(crate::proofs::following::Standing::held_tables_stand))]
 pub fn held_tables_stand()
     ensures { HeldTablesStand }
 {}
@@ -54,13 +54,13 @@ pub fn pending_nests()
 {}
 
 /// A right record tells its task's phase (9.3, 9.4, 9.7.1).
-#[tactic(auto, using(crate::proofs::RecordedPhases::records_tell_phases))]
+#[tactic(auto, using(crate::proofs::phase_changes::RecordedPhases::records_tell_phases))]
 pub fn records_tell_phases()
     ensures { RecordsTellPhases }
 {}
 
 /// A task that an event doesn't touch keeps its phase.
-#[tactic(auto, using(crate::proofs::KeptPhases::others_keep_phases))]
+#[tactic(auto, using(crate::proofs::phase_changes::KeptPhases::others_keep_phases))]
 pub fn others_keep_phases()
     ensures { OthersKeepPhases }
 {}

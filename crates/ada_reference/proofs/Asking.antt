@@ -6,8 +6,8 @@ use Rattle.ada_events.specs.Tasks.{task_count}
 use Rattle.ada_events.specs.Refusals.{refusal}
 use Rattle.ada_events.specs.Limits.{is_too_late}
 use Rattle.ada_events.specs.Lawful.{IsLawful}
-use Rattle.ada_laws.proofs.LimitLaws.{tasks_are_few}
-use Rattle.ada_laws.proofs.Accepting.{is_accepted}
+use Rattle.ada_laws.proofs.asking.LimitLaws.{tasks_are_few}
+use Rattle.ada_laws.proofs.asking.Accepting.{is_accepted}
 
 pub few_tasks : (events journal : List Event) → reverse events ≡ journal → IsLawful journal → task_count (reverse events) ≤ 256
 few_tasks events journal same lawful = rw same (tasks_are_few journal lawful)

@@ -10,10 +10,10 @@ use Rattle.ada_events.specs.Lawful.{IsLawful}
 use Rattle.ada_events.specs.Tasks.{task_count}
 use Rattle.ada_events.specs.Limits.{slot_count}
 use Rattle.ada_events.specs.Slots.{Place, slot_of, entry_at}
-use Rattle.ada_laws.proofs.Searching.{option_map-some}
-use Rattle.ada_laws.proofs.LimitLaws.{tasks_are_few}
-use Rattle.ada_laws.proofs.SlotLaws.{slots_are_few, slots_are_numbered, slots_are_of_tasks}
-use Rattle.ada_laws.proofs.Counting.{queues_are_short}
+use Rattle.ada_laws.proofs.searching.Searching.{option_map-some}
+use Rattle.ada_laws.proofs.asking.LimitLaws.{tasks_are_few}
+use Rattle.ada_laws.proofs.entries.SlotLaws.{slots_are_few, slots_are_numbered, slots_are_of_tasks}
+use Rattle.ada_laws.proofs.queues.Counting.{queues_are_short}
 use Rattle.ada_reference.specs.Places.{capped}
 use Rattle.ada_reference.proofs.Loops.{gathered_more}
 

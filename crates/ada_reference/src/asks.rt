@@ -6,8 +6,8 @@ ghost use Rattle.ada_events.specs.Limits as limits;
 use crate::nests::{frame, innermost};
 use crate::tasks::moment;
 use ada_events::{
-    ChoiceList, Event, FamilyList, Refusal, Request, TaskList, TaskNo, asked_tail, call_due,
-    due_after, member_position,
+    ChoiceList, Event, FamilyList, Refusal, Request, TaskList, asked_tail, call_due, due_after,
+    member_position,
 };
 use std::alloc::Global;
 

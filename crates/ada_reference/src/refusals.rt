@@ -1,13 +1,12 @@
 //! The causes for which a request is refused, each a test, and the first that applies.
-ghost use Rattle.std.specs.Prelude.{◌≡◌, ◌<◌, ◌^◌, ◌+◌, ◌&&◌, ◌||◌, ◌==◌, nat_lt, not, false, true, length, reverse, is_none};
+ghost use Rattle.std.specs.Prelude.{◌≡◌, ◌<◌, ◌^◌, ◌+◌, ◌&&◌, ◌||◌, ◌==◌, nat_lt, not, false, length, reverse, is_none};
 ghost use Rattle.std.specs.List.{list_any};
-ghost use Rattle.std.specs.Option.{option_map, option_map_or};
+ghost use Rattle.std.specs.Option.{option_map};
 ghost use Rattle.ada_events.specs.declared.names.TaskNo.{TaskNo as Task};
 ghost use Rattle.ada_events.specs.declared.names.Choice.{Choice as ChoiceValue};
 ghost use Rattle.ada_events.specs.Search.{is_some_and};
 ghost use Rattle.ada_events.specs.Says as said;
 ghost use Rattle.ada_events.specs.Phases as phases;
-ghost use Rattle.ada_events.specs.Entries as entries;
 ghost use Rattle.ada_events.specs.Asks as asks;
 ghost use Rattle.ada_events.specs.Refusals as refusals;
 ghost use Rattle.ada_events.specs.Nests as nests;
@@ -20,7 +19,7 @@ use crate::masters::reaches;
 use crate::nests::{depth, frame, innermost, is_in_rendezvous, is_in_rendezvous_for};
 use crate::phases::{has_start, is_elaborated, is_running};
 use crate::tasks::{families, making_of, task_count};
-use ada_events::{Choice, Entry, Event, Family, Member, Refusal, Request, Tail, TaskNo};
+use ada_events::{Choice, Entry, Event, Member, Refusal, Request, Tail, TaskNo};
 
 /// The task that asks; a tick has none.
 #[tactic(auto, unfolding(ada_events::specs::Asks::asker))]
@@ -472,7 +471,7 @@ fn refused_limit(events: &[Event], request: &Request) -> Option<Refusal>
 }
 
 /// The cause for which a request is refused, if there is one.
-#[tactic(auto, unfolding(ada_events::specs::Refusals::refusal), using(ada_laws::proofs::CauseParts::first_cause_in_parts))]
+#[tactic(auto, unfolding(ada_events::specs::Refusals::refusal), using(ada_laws::proofs::asking::CauseParts::first_cause_in_parts))]
 pub fn refusal(events: &[Event], request: &Request) -> Option<Refusal>
     requires { length events.now < 2 ^ 32 }
     ensures { result ≡ refusals.refusal (reverse events.now) request.now }

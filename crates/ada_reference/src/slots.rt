@@ -1,5 +1,5 @@
 //! Slots: all entries of all tasks (9.5), numbered from 0 in order of task, family and index.
-ghost use Rattle.std.specs.Prelude.{◌≡◌, ◌+◌, ◌-◌, ◌<◌, ◌≤◌, ◌^◌, ◌==◌, ◌-ℤ◌, nat_lt, if◌then◌else◌, Some, None, length, reverse, unsigned_abs};
+ghost use Rattle.std.specs.Prelude.{◌≡◌, ◌+◌, ◌<◌, ◌≤◌, ◌^◌, ◌==◌, ◌-ℤ◌, nat_lt, if◌then◌else◌, Some, None, length, reverse, unsigned_abs};
 ghost use Rattle.std.specs.Option.{option_map, option_or, option_and_then};
 ghost use Rattle.std.specs.Bool.{then_some};
 ghost use Rattle.ada_events.specs.declared.names.Entry.{Entry as EntryValue};

@@ -2,7 +2,7 @@
 use Rattle.std.proofs.Common.{ℕ, Option, Some, None, List, [], refl, inl}
 use Rattle.std.specs.Io.KnownBytes.{Keeps}
 use Rattle.ada_script.specs.declared.script.Line.{Line}
-use Rattle.ada_laws.proofs.GroupLaws.{empty_is_settled}
+use Rattle.ada_laws.proofs.asking.GroupLaws.{empty_is_settled}
 use Rattle.ada_replay.specs.declared.fault.RunFault.{RunFault}
 use Rattle.ada_replay.specs.Input.{IsInputFault}
 use Rattle.ada_replay.specs.Play.{Plays}

@@ -2,20 +2,12 @@
 use Rattle.std.proofs.Common.{◌≡◌, ℕ, suc, ◌+◌, ◌<◌, ◌≤◌, false, List, [], ◌∷◌, ◌++◌, length, reverse, take, get_or, refl, ap, sym, ◌∙◌, arith, append_assoc}
 use Rattle.std.proofs.Common.{append-nil, Result, Ok, Err, OnOk, true≢false}
 use Rattle.std.specs.Result.{is_err}
-use Rattle.std.proofs.lemmas.List.{length-reverse, length-take-le, reverse-append, take_more}
 use Rattle.std.proofs.lemmas.Bool.{lt-ltb, le-ltb}
 use Rattle.ada_events.specs.declared.event.Event.{Event}
+use Rattle.ada_events.proofs.Beginnings.{journal_more, length_journal}
 use Rattle.ada_statements.specs.Scope.{Scope}
 use Rattle.ada_printing.specs.Texts.{event_line}
 use Rattle.ada_replay.specs.Play.{group_text}
-
--- one more event
-journal_more : (events : List Event) (i : ℕ) (d : Event) → i < length events → reverse (take (i + 1) events) ≡ get_or events i d ∷ reverse (take i events)
-journal_more events i d below = rw (take_more events i d below, reverse-append (take i events) (get_or events i d ∷ [])) refl
-
--- and how many there were before it
-length_journal : (events : List Event) (i : ℕ) → i ≤ length events → length (reverse (take i events)) ≡ i
-length_journal events i within = length-reverse (take i events) ∙ length-take-le i events within
 
 behind : (names : Scope) (from : ℕ) (event : Event) (before : List Event) → from ≤ length before
     → group_text names from (event ∷ before) ≡ group_text names from before ++ event_line names (suc (length before)) event

@@ -4,7 +4,7 @@ use Rattle.ada_events.specs.declared.event.Event.{Event}
 use Rattle.ada_events.specs.declared.request.Request.{Request}
 use Rattle.ada_events.specs.Asks.{asked_event}
 use Rattle.ada_events.specs.Steps.{IsAccepted}
-use Rattle.ada_laws.proofs.RequestLaws.{keeps_the_old_journal}
+use Rattle.ada_laws.proofs.asking.RequestLaws.{keeps_the_old_journal}
 
 pub accepted_grows : (old : List Event) (request : Request) (at : ℕ) (new : List Event) → IsAccepted old request at new → length old ≤ length new
 accepted_grows old request at new accepted =

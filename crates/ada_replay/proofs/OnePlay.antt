@@ -1,7 +1,7 @@
 -- Lines have one play.
 use Rattle.std.proofs.Common.{◌≡◌, ℕ, Option, Some, None, List, ◌++◌, length, refl, sym, ap, ◌∙◌, subst, inl, inr, MatchOption}
 use Rattle.ada_events.specs.declared.request.Request.{Request}
-use Rattle.ada_laws.proofs.RequestLaws.{leads_to_one_journal}
+use Rattle.ada_laws.proofs.asking.RequestLaws.{leads_to_one_journal}
 use Rattle.ada_script.specs.declared.script.Line.{Line}
 use Rattle.ada_statements.specs.Binding.{request_of}
 use Rattle.ada_printing.specs.Texts.{refusal_text}

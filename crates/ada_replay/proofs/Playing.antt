@@ -7,8 +7,8 @@ use Rattle.ada_events.specs.Tasks.{task_count}
 use Rattle.ada_events.specs.Forced.{task_no}
 use Rattle.ada_events.specs.Refusals.{refusal}
 use Rattle.ada_events.specs.Lawful.{IsLawful, IsSettled}
-use Rattle.ada_laws.proofs.LimitLaws.{leads_to_a_journal}
-use Rattle.ada_laws.proofs.RequestLaws.{stays_lawful}
+use Rattle.ada_laws.proofs.asking.LimitLaws.{leads_to_a_journal}
+use Rattle.ada_laws.proofs.asking.RequestLaws.{stays_lawful}
 use Rattle.ada_script.specs.declared.script.Line.{Line}
 use Rattle.ada_statements.specs.Binding.{bind, request_of}
 use Rattle.ada_printing.specs.Texts.{refusal_text}

@@ -1,5 +1,5 @@
 //! What the statements of a script ask of a kernel.
-ghost use Rattle.std.specs.Prelude.{◌≡◌, false, Some, IfOk, IfErr};
+ghost use Rattle.std.specs.Prelude.{◌≡◌, false, Some};
 ghost use Rattle.ada_events.specs.declared.request.Request.{Request as RequestValue};
 ghost use Rattle.ada_replay.specs.internal.Asking.{IsAnswer};
 ghost use Rattle.ada_statements.specs.Binding.{is_show, request_of};

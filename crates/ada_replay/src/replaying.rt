@@ -1,5 +1,5 @@
 //! Replaying a script: from the bytes that are read to the bytes that are written.
-ghost use Rattle.std.specs.Prelude.{◌≡◌, IfOk, IfErr};
+ghost use Rattle.std.specs.Prelude.{IfOk, IfErr};
 ghost use Rattle.ada_script.specs.Script.{IsScript};
 ghost use Rattle.ada_replay.specs.Input.{most_bytes, TakesAtMost};
 ghost use Rattle.ada_replay.specs.Play.{Plays};

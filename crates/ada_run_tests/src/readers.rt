@@ -1,5 +1,5 @@
 //! A reader in a thread of its own, beside a hall whose lock is held.
-ghost use Rattle.std.specs.Prelude.{◌≡◌, ◌<◌};
+ghost use Rattle.std.specs.Prelude.{◌≡◌};
 
 use ada_board::{BoardReader, History, Mark};
 use ada_events::TaskNo;
@@ -7,7 +7,6 @@ use ada_hall::{Hall, Session};
 use ada_run::{Seat, Shared, open_hall};
 use ada_script::{Script, read};
 use std::marker::Brand;
-use std::process::Abort;
 use std::sync::Wait;
 use std::sync::ledger::Blank;
 use std::test::Fail;

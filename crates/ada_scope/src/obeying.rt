@@ -18,7 +18,7 @@ use ada_replay::output::write_output;
 use ada_replay::replaying::read_script;
 use ada_waiting::Verdict;
 use std::alloc::Global;
-use std::io::{Input, Print, Read};
+use std::io::{Input, Print};
 use std::rt::Files;
 use std::{fs, io};
 

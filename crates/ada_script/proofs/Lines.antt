@@ -4,7 +4,6 @@ use Rattle.ada_statements.specs.declared.fault.Cause.{Cause}
 use Rattle.ada_statements.specs.declared.fault.Cause.TheVariants as causes
 use Rattle.ada_script.specs.declared.fault.Fault.{Fault}
 use Rattle.ada_script.specs.declared.fault.Fault.TheVariants.{BadStatement, BadNumber, UnknownName, DoubleName, OutOfMemory}
-use Rattle.ada_statements.specs.declared.fault.ScriptFault.{ScriptFault}
 use Rattle.ada_script.specs.declared.script.Line.{Line}
 use Rattle.ada_statements.specs.declared.statement.Statement.{Statement}
 use Rattle.ada_statements.specs.Scope.{Scope, MayStand}
@@ -94,10 +93,3 @@ pub stops_here : (before : List Line) (number : ℕ) (line : List ℕ) (lines be
     → Stops before number lines (record { line = number; cause = cause })
 stops_here before number line lines behind cause first fault =
     subst (λ (ls : List (List ℕ)). Stops before number ls (record { line = number; cause = cause })) (sym first) (inl (refl, fault))
-
--- a line behind it is
-pub stops_on : (before after : List Line) (number : ℕ) (line : List ℕ) (lines behind : List (List ℕ)) → lines ≡ line ∷ behind → AddsTo before number line after
-    → (fault : ScriptFault) → Stops after (number + 1) behind fault → Stops before number lines fault
-stops_on before after number line lines behind first adds fault others =
-    subst (λ (ls : List (List ℕ)). Stops before number ls fault) (sym first)
-    (inr (adds.0, adds.1, subst (λ (a : List Line). Stops a (number + 1) behind fault) adds.2 others))

@@ -196,10 +196,6 @@ accepted branches.Accept e = refl
 accepted branches.Delay e = absurd cc
 accepted branches.Terminate e = absurd cc
 
-pub nothing_left : (words : List (List ℕ)) → is_over words ≡ true → words ≡ []
-nothing_left [] e = refl
-nothing_left (word ∷ words) e = absurd cc
-
 module _ (names : Scope) (by : List ℕ) where
   abbrev ChoiceRead : Bool → List (List ℕ) → (Alternative × Option Tail) × List (List ℕ) → Type 0
   ChoiceRead guard words x = (behind : List (List ℕ)) × (guard_words guard ++ (codes "accept" ∷ words) ≡ choice_words x.0.0 ++ behind)

@@ -2,7 +2,7 @@
 
 ghost use Rattle.std.specs.Prelude.{◌≡◌, ◌≤◌, length, IfOk, IsTrue};
 ghost use Rattle.std.specs.List.{list_all};
-ghost use Rattle.ada_statements.specs.Scope.{is_task, is_declared, has_entry};
+ghost use Rattle.ada_statements.specs.Scope.{is_declared};
 ghost use Rattle.ada_statements.specs.Text.{is_name as name_form, is_name_byte as name_byte};
 ghost use Rattle.ada_script.specs.internal.Reading.{Gives, GivesWord, word_at, end_at, keyword_at, moment_at, index_at, pick_at, below_2_32 as low_number};
 ghost use Rattle.ada_script.specs.internal.Reading.{number_is_next, optional_index_at, bounds_at, name_at, task_name_at};

@@ -1,7 +1,6 @@
 //! Reading a text as a script.
 
 ghost use Rattle.std.specs.Prelude.{◌≡◌, ◌↔◌, ◌≤◌, ◌++◌, ◌⊎◌, List, [], IsTrue, OnOk, IfOk, IfErr, IsOkUnless};
-ghost use Rattle.ada_statements.specs.Text.{words_in};
 ghost use Rattle.ada_script.specs.Script.{IsPrintable, IsPlain, IsUnplain, is_skipped as skipped, scope_of, AddsLine, IsScript, IsFault, IsFirstFault};
 ghost use Rattle.ada_script.specs.internal.Printable.{printable};
 ghost use Rattle.ada_script.specs.declared.script.Line.{Line};

@@ -17,8 +17,8 @@ use Rattle.ada_events.specs.Outcomes.{outcome_of}
 use Rattle.ada_events.specs.Forced.{task_no}
 use Rattle.ada_laws.specs.Masters.{parent_of}
 use Rattle.ada_laws.specs.Suspension.{IsSuspendedAt}
-use Rattle.ada_laws.proofs.Searching.{event_at-within, all_below-holds}
-use Rattle.ada_laws.proofs.Reaching.{same_master-true}
+use Rattle.ada_laws.proofs.searching.Searching.{event_at-within, all_below-holds}
+use Rattle.ada_laws.proofs.within.Reaching.{same_master-true}
 use Rattle.ada_standing.specs.Renaming.{renamed_master, renamed_member, renamed_outcome, renamed_parent}
 use Rattle.ada_standing.specs.Names.{Names, named, renaming_of}
 use Rattle.ada_standing.specs.Holds.{is_same_kind}

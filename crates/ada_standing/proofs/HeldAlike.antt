@@ -10,7 +10,7 @@ use Rattle.ada_events.specs.Phases.{lists_task, has_ended, is_released}
 use Rattle.ada_events.specs.Calls.{is_met}
 use Rattle.ada_events.specs.Forced.{is_conditional, is_done_activating, task_no}
 use Rattle.ada_laws.specs.Suspension.{IsSuspendedAt}
-use Rattle.ada_laws.proofs.Searching.{is_number-some, is_number-from, option_map_or-true}
+use Rattle.ada_laws.proofs.searching.Searching.{is_number-some, is_number-from, option_map_or-true}
 use Rattle.ada_standing.specs.Names.{Names, named, placed, renaming_of}
 use Rattle.ada_standing.specs.Holds.{IsSameCall, IsSameWait, IsSameStart, IsSameHold}
 use Rattle.ada_standing.specs.StandsIn.{IsHeldAlike}

@@ -8,7 +8,7 @@ use Rattle.std.proofs.lemmas.Bool.{false≢true, true≢false}
 use Rattle.std.proofs.lemmas.Option.{same_Some, none-some, slice_get_within, option_and_then_some}
 use Rattle.ada_events.specs.declared.names.TaskNo.{TaskNo}
 use Rattle.ada_events.specs.Search.{all_below}
-use Rattle.ada_laws.proofs.Searching.{all_below-fails, all_below-holds}
+use Rattle.ada_laws.proofs.searching.Searching.{all_below-fails, all_below-holds}
 use Rattle.ada_standing.specs.declared.renaming.Place.{Place}
 use Rattle.ada_standing.specs.Names.{Names, named, placed}
 use Rattle.ada_standing.proofs.Deciding.{all_named, all_placed, both_pass, keeps_order}

@@ -12,7 +12,7 @@ use Rattle.ada_events.specs.Says.{Start, call_in, wait_in, delay_in, start_in, c
 use Rattle.ada_events.specs.Tasks.{task_count, families_of}
 use Rattle.ada_events.specs.Phases.{is_terminated, has_ended, has_failed, is_released}
 use Rattle.ada_laws.specs.Suspension.{IsSuspendedAt}
-use Rattle.ada_laws.proofs.Searching.{all_below-holds}
+use Rattle.ada_laws.proofs.searching.Searching.{all_below-holds}
 use Rattle.ada_standing.specs.Renaming.{Renaming}
 use Rattle.ada_standing.specs.Holds.{IsSameHold}
 use Rattle.ada_standing.specs.StandsIn.{StandsIn, is_live}

@@ -29,13 +29,13 @@ pub fn refused_alike()
 {}
 
 /// A request is refused for a limit of tasks, slots or events only where there is no other cause.
-#[tactic(auto, using(ada_laws::proofs::Limitless::limits_refuse_at_last))]
+#[tactic(auto, using(ada_laws::proofs::asking::Limitless::limits_refuse_at_last))]
 pub fn limits_refuse_at_last()
     ensures { LimitsRefuseAtLast }
 {}
 
 /// What isn't refused isn't refused where tasks, slots and events have no limit.
-#[tactic(auto, using(ada_laws::proofs::Limitless::accepted_without_limits))]
+#[tactic(auto, using(ada_laws::proofs::asking::Limitless::accepted_without_limits))]
 pub fn accepted_without_limits()
     ensures { AcceptedWithoutLimits }
 {}

@@ -3,7 +3,7 @@ use Rattle.std.proofs.Common.{◌≡◌, ℕ, suc, ◌+◌, ◌<◌, ◌≤◌, 
 use Rattle.std.proofs.Common.{Option, IfSome, refl, sym, ap, ◌∙◌, ◌||◌}
 use Rattle.std.specs.Cmp.Lexicographic.{bytes_decides}
 use Rattle.std.specs.List.{list_any}
-use Rattle.std.specs.Map.{lookup, lookup_key, set_value}
+use Rattle.std.specs.Map.{lookup, lookup_key}
 use Rattle.std.specs.Option.{option_map}
 use Rattle.std.specs.Str.{bytes_eq}
 use Rattle.std.proofs.Math.Seq.{drop-cons}
@@ -18,19 +18,6 @@ pub found_by_its_bytes : {X : Type 0} (name : List ℕ) (names : Scope) (bytes :
     → option_map bytes found ≡ lookup_key (bytes_eq name) names → IfSome found (λ entry. bytes entry ≡ name)
 found_by_its_bytes name names bytes None e = tt
 found_by_its_bytes name names bytes (Some entry) e = sym (lookup_key_same bytes_decides name names (bytes entry) (sym e))
-
--- a new value in the place of the old one
-pub set_value-changed : (name : List ℕ) (names : Scope) (change : Meaning → Meaning) (old : Meaning) → lookup (bytes_eq name) names ≡ Some old
-    → set_value (bytes_eq name) names (change old) ≡ with_meaning names name change
-set_value-changed name [] change old e = absurd cc
-set_value-changed name (entry ∷ names) change old e = by (set_value-changed name names change old) (bytes_eq name entry.0) e
-  where
-    by : (lookup (bytes_eq name) names ≡ Some old → set_value (bytes_eq name) names (change old) ≡ with_meaning names name change) → (same : Bool)
-        → cond same (Some entry.1) (lookup (bytes_eq name) names) ≡ Some old
-        → cond same ((entry.0, change old) ∷ names) (entry ∷ set_value (bytes_eq name) names (change old))
-        ≡ cond same ((entry.0, change entry.1) ∷ names) (entry ∷ with_meaning names name change)
-    by later true e = let found : entry.1 ≡ old = cc in ap (λ (m : Meaning). (entry.0, change m) ∷ names) (sym found)
-    by later false e = ap (λ (rest : Scope). entry ∷ rest) (later e)
 
 -- a name that isn't there
 pub with_meaning-absent : (name : List ℕ) (names : Scope) (change : Meaning → Meaning) → lookup (bytes_eq name) names ≡ None

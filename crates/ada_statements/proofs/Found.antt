@@ -1,17 +1,7 @@
 -- The first of some values that passes a test.
-use Rattle.std.proofs.Common.{◌≡◌, ℕ, suc, ◌+◌, ◌<◌, Bool, true, false, cond, List, [], ◌∷◌, length, get_or, drop, find, slice_get, zero, ◌≤◌, Some, None, refl}
+use Rattle.std.proofs.Common.{◌≡◌, ℕ, suc, ◌+◌, Bool, true, false, cond, List, [], ◌∷◌, length, drop, find, slice_get, zero, ◌≤◌, Some, None, refl}
 use Rattle.std.proofs.Common.{sym, ap, ◌∙◌, arith, add-one}
-use Rattle.std.proofs.Math.Seq.{drop-cons}
 use Rattle.std.proofs.Math.ListN.{drop_of_length-le}
-
--- one that doesn't pass is passed over
-pub find-drop-passed : {X : Type 0} (test : X → Bool) (xs : List X) (i : ℕ) (d : X) → i < length xs → test (get_or xs i d) ≡ false
-    → find test (drop (i + 1) xs) ≡ find test (drop i xs)
-find-drop-passed {X} test xs i d within fails =
-    let here : drop i xs ≡ get_or xs i d ∷ drop (i + 1) xs = rw add-one (drop-cons xs i d within) in
-    let skips : find test (get_or xs i d ∷ drop (i + 1) xs)
-    ≡ find test (drop (i + 1) xs) = ap (λ t. cond t (Some (get_or xs i d)) (find test (drop (i + 1) xs))) fails in
-    sym (ap (find test) here ∙ skips)
 
 -- the first that passes passes
 pub found_passes : {X : Type 0} (test : X → Bool) (xs : List X) (x : X) → find test xs ≡ Some x → test x ≡ true

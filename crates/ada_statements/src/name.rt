@@ -1,6 +1,6 @@
 //! The names of a script.
 
-ghost use Rattle.std.specs.Prelude.{◌≡◌, ◌≤◌, length, [], IsTrue};
+ghost use Rattle.std.specs.Prelude.{◌≡◌, ◌≤◌, length, IsTrue};
 ghost use Rattle.std.specs.Cmp.{partial_equiv_from_equiv};
 ghost use Rattle.std.specs.Cmp.Lexicographic.{bytes_decides, nat_list_eq_equiv};
 ghost use Rattle.std.specs.Cmp.Rules.{hashing};

@@ -1,6 +1,6 @@
 //! The names of a script, and what they are bound to.
 
-ghost use Rattle.std.specs.Prelude.{◌≡◌, ◌≤◌, None, Some, Ok, Err, length, map, option_map, IfOk, IfSome, OnOk, OnErr, IsOkUnless};
+ghost use Rattle.std.specs.Prelude.{◌≡◌, ◌≤◌, None, Some, Ok, length, map, option_map, IfOk, IfSome, OnOk, OnErr, IsOkUnless};
 ghost use Rattle.std.specs.Prelude.{option_copied, if◌then◌else◌, unwrap_or, is_some, IsTrue, [], true};
 ghost use Rattle.std.specs.List.{position, list_any};
 ghost use Rattle.std.specs.Map.{keys_of};

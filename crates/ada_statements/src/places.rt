@@ -1,6 +1,6 @@
 //! Where the names that are bound stand among the names of a script.
 
-ghost use Rattle.std.specs.Prelude.{◌≡◌, ◌↔◌, IsTrue, IfOk, None, Some, slice_get, set, OnOk};
+ghost use Rattle.std.specs.Prelude.{◌≡◌, ◌↔◌, IsTrue, IfOk, None, Some, slice_get, set};
 ghost use Rattle.ada_statements.specs.internal.Places.{kept, IsNoted};
 
 use crate::Meaning;

@@ -7,7 +7,7 @@ use Rattle.ada_events.specs.Forced.{forced}
 use Rattle.ada_events.specs.Asks.{asked_event}
 use Rattle.ada_events.specs.Lawful.{IsLawful, IsSettled, Forces, nothing, one_more}
 use Rattle.ada_laws.specs.Work.{work_left}
-use Rattle.ada_laws.proofs.LimitLaws.{steps_lessen_the_work, work_left-most, asked_lawful, events_are_few}
+use Rattle.ada_laws.proofs.asking.LimitLaws.{steps_lessen_the_work, work_left-most, asked_lawful, events_are_few}
 use Rattle.ada_steps.specs.Beginning.{HasBegun}
 use Rattle.ada_steps.specs.internal.Settling.{IsSettling}
 

@@ -28,12 +28,12 @@ first_or-push [] place = refl
 first_or-push (first ∷ rest) place = refl
 
 -- the node of a call that comes last in a queue
-abbrev pub new_node : List Queue → ℕ → ℕ → ℕ → Node
-new_node queues by slot call = record { call = call; caller = by; slot = slot; before = (get_or queues slot no_queue).last; after = None }
+abbrev pub node_after : Queue → ℕ → ℕ → ℕ → Node
+node_after queue by slot call = record { call = call; caller = by; slot = slot; before = queue.last; after = None }
 
 module _ (nodes with_node : List (Option Node)) (keys : List (Option ℕ)) (queues : List Queue) (by slot call key : ℕ) (linked : AreLinked nodes keys queues)
     (known : by < length keys) (within : slot < length queues) (idle : waits by (map (calls_in nodes) queues) ≡ false)
-    (vacant : node_of nodes key ≡ None) (here : node_of with_node key ≡ Some (new_node queues by slot call))
+    (vacant : node_of nodes key ≡ None) (here : node_of with_node key ≡ Some (node_after (get_or queues slot no_queue) by slot call))
     (others : (other : ℕ) → other ≢ key → node_of with_node other ≡ node_of nodes other) where
   abbrev pub was : Queue
   was = get_or queues slot no_queue
@@ -111,7 +111,7 @@ module _ (nodes with_node : List (Option Node)) (keys : List (Option ℕ)) (queu
         ];
         back = λ at node has. elim (cases_eq at key) [
           | inl same ↦
-              let there : Some (new_node queues by slot call) ≡ Some node = sym here ∙ (rw same at has) in
+              let there : Some (node_after (get_or queues slot no_queue) by slot call) ≡ Some node = sym here ∙ (rw same at has) in
               let whose : node.caller ≡ by = cc in
               rw (whose, same) (get_or-set_same keys by (Some key) None known)
           | inr differs ↦

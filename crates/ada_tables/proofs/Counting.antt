@@ -2,7 +2,7 @@
 use Rattle.std.proofs.Common.{◌≡◌, ℕ, ◌+◌, ◌<◌, ◌≤◌, true, false, List, ◌∷◌, ◌++◌, length, get_or, set, take, drop, refl, ap, sym, ◌∙◌, arith}
 use Rattle.std.proofs.lemmas.List.{drop_more, drop_all, take_all, take_more_set, drop-set-lt, append_assoc, append-nil, length-set, take-append-drop, drop-drop}
 use Rattle.ada_tables.specs.declared.layers.Layer.{Layer}
-use Rattle.ada_tables.specs.internal.Layers.{live_of, moved, moved_to, is_block_at, live_at}
+use Rattle.ada_tables.specs.internal.Layers.{moved, moved_to, is_block_at}
 
 -- the layers so far are counted, and the others are as they were
 pub record IsCounted (count : ℕ → ℕ) (block : ℕ) (old now : List Layer) (at : ℕ) : Type 0 where
@@ -11,9 +11,6 @@ pub record IsCounted (count : ℕ → ℕ) (block : ℕ) (old now : List Layer) 
   pub long : length now ≡ length old
 
 module _ (count : ℕ → ℕ) (block : ℕ) (old now : List Layer) (at : ℕ) where
-  pub counting_begins : IsCounted count block old old 0
-  counting_begins = record { done = refl; rest = refl; long = refl }
-
   module _ (so_far : IsCounted count block old now at) where
     pub counting_ends : length now ≤ at → moved_to count block old ≡ now
     unfolding moved_to
@@ -40,23 +37,3 @@ module _ (count : ℕ → ℕ) (block : ℕ) (old now : List Layer) (at : ℕ) w
           let later : drop (at + 1) (set now at write) ≡ drop (at + 1) now = drop-set-lt (at + 1) now at write (omega arith) in
           let step : moved_to count block (drop at now) ≡ write ∷ drop (at + 1) now = rw (head_is, here, write_is) refl in
           so_far.done ∙ rw step (sym (sym (take-append-drop (at + 1) (set now at write)) ∙ rw (take_more_set now at write within, later, append_assoc) refl))
-
--- no block so far
-pub live_later : (block : ℕ) (layers : List Layer) (at : ℕ) (read : Layer) → live_at block layers ≡ live_at block (drop at layers) → at < length layers
-    → read ≡ get_or layers at read → is_block_at block read ≡ false → live_at block layers ≡ live_at block (drop (at + 1) layers)
-unfolding live_at
-live_later block layers at read before within read_is other =
-    let head : drop at layers ≡ read ∷ drop (at + 1) layers = drop_more layers at read within ∙ ap (λ (x : Layer). x ∷ drop (at + 1) layers) (sym read_is) in
-    before ∙ rw (head, other) refl
-
-pub live_here : (block : ℕ) (layers : List Layer) (at : ℕ) (read : Layer) → live_at block layers ≡ live_at block (drop at layers) → at < length layers
-    → read ≡ get_or layers at read → is_block_at block read ≡ true → live_of read ≡ live_at block layers
-unfolding live_at
-live_here block layers at read before within read_is here =
-    let head : drop at layers ≡ read ∷ drop (at + 1) layers = drop_more layers at read within ∙ ap (λ (x : Layer). x ∷ drop (at + 1) layers) (sym read_is) in
-    sym (before ∙ rw (head, here) refl)
-
-pub live_nowhere : (block : ℕ) (layers : List Layer) (at : ℕ) → live_at block layers ≡ live_at block (drop at layers) → length layers ≤ at
-    → 0 ≡ live_at block layers
-unfolding live_at
-live_nowhere block layers at before past = sym (before ∙ rw (drop_all at layers past) refl)

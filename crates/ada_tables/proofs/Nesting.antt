@@ -24,7 +24,7 @@ or_nothing : (b : Bool) → (b || false) ≡ b
 or_nothing true = refl
 or_nothing false = refl
 
-member_of-layer_of : (member : Member) → member_of (layer_of member) ≡ member
+pub member_of-layer_of : (member : Member) → member_of (layer_of member) ≡ member
 member_of-layer_of (BlockMember block) = refl
 member_of-layer_of (Rendezvous call) = refl
 

@@ -1,22 +1,16 @@
 -- The number of an entry among those of its task.
-use Rattle.std.proofs.Common.{◌≡◌, ℕ, ℤ, zero, suc, ◌+◌, ◌<◌, ◌≤◌, ◌-ℤ◌, Bool, true, false, Some, None, IsSome, List, [], ◌∷◌, length, take, get_or, refl}
+use Rattle.std.proofs.Common.{◌≡◌, ℕ, zero, suc, ◌+◌, ◌<◌, ◌≤◌, ◌-ℤ◌, Bool, true, false, Some, None, IsSome, List, [], ◌∷◌, length, take, get_or, refl}
 use Rattle.std.proofs.Common.{arith, inl, inr}
-use Rattle.std.specs.Prelude.{slice_get, unsigned_abs, int_le}
+use Rattle.std.specs.Prelude.{slice_get, unsigned_abs}
 use Rattle.std.specs.Bool.{then_some}
-use Rattle.std.proofs.lemmas.Bool.{cases_lt, and_parts, false≢true}
+use Rattle.std.proofs.lemmas.Bool.{cases_lt, false≢true}
 use Rattle.std.proofs.lemmas.Option.{slice_get-get_or}
-use Rattle.std.proofs.lemmas.Int.{ints}
 use Rattle.std.proofs.lemmas.List.Sums.{sum_by_more_le, sum_by-take-le}
 use Rattle.ada_events.specs.declared.names.Entry.{Entry}
 use Rattle.ada_events.specs.declared.names.Family.{Family}
 use Rattle.ada_events.specs.Entries.{is_in_range, entry_count, entries_in}
 use Rattle.ada_events.specs.Slots.{number_within}
-
-offset_below : (f : Family) (index : ℤ) → is_in_range f index ≡ true → unsigned_abs (index -ℤ f.low) < entry_count f
-unfolding entry_count
-offset_below f index in_range =
-    let both = and_parts (int_le f.low index) (int_le index f.high) in_range in
-    grind (arith, ints)
+use Rattle.ada_events.proofs.Families.{offset_below}
 
 then_some-is : (b : Bool) (n : ℕ) → IsSome (then_some b n) → b ≡ true
 then_some-is true n is = refl

@@ -12,7 +12,7 @@ use Rattle.ada_tables.specs.Queues.{QueuedCall, waits, with_last, without, Waiti
 use Rattle.ada_tables.specs.Links.{calls_in}
 use Rattle.ada_tables.specs.internal.Links.{AreLinked, no_queue, relinked_after, joined}
 use Rattle.ada_tables.proofs.Linking.{relinked_after_callers, joined_callers, some_node}
-use Rattle.ada_tables.proofs.Arriving.{new_node, arrived_calls, arrived_linked, last_has}
+use Rattle.ada_tables.proofs.Arriving.{node_after, arrived_calls, arrived_linked, last_has}
 use Rattle.ada_tables.proofs.Leaving.{Leaves, left_queue, leaves}
 use Rattle.ada_tables.proofs.Growing.{grown_calls, grown_linked}
 
@@ -36,16 +36,13 @@ pub record Inserted (kept once : KeptNodes) (key : ℕ) (node : Node) : Type 0 w
   pub len : slab_len once.slab ≡ slab_len kept.slab + 1
   pub capacity : once.slab.capacity ≡ kept.slab.capacity
 
-abbrev pub node_after : Queue → ℕ → ℕ → ℕ → Node
-node_after queue by slot call = record { call = call; caller = by; slot = slot; before = queue.last; after = None }
-
 module _ (kept once : KeptNodes) (queues : List Queue) (read : Queue) (by slot call key : ℕ) (linked : AreLinked kept.slab.slots kept.keys queues)
     (known : by < length kept.keys) (within : slot < length queues) (idle : waits by (map (calls_in kept.slab.slots) queues) ≡ false)
     (read_is : read ≡ get_or queues slot read) (inserted : Inserted kept once key (node_after read by slot call)) where
   there : read ≡ get_or queues slot no_queue
   there = get_or_read queues slot read within read_is no_queue
 
-  here : node_of once.slab.slots key ≡ Some (new_node queues by slot call)
+  here : node_of once.slab.slots key ≡ Some (node_after (get_or queues slot no_queue) by slot call)
   here = inserted.nodes.changed ∙ ap (λ (q : Queue). Some (node_after q by slot call)) there
 
   -- a call is put last

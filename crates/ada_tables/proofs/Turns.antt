@@ -27,7 +27,7 @@ use Rattle.ada_tables.specs.declared.change.Change.TheVariants.{Added, Ended}
 use Rattle.ada_tables.specs.Dependents.{with_nest, with_phase, IsFresh, IsIdle, IsOpen, made_facts, parent_within, parent_from}
 use Rattle.ada_tables.specs.internal.Layers.{cut_layers}
 use Rattle.ada_tables.specs.internal.Counts.{made}
-use Rattle.ada_tables.proofs.Nesting.{nest_is, pushed_rendezvous, pushed_block, popped_rendezvous, popped_block}
+use Rattle.ada_tables.proofs.Nesting.{nest_is, pushed_rendezvous, pushed_block, popped_rendezvous, popped_block, member_of-layer_of}
 use Rattle.ada_tables.proofs.Cutting.{cut_rec, cut_layers_is, members-cut_rec, cut_counted}
 use Rattle.ada_tables.proofs.Ending.{goes_on, ends}
 use Rattle.ada_tables.proofs.Parents.{parent_is}
@@ -48,10 +48,6 @@ pub facts-with_phase : (tasks : List Task) (task : ℕ) (phase : Phase)
 facts-with_phase tasks task phase =
     map-set facts_of tasks task (record (record_at tasks task) { phase = phase })
     ∙ ap (λ (f : Facts). let g : Facts = record f { phase = phase } in set (facts tasks) task g) (sym (facts_at tasks task))
-
-member_of-layer_of : (member : Member) → member_of (layer_of member) ≡ member
-member_of-layer_of (BlockMember block) = refl
-member_of-layer_of (Rendezvous call) = refl
 
 -- what follows for the records and for what is known
 abbrev pub Holds : List Task → List Facts → List ℕ → Type 0

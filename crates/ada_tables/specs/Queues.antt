@@ -19,7 +19,6 @@ pub record Waiting : Type 0 where
 abbrev pub queue_at : List (List QueuedCall) → ℕ → List QueuedCall
 queue_at queues slot = slice_index_or queues slot []
 
--- that wait there, in the order of their arrival.
 -- the call is the task's
 abbrev pub is_by : ℕ → QueuedCall → Bool
 is_by task call = call.caller == task

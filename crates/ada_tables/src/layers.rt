@@ -1,6 +1,5 @@
 //! The nest of one task, with the counts of its blocks.
-ghost use Rattle.std.specs.Prelude.{◌≡◌, ℕ, true, false, None, ◌+◌, ◌-◌, ◌<◌, ◌≤◌, ◌==◌, [], ◌∷◌, ◌++◌, length, take, position, slice_get, if◌then◌else◌};
-ghost use Rattle.std.specs.Option.{option_map};
+ghost use Rattle.std.specs.Prelude.{◌≡◌, ℕ, true, false, None, ◌-◌, ◌<◌, ◌≤◌, ◌==◌, [], ◌∷◌, ◌++◌, length, take, position, slice_get};
 ghost use Rattle.std.specs.List.{list_any};
 ghost use Rattle.ada_tables.specs.Layers.{member_of, members};
 ghost use Rattle.ada_tables.specs.internal.Layers as nests;

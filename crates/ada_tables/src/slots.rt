@@ -1,5 +1,5 @@
 //! The slots of one task's entries: their numbers in order of family and index.
-ghost use Rattle.std.specs.Prelude.{◌≡◌, ◌<◌, ◌≤◌, ◌-ℤ◌, Some, IsSome, length, take, unsigned_abs};
+ghost use Rattle.std.specs.Prelude.{◌≡◌, ◌<◌, ◌≤◌, ◌-ℤ◌, Some, IsSome, unsigned_abs};
 ghost use Rattle.ada_events.specs.Entries as entries;
 ghost use Rattle.ada_events.specs.Slots as places;
 ghost use Rattle.ada_events.specs.declared.limits.TheConstants.{MOST_SLOTS};

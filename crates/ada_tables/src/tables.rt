@@ -1,6 +1,6 @@
 //! The tables as the kernel sees them.
 ghost use Rattle.std.specs.Prelude.{◌≡◌, ◌+◌, ◌-◌, ◌<◌, ◌≤◌, Some, true, false, [], ◌∷◌, ◌++◌, OnOk, IfOk, IfErr, ◌&&◌};
-ghost use Rattle.std.specs.Prelude.{if◌then◌else◌, length, take, replicate};
+ghost use Rattle.std.specs.Prelude.{length, take, replicate};
 ghost use Rattle.std.specs.Option.{ForSome};
 ghost use Rattle.ada_events.specs.Entries.{entries_in};
 ghost use Rattle.ada_events.specs.Nests.{innermost};

@@ -1,8 +1,6 @@
 //! The record of one task.
 ghost use Rattle.std.specs.Prelude.{◌≡◌, true, false};
-ghost use Rattle.ada_tables.specs.internal.Changes.{changed};
 ghost use Rattle.ada_tables.specs.Layers.{members};
-ghost use Rattle.ada_tables.specs.internal.Layers.{moved_to};
 ghost use Rattle.ada_tables.specs.Dependents.{holds, encloses, parent_within};
 ghost use Rattle.ada_tables.specs.internal.Counts.{recounted, made};
 

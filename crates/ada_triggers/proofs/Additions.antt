@@ -12,25 +12,25 @@ use Rattle.ada_events.specs.Tasks.{has_task}
 use Rattle.ada_events.specs.Phases.{is_abnormal, is_terminated}
 use Rattle.ada_events.specs.Termination.{all_terminated}
 use Rattle.ada_events.specs.Lawful.{IsLawful}
-use Rattle.ada_laws.proofs.CallLaws.{open_calls_suspend}
-use Rattle.ada_laws.proofs.LimitLaws.{tasks_are_few}
-use Rattle.ada_laws.proofs.Suspending.{suspended_exists}
-use Rattle.ada_rows.specs.Rows.{step_at}
-use Rattle.ada_rows.specs.declared.row.Row.{Row}
-use Rattle.ada_rows.specs.declared.row.Row.TheVariants.{Failing, QuittingBlock, Leaving}
+use Rattle.ada_laws.proofs.queues.CallLaws.{open_calls_suspend}
+use Rattle.ada_laws.proofs.asking.LimitLaws.{tasks_are_few}
+use Rattle.ada_laws.proofs.held.Suspending.{suspended_exists}
+use Rattle.ada_step_laws.specs.Rows.{step_at}
+use Rattle.ada_step_laws.specs.declared.row.Row.{Row}
+use Rattle.ada_step_laws.specs.declared.row.Row.TheVariants.{Failing, QuittingBlock, Leaving}
 use Rattle.ada_agenda.specs.declared.numbers.TheConstants.{MOST_KEYS}
-use Rattle.ada_agenda.specs.Additions.{adds_nothing}
+use Rattle.ada_step_laws.specs.Additions.{adds_nothing}
 use Rattle.ada_agenda.specs.Keeping.{has_key, IsAgendaOf, Puts, AsKey, When, KeepsUp}
 use Rattle.ada_agenda.specs.internal.Keeping.{Both}
-use Rattle.ada_agenda.specs.Kinds.{itself as own, IsOpenCallTo, IsHit, OfClose, OfAbort}
-use Rattle.ada_agenda.specs.Kinds.OfClose.{leaves as close_leaves, quits as close_quits, abandons as close_abandons}
-use Rattle.ada_agenda.specs.Kinds.OfAbort.{halts as abort_halts, fails as abort_fails}
-use Rattle.ada_agenda.proofs.StartedTasks.{created_exists}
-use Rattle.ada_agenda.proofs.Adding.{agendas_stay}
+use Rattle.ada_step_laws.specs.Kinds.{itself as own, IsOpenCallTo, IsHit, OfClose, OfAbort}
+use Rattle.ada_step_laws.specs.Kinds.OfClose.{leaves as close_leaves, quits as close_quits, abandons as close_abandons}
+use Rattle.ada_step_laws.specs.Kinds.OfAbort.{halts as abort_halts, fails as abort_fails}
+use Rattle.ada_step_laws.proofs.newly.StartedTasks.{created_exists}
+use Rattle.ada_step_laws.proofs.newly.Adding.{agendas_stay}
 use Rattle.ada_agenda.proofs.Noting.{noted_giving, own_is}
-use Rattle.ada_agenda.proofs.Places.{closing_open}
+use Rattle.ada_step_laws.proofs.newly.Places.{closing_open}
 use Rattle.ada_records.specs.Records.{ListsLive, is_hit}
-use Rattle.ada_records.proofs.Owners.{nest_has_block}
+use Rattle.ada_records.proofs.holding.Owners.{nest_has_block}
 use Rattle.ada_view.specs.Flags.{AreNamed}
 use Rattle.ada_view.specs.Views.{IsHeldBySome}
 use Rattle.ada_view.proofs.Blocks.{opener_exists}

@@ -1,6 +1,6 @@
 -- The next moment for which a task is suspended.
-use Rattle.std.proofs.Common.{◌≡◌, ℕ, ◌+◌, ℤ, ◌≤◌, ◌≤ℤ◌, Bool, true, false, ◌⊎◌, Option, Some, None, List, [], ◌∷◌, refl, sym, ap, ◌∙◌, subst, arith, inl, inr}
-use Rattle.std.specs.Prelude.{int_le, int_lt, if◌then◌else◌}
+use Rattle.std.proofs.Common.{◌≡◌, ℕ, ◌+◌, ℤ, ◌≤◌, ◌≤ℤ◌, true, false, ◌⊎◌, Option, Some, None, List, [], ◌∷◌, refl, sym, ap, ◌∙◌, subst, arith, inl, inr}
+use Rattle.std.specs.Prelude.{int_le}
 use Rattle.std.proofs.lemmas.Bool.{true≢false, cases_lt}
 use Rattle.std.proofs.lemmas.Int.{ints}
 use Rattle.std.proofs.lemmas.Option.{none-some, same_Some}
@@ -11,14 +11,15 @@ use Rattle.ada_events.specs.Says.{Creation, creation_in, moment_in}
 use Rattle.ada_events.specs.Tasks.{task_count, moment}
 use Rattle.ada_events.specs.Waits.{is_due, earlier}
 use Rattle.ada_events.specs.Lawful.{IsLawful}
-use Rattle.ada_laws.proofs.LastingLaws.{moments_never_go_back}
-use Rattle.ada_laws.proofs.Searching.{event_at-newest, event_at-older}
-use Rattle.ada_laws.proofs.Suspending.{suspended_cases, suspended_exists}
-use Rattle.ada_rows.specs.declared.row.Row.{Row}
-use Rattle.ada_records.specs.Records.{IsHeldAt}
+use Rattle.ada_events.proofs.Earlier.{one_comes}
+use Rattle.ada_laws.proofs.held.LastingLaws.{moments_never_go_back}
+use Rattle.ada_laws.proofs.searching.Searching.{event_at-newest, event_at-older}
+use Rattle.ada_laws.proofs.held.Suspending.{suspended_cases, suspended_exists}
+use Rattle.ada_step_laws.specs.declared.row.Row.{Row}
 use Rattle.ada_agenda.specs.Keeping.{KeepsUp}
-use Rattle.ada_agenda.specs.Kinds.{due_in, OfTick, Adds}
-use Rattle.ada_agenda.specs.Kinds.OfTick.{comes_due}
+use Rattle.ada_step_laws.specs.Kinds.{due_in, OfTick, Adds}
+use Rattle.ada_step_laws.specs.Kinds.OfTick.{comes_due}
+use Rattle.ada_step_laws.specs.Held.{IsHeldAt}
 use Rattle.ada_agenda.proofs.Noting.{noted, grows_same, held_there}
 use Rattle.ada_triggers.specs.Bounds.{IsSuspendedUntil, IsDueBound}
 use Rattle.ada_triggers.specs.internal.Bounds.{IsBoundOfFirst, IsDueAfter}
@@ -37,21 +38,6 @@ still_over due was now on over = grind (arith, ints)
 comes_later : (bound : Option ℤ) (due now : ℤ) → is_due due bound ≡ true → int_le due now ≡ true → is_due now bound ≡ true
 comes_later None due now comes on = comes
 comes_later (Some b) due now comes on = up_to b due now comes on
-
-lesser : (a b due : ℤ) (less : Bool) → int_lt b a ≡ less → (int_le a due ≡ true) ⊎ (int_le b due ≡ true) → int_le (if less then b else a) due ≡ true
-lesser a b due true is (inl first) = grind (arith, ints)
-lesser a b due true is (inr second) = second
-lesser a b due false is (inl first) = first
-lesser a b due false is (inr second) = grind (arith, ints)
-
--- the earlier of two comes where one does
-one_comes : (a b : Option ℤ) (due : ℤ) → (is_due due a ≡ true) ⊎ (is_due due b ≡ true) → is_due due (earlier a b) ≡ true
-unfolding earlier
-one_comes None b due (inl first) = absurd (true≢false (sym first))
-one_comes None b due (inr second) = second
-one_comes (Some m) None due (inl first) = first
-one_comes (Some m) None due (inr second) = absurd (true≢false (sym second))
-one_comes (Some m) (Some n) due comes = lesser m n due (int_lt n m) refl comes
 
 pub earlier_alone : (bound : Option ℤ) → earlier bound None ≡ bound
 unfolding earlier

@@ -14,18 +14,18 @@ use Rattle.ada_events.specs.Termination.{is_at_open_terminate, is_ready_to_quit,
 use Rattle.ada_events.specs.Nests.{nest}
 use Rattle.ada_events.specs.Lawful.{IsLawful}
 use Rattle.ada_laws.specs.Calls.{IsCallAt}
-use Rattle.ada_laws.proofs.Growing.{is_terminated-more, has_ended-terminated}
-use Rattle.ada_rows.specs.Rows.{step_at}
-use Rattle.ada_rows.specs.declared.row.Row.{Row}
-use Rattle.ada_records.specs.Records.{IsHeldAt}
+use Rattle.ada_laws.proofs.searching.Growing.{is_terminated-more, has_ended-terminated}
+use Rattle.ada_step_laws.specs.Rows.{step_at}
+use Rattle.ada_step_laws.specs.declared.row.Row.{Row}
 use Rattle.ada_agenda.specs.Keeping.{has_key, Puts, KeepsUp}
 use Rattle.ada_agenda.specs.internal.Keeping.{Both}
-use Rattle.ada_agenda.specs.Kinds.{quitting_row, quitting_key, OfCompletion, OfHalt, OfCancellation}
-use Rattle.ada_agenda.specs.Kinds.OfCompletion.{quits as task_quits}
-use Rattle.ada_agenda.specs.Kinds.OfHalt.{completes, quits_block, empties}
-use Rattle.ada_agenda.specs.Kinds.OfCancellation.{quits as quits_with}
+use Rattle.ada_step_laws.specs.Kinds.{quitting_row, quitting_key, OfCompletion, OfHalt, OfCancellation}
+use Rattle.ada_step_laws.specs.Kinds.OfCompletion.{quits as task_quits}
+use Rattle.ada_step_laws.specs.Kinds.OfHalt.{completes, quits_block, empties}
+use Rattle.ada_step_laws.specs.Kinds.OfCancellation.{quits as quits_with}
+use Rattle.ada_step_laws.specs.Held.{IsHeldAt}
 use Rattle.ada_agenda.proofs.Noting.{grows_same, held_there, noted_giving}
-use Rattle.ada_records.proofs.Owners.{has_contained}
+use Rattle.ada_records.proofs.holding.Owners.{has_contained}
 use Rattle.ada_triggers.specs.internal.Keys.{OfFirst, AsBlock, AsCompletion, AsDependent, AsCalleeAt, may_quit}
 use Rattle.ada_triggers.specs.internal.Keys.AsMember.{block}
 use Rattle.ada_triggers.specs.internal.Keys.AsHolder.{quits}

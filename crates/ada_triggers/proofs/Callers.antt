@@ -8,11 +8,11 @@ use Rattle.ada_events.specs.declared.names.TaskNo.{TaskNo}
 use Rattle.ada_events.specs.Says.{Call, call_in, call_at}
 use Rattle.ada_events.specs.Phases.{is_abnormal}
 use Rattle.ada_laws.specs.Calls.{IsCallAt}
-use Rattle.ada_rows.specs.declared.row.Row.{Row}
-use Rattle.ada_rows.specs.declared.row.Row.TheVariants.{Halting}
+use Rattle.ada_step_laws.specs.declared.row.Row.{Row}
+use Rattle.ada_step_laws.specs.declared.row.Row.TheVariants.{Halting}
 use Rattle.ada_agenda.specs.Keeping.{has_key, Puts, When, AsKey, KeepsUp}
-use Rattle.ada_agenda.specs.Kinds.{OfEnd}
-use Rattle.ada_agenda.specs.Kinds.OfEnd.{halts}
+use Rattle.ada_step_laws.specs.Kinds.{OfEnd}
+use Rattle.ada_step_laws.specs.Kinds.OfEnd.{halts}
 use Rattle.ada_agenda.proofs.Noting.{grows_same, noted}
 use Rattle.ada_triggers.specs.internal.Keys.{AsCallerAt}
 use Rattle.ada_agenda.specs.Keeping.AsKey.{itself}

@@ -10,17 +10,17 @@ use Rattle.ada_events.specs.Says.{moment_in}
 use Rattle.ada_events.specs.Tasks.{task_count}
 use Rattle.ada_events.specs.Waits.{is_due}
 use Rattle.ada_events.specs.Lawful.{IsLawful}
-use Rattle.ada_laws.proofs.LimitLaws.{events_are_few}
-use Rattle.ada_laws.proofs.Searching.{event_at-within}
-use Rattle.ada_laws.proofs.Suspending.{suspended_exists}
-use Rattle.ada_rows.specs.declared.row.Row.{Row}
-use Rattle.ada_records.specs.Records.{IsHeldAt}
+use Rattle.ada_laws.proofs.asking.LimitLaws.{events_are_few}
+use Rattle.ada_laws.proofs.searching.Searching.{event_at-within}
+use Rattle.ada_laws.proofs.held.Suspending.{suspended_exists}
+use Rattle.ada_step_laws.specs.declared.row.Row.{Row}
 use Rattle.ada_agenda.specs.declared.numbers.TheConstants.{MOST_KEYS}
 use Rattle.ada_agenda.specs.Keeping.{has_key, Puts, AsKey, When, KeepsUp}
 use Rattle.ada_agenda.specs.Keeping.AsKey.{itself}
 use Rattle.ada_agenda.specs.Keeping.When.{holds_so}
-use Rattle.ada_agenda.specs.Kinds.{due_in, due_row, OfTick, Adds}
-use Rattle.ada_agenda.specs.Kinds.OfTick.{comes_due}
+use Rattle.ada_step_laws.specs.Kinds.{due_in, due_row, OfTick, Adds}
+use Rattle.ada_step_laws.specs.Kinds.OfTick.{comes_due}
+use Rattle.ada_step_laws.specs.Held.{IsHeldAt}
 use Rattle.ada_agenda.proofs.Noting.{grows_same, held_there, noted}
 use Rattle.ada_triggers.specs.internal.Keys.{OfFirst, AsDue, AsDueAt, is_due_by}
 use Rattle.ada_triggers.specs.internal.Keys.AsDue.{comes}

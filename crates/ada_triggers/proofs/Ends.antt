@@ -17,28 +17,28 @@ use Rattle.ada_events.specs.Termination.{all_terminated}
 use Rattle.ada_events.specs.Nests.{nest}
 use Rattle.ada_events.specs.Lawful.{IsLawful}
 use Rattle.ada_laws.specs.Suspension.{IsSuspendedAt}
-use Rattle.ada_laws.proofs.Depending.{depends_on-cases, depends_exists, depends_reaches}
-use Rattle.ada_laws.proofs.Growing.{is_terminated-more}
-use Rattle.ada_laws.proofs.Searching.{then_some-some}
-use Rattle.ada_laws.proofs.Reaching.{reaches_known}
-use Rattle.ada_laws.proofs.DependentLaws.{going, all_terminated_at}
-use Rattle.ada_rows.specs.Rows.{step_at}
-use Rattle.ada_rows.specs.declared.row.Row.{Row}
-use Rattle.ada_rows.specs.declared.row.Row.TheVariants.{Activating, Terminating, QuittingBody, QuittingBlock, Leaving}
+use Rattle.ada_laws.proofs.within.Depending.{depends_on-cases, depends_exists, depends_reaches}
+use Rattle.ada_laws.proofs.searching.Growing.{is_terminated-more}
+use Rattle.ada_laws.proofs.searching.Searching.{then_some-some}
+use Rattle.ada_laws.proofs.within.Reaching.{reaches_known}
+use Rattle.ada_laws.proofs.within.DependentLaws.{going, all_terminated_at}
+use Rattle.ada_step_laws.specs.Rows.{step_at}
+use Rattle.ada_step_laws.specs.declared.row.Row.{Row}
+use Rattle.ada_step_laws.specs.declared.row.Row.TheVariants.{Activating, Terminating, QuittingBody, QuittingBlock, Leaving}
 use Rattle.ada_agenda.specs.Keeping.{has_key, Puts, KeepsUp}
 use Rattle.ada_agenda.specs.internal.Keeping.{Both}
-use Rattle.ada_agenda.specs.Kinds.{quitting_row, quitting_key, OfElaboration, OfCompletion, OfTermination}
-use Rattle.ada_agenda.specs.Kinds.OfElaboration.{activates as task_up}
-use Rattle.ada_agenda.specs.Kinds.OfCompletion.{goes as task_goes, quits as body_quits, fails as call_fails, activates as start_ends}
-use Rattle.ada_agenda.specs.Kinds.OfCompletion.{abandons as task_abandons}
-use Rattle.ada_agenda.specs.Kinds.OfTermination.{fails as end_fails, activates as end_activates, goes as end_goes, quits as end_quits, leaves as end_leaves}
-use Rattle.ada_agenda.proofs.StartedTasks.{created_exists}
-use Rattle.ada_agenda.proofs.Depending.{quits_live}
+use Rattle.ada_step_laws.specs.Kinds.{quitting_row, quitting_key, OfElaboration, OfCompletion, OfTermination}
+use Rattle.ada_step_laws.specs.Kinds.OfElaboration.{activates as task_up}
+use Rattle.ada_step_laws.specs.Kinds.OfCompletion.{goes as task_goes, quits as body_quits, fails as call_fails, activates as start_ends}
+use Rattle.ada_step_laws.specs.Kinds.OfCompletion.{abandons as task_abandons}
+use Rattle.ada_step_laws.specs.Kinds.OfTermination.{fails as end_fails, activates as end_activates, goes as end_goes, quits as end_quits, leaves as end_leaves}
+use Rattle.ada_step_laws.proofs.newly.StartedTasks.{created_exists}
+use Rattle.ada_step_laws.proofs.newly.Depending.{quits_live}
 use Rattle.ada_agenda.proofs.Noting.{grows_same, noted, noted_giving}
-use Rattle.ada_agenda.proofs.Refining.{task_step, position_step, quits_block}
+use Rattle.ada_step_laws.proofs.newly.Refining.{task_step, position_step, quits_block}
 use Rattle.ada_records.specs.Holders.{IsHeld}
-use Rattle.ada_records.proofs.LiveHolders.{of_master}
-use Rattle.ada_records.proofs.Owners.{has_contained}
+use Rattle.ada_records.proofs.holding.LiveHolders.{of_master}
+use Rattle.ada_records.proofs.holding.Owners.{has_contained}
 use Rattle.ada_view.proofs.Orphans.{gone_stays}
 use Rattle.ada_triggers.specs.internal.Keys.{AsHeld, AsUncallable, AsDependent, AsActivation, AsCompletion}
 use Rattle.ada_agenda.specs.Keeping.AsKey.{itself}

@@ -12,13 +12,13 @@ use Rattle.ada_events.specs.Tasks.{creation_of}
 use Rattle.ada_events.specs.Phases.{has_start, is_completed, is_terminated}
 use Rattle.ada_events.specs.Termination.{is_complete, is_abandoned, all_terminated}
 use Rattle.ada_events.specs.Forced.{task_no, is_to_go, is_to_quit}
-use Rattle.ada_laws.proofs.Depending.{created_positive}
-use Rattle.ada_laws.proofs.Growing.{is_terminated-more}
-use Rattle.ada_laws.proofs.Searching.{then_some-some, option_map_or-true}
-use Rattle.ada_rows.specs.declared.row.Row.TheVariants.{Terminating, QuittingBody}
-use Rattle.ada_rows.specs.Rows.{step_at}
-use Rattle.ada_agenda.specs.Kinds.{quitting_row, quitting_key}
-use Rattle.ada_agenda.proofs.Refining.{task_step}
+use Rattle.ada_laws.proofs.within.Depending.{created_positive}
+use Rattle.ada_laws.proofs.searching.Growing.{is_terminated-more}
+use Rattle.ada_laws.proofs.searching.Searching.{then_some-some, option_map_or-true}
+use Rattle.ada_step_laws.specs.declared.row.Row.TheVariants.{Terminating, QuittingBody}
+use Rattle.ada_step_laws.specs.Rows.{step_at}
+use Rattle.ada_step_laws.specs.Kinds.{quitting_row, quitting_key}
+use Rattle.ada_step_laws.proofs.newly.Refining.{task_step}
 use Rattle.ada_triggers.specs.internal.Keys.{may_be_abandoned, may_go, may_quit}
 
 -- the main program isn't abandoned

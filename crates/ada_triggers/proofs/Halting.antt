@@ -10,17 +10,17 @@ use Rattle.ada_events.specs.Forced.{task_no, is_to_halt}
 use Rattle.ada_events.specs.Lawful.{IsLawful}
 use Rattle.ada_events.specs.Phases.{is_abnormal, has_ended, is_released}
 use Rattle.ada_events.specs.Says.{held_in, meeting_in, released_in}
-use Rattle.ada_laws.proofs.Growing.{has_ended-before}
-use Rattle.ada_laws.proofs.Saying.{held_in-call}
-use Rattle.ada_laws.proofs.Searching.{three_parts, then_some-some, event_at-older}
-use Rattle.ada_rows.specs.declared.row.Row.TheVariants.{Halting}
-use Rattle.ada_rows.specs.Rows.{step_at}
+use Rattle.ada_laws.proofs.searching.Growing.{has_ended-before}
+use Rattle.ada_laws.proofs.searching.Saying.{held_in-call}
+use Rattle.ada_laws.proofs.searching.Searching.{three_parts, then_some-some, event_at-older}
+use Rattle.ada_step_laws.specs.declared.row.Row.TheVariants.{Halting}
+use Rattle.ada_step_laws.specs.Rows.{step_at}
 use Rattle.ada_records.specs.declared.record.Record.{Record}
 use Rattle.ada_records.specs.Records.{IsRecordOf}
 use Rattle.ada_records.specs.RecordedStates.{has_ended_by}
-use Rattle.ada_records.proofs.Callers.{joined_caller}
-use Rattle.ada_agenda.proofs.Refining.{task_step}
-use Rattle.ada_agenda.proofs.Unhalted.{joined_at}
+use Rattle.ada_step_laws.proofs.changing.Callers.{joined_caller}
+use Rattle.ada_step_laws.proofs.newly.Refining.{task_step}
+use Rattle.ada_step_laws.proofs.newly.Unhalted.{joined_at}
 use Rattle.ada_view.specs.internal.Deciding.{is_met_by}
 use Rattle.ada_view.proofs.Deciding.{met_told}
 use Rattle.ada_triggers.specs.internal.Keys.{may_halt}

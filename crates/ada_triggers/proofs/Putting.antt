@@ -6,9 +6,9 @@ use Rattle.ada_events.specs.Search.{is_some_and, event_at}
 use Rattle.ada_events.specs.Says.{Call}
 use Rattle.ada_events.specs.Lawful.{IsLawful}
 use Rattle.ada_laws.specs.Calls.{IsCallAt}
-use Rattle.ada_rows.specs.declared.row.Row.{Row}
-use Rattle.ada_rows.specs.declared.row.Row.TheVariants.{Failing}
-use Rattle.ada_records.specs.Records.{IsHeldAt}
+use Rattle.ada_step_laws.specs.declared.row.Row.{Row}
+use Rattle.ada_step_laws.specs.declared.row.Row.TheVariants.{Failing}
+use Rattle.ada_step_laws.specs.Held.{IsHeldAt}
 use Rattle.ada_agenda.specs.Keeping.{Puts, AsKey, When}
 use Rattle.ada_agenda.proofs.Noting.{grows_same, grows_on, held_there}
 use Rattle.ada_triggers.specs.internal.Keys.{OfFirst, AsHeld, AsCaller, is_of_row, calls}

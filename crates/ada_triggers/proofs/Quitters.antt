@@ -23,25 +23,25 @@ use Rattle.ada_events.specs.Nests.{nest}
 use Rattle.ada_events.specs.Termination.{has_empty_queues}
 use Rattle.ada_events.specs.Forced.{is_done_activating, activated_at, is_to_quit}
 use Rattle.ada_events.specs.Lawful.{IsLawful, MayFollow}
-use Rattle.ada_laws.proofs.Accepting.{is_accepted}
-use Rattle.ada_laws.proofs.Queueing.{queue-found, is_open_at-from}
-use Rattle.ada_laws.proofs.Saying.{held_in-wait}
-use Rattle.ada_laws.proofs.Searching.{event_at-cases, any_event-from, if_some}
-use Rattle.ada_laws.proofs.Stepping.{forced-step}
-use Rattle.ada_rows.specs.Rows.{step_at}
-use Rattle.ada_rows.specs.declared.row.Row.{Row}
-use Rattle.ada_rows.specs.declared.row.Row.TheVariants.{Activating}
-use Rattle.ada_rows.proofs.TakenCalls.{pending_before}
-use Rattle.ada_agenda.specs.Kinds.{IsOpenCallTo}
-use Rattle.ada_agenda.proofs.StartedTasks.{any_none}
-use Rattle.ada_agenda.proofs.Changing.{newly_done}
-use Rattle.ada_agenda.proofs.Depending.{quits_ready}
-use Rattle.ada_agenda.proofs.Quitting.{IsQuitter, quitter_of}
-use Rattle.ada_agenda.proofs.Refining.{older_step}
-use Rattle.ada_agenda.proofs.Releases.{same_event}
-use Rattle.ada_agenda.proofs.Unstarted.{quit_quits}
-use Rattle.ada_agenda.proofs.Waiting.{IsReady, at_wait, ready_parts}
-use Rattle.ada_records.proofs.PendingNests.{open_terminates_are_in_no_rendezvous}
+use Rattle.ada_laws.proofs.asking.Accepting.{is_accepted}
+use Rattle.ada_laws.proofs.queues.Queueing.{queue-found, is_open_at-from}
+use Rattle.ada_laws.proofs.searching.Saying.{held_in-wait}
+use Rattle.ada_laws.proofs.searching.Searching.{event_at-cases, any_event-from, if_some}
+use Rattle.ada_laws.proofs.forced.Stepping.{forced-step}
+use Rattle.ada_step_laws.specs.Rows.{step_at}
+use Rattle.ada_step_laws.specs.declared.row.Row.{Row}
+use Rattle.ada_step_laws.specs.declared.row.Row.TheVariants.{Activating}
+use Rattle.ada_step_laws.proofs.rows.TakenCalls.{pending_before}
+use Rattle.ada_step_laws.specs.Kinds.{IsOpenCallTo}
+use Rattle.ada_step_laws.proofs.newly.StartedTasks.{any_none}
+use Rattle.ada_step_laws.proofs.newly.Changing.{newly_done}
+use Rattle.ada_step_laws.proofs.newly.Depending.{quits_ready}
+use Rattle.ada_step_laws.proofs.newly.Quitting.{IsQuitter, quitter_of}
+use Rattle.ada_step_laws.proofs.newly.Refining.{older_step}
+use Rattle.ada_step_laws.proofs.newly.Releases.{same_event}
+use Rattle.ada_step_laws.proofs.newly.Unstarted.{quit_quits}
+use Rattle.ada_step_laws.proofs.newly.Waiting.{IsReady, at_wait, ready_parts}
+use Rattle.ada_records.proofs.holding.PendingNests.{open_terminates_are_in_no_rendezvous}
 
 -- what the event says
 pub quit_says : (m : Master) → quit_in (Quit m) ≡ Some m

@@ -17,31 +17,31 @@ use Rattle.ada_events.specs.Nests.{nest}
 use Rattle.ada_events.specs.Forced.{task_no, is_to_go, is_to_quit}
 use Rattle.ada_events.specs.Lawful.{IsLawful}
 use Rattle.ada_laws.specs.Masters.{IsKnown, parent_of}
-use Rattle.ada_laws.proofs.Depending.{depends_exists, reaches_from_body}
-use Rattle.ada_laws.proofs.Growing.{is_terminated-quit}
-use Rattle.ada_laws.proofs.Parents.{tasks_depend_by_parents, master_known}
-use Rattle.ada_laws.proofs.Reaching.{same_master-true, reaches-same, reaches_up, reaches_known, reaches_trans, parent_was_known}
-use Rattle.ada_laws.proofs.Searching.{then_some-some, option_map-some, option_map_or-true}
-use Rattle.ada_laws.proofs.Suspending.{suspended_exists, suspended_once}
-use Rattle.ada_rows.specs.Rows.{step_at}
-use Rattle.ada_rows.specs.declared.row.Row.{Row}
-use Rattle.ada_rows.specs.declared.row.Row.TheVariants.{Terminating, QuittingBody, QuittingBlock, Leaving}
+use Rattle.ada_laws.proofs.within.Depending.{depends_exists, reaches_from_body}
+use Rattle.ada_laws.proofs.searching.Growing.{is_terminated-quit}
+use Rattle.ada_laws.proofs.within.Parents.{tasks_depend_by_parents, master_known}
+use Rattle.ada_laws.proofs.within.Reaching.{same_master-true, reaches-same, reaches_up, reaches_known, reaches_trans, parent_was_known}
+use Rattle.ada_laws.proofs.searching.Searching.{then_some-some, option_map-some, option_map_or-true}
+use Rattle.ada_laws.proofs.held.Suspending.{suspended_exists, suspended_once}
+use Rattle.ada_step_laws.specs.Rows.{step_at}
+use Rattle.ada_step_laws.specs.declared.row.Row.{Row}
+use Rattle.ada_step_laws.specs.declared.row.Row.TheVariants.{Terminating, QuittingBody, QuittingBlock, Leaving}
 use Rattle.ada_tables.specs.Dependents.{holds, encloses}
 use Rattle.ada_agenda.specs.Keeping.{has_key, IsAgendaOf, Puts, KeepsUp}
 use Rattle.ada_agenda.specs.internal.Keeping.{Both}
-use Rattle.ada_agenda.specs.Kinds.{quitting_row, quitting_key, IsLeaving, OfTermination, OfQuit}
-use Rattle.ada_agenda.specs.Kinds.OfTermination.{fails as end_fails, activates as end_activates, goes as end_goes, quits as end_quits, leaves as end_leaves}
-use Rattle.ada_agenda.specs.Kinds.OfQuit.{ends, abandons}
-use Rattle.ada_agenda.proofs.StartedTasks.{created_exists}
-use Rattle.ada_agenda.proofs.Depending.{quits_live}
+use Rattle.ada_step_laws.specs.Kinds.{quitting_row, quitting_key, IsLeaving, OfTermination, OfQuit}
+use Rattle.ada_step_laws.specs.Kinds.OfTermination.{fails as end_fails, activates as end_activates, goes as end_goes, quits as end_quits, leaves as end_leaves}
+use Rattle.ada_step_laws.specs.Kinds.OfQuit.{ends, abandons}
+use Rattle.ada_step_laws.proofs.newly.StartedTasks.{created_exists}
+use Rattle.ada_step_laws.proofs.newly.Depending.{quits_live}
 use Rattle.ada_agenda.proofs.Noting.{grows_same, noted_giving}
-use Rattle.ada_agenda.proofs.Quitting.{IsQuitter, live_depends}
-use Rattle.ada_agenda.proofs.Refining.{task_step, position_step, quits_body, quits_block}
-use Rattle.ada_agenda.proofs.Releases.{same_event}
-use Rattle.ada_agenda.proofs.Waiting.{at_wait}
+use Rattle.ada_step_laws.proofs.newly.Quitting.{IsQuitter, live_depends}
+use Rattle.ada_step_laws.proofs.newly.Refining.{task_step, position_step, quits_body, quits_block}
+use Rattle.ada_step_laws.proofs.newly.Releases.{same_event}
+use Rattle.ada_step_laws.proofs.newly.Waiting.{at_wait}
 use Rattle.ada_records.specs.Holders.{IsHeld}
-use Rattle.ada_records.proofs.Enclosing.{reaches_held}
-use Rattle.ada_records.proofs.Owners.{has_contained, one_holder}
+use Rattle.ada_records.proofs.holding.Enclosing.{reaches_held}
+use Rattle.ada_records.proofs.holding.Owners.{has_contained, one_holder}
 use Rattle.ada_triggers.specs.internal.Keys.{OfFirst, AsUnstarted, AsHolder, AsDependent, AsMaster, holder_of}
 use Rattle.ada_triggers.specs.internal.Keys.AsUnstarted.{goes}
 use Rattle.ada_triggers.specs.internal.Keys.AsHolder.{quits, goes as holder_goes, leaves}

@@ -4,10 +4,10 @@ use Rattle.std.proofs.lemmas.Bool.{true≢false, and_parts, or_cases, or_left, o
 use Rattle.ada_events.specs.declared.event.Event.{Event}
 use Rattle.ada_events.specs.Says.{started_in}
 use Rattle.ada_events.specs.Phases.{lists_task, has_start, is_terminated}
-use Rattle.ada_laws.proofs.Depending.{created_positive}
-use Rattle.ada_laws.proofs.Growing.{is_terminated-more}
-use Rattle.ada_rows.specs.declared.row.Row.{Row}
-use Rattle.ada_rows.specs.declared.row.Row.TheVariants.{Terminating}
+use Rattle.ada_laws.proofs.within.Depending.{created_positive}
+use Rattle.ada_laws.proofs.searching.Growing.{is_terminated-more}
+use Rattle.ada_step_laws.specs.declared.row.Row.{Row}
+use Rattle.ada_step_laws.specs.declared.row.Row.TheVariants.{Terminating}
 use Rattle.ada_agenda.specs.Keeping.{has_key, Puts, AsKey, When}
 use Rattle.ada_agenda.specs.Keeping.AsKey.{itself}
 use Rattle.ada_agenda.specs.Keeping.When.{holds_so}

@@ -6,19 +6,19 @@ use Rattle.ada_events.specs.declared.event.Event.{Event}
 use Rattle.ada_events.specs.Lawful.{IsLawful}
 use Rattle.ada_events.specs.Nests.{nest}
 use Rattle.ada_events.specs.Tasks.{task_count}
-use Rattle.ada_laws.proofs.CallLaws.{open_calls_suspend}
-use Rattle.ada_laws.proofs.Suspending.{suspended_exists}
-use Rattle.ada_rows.specs.TouchedKeys.{is_uncallable}
-use Rattle.ada_rows.specs.declared.row.Row.{Row}
+use Rattle.ada_laws.proofs.queues.CallLaws.{open_calls_suspend}
+use Rattle.ada_laws.proofs.held.Suspending.{suspended_exists}
+use Rattle.ada_step_laws.specs.TouchedKeys.{is_uncallable}
+use Rattle.ada_step_laws.specs.declared.row.Row.{Row}
 use Rattle.ada_tables.specs.declared.layers.Layer.{Layer}
 use Rattle.ada_tables.specs.Dependents.{Facts, task_at}
 use Rattle.ada_tables.specs.Layers.{member_of, members}
 use Rattle.ada_tables.specs.Standing.{StandFor}
 use Rattle.ada_tables.specs.Tables.{TableState, has_no_calls}
-use Rattle.ada_records.proofs.Empty.{empty_alike}
-use Rattle.ada_records.proofs.Made.{callee_exists}
+use Rattle.ada_records.proofs.following.Empty.{empty_alike}
+use Rattle.ada_records.proofs.following.Made.{callee_exists}
 use Rattle.ada_agenda.specs.Keeping.{has_key, Puts}
-use Rattle.ada_agenda.specs.Kinds.{IsOpenCallTo}
+use Rattle.ada_step_laws.specs.Kinds.{IsOpenCallTo}
 use Rattle.ada_agenda.proofs.Noting.{grows_same}
 use Rattle.ada_triggers.specs.internal.Keys.{OfFirst, AsCaller, AsUncallable, is_that}
 use Rattle.ada_triggers.specs.internal.Keys.AsCaller.{fails}

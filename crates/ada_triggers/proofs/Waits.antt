@@ -16,15 +16,15 @@ use Rattle.ada_events.specs.Waits.{way_of}
 use Rattle.ada_events.specs.Phases.{is_terminated}
 use Rattle.ada_events.specs.Termination.{is_open_terminate}
 use Rattle.ada_events.specs.Lawful.{IsLawful}
-use Rattle.ada_laws.proofs.Growing.{has_ended-terminated}
-use Rattle.ada_rows.specs.Rows.{step_at}
-use Rattle.ada_rows.specs.declared.row.Row.{Row}
-use Rattle.ada_rows.specs.declared.row.Row.TheVariants.{Meeting, Passing}
-use Rattle.ada_records.proofs.Holding.{holder_ran}
+use Rattle.ada_laws.proofs.searching.Growing.{has_ended-terminated}
+use Rattle.ada_step_laws.specs.Rows.{step_at}
+use Rattle.ada_step_laws.specs.declared.row.Row.{Row}
+use Rattle.ada_step_laws.specs.declared.row.Row.TheVariants.{Meeting, Passing}
+use Rattle.ada_step_laws.proofs.changing.Holding.{holder_ran}
 use Rattle.ada_agenda.specs.Keeping.{Puts, When, AsKey, KeepsUp}
 use Rattle.ada_agenda.specs.internal.Keeping.{Both}
-use Rattle.ada_agenda.specs.Kinds.{itself as own, quitting_row, quitting_key, OfWait}
-use Rattle.ada_agenda.specs.Kinds.OfWait.{takes, passes, quits as wait_quits}
+use Rattle.ada_step_laws.specs.Kinds.{itself as own, quitting_row, quitting_key, OfWait}
+use Rattle.ada_step_laws.specs.Kinds.OfWait.{takes, passes, quits as wait_quits}
 use Rattle.ada_agenda.proofs.Noting.{own_is, noted_giving, both_put, not_put}
 use Rattle.ada_triggers.specs.internal.Keys.{AsDependent}
 use Rattle.ada_agenda.specs.Keeping.AsKey.{itself}

@@ -6,7 +6,7 @@ use Rattle.ada_events.specs.Tasks.{moment}
 use Rattle.ada_events.specs.Phases.{has_start, is_terminated}
 use Rattle.ada_events.specs.Waits.{is_due}
 use Rattle.ada_laws.specs.Suspension.{IsSuspendedAt}
-use Rattle.ada_agenda.specs.Kinds.{due_in}
+use Rattle.ada_step_laws.specs.Kinds.{due_in}
 
 -- the task is suspended at an event at which that moment is waited for: a timed call, a delay, or a
 -- wait with delay alternatives

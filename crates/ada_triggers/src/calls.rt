@@ -1,6 +1,6 @@
 //! What calls and waits add to an agenda.
 
-ghost use Rattle.std.specs.Prelude.{◌≡◌, ℕ, Bool, true, false, [], ◌∷◌};
+ghost use Rattle.std.specs.Prelude.{◌≡◌, ℕ, Bool, true, [], ◌∷◌};
 ghost use Rattle.std.specs.Option.{is_some, option_map};
 ghost use Rattle.ada_events.specs.Says.{Call, call_at};
 ghost use Rattle.ada_events.specs.declared.event.Event.TheVariants.{Cancelled as CancelledEvent, Ended as EndedEvent, Failed as FailedEvent};
@@ -11,7 +11,7 @@ ghost use Rattle.ada_events.specs.declared.names.TaskNo.{TaskNo as Number};
 ghost use Rattle.ada_agenda.specs.Keeping.{KeepsUp, Puts, When};
 ghost use Rattle.ada_events.specs.Tasks.{moment};
 ghost use Rattle.ada_events.specs.Waits as waits;
-ghost use Rattle.ada_rows.specs.CalledTasks.{IsCallOf};
+ghost use Rattle.ada_step_laws.specs.CalledTasks.{IsCallOf};
 ghost use Rattle.ada_triggers.specs.internal.Keys.{AsDependent, AsCalleeAt, AsCallerAt};
 
 use crate::masters::put_dependent;
@@ -19,7 +19,7 @@ use ada_agenda::Agenda;
 use ada_agenda::keeping::{self, put, put_if};
 use ada_events::{Choice, Event, EventTail, TaskNo, way_of};
 use ada_records::records::is_open_terminate;
-use ada_rows::Row;
+use ada_step_laws::Row;
 use ada_view::View;
 
 // The task that the call at a position calls.

@@ -19,7 +19,7 @@ use crate::unstarted::{FirstUnstarted, put_all_unstarted};
 use ada_agenda::Agenda;
 use ada_agenda::keeping::{put, put_if};
 use ada_events::{Event, Master, TaskNo};
-use ada_rows::Row;
+use ada_step_laws::Row;
 use ada_view::View;
 
 // The task that made another, by the other's creation.

@@ -15,7 +15,7 @@ use crate::unstarted::{FirstUnstarted, put_all_unstarted};
 use ada_agenda::Agenda;
 use ada_agenda::keeping::{put, put_if};
 use ada_events::{Master, TaskNo};
-use ada_rows::Row;
+use ada_step_laws::Row;
 use ada_view::{View, named};
 
 /// Notes that a task closes a block (9.4): that it leaves the block, that the block's dependents quit, where some of

@@ -17,7 +17,7 @@ use crate::sweeps::put_held;
 use ada_agenda::Agenda;
 use ada_agenda::keeping::{put, put_if};
 use ada_events::{Master, Member, TaskNo};
-use ada_rows::Row;
+use ada_step_laws::Row;
 use ada_view::View;
 
 // The task that holds a master.

@@ -5,7 +5,7 @@ ghost use Rattle.ada_events.specs.Lawful.{IsLawful};
 ghost use Rattle.ada_events.specs.Tasks.{task_count};
 ghost use Rattle.ada_events.specs.declared.event.Event.TheVariants.{Ticked as TickedEvent};
 ghost use Rattle.ada_agenda.specs.Keeping.{KeepsUp, Puts};
-ghost use Rattle.ada_agenda.specs.Kinds as kinds;
+ghost use Rattle.ada_step_laws.specs.Kinds as kinds;
 ghost use Rattle.ada_triggers.specs.Bounds.{IsDueBound};
 ghost use Rattle.ada_triggers.specs.internal.Bounds.{IsBoundOfFirst, IsDueAfter};
 ghost use Rattle.ada_triggers.specs.internal.Keys.{OfFirst, AsDue};
@@ -15,7 +15,7 @@ use ada_agenda::Agenda;
 use ada_agenda::keeping::put_if;
 use ada_events::waits::{is_due, least_due};
 use ada_events::{Event, EventTail, TaskNo};
-use ada_rows::Row;
+use ada_step_laws::Row;
 use ada_view::View;
 
 /// The least moment of a wait's delay alternatives, if there is one (9.7.1).

@@ -5,7 +5,7 @@ ghost use Rattle.ada_events.specs.Search.{is_some_and, event_at};
 ghost use Rattle.ada_events.specs.Lawful.{IsLawful};
 ghost use Rattle.ada_events.specs.Tasks.{task_count};
 ghost use Rattle.ada_agenda.specs.Keeping.{Puts};
-ghost use Rattle.ada_agenda.specs.Kinds.{IsOpenCallTo};
+ghost use Rattle.ada_step_laws.specs.Kinds.{IsOpenCallTo};
 ghost use Rattle.ada_triggers.specs.internal.Keys as keys;
 ghost use Rattle.ada_triggers.specs.internal.Keys.{OfFirst, AsHaltable, AsHeld, AsCaller, AsHit, AsUncallable, calls};
 ghost use Rattle.ada_triggers.specs.internal.Keys.{is_flagged, is_that};
@@ -13,7 +13,7 @@ ghost use Rattle.ada_triggers.specs.internal.Keys.{is_flagged, is_that};
 use ada_agenda::Agenda;
 use ada_agenda::keeping::put_if;
 use ada_events::{Event, TaskNo};
-use ada_rows::Row;
+use ada_step_laws::Row;
 use ada_view::{View, flag_of};
 
 // Whether the task hasn't ended, and isn't the caller in a rendezvous: no other is halted (9.10).

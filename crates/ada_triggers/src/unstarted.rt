@@ -11,7 +11,7 @@ ghost use Rattle.ada_triggers.specs.internal.Keys.{OfFirst, AsUnstarted};
 use ada_agenda::Agenda;
 use ada_agenda::keeping::put_if;
 use ada_events::TaskNo;
-use ada_rows::Row;
+use ada_step_laws::Row;
 use ada_view::View;
 use std::marker::Model;
 

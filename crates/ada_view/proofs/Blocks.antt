@@ -22,21 +22,21 @@ use Rattle.ada_events.specs.Nests.{nest, is_left}
 use Rattle.ada_events.specs.Termination.{is_complete_block, all_terminated}
 use Rattle.ada_events.specs.Forced.{is_to_quit}
 use Rattle.ada_events.specs.Lawful.{IsLawful, MayFollow}
-use Rattle.ada_laws.proofs.Accepting.{asker_exists}
-use Rattle.ada_laws.proofs.Framing.{IsBlockOf}
-use Rattle.ada_laws.proofs.Growing.{task_count-more}
-use Rattle.ada_laws.proofs.Parents.{same_truth}
-use Rattle.ada_laws.proofs.Rows.{forced-row}
-use Rattle.ada_laws.proofs.Searching.{event_at-cases, option_map_or-true}
-use Rattle.ada_laws.proofs.Stepping.{row-opens_none}
+use Rattle.ada_laws.proofs.asking.Accepting.{asker_exists}
+use Rattle.ada_laws.proofs.within.Framing.{IsBlockOf}
+use Rattle.ada_laws.proofs.searching.Growing.{task_count-more}
+use Rattle.ada_laws.proofs.within.Parents.{same_truth}
+use Rattle.ada_laws.proofs.forced.Rows.{forced-row}
+use Rattle.ada_laws.proofs.searching.Searching.{event_at-cases, option_map_or-true}
+use Rattle.ada_laws.proofs.forced.Stepping.{row-opens_none}
 use Rattle.ada_records.specs.declared.record.Record.{Record}
 use Rattle.ada_records.specs.Records.{IsRecordOf}
 use Rattle.ada_records.specs.RecordedStates.{has_ended_by}
-use Rattle.ada_records.proofs.Queries.{records_tell}
-use Rattle.ada_agenda.proofs.Completing.{any_at}
+use Rattle.ada_records.proofs.recording.Queries.{records_tell}
+use Rattle.ada_step_laws.proofs.newly.Completing.{any_at}
 use Rattle.ada_tables.specs.Dependents.{has_block}
-use Rattle.ada_records.proofs.Owners.{block_in_nest, nest_has_block}
-use Rattle.ada_records.proofs.LiveHolders.{a_left_block_has_no_live_dependent}
+use Rattle.ada_records.proofs.holding.Owners.{block_in_nest, nest_has_block}
+use Rattle.ada_records.proofs.holding.LiveHolders.{a_left_block_has_no_live_dependent}
 use Rattle.ada_view.specs.internal.Ending.{closes, closes_at}
 use Rattle.ada_view.proofs.Closing.{closed_at}
 use Rattle.ada_view.proofs.Pending.{held_there}

@@ -20,16 +20,16 @@ use Rattle.ada_events.specs.Calls.{queue}
 use Rattle.ada_events.specs.Waits.{picked, numbers_from, front_of, is_selectable}
 use Rattle.ada_events.specs.Refusals.{refusal, lacks_family, is_outside, names_no_family, breaks_constraint}
 use Rattle.ada_events.specs.Lawful.{IsLawful, MayFollow}
-use Rattle.ada_laws.proofs.Searching.{event_at-cases}
-use Rattle.ada_laws.proofs.Accepting.{is_accepted}
-use Rattle.ada_laws.proofs.Stepping.{forced-step}
-use Rattle.ada_laws.proofs.Saying.{held_in-wait}
+use Rattle.ada_laws.proofs.searching.Searching.{event_at-cases}
+use Rattle.ada_laws.proofs.asking.Accepting.{is_accepted}
+use Rattle.ada_laws.proofs.forced.Stepping.{forced-step}
+use Rattle.ada_laws.proofs.searching.Saying.{held_in-wait}
 use Rattle.ada_tables.specs.Queues.{QueuedCall, queue_at, front_call}
 use Rattle.ada_tables.specs.Tables.{TableState, slot_at, HasEntry}
 use Rattle.ada_tables.specs.Standing.{StandFor}
 use Rattle.ada_tables.specs.Dependents.{Facts}
-use Rattle.ada_agenda.proofs.StartedTasks.{any_none}
-use Rattle.ada_records.proofs.Entries.{has_number, families_stay, declarer_exists}
+use Rattle.ada_step_laws.proofs.newly.StartedTasks.{any_none}
+use Rattle.ada_records.proofs.following.Entries.{has_number, families_stay, declarer_exists}
 use Rattle.ada_view.specs.internal.Choosing.{IsDeclared, AreOfTask}
 
 declared_later : (event : Event) (before : List Event) (task : ℕ) (entry : Entry) → IsDeclared before task entry → IsDeclared (event ∷ before) task entry

@@ -18,18 +18,18 @@ use Rattle.ada_events.specs.Forced.{is_to_fail, is_to_cancel}
 use Rattle.ada_events.specs.Refusals.{refusal}
 use Rattle.ada_events.specs.Lawful.{IsLawful, MayFollow}
 use Rattle.ada_laws.specs.Suspension.{IsSuspendedAt}
-use Rattle.ada_laws.proofs.Framing.{IsBlockOf}
-use Rattle.ada_laws.proofs.Growing.{has_ended-before}
-use Rattle.ada_laws.proofs.Rows.{IsRow, forced-row}
-use Rattle.ada_laws.proofs.Rows.IsRow.{halts, fails, meets, cancels, passes, wakes, activates, goes, quits, leaves}
-use Rattle.ada_laws.proofs.Saying.{held_in-closing}
-use Rattle.ada_laws.proofs.Searching.{event_at-newest, event_at-older, any_event-from, is_number-some, is_number-from, option_map_or-true}
-use Rattle.ada_records.proofs.LeftBlocks.{unleft_before}
-use Rattle.ada_laws.proofs.Members.{nest_open, end_within}
-use Rattle.ada_records.proofs.Within.{next_unreleased}
-use Rattle.ada_agenda.specs.Kinds.{IsCloseAt}
-use Rattle.ada_agenda.proofs.Completions.{one_owner}
-use Rattle.ada_agenda.proofs.Places.{closer_owns, later_block}
+use Rattle.ada_laws.proofs.within.Framing.{IsBlockOf}
+use Rattle.ada_laws.proofs.searching.Growing.{has_ended-before}
+use Rattle.ada_laws.proofs.forced.Rows.{IsRow, forced-row}
+use Rattle.ada_laws.proofs.forced.Rows.IsRow.{halts, fails, meets, cancels, passes, wakes, activates, goes, quits, leaves}
+use Rattle.ada_laws.proofs.searching.Saying.{held_in-closing}
+use Rattle.ada_laws.proofs.searching.Searching.{event_at-newest, event_at-older, any_event-from, is_number-some, is_number-from, option_map_or-true}
+use Rattle.ada_laws.proofs.within.Members.{nest_open, end_within}
+use Rattle.ada_laws.proofs.within.Leaving.{unleft_before}
+use Rattle.ada_step_laws.proofs.changing.Within.{next_unreleased}
+use Rattle.ada_step_laws.specs.Kinds.{IsCloseAt}
+use Rattle.ada_step_laws.proofs.newly.Completions.{one_owner}
+use Rattle.ada_step_laws.proofs.newly.Places.{closer_owns, later_block}
 use Rattle.ada_view.specs.internal.Ending.{closes}
 
 pub record SaysNothingElse (e : Event) : Type 0 where

@@ -16,7 +16,7 @@ use Rattle.ada_events.specs.Refusals.{cause, first_cause, lacks_family, is_outsi
 use Rattle.ada_events.specs.Search.{is_some_and}
 use Rattle.ada_events.specs.Slots.{number_within}
 use Rattle.ada_events.specs.Tasks.{has_task, task_count, families_of}
-use Rattle.ada_tables.specs.Dependents.{Facts, task_at}
+use Rattle.ada_tables.specs.Dependents.{Facts}
 use Rattle.ada_tables.specs.Queues.{QueuedCall, queue_at}
 use Rattle.ada_tables.specs.Tables.{TableState, slot_at, HasEntry}
 use Rattle.ada_tables.specs.Standing.{StandFor}
@@ -83,11 +83,6 @@ asks_count journal by entry family count known runs has within is =
     ap Ok is
     ∙ own_is journal by entry true true false false (lt-ltb by (task_count journal) known) runs (ap is_none has)
     (ap (λ (o : Option Family). is_some_and o (λ (f : Family). not (is_in_range f entry.index))) has ∙ ap not within)
-
--- the families that tables hold of a task
-pub families_told : (tables : TableState) (journal : List Event) (task : ℕ) → StandFor tables journal → task < task_count journal
-    → (task_at tables.tasks task).families ≡ families_of journal task
-families_told tables journal task stand known = ap (λ (f : Facts). f.families) (stand.tasks task known)
 
 -- an entry within the range of its family stands in the tables
 pub entry_stands : (tables : TableState) (journal : List Event) (task : ℕ) (entry : Entry) (family : Family) → StandFor tables journal

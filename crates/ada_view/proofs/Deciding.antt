@@ -1,5 +1,5 @@
 -- The rows of abnormal tasks and of entry calls, decided by records.
-use Rattle.std.proofs.Common.{◌≡◌, ◌≢◌, ℕ, zero, suc, ◌<◌, Bool, true, false, not, ◌&&◌, ◌||◌, eqb, ltb, Option, Some, None, List, refl, sym, ap, ◌∙◌, subst}
+use Rattle.std.proofs.Common.{◌≡◌, ◌≢◌, ℕ, zero, suc, ◌<◌, Bool, true, false, not, ◌&&◌, ◌||◌, eqb, ltb, Some, List, refl, sym, ap, ◌∙◌, subst}
 use Rattle.std.proofs.Common.{arith}
 use Rattle.std.specs.Option.{option_and_then}
 use Rattle.std.specs.Bool.{then_some}
@@ -17,18 +17,18 @@ use Rattle.ada_events.specs.Lawful.{IsLawful}
 use Rattle.ada_laws.specs.Suspension.{IsSuspendedAt}
 use Rattle.ada_laws.specs.Calls.{IsOpenCallAt}
 use Rattle.std.proofs.lemmas.Option.{same_Some}
-use Rattle.ada_laws.proofs.Saying.{held_in-call}
-use Rattle.ada_laws.proofs.Queueing.{open_call_suspends, is_open_at-call}
-use Rattle.ada_laws.proofs.CallLaws.{one_meeting_for_a_joined_call}
-use Rattle.ada_laws.proofs.Parents.{same_truth}
-use Rattle.ada_laws.proofs.Searching.{any_event-found, option_map_or-true}
-use Rattle.ada_rows.specs.declared.row.Row.TheVariants.{Halting}
-use Rattle.ada_rows.specs.Rows.{step_at}
+use Rattle.ada_laws.proofs.searching.Saying.{held_in-call}
+use Rattle.ada_laws.proofs.queues.Queueing.{open_call_suspends, is_open_at-call}
+use Rattle.ada_laws.proofs.queues.CallLaws.{one_meeting_for_a_joined_call}
+use Rattle.ada_laws.proofs.within.Parents.{same_truth}
+use Rattle.ada_laws.proofs.searching.Searching.{any_event-found, option_map_or-true}
+use Rattle.ada_step_laws.specs.declared.row.Row.TheVariants.{Halting}
+use Rattle.ada_step_laws.specs.Rows.{step_at}
 use Rattle.ada_records.specs.declared.record.Record.{Record}
 use Rattle.ada_records.specs.Records.{IsRecordOf}
-use Rattle.ada_records.proofs.Callers.{joined_caller}
-use Rattle.ada_records.proofs.Existing.{positive}
-use Rattle.ada_records.proofs.Unmade.{unmade}
+use Rattle.ada_step_laws.proofs.changing.Callers.{joined_caller}
+use Rattle.ada_step_laws.proofs.changing.Existing.{positive}
+use Rattle.ada_records.proofs.recording.Unmade.{unmade}
 use Rattle.ada_view.specs.internal.Deciding.{is_met_by, is_to_halt_by, is_done_by, is_uncallable_by, is_queued_by}
 use Rattle.ada_view.proofs.Pending.{held_there, pending_told}
 
@@ -95,11 +95,6 @@ met_told journal task kept lawful right = same_truth (is_met_by kept) (is_caller
         let (d, opened_calls, opened) = is_open_at-call journal p e stands joined.0 in
         let same : d.by ≡ task = ap (λ (x : Call). x.by) (same_Some d c (sym opened_calls ∙ calls)) ∙ eqb-true c.by task by in
         met_by journal d p kept lawful (subst (λ (u : ℕ). IsRecordOf journal u kept) (sym same) right) opened joined.1
-
-halting_bits : (a e m : Bool) (step : Event) (o : Option Event) → (a ≡ true → o ≡ then_some (a && not e && not m) step) → (a ≡ false → o ≡ None)
-    → o ≡ then_some (a && not e && not m) step
-halting_bits true e m step o known unknown = known refl
-halting_bits false e m step o known unknown = unknown refl
 
 -- a task is halted where its record says so
 pub halts_told : (journal : List Event) (task : ℕ) (kept : Record) → IsLawful journal → IsRecordOf journal task kept

@@ -18,14 +18,14 @@ use Rattle.ada_events.specs.Masters.{depends_on}
 use Rattle.ada_events.specs.Phases.{is_terminated, lists_task}
 use Rattle.ada_events.specs.Nests.{nest}
 use Rattle.ada_events.specs.Lawful.{IsLawful}
-use Rattle.ada_laws.proofs.Searching.{option_map-some}
-use Rattle.ada_laws.proofs.Parents.{tasks_depend_by_parents}
+use Rattle.ada_laws.proofs.searching.Searching.{option_map-some}
+use Rattle.ada_laws.proofs.within.Parents.{tasks_depend_by_parents}
 use Rattle.ada_records.specs.Records.{is_hit}
 use Rattle.ada_records.specs.Holders.{IsHeld}
 use Rattle.ada_tables.specs.Dependents.{holds}
-use Rattle.ada_records.proofs.Enclosing.{reaches_held}
-use Rattle.ada_records.proofs.LiveHolders.{masters_are_held}
-use Rattle.ada_records.proofs.Owners.{block_in_nest}
+use Rattle.ada_records.proofs.holding.Enclosing.{reaches_held}
+use Rattle.ada_records.proofs.holding.LiveHolders.{masters_are_held}
+use Rattle.ada_records.proofs.holding.Owners.{block_in_nest}
 use Rattle.ada_view.specs.internal.Hitting.{TellsOfLive, hits_bodies}
 
 any_same : (one other : TaskNo → Bool) (tasks : List TaskNo) → ((t : TaskNo) → one t ≡ other t) → list_any one tasks ≡ list_any other tasks

@@ -18,14 +18,14 @@ use Rattle.ada_events.specs.Nests.{nest, is_left}
 use Rattle.ada_events.specs.Termination.{all_terminated, is_complete_block, is_complete, is_abandoned}
 use Rattle.ada_events.specs.Forced.{task_no, is_to_go}
 use Rattle.ada_events.specs.Lawful.{IsLawful}
-use Rattle.ada_laws.proofs.Framing.{IsBlockOf}
-use Rattle.ada_laws.proofs.Searching.{option_map_or-true}
-use Rattle.ada_rows.specs.declared.row.Row.TheVariants.{Terminating}
-use Rattle.ada_rows.specs.Rows.{step_at}
-use Rattle.ada_agenda.proofs.Completing.{unclosed_unleft}
-use Rattle.ada_agenda.proofs.Places.{closer_owns}
+use Rattle.ada_laws.proofs.within.Framing.{IsBlockOf}
+use Rattle.ada_laws.proofs.searching.Searching.{option_map_or-true}
+use Rattle.ada_step_laws.specs.declared.row.Row.TheVariants.{Terminating}
+use Rattle.ada_step_laws.specs.Rows.{step_at}
+use Rattle.ada_step_laws.proofs.newly.Completing.{unclosed_unleft}
+use Rattle.ada_step_laws.proofs.newly.Places.{closer_owns}
 use Rattle.ada_tables.specs.Dependents.{has_block}
-use Rattle.ada_records.proofs.Owners.{nest_has_block}
+use Rattle.ada_records.proofs.holding.Owners.{nest_has_block}
 use Rattle.ada_view.specs.internal.Ending.{closes}
 use Rattle.ada_view.proofs.Closing.{any_found}
 

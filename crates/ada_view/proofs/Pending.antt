@@ -10,9 +10,9 @@ use Rattle.ada_events.specs.Phases.{has_ended, is_released}
 use Rattle.ada_events.specs.Calls.{is_pending}
 use Rattle.ada_events.specs.Lawful.{IsLawful}
 use Rattle.ada_laws.specs.Suspension.{IsSuspendedAt}
-use Rattle.ada_laws.proofs.Suspending.{is_suspended-from, suspended_once}
-use Rattle.ada_records.specs.Records.{IsHeldAt}
-use Rattle.ada_records.proofs.Existing.{positive}
+use Rattle.ada_laws.proofs.held.Suspending.{is_suspended-from, suspended_once}
+use Rattle.ada_step_laws.proofs.changing.Existing.{positive}
+use Rattle.ada_step_laws.specs.Held.{IsHeldAt}
 
 -- a task that is suspended at a position is held there
 pub held_there : (journal : List Event) (task kept at : ℕ) → IsLawful journal → IsHeldAt journal task kept → IsSuspendedAt journal task at → kept ≡ at

@@ -14,14 +14,14 @@ use Rattle.ada_events.specs.Refusals.{lacks_family, is_outside}
 use Rattle.ada_events.specs.Says.{Creation, creation_in}
 use Rattle.ada_events.specs.Slots.{number_within, slot_made, slot_of, count_at}
 use Rattle.ada_events.specs.Tasks.{task_count, families_of}
-use Rattle.ada_laws.proofs.SlotPlaces.{no_slot, entries_stand_at_their_slots, declared_entries_have_slots}
+use Rattle.ada_laws.proofs.entries.SlotPlaces.{no_slot, entries_stand_at_their_slots, declared_entries_have_slots}
 use Rattle.ada_tables.specs.Dependents.{Facts, task_at}
 use Rattle.ada_tables.specs.Queues.{queue_at}
 use Rattle.ada_tables.specs.Tables.{TableState, slot_at, slots_before, declared, HasEntry}
 use Rattle.ada_tables.specs.Standing.{StandFor}
-use Rattle.ada_records.proofs.Entries.{families_stay}
-use Rattle.ada_records.proofs.SlotsApart.{HaveFamilies, slots_counted, slots_held, slot_found, number_found, main_families, same_tasks, new_families}
-use Rattle.ada_records.proofs.SlotsApart.{one_more_task}
+use Rattle.ada_records.proofs.following.Entries.{families_stay}
+use Rattle.ada_records.proofs.following.SlotsApart.{HaveFamilies, slots_counted, slots_held, slot_found, number_found, main_families, same_tasks, new_families}
+use Rattle.ada_records.proofs.following.SlotsApart.{one_more_task}
 use Rattle.ada_view.proofs.Counting.{length_told}
 
 -- the slot of a task's entry, by the slots before it and the task's families

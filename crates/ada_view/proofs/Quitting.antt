@@ -12,8 +12,8 @@ use Rattle.ada_events.specs.Masters.{depends_on}
 use Rattle.ada_events.specs.Phases.{is_completed, is_terminated}
 use Rattle.ada_events.specs.Termination.{all_terminated, is_complete, is_ready_to_quit}
 use Rattle.ada_events.specs.Forced.{task_no, is_to_quit}
-use Rattle.ada_rows.specs.declared.row.Row.TheVariants.{QuittingBody}
-use Rattle.ada_rows.specs.Rows.{step_at}
+use Rattle.ada_step_laws.specs.declared.row.Row.TheVariants.{QuittingBody}
+use Rattle.ada_step_laws.specs.Rows.{step_at}
 use Rattle.ada_tables.specs.Dependents.{live_dependents}
 use Rattle.ada_tables.specs.Tables.{TableState, unready_dependents, ready_dependents}
 use Rattle.ada_tables.proofs.Readiness.{ready_all}

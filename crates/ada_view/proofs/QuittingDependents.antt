@@ -10,9 +10,9 @@ use Rattle.ada_events.specs.Phases.{is_terminated, has_ended}
 use Rattle.ada_events.specs.Termination.{is_at_open_terminate}
 use Rattle.ada_events.specs.Forced.{is_to_quit}
 use Rattle.ada_events.specs.Lawful.{IsLawful}
-use Rattle.ada_agenda.proofs.Depending.{quits_ready}
-use Rattle.ada_agenda.proofs.Unstarted.{quit_quits}
-use Rattle.ada_agenda.proofs.Waiting.{ready_parts}
+use Rattle.ada_step_laws.proofs.newly.Depending.{quits_ready}
+use Rattle.ada_step_laws.proofs.newly.Unstarted.{quit_quits}
+use Rattle.ada_step_laws.proofs.newly.Waiting.{ready_parts}
 
 -- a live task that isn't at an open terminate alternative doesn't
 pub elsewhere_apart : (journal : List Event) (task : ℕ) (m : Master) → is_to_quit journal m ≡ true → is_terminated journal task ≡ false

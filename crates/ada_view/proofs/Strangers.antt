@@ -3,8 +3,8 @@ use Rattle.std.proofs.Common.{◌≡◌, ℕ, ◌≤◌, None, List, refl}
 use Rattle.std.proofs.lemmas.Bool.{le-ltb}
 use Rattle.ada_events.specs.declared.event.Event.{Event}
 use Rattle.ada_events.specs.Tasks.{task_count}
-use Rattle.ada_rows.specs.declared.row.Row.TheVariants.{Halting, Terminating, QuittingBody}
-use Rattle.ada_rows.specs.Rows.{step_at}
+use Rattle.ada_step_laws.specs.declared.row.Row.TheVariants.{Halting, Terminating, QuittingBody}
+use Rattle.ada_step_laws.specs.Rows.{step_at}
 
 pub no_halt : (journal : List Event) (key : ℕ) → task_count journal ≤ key → None ≡ step_at journal Halting key
 unfolding step_at

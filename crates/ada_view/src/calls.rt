@@ -8,9 +8,9 @@ ghost use Rattle.ada_events.specs.Says.{held_in};
 ghost use Rattle.ada_events.specs.Phases.{has_ended, is_abnormal};
 ghost use Rattle.ada_events.specs.Search.{event_at};
 ghost use Rattle.ada_events.specs.declared.event.Event.TheVariants as step;
-ghost use Rattle.ada_rows.specs.Rows.{step_at};
-ghost use Rattle.ada_rows.specs.declared.row.Row.TheVariants as row;
-ghost use Rattle.ada_agenda.specs.Kinds.{is_immediate_call};
+ghost use Rattle.ada_step_laws.specs.Rows.{step_at};
+ghost use Rattle.ada_step_laws.specs.declared.row.Row.TheVariants as row;
+ghost use Rattle.ada_step_laws.specs.Kinds.{is_immediate_call};
 ghost use Rattle.ada_view.specs.internal.Deciding.{is_to_halt_by, is_uncallable_by as lost, is_queued_by as queued};
 
 use crate::view::View;
@@ -101,7 +101,7 @@ impl<'a> View<'a> {
 
     /// Whether there is an open call at the position that fails (9.5, 9.7.2, 9.7.3, 9.10): the task called is
     /// completed, terminated or abnormal.
-    #[tactic(auto, unfolding(ada_rows::specs::Rows::step_at))]
+    #[tactic(auto, unfolding(ada_step_laws::specs::Rows::step_at))]
     pub fn fails(&self, at: u32) -> bool
         ensures { step_at self.now row.Failing at ≡ then_some result (step.Failed at) }
     {
@@ -142,7 +142,7 @@ impl<'a> View<'a> {
 
     /// Whether there is a queued call at the position that is cancelled (9.7.2, 9.7.3): it is conditional, or its
     /// moment has come.
-    #[tactic(auto, unfolding(ada_rows::specs::Rows::step_at))]
+    #[tactic(auto, unfolding(ada_step_laws::specs::Rows::step_at))]
     pub fn cancels(&self, at: u32) -> bool
         ensures { step_at self.now row.Cancelling at ≡ then_some result (step.Cancelled at) }
     {

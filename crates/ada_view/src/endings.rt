@@ -11,8 +11,8 @@ ghost use Rattle.ada_events.specs.Search.{event_at, is_some_and};
 ghost use Rattle.ada_events.specs.Termination as ending;
 ghost use Rattle.ada_events.specs.declared.event.Event.TheVariants as step;
 ghost use Rattle.ada_events.specs.declared.names.Master.TheVariants.{Body as BodyMaster, Block as BlockMaster};
-ghost use Rattle.ada_rows.specs.Rows.{at_event, step_at};
-ghost use Rattle.ada_rows.specs.declared.row.Row.TheVariants as row;
+ghost use Rattle.ada_step_laws.specs.Rows.{at_event, step_at};
+ghost use Rattle.ada_step_laws.specs.declared.row.Row.TheVariants as row;
 ghost use Rattle.ada_events.specs.Tasks.{task_count};
 ghost use Rattle.ada_view.specs.internal.Ending.{IsOfOpener, closes_at};
 ghost use Rattle.ada_view.specs.Views.{IsHeldBySome};
@@ -55,7 +55,7 @@ impl<'a> View<'a> {
     }
 
     /// Whether there is a close at the position whose block is left (9.4): every dependent of the block is terminated.
-    #[tactic(auto, unfolding(ada_rows::specs::Rows::step_at))]
+    #[tactic(auto, unfolding(ada_step_laws::specs::Rows::step_at))]
     pub fn leaves(&self, at: u32) -> bool
         ensures { step_at self.now row.Leaving at ≡ then_some result (step.Left at) }
     {
@@ -145,7 +145,7 @@ impl<'a> View<'a> {
     }
 
     /// Whether a block was opened at the position of which all dependents terminate together (9.4).
-    #[tactic(auto, unfolding(ada_rows::specs::Rows::step_at))]
+    #[tactic(auto, unfolding(ada_step_laws::specs::Rows::step_at))]
     pub fn quits_block(&self, at: u32) -> bool
         ensures { step_at self.now row.QuittingBlock at
             ≡ then_some result (step.Quit (BlockMaster at)) }

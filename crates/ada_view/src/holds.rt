@@ -9,8 +9,8 @@ ghost use Rattle.ada_events.specs.Phases.{has_failed};
 ghost use Rattle.ada_events.specs.Search.{event_at};
 ghost use Rattle.ada_events.specs.declared.event.Event.TheVariants as step;
 ghost use Rattle.ada_events.specs.declared.names.TaskNo.{TaskNo as Number};
-ghost use Rattle.ada_rows.specs.Rows.{at_event, step_at};
-ghost use Rattle.ada_rows.specs.declared.row.Row.TheVariants as row;
+ghost use Rattle.ada_step_laws.specs.Rows.{at_event, step_at};
+ghost use Rattle.ada_step_laws.specs.declared.row.Row.TheVariants as row;
 ghost use Rattle.ada_view.specs.internal.Deciding.{is_done_by as done};
 
 use crate::view::View;
@@ -41,7 +41,7 @@ impl<'a> View<'a> {
     }
 
     /// Whether there is a delay at the position that ends (9.6): its moment has come.
-    #[tactic(auto, unfolding(ada_rows::specs::Rows::step_at))]
+    #[tactic(auto, unfolding(ada_step_laws::specs::Rows::step_at))]
     pub fn wakes(&self, at: u32) -> bool
         ensures { step_at self.now row.Waking at ≡ then_some result (step.Woken at) }
     {
@@ -111,7 +111,7 @@ impl<'a> View<'a> {
 
     /// How the activation that was started at the position ends, if it does (9.3): whether each of its tasks was
     /// activated with no exception.
-    #[tactic(auto, unfolding(ada_rows::specs::Rows::step_at))]
+    #[tactic(auto, unfolding(ada_step_laws::specs::Rows::step_at))]
     pub fn activates(&self, at: u32) -> Option<bool>
         ensures { step_at self.now row.Activating at ≡ option_map (step.Activated at) result }
     {

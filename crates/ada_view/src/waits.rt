@@ -8,8 +8,8 @@ ghost use Rattle.ada_events.specs.Search.{event_at};
 ghost use Rattle.ada_events.specs.Waits as waits;
 ghost use Rattle.ada_events.specs.declared.event.Event.TheVariants as step;
 ghost use Rattle.ada_events.specs.declared.limits.TheConstants.{MOST_CHOICES};
-ghost use Rattle.ada_rows.specs.Rows.{at_event, step_at};
-ghost use Rattle.ada_rows.specs.declared.row.Row.TheVariants as row;
+ghost use Rattle.ada_step_laws.specs.Rows.{at_event, step_at};
+ghost use Rattle.ada_step_laws.specs.declared.row.Row.TheVariants as row;
 ghost use Rattle.ada_view.specs.internal.Choosing.{IsOfTask, AreOfTask};
 
 use crate::view::View;
@@ -123,7 +123,7 @@ impl<'a> View<'a> {
 
     /// The call that the wait at the position takes, if there is one (9.5, 9.7.1): the one at the front of the queue of
     /// the open choice that its pick chooses among those with a call.
-    #[tactic(auto, unfolding(ada_rows::specs::Rows::step_at))]
+    #[tactic(auto, unfolding(ada_step_laws::specs::Rows::step_at))]
     pub fn meets(&self, at: u32) -> Option<u32>
         ensures { step_at self.now row.Meeting at ≡ option_map (λ call. step.Met call at) result }
     {
@@ -194,7 +194,7 @@ impl<'a> View<'a> {
 
     /// The way in which the wait at the position ends otherwise than by a call, if it does (9.7.1): by its else part,
     /// by a delay alternative whose moment has come, or by PROGRAM_ERROR where no alternative is open.
-    #[tactic(auto, unfolding(ada_rows::specs::Rows::step_at))]
+    #[tactic(auto, unfolding(ada_step_laws::specs::Rows::step_at))]
     pub fn passes(&self, at: u32) -> Option<Way>
         ensures { step_at self.now row.Passing at ≡ option_map (step.Passed at) result }
     {

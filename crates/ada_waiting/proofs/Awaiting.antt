@@ -21,13 +21,13 @@ use Rattle.ada_events.specs.Calls.{is_met}
 use Rattle.ada_events.specs.Forced.{task_no, is_to_go}
 use Rattle.ada_events.specs.Lawful.{IsSettled}
 use Rattle.ada_laws.specs.Suspension.{IsSuspendedAt}
-use Rattle.ada_laws.proofs.Searching.{three_parts, option_map_or-true, option_and_then-some}
-use Rattle.ada_laws.proofs.Saying.{held_in-call}
-use Rattle.ada_laws.proofs.Growing.{has_ended-before}
-use Rattle.ada_laws.proofs.CallLaws.{calls_that_suspend_are_open, no_open_call_to_a_finished_task}
-use Rattle.ada_records.proofs.Entries.{creation_exists}
-use Rattle.ada_rows.specs.declared.row.Row.TheVariants.{Terminating}
-use Rattle.ada_rows.specs.Rows.{step_at}
+use Rattle.ada_laws.proofs.searching.Searching.{three_parts, option_map_or-true, option_and_then-some}
+use Rattle.ada_laws.proofs.searching.Saying.{held_in-call}
+use Rattle.ada_laws.proofs.searching.Growing.{has_ended-before}
+use Rattle.ada_laws.proofs.queues.CallLaws.{calls_that_suspend_are_open, no_open_call_to_a_finished_task}
+use Rattle.ada_records.proofs.following.Entries.{creation_exists}
+use Rattle.ada_step_laws.specs.declared.row.Row.TheVariants.{Terminating}
+use Rattle.ada_step_laws.specs.Rows.{step_at}
 use Rattle.ada_waiting.specs.declared.reasons.Reason.{Reason}
 use Rattle.ada_waiting.specs.declared.reasons.Reason.TheVariants as reason
 use Rattle.ada_waiting.specs.Reasons.{suspended_at, reason_at, reason_by, held_reason, reason_of}

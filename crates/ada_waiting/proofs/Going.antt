@@ -1,7 +1,7 @@
 -- A task that runs now ran before the last request, or the request's event or a step let it go on.
-use Rattle.std.proofs.Common.{◌≡◌, ℕ, ◌≤◌, ◌<◌, Bool, true, false, not, ◌&&◌, ◌||◌, ◌⊎◌, Option, Some, None, List, [], ◌∷◌}
+use Rattle.std.proofs.Common.{◌≡◌, ℕ, Bool, true, false, not, ◌&&◌, ◌||◌, ◌⊎◌, Some, None, List, [], ◌∷◌}
 use Rattle.std.proofs.Common.{refl, sym, ap, ◌∙◌, subst, arith, inl, inr}
-use Rattle.std.specs.Prelude.{◌==◌, if◌then◌else◌}
+use Rattle.std.specs.Prelude.{◌==◌}
 use Rattle.std.specs.Bool.{then_some}
 use Rattle.std.specs.List.{list_any}
 use Rattle.std.specs.Option.{option_and_then}
@@ -21,15 +21,16 @@ use Rattle.ada_events.specs.Phases.{lists_task, has_start, is_released, has_ende
 use Rattle.ada_events.specs.Refusals.{refusal, may_activate, has_double_task, is_not_your_task}
 use Rattle.ada_events.specs.Lawful.{IsLawful, MayFollow}
 use Rattle.ada_laws.specs.Suspension.{IsSuspendedAt}
-use Rattle.ada_laws.proofs.Accepting.{is_accepted, asker_runs, running_started}
-use Rattle.ada_laws.proofs.Depending.{started_named, created_positive}
-use Rattle.ada_laws.proofs.Growing.{has_ended-before, is_released-more}
-use Rattle.ada_laws.proofs.Releasing.{follows_unreleased}
-use Rattle.ada_laws.proofs.Saying.{held_in-asked}
-use Rattle.ada_laws.proofs.Searching.{three_parts, event_at-older, event_at-cases, is_number-some, is_number-from, option_and_then-some, option_map_or-true}
-use Rattle.ada_laws.proofs.Stepping.{forced-step}
-use Rattle.ada_laws.proofs.Suspending.{is_suspended-at, is_suspended-from}
-use Rattle.ada_records.proofs.Unmade.{unmade}
+use Rattle.ada_laws.proofs.asking.Accepting.{is_accepted, asker_runs, running_started}
+use Rattle.ada_laws.proofs.within.Depending.{started_named, created_positive}
+use Rattle.ada_laws.proofs.searching.Growing.{has_ended-before, is_released-more}
+use Rattle.ada_laws.proofs.held.Releasing.{follows_unreleased}
+use Rattle.ada_laws.proofs.searching.Saying.{held_in-asked}
+use Rattle.ada_laws.proofs.searching.Searching.{three_parts, event_at-older, event_at-cases, is_number-some, is_number-from, option_and_then-some}
+use Rattle.ada_laws.proofs.searching.Searching.{option_map_or-true}
+use Rattle.ada_laws.proofs.forced.Stepping.{forced-step}
+use Rattle.ada_laws.proofs.held.Suspending.{is_suspended-at, is_suspended-from}
+use Rattle.ada_records.proofs.recording.Unmade.{unmade}
 use Rattle.ada_waiting.specs.Runnable.{is_step, before_last, began_to_run}
 use Rattle.ada_waiting.specs.internal.Going.{last_group, lets_go}
 

@@ -1,8 +1,8 @@
 -- The last request, and the steps that it forced.
-use Rattle.std.proofs.Common.{◌≡◌, ℕ, suc, ◌+◌, ◌-◌, ◌<◌, ◌≤◌, Bool, true, false, if◌then◌else◌, List, [], ◌∷◌, ◌++◌, length, reverse, take, drop, get_or}
-use Rattle.std.proofs.Common.{refl, sym, ap, ◌∙◌, subst, arith, inl, inr}
+use Rattle.std.proofs.Common.{◌≡◌, ℕ, ◌+◌, ◌-◌, ◌<◌, ◌≤◌, true, false, List, [], ◌∷◌, ◌++◌, length, reverse, take, drop, get_or}
+use Rattle.std.proofs.Common.{refl, sym, ap, ◌∙◌, arith, inl, inr}
 use Rattle.std.proofs.lemmas.Bool.{cases_Bool}
-use Rattle.std.proofs.lemmas.List.{reverse-append, reverse-reverse, length-reverse, length-append, take_at, drop_at}
+use Rattle.std.proofs.lemmas.List.{reverse-append, reverse-reverse, length-reverse, take_at, drop_at}
 use Rattle.ada_events.specs.declared.event.Event.{Event}
 use Rattle.ada_reference.proofs.Loops.{journal_more, length_journal}
 use Rattle.ada_waiting.specs.Runnable.{is_step, before_last}
@@ -55,11 +55,3 @@ last_part events n many =
     ap reverse (ap (drop n) (sym (parts (reverse events) ∙ reverse-reverse events))
     ∙ drop_at (reverse (before_last (reverse events))) (reverse (last_group (reverse events))) n (length-reverse (before_last (reverse events)) ∙ sym many))
     ∙ reverse-reverse (last_group (reverse events))
-
--- there aren't more of them than events
-pub before_within : (events : List Event) (n : ℕ) → n ≡ length (before_last (reverse events)) → n ≤ length events
-before_within events n many =
-    let whole = ap length (group_and_before (reverse events)) in
-    let sum = length-append (last_group (reverse events)) (before_last (reverse events)) in
-    let all = length-reverse events in
-    omega (arith, many, whole, sum, all)

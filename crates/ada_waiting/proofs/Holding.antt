@@ -11,9 +11,9 @@ use Rattle.ada_events.specs.Phases.{has_ended, is_released}
 use Rattle.ada_events.specs.Lawful.{IsLawful}
 use Rattle.ada_events.specs.Outcomes.{last_given}
 use Rattle.ada_laws.specs.Suspension.{IsSuspendedAt}
-use Rattle.ada_laws.proofs.Searching.{option_or-some, then_some-some, option_and_then-some, is_number-some, is_number-from}
-use Rattle.ada_laws.proofs.Searching.{event_at-within, event_at-cases, event_at-newest, event_at-older}
-use Rattle.ada_laws.proofs.Suspending.{suspended_latest}
+use Rattle.ada_laws.proofs.searching.Searching.{option_or-some, then_some-some, option_and_then-some, is_number-some, is_number-from}
+use Rattle.ada_laws.proofs.searching.Searching.{event_at-within, event_at-cases, event_at-newest, event_at-older}
+use Rattle.ada_laws.proofs.held.Suspending.{suspended_latest}
 use Rattle.ada_waiting.specs.Reasons.{latest_hold, suspended_at}
 use Rattle.ada_waiting.specs.Laws.{SuspendedThere}
 

@@ -1,26 +1,25 @@
 -- Why a task doesn't go on, and until when, by its record.
-use Rattle.std.proofs.Common.{◌≡◌, ℕ, zero, suc, ◌<◌, Bool, true, false, Option, Some, None, List, [], ◌∷◌, refl, sym, ap, ◌∙◌, arith, inl, inr}
+use Rattle.std.proofs.Common.{◌≡◌, ℕ, zero, suc, ◌<◌, Bool, true, false, Some, None, List, refl, sym, arith}
 use Rattle.std.specs.Prelude.{◌==◌, if◌then◌else◌}
 use Rattle.std.specs.Option.{option_and_then, option_or}
 use Rattle.std.proofs.lemmas.Bool.{ltb-false, ne_eqb}
-use Rattle.std.proofs.lemmas.Option.{none-some}
 use Rattle.ada_events.specs.declared.event.Event.{Event}
 use Rattle.ada_events.specs.Search.{event_at}
 use Rattle.ada_events.specs.Tasks.{has_task, task_count}
-use Rattle.ada_events.specs.Phases.{is_terminated, is_completed, is_started, is_suspended}
+use Rattle.ada_events.specs.Phases.{is_suspended}
 use Rattle.ada_events.specs.Calls.{is_met}
 use Rattle.ada_events.specs.Lawful.{IsLawful}
 use Rattle.ada_laws.specs.Suspension.{IsSuspendedAt}
-use Rattle.ada_laws.proofs.Suspending.{is_suspended-at, suspended_exists}
+use Rattle.ada_laws.proofs.held.Suspending.{is_suspended-at, suspended_exists}
 use Rattle.ada_records.specs.declared.record.Record.{Record}
 use Rattle.ada_records.specs.Records.{IsRecordOf}
-use Rattle.ada_records.proofs.Existing.{positive}
-use Rattle.ada_rows.proofs.Keys.{none_from}
+use Rattle.ada_step_laws.proofs.changing.Existing.{positive}
+use Rattle.ada_step_laws.proofs.rows.Keys.{none_from}
 use Rattle.ada_waiting.specs.declared.reasons.Reason.{Reason}
 use Rattle.ada_waiting.specs.declared.reasons.Reason.TheVariants as reason
-use Rattle.ada_waiting.specs.Reasons.{reason_by, reason_at, held_reason, reason_of}
+use Rattle.ada_waiting.specs.Reasons.{reason_by, held_reason, reason_of}
 use Rattle.ada_waiting.specs.Standstill.{due_by, due_of}
-use Rattle.ada_waiting.specs.internal.Kept.{live_reason, kept_reason, kept_due}
+use Rattle.ada_waiting.specs.internal.Kept.{kept_reason, kept_due}
 use Rattle.ada_waiting.proofs.Holding.{suspended_at_is}
 use Rattle.ada_waiting.proofs.Moments.{due_of_suspended, not_due}
 use Rattle.ada_waiting.proofs.Reasoning.{reason_of_hold, free_reason}

@@ -1,9 +1,7 @@
 -- The first moment for which any task waits.
-use Rattle.std.proofs.Common.{◌+◌, ◌≡◌, ℕ, zero, suc, ◌<◌, ℤ, Bool, true, false, not, ◌||◌, ◌⊎◌}
-use Rattle.std.proofs.Common.{Option, None, Some, List, ◌∷◌, refl, sym, ap, ◌∙◌, subst, arith, inl, inr}
-use Rattle.std.specs.Prelude.{int_le, int_lt, if◌then◌else◌}
+use Rattle.std.proofs.Common.{◌+◌, ◌≡◌, ℕ, zero, suc, ◌<◌, ℤ, Bool, true, false, not, ◌||◌}
+use Rattle.std.proofs.Common.{None, Some, List, ◌∷◌, refl, sym, ap, ◌∙◌, subst, arith, inl, inr}
 use Rattle.std.proofs.lemmas.Bool.{cases_eq, true≢false, and_parts, not-true}
-use Rattle.std.proofs.lemmas.Int.{ints}
 use Rattle.std.proofs.lemmas.Option.{none-some}
 use Rattle.ada_events.specs.declared.event.Event.{Event}
 use Rattle.ada_events.specs.declared.event.Event.TheVariants as event
@@ -16,16 +14,17 @@ use Rattle.ada_events.specs.Calls.{is_met, is_open_at, is_queued_at}
 use Rattle.ada_events.specs.Waits.{is_due, earlier}
 use Rattle.ada_events.specs.Forced.{is_conditional, is_to_cancel}
 use Rattle.ada_events.specs.Lawful.{IsLawful, IsSettled}
+use Rattle.ada_events.proofs.Earlier.{one_comes}
 use Rattle.ada_laws.specs.Suspension.{IsSuspendedAt}
-use Rattle.ada_laws.proofs.Searching.{then_some-some, option_and_then-some}
-use Rattle.ada_laws.proofs.Suspending.{is_suspended-from, suspended_exists}
-use Rattle.ada_rows.specs.declared.row.Row.{Row}
-use Rattle.ada_rows.specs.declared.row.Row.TheVariants.{Cancelling}
-use Rattle.ada_rows.specs.Rows.{at_event, step_at}
-use Rattle.ada_rows.proofs.Keys.{none_from, forced_nothing}
-use Rattle.ada_agenda.specs.Kinds.{due_in, due_row, OfTick}
-use Rattle.ada_agenda.specs.Kinds.OfTick.{comes_due}
-use Rattle.ada_agenda.proofs.Adding.{agendas_grow}
+use Rattle.ada_laws.proofs.searching.Searching.{then_some-some, option_and_then-some}
+use Rattle.ada_laws.proofs.held.Suspending.{is_suspended-from, suspended_exists}
+use Rattle.ada_step_laws.specs.declared.row.Row.{Row}
+use Rattle.ada_step_laws.specs.declared.row.Row.TheVariants.{Cancelling}
+use Rattle.ada_step_laws.specs.Rows.{at_event, step_at}
+use Rattle.ada_step_laws.proofs.rows.Keys.{none_from, forced_nothing}
+use Rattle.ada_step_laws.specs.Kinds.{due_in, due_row, OfTick}
+use Rattle.ada_step_laws.specs.Kinds.OfTick.{comes_due}
+use Rattle.ada_step_laws.proofs.newly.Adding.{agendas_grow}
 use Rattle.ada_waiting.specs.Reasons.{suspended_at}
 use Rattle.ada_waiting.specs.Standstill.{due_at, due_by, due_of, first_due_below, first_due}
 use Rattle.ada_waiting.proofs.Holding.{suspended_at_is, suspended_at_from}
@@ -42,21 +41,6 @@ unfolding due_of
 not_due journal task free =
     rw (none_from (suspended_at journal task) (λ p is.
     true≢false (sym (is_suspended-from journal task p (suspended_at_from journal task p is)) ∙ free))) refl
-
-lesser : (a b due : ℤ) (less : Bool) → int_lt b a ≡ less → (int_le a due ≡ true) ⊎ (int_le b due ≡ true) → int_le (if less then b else a) due ≡ true
-lesser a b due true is (inl first) = grind (arith, ints)
-lesser a b due true is (inr second) = second
-lesser a b due false is (inl first) = first
-lesser a b due false is (inr second) = grind (arith, ints)
-
--- the earlier of two has come where one has
-one_comes : (a b : Option ℤ) (now : ℤ) → (is_due now a ≡ true) ⊎ (is_due now b ≡ true) → is_due now (earlier a b) ≡ true
-unfolding earlier
-one_comes None b now (inl first) = absurd (true≢false (sym first))
-one_comes None b now (inr second) = second
-one_comes (Some m) None now (inl first) = first
-one_comes (Some m) None now (inr second) = absurd (true≢false (sym second))
-one_comes (Some m) (Some n) now comes = lesser m n now (int_lt n m) refl comes
 
 pub first_due_below_more : (journal : List Event) (n : ℕ) → first_due_below journal (n + 1) ≡ earlier (first_due_below journal n) (due_of journal n)
 unfolding first_due_below

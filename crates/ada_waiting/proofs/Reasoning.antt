@@ -11,9 +11,9 @@ use Rattle.ada_events.specs.Says.{held_in}
 use Rattle.ada_events.specs.Phases.{is_completed, is_terminated, has_ended, is_suspended, is_started, is_running}
 use Rattle.ada_events.specs.Calls.{is_met}
 use Rattle.ada_events.specs.Lawful.{IsLawful}
-use Rattle.ada_laws.proofs.Searching.{three_parts}
-use Rattle.ada_laws.proofs.Suspending.{is_suspended-at, is_suspended-from}
-use Rattle.ada_rows.proofs.Keys.{none_from}
+use Rattle.ada_laws.proofs.searching.Searching.{three_parts}
+use Rattle.ada_laws.proofs.held.Suspending.{is_suspended-at, is_suspended-from}
+use Rattle.ada_step_laws.proofs.rows.Keys.{none_from}
 use Rattle.ada_waiting.specs.declared.reasons.Reason.{Reason}
 use Rattle.ada_waiting.specs.declared.reasons.Reason.TheVariants as reason
 use Rattle.ada_waiting.specs.Reasons.{reason_at, reason_by, held_reason, reason_of, suspended_at}

@@ -10,12 +10,12 @@ use Rattle.ada_events.specs.declared.event.Event.TheVariants.{Halted}
 use Rattle.ada_events.specs.Search.{first_given, first_below, event_at}
 use Rattle.ada_events.specs.Tasks.{task_count}
 use Rattle.ada_events.specs.Forced.{task_no, halted, failed, met, cancelled, passed, woken, activated, gone, quit_body, quit_block, left, first_of_all, forced}
-use Rattle.ada_laws.proofs.Searching.{option_or-none, option_and_then-some, event_at-cases}
-use Rattle.ada_rows.specs.declared.row.Row.{Row}
-use Rattle.ada_rows.specs.declared.row.Row.TheVariants.{Halting, Failing, Meeting, Cancelling, Passing, Waking, Activating, Terminating, QuittingBody}
-use Rattle.ada_rows.specs.declared.row.Row.TheVariants.{QuittingBlock, Leaving}
-use Rattle.ada_rows.specs.Rows.{at_event, of_task, step_at, IsAgenda}
-use Rattle.ada_rows.proofs.Keys.{of_found, row_step}
+use Rattle.ada_laws.proofs.searching.Searching.{option_or-none, option_and_then-some, event_at-cases}
+use Rattle.ada_step_laws.specs.declared.row.Row.{Row}
+use Rattle.ada_step_laws.specs.declared.row.Row.TheVariants.{Halting, Failing, Meeting, Cancelling, Passing, Waking, Activating, Terminating, QuittingBody}
+use Rattle.ada_step_laws.specs.declared.row.Row.TheVariants.{QuittingBlock, Leaving}
+use Rattle.ada_step_laws.specs.Rows.{at_event, of_task, step_at, IsAgenda}
+use Rattle.ada_step_laws.proofs.rows.Keys.{of_found, row_step}
 
 none_given : (give : ℕ → Event → Option Event) (journal : List Event) (p : ℕ) (e : Event) → first_given give journal ≡ None → event_at journal p ≡ Some e
     → give p e ≡ None

@@ -17,9 +17,9 @@ use Rattle.ada_events.specs.Waits.{is_due}
 use Rattle.ada_events.specs.Refusals.{refusal}
 use Rattle.ada_events.specs.Asks.{asker, asked_event}
 use Rattle.ada_events.specs.Lawful.{IsLawful, IsSettled}
-use Rattle.ada_laws.proofs.Searching.{event_at-older, all_below-holds}
-use Rattle.ada_laws.proofs.Accepting.{asker_runs, asker_exists}
-use Rattle.ada_laws.proofs.Suspending.{is_suspended-at, is_suspended-from, suspended_before}
+use Rattle.ada_laws.proofs.searching.Searching.{event_at-older, all_below-holds}
+use Rattle.ada_laws.proofs.asking.Accepting.{asker_runs, asker_exists}
+use Rattle.ada_laws.proofs.held.Suspending.{is_suspended-at, is_suspended-from, suspended_before}
 use Rattle.ada_waiting.specs.Standstill.{due_of, first_due_below, first_due, nobody_runs, by_first_due, verdict_of}
 use Rattle.ada_waiting.specs.declared.standstill.Verdict.TheVariants.{Finished, GoesOn, Stuck}
 use Rattle.ada_waiting.specs.Laws.{OnlyTicksAreAccepted, IsTick, StuckForEver}

@@ -24,13 +24,13 @@ use Rattle.ada_events.specs.Waits.{is_due, is_due_exactly, earlier, least_due, h
 use Rattle.ada_events.specs.Forced.{is_conditional, is_to_cancel, is_to_wake, passed_at}
 use Rattle.ada_events.specs.Lawful.{IsLawful, IsSettled}
 use Rattle.ada_laws.specs.Suspension.{IsSuspendedAt}
-use Rattle.ada_laws.proofs.Numbering.{numbers_from-none}
-use Rattle.ada_laws.proofs.Searching.{event_at-older}
-use Rattle.ada_laws.proofs.Suspending.{is_suspended-at}
-use Rattle.ada_rows.specs.declared.row.Row.{Row}
-use Rattle.ada_rows.specs.declared.row.Row.TheVariants.{Cancelling, Passing, Waking}
-use Rattle.ada_rows.specs.Rows.{step_at}
-use Rattle.ada_agenda.specs.Kinds.{tail_due}
+use Rattle.ada_laws.proofs.searching.Numbering.{numbers_from-none}
+use Rattle.ada_laws.proofs.searching.Searching.{event_at-older}
+use Rattle.ada_laws.proofs.held.Suspending.{is_suspended-at}
+use Rattle.ada_step_laws.specs.declared.row.Row.{Row}
+use Rattle.ada_step_laws.specs.declared.row.Row.TheVariants.{Cancelling, Passing, Waking}
+use Rattle.ada_step_laws.specs.Rows.{step_at}
+use Rattle.ada_step_laws.specs.Kinds.{tail_due}
 use Rattle.ada_waiting.specs.Standstill.{due_at, due_by, due_of, first_due_below, first_due}
 use Rattle.ada_waiting.specs.Laws.{TicksForceFromTheFirstMoment}
 use Rattle.ada_waiting.proofs.Settling.{settled_gives_nothing}

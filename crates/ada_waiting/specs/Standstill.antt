@@ -8,7 +8,7 @@ use Rattle.ada_events.specs.Tasks.{task_count}
 use Rattle.ada_events.specs.Phases.{is_running, is_terminated}
 use Rattle.ada_events.specs.Calls.{is_met}
 use Rattle.ada_events.specs.Waits.{earlier}
-use Rattle.ada_agenda.specs.Kinds.{tail_due}
+use Rattle.ada_step_laws.specs.Kinds.{tail_due}
 use Rattle.ada_waiting.specs.declared.standstill.Verdict.{Verdict}
 use Rattle.ada_waiting.specs.declared.standstill.Verdict.TheVariants.{Finished, GoesOn, WaitsForTick, Stuck}
 use Rattle.ada_waiting.specs.Reasons.{suspended_at}

@@ -1,7 +1,7 @@
 //! When nothing but a tick, or nothing at all, can let a journal go on.
 ghost use Rattle.std.specs.Prelude.{◌≡◌, ◌<◌, ◌^◌, length, reverse};
 ghost use Rattle.ada_events.specs.Lawful.{IsLawful};
-ghost use Rattle.ada_agenda.specs.Kinds as kinds;
+ghost use Rattle.ada_step_laws.specs.Kinds as kinds;
 ghost use Rattle.ada_waiting.specs.Standstill as standstill;
 
 use crate::holds::suspended_at;

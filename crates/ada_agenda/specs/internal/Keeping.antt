@@ -1,6 +1,6 @@
 -- Keys that are put into an agenda.
 use Rattle.std.specs.Prelude.{◌⊎◌, ℕ}
-use Rattle.ada_rows.specs.declared.row.Row.{Row}
+use Rattle.ada_step_laws.specs.declared.row.Row.{Row}
 
 -- these keys and those
 abbrev pub Both : (Row → ℕ → Type 0) → (Row → ℕ → Type 0) → Row → ℕ → Type 0

@@ -1,12 +1,11 @@
 //! What holds up two tasks: a call, a wait, a delay, a start or a close of each.
 
-ghost use Rattle.std.specs.Prelude.{◌≡◌, ◌<◌, ℕ, true, false, Some};
+ghost use Rattle.std.specs.Prelude.{◌≡◌, true, false, Some};
 ghost use Rattle.std.specs.List.{list_any};
 ghost use Rattle.ada_events.specs.declared.names.TaskNo.{TaskNo as Number};
 ghost use Rattle.ada_events.specs.Calls.{is_met};
 ghost use Rattle.ada_events.specs.Forced.{is_conditional, is_done_activating};
-ghost use Rattle.ada_events.specs.Phases.{has_failed, lists_task};
-ghost use Rattle.ada_events.specs.Tasks.{task_count};
+ghost use Rattle.ada_events.specs.Phases.{has_failed};
 ghost use Rattle.ada_standing.specs.Holds.{IsSameHold};
 ghost use Rattle.ada_standing.specs.Names.{renaming_of};
 ghost use Rattle.ada_standing.specs.StandsIn.{IsSameActive};

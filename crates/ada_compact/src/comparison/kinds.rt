@@ -1,10 +1,8 @@
 //! The kinds of events that names lead to, and the order of their positions.
 
 ghost use Rattle.std.specs.Prelude.{◌≡◌, IfSome, true};
-ghost use Rattle.std.specs.List.{All};
 ghost use Rattle.ada_standing.specs.Names.{renaming_of};
 ghost use Rattle.ada_standing.specs.StandsIn.{KeepsPositions};
-ghost use Rattle.ada_standing.specs.declared.renaming.Place.{Place as PlaceValue};
 ghost use Rattle.ada_compact.specs.declared.comparison.kinds.Kind.{Kind as KindValue};
 ghost use Rattle.ada_compact.specs.internal.Kinds.{AreAlikePlaces, IsAlikePlace, has_kind, is_kind_at, rises_among};
 

@@ -1,6 +1,6 @@
 //! The blocks and rendezvous that two tasks are within.
 
-ghost use Rattle.std.specs.Prelude.{◌≡◌, ◌<◌, true, Option, length};
+ghost use Rattle.std.specs.Prelude.{◌≡◌, ◌<◌, true, Option};
 ghost use Rattle.std.specs.Option.{option_and_then};
 ghost use Rattle.ada_events.specs.declared.names.Master.TheVariants.{Block as BlockMaster};
 ghost use Rattle.ada_events.specs.Tasks.{task_count};

@@ -7,10 +7,8 @@ ghost use Rattle.ada_standing.specs.StandsIn.{StandsIn, is_live};
 ghost use Rattle.ada_compact.specs.internal.Keeping.{AreTasksRight, IsKeptRight, IsStandIn, RisesBelow};
 
 use crate::comparison::Comparison;
-use crate::comparison::kinds::Kind;
 use ada_events::TaskNo;
-use ada_standing::Renaming;
-use ada_view::{View, queries};
+use ada_view::queries;
 
 impl Comparison<'_> {
     // Whether the second task stands for the first in all that matters.

@@ -1,6 +1,6 @@
 //! What must be alike of two tasks of which one stands for the other.
 
-ghost use Rattle.std.specs.Prelude.{◌≡◌, ◌<◌, true, false, [], Some, Option};
+ghost use Rattle.std.specs.Prelude.{◌≡◌, ◌<◌, true, false, Some, Option};
 ghost use Rattle.std.specs.Option.{option_and_then, option_copied, option_map};
 ghost use Rattle.ada_events.specs.declared.names.TaskNo.{TaskNo as Number};
 ghost use Rattle.ada_events.specs.Says.{creation_in};

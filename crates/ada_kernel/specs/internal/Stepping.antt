@@ -4,8 +4,8 @@ use Rattle.ada_events.specs.declared.event.Event.{Event}
 use Rattle.ada_events.specs.Forced.{forced}
 use Rattle.ada_events.specs.Journals.{Kept}
 use Rattle.ada_events.specs.Lawful.{IsLawful, IsSettled}
-use Rattle.ada_rows.specs.declared.row.Row.{Row}
-use Rattle.ada_rows.specs.Rows.{step_at}
+use Rattle.ada_step_laws.specs.declared.row.Row.{Row}
+use Rattle.ada_step_laws.specs.Rows.{step_at}
 use Rattle.ada_kernel.specs.declared.index.Index.{Index}
 use Rattle.ada_kernel.specs.internal.Indexes.{IsIndexOf}
 

@@ -12,9 +12,9 @@ use Rattle.ada_events.specs.Tasks.{task_count}
 use Rattle.ada_events.specs.Phases.{lists_task, is_elaborated, has_failed, has_ended}
 use Rattle.ada_events.specs.Calls.{is_pending}
 use Rattle.ada_events.specs.Forced.{task_no, is_done_activating, activated_at, activated}
-use Rattle.ada_laws.proofs.Searching.{if_some}
-use Rattle.ada_laws.proofs.Saying.{held_in-start}
-use Rattle.ada_laws.proofs.Parents.{same_truth}
+use Rattle.ada_laws.proofs.searching.Searching.{if_some}
+use Rattle.ada_laws.proofs.searching.Saying.{held_in-start}
+use Rattle.ada_laws.proofs.within.Parents.{same_truth}
 use Rattle.ada_standing.specs.Renaming.{Renaming, renamed_event}
 use Rattle.ada_standing.specs.Holds.{IsSameStart}
 use Rattle.ada_standing.specs.StandsIn.{StandsIn}

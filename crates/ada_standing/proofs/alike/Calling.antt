@@ -6,12 +6,12 @@ use Rattle.ada_events.specs.declared.event.Event.{Event}
 use Rattle.ada_events.specs.Search.{is_some_and, event_at}
 use Rattle.ada_events.specs.Says.{Call, Wait, call_in, wait_in}
 use Rattle.ada_events.specs.Phases.{is_released, has_ended}
-use Rattle.ada_events.specs.Calls.{is_pending, is_met, is_open_at, is_joined_at, is_queued_at, is_open_call, is_caller_in_rendezvous}
+use Rattle.ada_events.specs.Calls.{is_pending, is_met, is_open_at, is_joined_at, is_queued_at, is_caller_in_rendezvous}
 use Rattle.ada_events.specs.Termination.{is_open_terminate, has_empty_queues, is_at_open_terminate, is_ready_to_quit}
 use Rattle.ada_laws.specs.Suspension.{IsSuspendedAt}
-use Rattle.ada_laws.proofs.Searching.{option_map_or-true}
-use Rattle.ada_laws.proofs.Saying.{held_in-call, held_in-wait}
-use Rattle.ada_laws.proofs.Queueing.{is_open_at-call, open_call_suspends}
+use Rattle.ada_laws.proofs.searching.Searching.{option_map_or-true}
+use Rattle.ada_laws.proofs.searching.Saying.{held_in-call, held_in-wait}
+use Rattle.ada_laws.proofs.queues.Queueing.{is_open_at-call, open_call_suspends}
 use Rattle.ada_standing.specs.Renaming.{Renaming}
 use Rattle.ada_standing.specs.StandsIn.{StandsIn}
 use Rattle.ada_standing.proofs.alike.Orderly.{IsOrderly}
@@ -72,10 +72,6 @@ pub queued_at_alike : (old new : List Event) (names : Renaming) (p q : ℕ) (pai
     → is_queued_at old p pair.held.event ≡ is_queued_at new q pair.holds.event
 unfolding is_queued_at
 queued_at_alike old new names p q pair = met_at_alike old new names p q pair not
-
-pub open_call_alike : (old new : List Event) (names : Renaming) (p q : ℕ) → IsPair old new names p q → is_open_call old p ≡ is_open_call new q
-unfolding is_open_call
-open_call_alike old new names p q pair = rw (pair.held.stands, pair.holds.stands) (open_at_alike old new names p q pair)
 
 pub queued_held : (journal : List Event) (p : ℕ) (e : Event) → event_at journal p ≡ Some e → is_queued_at journal p e ≡ true
     → (u : ℕ) × IsSuspendedAt journal u p

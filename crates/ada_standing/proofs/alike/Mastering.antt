@@ -19,9 +19,9 @@ use Rattle.ada_events.specs.Nests.{nest}
 use Rattle.ada_events.specs.Termination.{all_terminated, is_complete}
 use Rattle.ada_events.specs.Forced.{task_no}
 use Rattle.ada_laws.specs.Masters.{parent_of, IsKnown}
-use Rattle.ada_laws.proofs.Searching.{all_below-fails, all_below-holds, option_map-some}
-use Rattle.ada_laws.proofs.Reaching.{reaches-same}
-use Rattle.ada_laws.proofs.Parents.{same_truth}
+use Rattle.ada_laws.proofs.searching.Searching.{all_below-fails, all_below-holds, option_map-some}
+use Rattle.ada_laws.proofs.within.Reaching.{reaches-same}
+use Rattle.ada_laws.proofs.within.Parents.{same_truth}
 use Rattle.ada_standing.specs.Renaming.{Renaming, renamed_master, renamed_member, renamed_parent}
 use Rattle.ada_standing.specs.StandsIn.{StandsIn, KeepsTasks, is_live, is_block}
 use Rattle.ada_standing.proofs.alike.Orderly.{IsOrderly, IsLivedIn, IsClimb}

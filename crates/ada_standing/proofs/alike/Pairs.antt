@@ -9,8 +9,8 @@ use Rattle.ada_events.specs.Search.{first_given, event_at}
 use Rattle.ada_events.specs.Tasks.{has_task, task_count}
 use Rattle.ada_events.specs.Phases.{is_completed, is_terminated, has_ended}
 use Rattle.ada_laws.specs.Suspension.{IsSuspendedAt}
-use Rattle.ada_laws.proofs.Searching.{option_and_then-some}
-use Rattle.ada_laws.proofs.Suspending.{is_suspended-from, is_suspended-at}
+use Rattle.ada_laws.proofs.searching.Searching.{option_and_then-some}
+use Rattle.ada_laws.proofs.held.Suspending.{is_suspended-from, is_suspended-at}
 use Rattle.ada_standing.specs.Renaming.{Renaming}
 use Rattle.ada_standing.specs.Holds.{IsSameHold, is_same_kind}
 use Rattle.ada_standing.specs.StandsIn.{StandsIn, is_live}

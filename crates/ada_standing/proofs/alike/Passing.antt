@@ -7,9 +7,9 @@ use Rattle.std.proofs.lemmas.Option.{same_Some}
 use Rattle.ada_events.specs.declared.event.Event.{Event}
 use Rattle.ada_events.specs.Search.{any_event, gathered, event_at}
 use Rattle.ada_laws.specs.Suspension.{IsSuspendedAt}
-use Rattle.ada_laws.proofs.Searching.{any_event-found, any_event-from, then_some-some}
-use Rattle.ada_laws.proofs.Gathering.{Contains-first, Contains-later, gathered-found, gathered-from, gathered-rises}
-use Rattle.ada_laws.proofs.Parents.{same_truth}
+use Rattle.ada_laws.proofs.searching.Searching.{any_event-found, any_event-from, then_some-some}
+use Rattle.ada_laws.proofs.searching.Gathering.{Contains-first, Contains-later, gathered-found, gathered-from, gathered-rises}
+use Rattle.ada_laws.proofs.within.Parents.{same_truth}
 use Rattle.ada_standing.specs.Renaming.{Renaming}
 use Rattle.ada_standing.specs.Holds.{is_same_kind}
 use Rattle.ada_standing.specs.StandsIn.{StandsIn}

@@ -11,7 +11,7 @@ use Rattle.ada_events.specs.Says.{Call, Wait, call_in}
 use Rattle.ada_events.specs.Entries.{same_entry}
 use Rattle.ada_events.specs.Calls.{is_queued_at, is_call_of, queue, count_of}
 use Rattle.ada_events.specs.Waits.{numbers_from, front_of, is_selectable, taken_choice, taken_call}
-use Rattle.ada_laws.proofs.Searching.{option_map_or-true}
+use Rattle.ada_laws.proofs.searching.Searching.{option_map_or-true}
 use Rattle.ada_standing.specs.Renaming.{Renaming}
 use Rattle.ada_standing.specs.Holds.{IsSameWait}
 use Rattle.ada_standing.specs.StandsIn.{StandsIn}

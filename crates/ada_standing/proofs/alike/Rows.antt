@@ -18,9 +18,9 @@ use Rattle.ada_events.specs.Termination.{all_terminated}
 use Rattle.ada_events.specs.Forced.{is_conditional, is_to_fail, failed, met_at, met, is_to_cancel, cancelled, passed_at, passed, is_to_wake, woken}
 use Rattle.ada_events.specs.Forced.{is_to_leave, left}
 use Rattle.ada_laws.specs.Suspension.{IsSuspendedAt}
-use Rattle.ada_laws.proofs.Searching.{option_map_or-true, option_and_then-some, then_some-some, if_some}
-use Rattle.ada_laws.proofs.Saying.{held_in-wait, held_in-delay, held_in-closing}
-use Rattle.ada_laws.proofs.Stepping.{pending_parts}
+use Rattle.ada_laws.proofs.searching.Searching.{option_map_or-true, option_and_then-some, then_some-some, if_some}
+use Rattle.ada_laws.proofs.searching.Saying.{held_in-wait, held_in-delay, held_in-closing}
+use Rattle.ada_laws.proofs.forced.Stepping.{pending_parts}
 use Rattle.ada_standing.specs.Renaming.{Renaming, renamed_master, renamed_event}
 use Rattle.ada_standing.specs.Holds.{IsSameWait, is_same_kind}
 use Rattle.ada_standing.specs.StandsIn.{StandsIn}

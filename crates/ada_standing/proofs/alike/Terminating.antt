@@ -17,7 +17,7 @@ use Rattle.ada_events.specs.Phases.{is_completed, is_terminated, has_ended, is_a
 use Rattle.ada_events.specs.Calls.{is_caller_in_rendezvous}
 use Rattle.ada_events.specs.Termination.{all_terminated, is_complete, is_abandoned, is_ready_to_quit}
 use Rattle.ada_events.specs.Forced.{task_no, is_to_halt, halted, is_to_go, gone, is_to_quit, quit_body, quit_block}
-use Rattle.ada_laws.proofs.Searching.{all_below-fails, option_and_then-some, option_map-some, then_some-some, three_parts}
+use Rattle.ada_laws.proofs.searching.Searching.{all_below-fails, option_and_then-some, option_map-some, then_some-some, three_parts}
 use Rattle.ada_standing.specs.Renaming.{Renaming, renamed_task, renamed_master, renamed_event}
 use Rattle.ada_standing.specs.StandsIn.{StandsIn, is_live, is_block}
 use Rattle.ada_standing.proofs.alike.Orderly.{IsOrderly, IsLivedIn}

@@ -16,8 +16,8 @@ use Rattle.ada_events.specs.Nests.{frame}
 use Rattle.ada_events.specs.Asks.{asker, body_task, named_tasks}
 use Rattle.ada_events.specs.Refusals.{is_during_activation, is_not_activating, is_not_your_master, has_empty_list}
 use Rattle.ada_laws.specs.Masters.{parent_of}
-use Rattle.ada_laws.proofs.Searching.{option_map_or-true, event_at-other}
-use Rattle.ada_laws.proofs.Reaching.{same_master-true}
+use Rattle.ada_laws.proofs.searching.Searching.{option_map_or-true, event_at-other}
+use Rattle.ada_laws.proofs.within.Reaching.{same_master-true}
 use Rattle.ada_standing.specs.Renaming.{Renaming, renamed_master}
 use Rattle.ada_standing.specs.StandsIn.{StandsIn, is_live}
 use Rattle.ada_standing.specs.Asking.{asked_task, asked_master, renamed_request}

@@ -13,8 +13,8 @@ use Rattle.ada_events.specs.Tasks.{has_task, task_count}
 use Rattle.ada_events.specs.Phases.{lists_task, has_ended, is_running}
 use Rattle.ada_events.specs.Asks.{asker, named_tasks}
 use Rattle.ada_events.specs.Refusals.{names_unknown_task, asker_not_running, has_double_task}
-use Rattle.ada_laws.proofs.Searching.{option_map_or-false}
-use Rattle.ada_laws.proofs.Accepting.{running_live}
+use Rattle.ada_laws.proofs.searching.Searching.{option_map_or-false}
+use Rattle.ada_laws.proofs.asking.Accepting.{running_live}
 use Rattle.ada_standing.specs.Renaming.{Renaming}
 use Rattle.ada_standing.specs.StandsIn.{StandsIn, is_live}
 use Rattle.ada_standing.specs.Asking.{nobody, asked_task, asked_master, renamed_request, is_kept, names_kept}

@@ -13,9 +13,9 @@ use Rattle.ada_events.specs.Nests.{nest, innermost, innermost_block, frame}
 use Rattle.ada_events.specs.Calls.{is_open_call}
 use Rattle.ada_events.specs.Forced.{task_no}
 use Rattle.ada_events.specs.Refusals.{is_rendezvous, is_rendezvous_for}
-use Rattle.ada_laws.proofs.Gathering.{Contains-first, Contains-later}
-use Rattle.ada_laws.proofs.Members.{nest_open}
-use Rattle.ada_laws.proofs.Searching.{option_map-some, option_map_or-true}
+use Rattle.ada_laws.proofs.searching.Gathering.{Contains-first, Contains-later}
+use Rattle.ada_laws.proofs.within.Members.{nest_open}
+use Rattle.ada_laws.proofs.searching.Searching.{option_map-some, option_map_or-true}
 use Rattle.ada_standing.specs.Renaming.{Renaming, renamed_master, renamed_member}
 use Rattle.ada_standing.specs.StandsIn.{StandsIn, is_live}
 use Rattle.ada_standing.proofs.alike.Orderly.{IsOrderly, IsLivedIn}

@@ -9,8 +9,8 @@ use Rattle.ada_events.specs.Tasks.{task_count}
 use Rattle.ada_events.specs.Refusals.{Cause, cause, first_cause}
 use Rattle.ada_events.specs.Refusals.{names_unknown_task, asker_not_running}
 use Rattle.ada_laws.specs.Unlimited.{causes_but_limits, refusal_but_limits}
-use Rattle.ada_laws.proofs.Limitless.{lawful_unlimited}
-use Rattle.ada_laws.proofs.LimitLaws.{tasks_are_few}
+use Rattle.ada_laws.proofs.asking.Limitless.{lawful_unlimited}
+use Rattle.ada_laws.proofs.asking.LimitLaws.{tasks_are_few}
 use Rattle.ada_standing.specs.Renaming.{Renaming}
 use Rattle.ada_standing.specs.StandsIn.{StandsIn}
 use Rattle.ada_standing.specs.Asking.{nobody, renamed_request, names_kept}

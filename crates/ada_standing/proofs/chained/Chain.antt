@@ -13,7 +13,7 @@ use Rattle.ada_events.specs.Outcomes.{outcome_of}
 use Rattle.ada_events.specs.Forced.{task_no}
 use Rattle.ada_laws.specs.Masters.{parent_of}
 use Rattle.ada_laws.specs.Suspension.{IsSuspendedAt}
-use Rattle.ada_laws.proofs.Searching.{option_and_then-some}
+use Rattle.ada_laws.proofs.searching.Searching.{option_and_then-some}
 use Rattle.ada_standing.specs.Renaming.{Renaming, chained, renamed_master, renamed_outcome}
 use Rattle.ada_standing.specs.Holds.{is_same_kind}
 use Rattle.ada_standing.specs.StandsIn.{StandsIn, KeepsTasks, KeepsPositions, IsSameTask, IsSameDependent, IsSameNest, IsSameBlock, IsSameActive, IsHeldAlike}

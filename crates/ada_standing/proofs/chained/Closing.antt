@@ -21,13 +21,13 @@ use Rattle.ada_events.specs.Termination.{all_terminated}
 use Rattle.ada_events.specs.Forced.{is_to_leave}
 use Rattle.ada_laws.specs.Suspension.{IsSuspendedAt}
 use Rattle.ada_laws.specs.Unlimited.{IsLawfulUnlimited, MayFollowUnlimited, refusal_but_limits}
-use Rattle.ada_laws.proofs.Limitless.{is_accepted-unlimited}
-use Rattle.ada_laws.proofs.Searching.{event_at-cases, is_number-from}
-use Rattle.ada_laws.proofs.Stepping.{forced-step, pending_parts}
-use Rattle.ada_laws.proofs.Saying.{held_in-closing}
-use Rattle.ada_laws.proofs.Growing.{is_released-before, has_ended-before}
-use Rattle.ada_laws.proofs.Framing.{IsBlockOf}
-use Rattle.ada_laws.proofs.Suspending.{suspended_once-unlimited}
+use Rattle.ada_laws.proofs.asking.Limitless.{is_accepted-unlimited}
+use Rattle.ada_laws.proofs.searching.Searching.{event_at-cases, is_number-from}
+use Rattle.ada_laws.proofs.forced.Stepping.{forced-step, pending_parts}
+use Rattle.ada_laws.proofs.searching.Saying.{held_in-closing}
+use Rattle.ada_laws.proofs.searching.Growing.{is_released-before, has_ended-before}
+use Rattle.ada_laws.proofs.within.Framing.{IsBlockOf}
+use Rattle.ada_laws.proofs.held.Suspending.{suspended_once-unlimited}
 use Rattle.ada_standing.proofs.lawful.Nesting.{IsOwnBlock, own_member, contained, own_later, one_opener}
 
 innermost_own : (journal : List Event) (task : ℕ) (o : Option Member) → innermost (nest journal task) ≡ o → option_map_or is_rendezvous o true ≡ false

@@ -19,7 +19,7 @@ use Rattle.ada_events.specs.Nests.{nest}
 use Rattle.ada_events.specs.Outcomes.{outcome_of}
 use Rattle.ada_events.specs.Forced.{task_no}
 use Rattle.ada_laws.specs.Masters.{parent_of}
-use Rattle.ada_laws.proofs.Searching.{option_and_then-some, then_some-some}
+use Rattle.ada_laws.proofs.searching.Searching.{option_and_then-some, then_some-some}
 use Rattle.ada_standing.specs.Renaming.{Renaming, renamed_master, renamed_member, renamed_outcome, renamed_parent}
 use Rattle.ada_standing.specs.StandsIn.{StandsIn, is_live, is_block, activator_of}
 use Rattle.ada_standing.specs.Fewer.{AreEnough, is_member_at}

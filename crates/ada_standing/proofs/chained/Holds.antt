@@ -4,7 +4,7 @@ use Rattle.std.specs.Option.{option_and_then}
 use Rattle.std.proofs.lemmas.Option.{same_Some, none-some}
 use Rattle.ada_events.specs.declared.event.Event.{Event}
 use Rattle.ada_events.specs.Says.{Call, Start, call_in, wait_in, delay_in, start_in, closing_in}
-use Rattle.ada_laws.proofs.Searching.{option_and_then-some}
+use Rattle.ada_laws.proofs.searching.Searching.{option_and_then-some}
 use Rattle.ada_standing.specs.Renaming.{Renaming, chained}
 use Rattle.ada_standing.specs.Holds.{IsSameCall, IsSameWait, IsSameStart, IsSameHold, is_same_kind}
 use Rattle.ada_standing.specs.StandsIn.{StandsIn}

@@ -19,10 +19,10 @@ use Rattle.ada_events.specs.Forced.{task_no, is_to_go, gone}
 use Rattle.ada_events.specs.Lawful.{IsSettled}
 use Rattle.ada_laws.specs.Suspension.{IsSuspendedAt}
 use Rattle.ada_laws.specs.Unlimited.{IsLawfulUnlimited}
-use Rattle.ada_laws.proofs.Searching.{option_map-some, option_map_or-false, option_or-none, any_event-found}
-use Rattle.ada_laws.proofs.Saying.{held_in-call, held_in-closing}
-use Rattle.ada_laws.proofs.Rows.{settled_at_rest}
-use Rattle.ada_laws.proofs.CallLaws.{no_open_call_to_a_finished_task}
+use Rattle.ada_laws.proofs.searching.Searching.{option_map-some, option_map_or-false, option_or-none, any_event-found}
+use Rattle.ada_laws.proofs.searching.Saying.{held_in-call, held_in-closing}
+use Rattle.ada_laws.proofs.forced.Rows.{settled_at_rest}
+use Rattle.ada_laws.proofs.queues.CallLaws.{no_open_call_to_a_finished_task}
 use Rattle.ada_standing.specs.StandsIn.{is_live, is_block, made_within}
 use Rattle.ada_standing.specs.Laws.{FewerNamesStandIn}
 use Rattle.ada_standing.proofs.alike.Orderly.{IsLivedIn}

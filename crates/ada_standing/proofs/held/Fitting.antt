@@ -9,7 +9,7 @@ use Rattle.ada_events.specs.Phases.{lists_task, has_failed, is_released}
 use Rattle.ada_events.specs.Calls.{is_met}
 use Rattle.ada_events.specs.Nests.{is_left_close, nest}
 use Rattle.ada_events.specs.Forced.{is_done_activating, task_no}
-use Rattle.ada_laws.proofs.Meeting.{IsTaking}
+use Rattle.ada_laws.proofs.queues.Meeting.{IsTaking}
 use Rattle.ada_standing.proofs.lawful.Leaving.{IsLeaving}
 
 -- the event closes the block

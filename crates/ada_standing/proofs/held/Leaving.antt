@@ -11,10 +11,11 @@ use Rattle.ada_events.specs.Termination.{all_terminated}
 use Rattle.ada_events.specs.declared.names.Master.TheVariants.{Block}
 use Rattle.ada_events.specs.Forced.{is_to_leave}
 use Rattle.ada_laws.specs.Suspension.{IsSuspendedAt}
-use Rattle.ada_laws.proofs.Searching.{event_at-older, event_at-cases, any_event-found, any_event-from, is_number-some, is_number-from, option_map_or-true}
-use Rattle.ada_laws.proofs.Saying.{held_in-closing}
-use Rattle.ada_laws.proofs.Stepping.{pending_parts}
-use Rattle.ada_laws.proofs.Parents.{same_truth}
+use Rattle.ada_laws.proofs.searching.Searching.{event_at-older, event_at-cases, any_event-found, any_event-from, is_number-some, is_number-from}
+use Rattle.ada_laws.proofs.searching.Searching.{option_map_or-true}
+use Rattle.ada_laws.proofs.searching.Saying.{held_in-closing}
+use Rattle.ada_laws.proofs.forced.Stepping.{pending_parts}
+use Rattle.ada_laws.proofs.within.Parents.{same_truth}
 use Rattle.ada_standing.specs.Renaming.{Renaming}
 use Rattle.ada_standing.proofs.alike.Kinds.{AreBoth, closes_alike}
 use Rattle.ada_standing.proofs.alike.Pairs.{pair_forth}

@@ -14,13 +14,13 @@ use Rattle.ada_events.specs.Says.{Call, Wait, Meeting, call_in, wait_in, meeting
 use Rattle.ada_events.specs.Calls.{is_pending, is_open_at, is_open_call}
 use Rattle.ada_events.specs.Nests.{is_left_close, is_left, is_wait_of, member_at, nest}
 use Rattle.ada_laws.specs.Suspension.{IsSuspendedAt}
-use Rattle.ada_laws.proofs.Searching.{event_at-older, event_at-cases, any_event-found, option_map_or-true, option_map-some}
-use Rattle.ada_laws.proofs.Saying.{held_in-wait}
-use Rattle.ada_laws.proofs.Stepping.{pending_parts}
-use Rattle.ada_laws.proofs.Queueing.{is_open_at-from}
-use Rattle.ada_laws.proofs.Meeting.{IsTaking, taken_queued}
-use Rattle.ada_laws.proofs.Members.{nest_open}
-use Rattle.ada_laws.proofs.Parents.{same_truth}
+use Rattle.ada_laws.proofs.searching.Searching.{event_at-older, event_at-cases, any_event-found, option_map_or-true, option_map-some}
+use Rattle.ada_laws.proofs.searching.Saying.{held_in-wait}
+use Rattle.ada_laws.proofs.forced.Stepping.{pending_parts}
+use Rattle.ada_laws.proofs.queues.Queueing.{is_open_at-from}
+use Rattle.ada_laws.proofs.queues.Meeting.{IsTaking, taken_queued}
+use Rattle.ada_laws.proofs.within.Members.{nest_open}
+use Rattle.ada_laws.proofs.within.Parents.{same_truth}
 use Rattle.ada_standing.specs.Renaming.{Renaming, renamed_member}
 use Rattle.ada_standing.specs.internal.Next.{next_names}
 use Rattle.ada_standing.proofs.alike.Kinds.{AreBoth, calls_alike}

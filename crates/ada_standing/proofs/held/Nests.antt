@@ -9,8 +9,8 @@ use Rattle.ada_events.specs.declared.event.Event.{Event}
 use Rattle.ada_events.specs.declared.names.Member.{Member}
 use Rattle.ada_events.specs.Phases.{is_terminated}
 use Rattle.ada_events.specs.Nests.{member_at, nest}
-use Rattle.ada_laws.proofs.Gathering.{Contains-first, Contains-later}
-use Rattle.ada_laws.proofs.Growing.{is_terminated-more}
+use Rattle.ada_laws.proofs.searching.Gathering.{Contains-first, Contains-later}
+use Rattle.ada_laws.proofs.searching.Growing.{is_terminated-more}
 use Rattle.ada_standing.specs.Renaming.{Renaming, renamed_member}
 use Rattle.ada_standing.specs.internal.Next.{next_names}
 use Rattle.ada_standing.proofs.held.Setting.{AreNext, TerminatedKept, CompletedKept, task_cases, member_later}

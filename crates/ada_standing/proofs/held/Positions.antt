@@ -2,8 +2,8 @@
 use Rattle.std.proofs.Common.{◌≡◌, ℕ, suc, ◌<◌, ◌≤◌, true, Some, List, ◌∷◌, length, refl, sym, ◌∙◌, arith, inl, inr}
 use Rattle.ada_events.specs.declared.event.Event.{Event}
 use Rattle.ada_laws.specs.Suspension.{IsSuspendedAt}
-use Rattle.ada_laws.proofs.Searching.{event_at-within, event_at-other}
-use Rattle.ada_laws.proofs.Growing.{is_released-before, has_ended-before}
+use Rattle.ada_laws.proofs.searching.Searching.{event_at-within, event_at-other}
+use Rattle.ada_laws.proofs.searching.Growing.{is_released-before, has_ended-before}
 use Rattle.ada_standing.specs.Renaming.{Renaming}
 use Rattle.ada_standing.specs.internal.Next.{next_names}
 use Rattle.ada_standing.specs.Holds.{is_same_kind}

@@ -14,7 +14,7 @@ use Rattle.ada_events.specs.declared.names.Family.{Family}
 use Rattle.ada_events.specs.declared.names.Choice.{Choice}
 use Rattle.ada_events.specs.declared.names.Patience.{Patience}
 use Rattle.ada_events.specs.Forced.{task_no}
-use Rattle.ada_laws.proofs.Searching.{option_map-some, option_and_then-some}
+use Rattle.ada_laws.proofs.searching.Searching.{option_map-some, option_and_then-some}
 use Rattle.ada_standing.specs.Renaming.{Renaming, from_both, renamed_master, renamed_task, renamed_tasks, renamed_event}
 
 -- the second event is the first, of the tasks, masters and positions that stand for those of the first

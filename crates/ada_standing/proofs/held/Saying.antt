@@ -1,7 +1,7 @@
 -- What an event says, and what the one that stands for it says: of the tasks, masters and positions that stand for those of the first.
 use Rattle.std.proofs.Common.{◌≡◌, ℕ, true, false, Some, refl}
 use Rattle.ada_events.specs.declared.event.Event.{Event}
-use Rattle.ada_events.specs.Says.{Creation, Opening, Start, Call, Closing, Meeting, creation_in, opening_in, start_in, call_in, wait_in}
+use Rattle.ada_events.specs.Says.{Opening, Start, Call, Closing, Meeting, opening_in, start_in, call_in, wait_in}
 use Rattle.ada_events.specs.Says.{delay_in, closing_in, meeting_in, failed_in, held_in, released_in, left_in}
 use Rattle.ada_standing.specs.Renaming.{Renaming, renamed_master, renamed_tasks}
 use Rattle.ada_standing.specs.Holds.{IsSameWait}
@@ -35,15 +35,7 @@ pub record AreCalls (names : Renaming) (c d : Call) : Type 0 where
 abbrev pub AreStarts : Renaming → Start → Start → Type 0
 AreStarts names s r = renamed_tasks names s.tasks ≡ Some r.tasks
 
-abbrev pub AreCreations : Renaming → Creation → Creation → Type 0
-AreCreations names c d = names.task c.by ≡ Some d.by
-
 module _ (names : Renaming) where
-  pub creations_both : (d e : Event) → IsRenamed names d e → AreBoth (AreCreations names) (creation_in d) (creation_in e)
-  unfolding creation_in
-  creations_both d e (IsRenamed.creates b c m n x y families is has also) = AreBoth.both _ _ refl refl is
-  creations_both d e _ = AreBoth.neither refl refl
-
   pub openings_both : (d e : Event) → IsRenamed names d e → AreBoth (AreOpenings names) (opening_in d) (opening_in e)
   unfolding opening_in
   openings_both d e (IsRenamed.opens b c m n is has) = AreBoth.both _ _ refl refl (record { by = is; under = has })

@@ -13,7 +13,7 @@ use Rattle.ada_events.specs.Says.{creation_in}
 use Rattle.ada_events.specs.Tasks.{task_count}
 use Rattle.ada_events.specs.Phases.{is_completed, is_terminated}
 use Rattle.ada_events.specs.Forced.{task_no}
-use Rattle.ada_laws.proofs.Searching.{option_map-some}
+use Rattle.ada_laws.proofs.searching.Searching.{option_map-some}
 use Rattle.ada_standing.specs.Renaming.{Renaming, renamed_master, renamed_member, renamed_event}
 use Rattle.ada_standing.specs.internal.Next.{next_names}
 use Rattle.ada_standing.specs.StandsIn.{StandsIn}

@@ -12,7 +12,7 @@ use Rattle.ada_events.specs.Says.{Start, start_in, failed_in, creation_in, elabo
 use Rattle.ada_events.specs.Tasks.{task_count}
 use Rattle.ada_events.specs.Phases.{lists_task, is_elaborated, has_failed, has_ended}
 use Rattle.ada_events.specs.Forced.{task_no, is_done_activating}
-use Rattle.ada_laws.proofs.Growing.{has_ended-before}
+use Rattle.ada_laws.proofs.searching.Growing.{has_ended-before}
 use Rattle.ada_standing.specs.Renaming.{Renaming, renamed_task, renamed_tasks}
 use Rattle.ada_standing.specs.internal.Next.{next_names}
 use Rattle.ada_standing.specs.Holds.{IsSameStart}

@@ -13,9 +13,9 @@ use Rattle.ada_events.specs.Phases.{has_ended, is_suspended}
 use Rattle.ada_events.specs.Calls.{is_met}
 use Rattle.ada_events.specs.Forced.{is_conditional}
 use Rattle.ada_laws.specs.Suspension.{IsSuspendedAt}
-use Rattle.ada_laws.proofs.Searching.{event_at-cases, event_at-newest, event_at-older, event_at-within}
-use Rattle.ada_laws.proofs.Parents.{same_truth}
-use Rattle.ada_laws.proofs.Suspending.{is_suspended-from, is_suspended-at, suspended_cases}
+use Rattle.ada_laws.proofs.searching.Searching.{event_at-cases, event_at-newest, event_at-older, event_at-within}
+use Rattle.ada_laws.proofs.within.Parents.{same_truth}
+use Rattle.ada_laws.proofs.held.Suspending.{is_suspended-from, is_suspended-at, suspended_cases}
 use Rattle.ada_standing.specs.Renaming.{Renaming}
 use Rattle.ada_standing.specs.internal.Next.{next_names}
 use Rattle.ada_standing.specs.Holds.{IsSameHold}

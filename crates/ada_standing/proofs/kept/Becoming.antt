@@ -11,9 +11,9 @@ use Rattle.ada_events.specs.Says.{held_in, released_in}
 use Rattle.ada_events.specs.Phases.{is_completed, is_terminated, has_ended, is_suspended}
 use Rattle.ada_events.specs.Outcomes.{raised_in, choice_met, released_to, outcome_of}
 use Rattle.ada_laws.specs.Suspension.{IsSuspendedAt}
-use Rattle.ada_laws.proofs.Searching.{is_number-some}
-use Rattle.ada_laws.proofs.Growing.{has_ended-before}
-use Rattle.ada_laws.proofs.Suspending.{is_suspended-from, is_suspended-at}
+use Rattle.ada_laws.proofs.searching.Searching.{is_number-some}
+use Rattle.ada_laws.proofs.searching.Growing.{has_ended-before}
+use Rattle.ada_laws.proofs.held.Suspending.{is_suspended-from, is_suspended-at}
 use Rattle.ada_standing.specs.Renaming.{Renaming, renamed_outcome}
 use Rattle.ada_standing.specs.internal.Next.{next_names}
 use Rattle.ada_standing.specs.StandsIn.{IsSameTask}

@@ -13,9 +13,9 @@ use Rattle.ada_events.specs.Phases.{has_start, is_completed, is_terminated, has_
 use Rattle.ada_events.specs.Termination.{is_complete, is_abandoned}
 use Rattle.ada_events.specs.Forced.{task_no}
 use Rattle.ada_laws.specs.Masters.{parent_of}
-use Rattle.ada_laws.proofs.Searching.{option_map-some}
-use Rattle.ada_laws.proofs.Growing.{is_terminated-more}
-use Rattle.ada_laws.proofs.Framing.{IsBlockOf}
+use Rattle.ada_laws.proofs.searching.Searching.{option_map-some}
+use Rattle.ada_laws.proofs.searching.Growing.{is_terminated-more}
+use Rattle.ada_laws.proofs.within.Framing.{IsBlockOf, block_later}
 use Rattle.ada_standing.specs.Renaming.{Renaming, renamed_master, renamed_parent}
 use Rattle.ada_standing.specs.internal.Next.{next_names}
 use Rattle.ada_standing.specs.StandsIn.{IsSameDependent, made_within}
@@ -28,7 +28,7 @@ use Rattle.ada_standing.proofs.kept.Saying.{closing_said}
 use Rattle.ada_standing.proofs.kept.Naming.{AreNext, AreOld, AreMade, like, old_task, next_cases, master_later, creation_older, creation_newest}
 use Rattle.ada_standing.proofs.kept.Terminating.{unterminated_before, made_fresh, terminated_old}
 use Rattle.ada_standing.proofs.kept.Phases.{unnamed_before, completed_old, completed_kept, ended_old, named_kept}
-use Rattle.ada_standing.proofs.kept.Making.{is_closed, block_complete, block_later, complete_more, abandoned_is, never_abandoned, no_abandoned, waiting_from}
+use Rattle.ada_standing.proofs.kept.Making.{is_closed, block_complete, complete_more, abandoned_is, never_abandoned, no_abandoned, waiting_from}
 use Rattle.ada_standing.proofs.kept.Making.{making_keeps_complete, creations_forth, creations_none, makers_named}
 
 -- what a task was made within is complete, or its maker is terminated
@@ -62,10 +62,6 @@ block_stands names p y is =
 complete_body : (journal : List Event) (x : Master) (u : ℕ) → x ≡ Body (task_no u) → is_complete journal x ≡ is_completed journal u
 unfolding is_complete
 complete_body journal x u is = rw is refl
-
-complete_block : (journal : List Event) (x : Master) (task p : ℕ) → x ≡ Block p → IsBlockOf journal task p
-    → is_complete journal x ≡ (is_closed journal p || has_ended journal task)
-complete_block journal x task p is block = rw is (block_complete journal task p block)
 
 module _ (old new : List Event) (names : Renaming) (event other : Event) (next : AreNext old new names event other) where
   -- the parent of an older task

@@ -9,7 +9,7 @@ use Rattle.ada_events.specs.Phases.{lists_task, is_released}
 use Rattle.ada_events.specs.Outcomes.{raised_in, became, last_given, outcome_at}
 use Rattle.ada_events.specs.Forced.{task_no}
 use Rattle.ada_laws.specs.Suspension.{IsSuspendedAt}
-use Rattle.ada_laws.proofs.Framing.{IsBlockOf}
+use Rattle.ada_laws.proofs.within.Framing.{IsBlockOf}
 use Rattle.ada_standing.specs.StandsIn.{is_live}
 use Rattle.ada_standing.proofs.alike.Orderly.{IsLivedIn}
 

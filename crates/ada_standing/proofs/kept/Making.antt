@@ -15,10 +15,10 @@ use Rattle.ada_events.specs.Says.{Creation, Opening, Closing, creation_in, openi
 use Rattle.ada_events.specs.Tasks.{creation_of}
 use Rattle.ada_events.specs.Phases.{has_start, is_completed, is_terminated, has_ended}
 use Rattle.ada_events.specs.Termination.{is_complete_block, is_complete, is_abandoned}
-use Rattle.ada_laws.proofs.Searching.{event_at-older, event_at-other, event_at-within, then_some-some}
-use Rattle.ada_laws.proofs.Growing.{is_completed-more, has_ended-more}
-use Rattle.ada_laws.proofs.Framing.{IsBlockOf}
-use Rattle.ada_laws.proofs.Depending.{created_positive}
+use Rattle.ada_laws.proofs.searching.Searching.{event_at-other, event_at-within, then_some-some}
+use Rattle.ada_laws.proofs.searching.Growing.{is_completed-more, has_ended-more}
+use Rattle.ada_laws.proofs.within.Framing.{IsBlockOf, block_later}
+use Rattle.ada_laws.proofs.within.Depending.{created_positive}
 use Rattle.ada_standing.specs.Renaming.{Renaming}
 use Rattle.ada_standing.specs.internal.Next.{next_names}
 use Rattle.ada_standing.specs.StandsIn.{activator_of}
@@ -120,15 +120,6 @@ pub block_complete : (journal : List Event) (task p : ℕ) → IsBlockOf journal
     → is_complete journal (Block p) ≡ (is_closed journal p || has_ended journal task)
 unfolding is_complete is_complete_block
 block_complete journal task p block = rw (block.stands, block.says, block.by) refl
-
-pub block_later : (event : Event) (before : List Event) (task p : ℕ) → IsBlockOf before task p → IsBlockOf (event ∷ before) task p
-block_later event before task p block = record {
-  event = block.event;
-  opening = block.opening;
-  stands = event_at-older event before p block.event block.stands;
-  says = block.says;
-  by = block.by;
-}
 
 -- what is complete stays so, of what a task was made within
 pub complete_more : (event : Event) (before : List Event) (c : Creation) → IsMaker before c → is_complete before c.under ≡ true

@@ -14,7 +14,7 @@ use Rattle.ada_events.specs.declared.outcome.Outcome.TheVariants as outcome
 use Rattle.ada_events.specs.Says.{Creation, creation_in}
 use Rattle.ada_events.specs.Tasks.{task_count, creation_of}
 use Rattle.ada_events.specs.Forced.{task_no}
-use Rattle.ada_laws.proofs.Searching.{option_map-some}
+use Rattle.ada_laws.proofs.searching.Searching.{option_map-some}
 use Rattle.ada_standing.specs.Renaming.{Renaming, renamed_master, renamed_outcome, renamed_event}
 use Rattle.ada_standing.specs.internal.Next.{next_names}
 use Rattle.ada_standing.specs.StandsIn.{StandsIn}

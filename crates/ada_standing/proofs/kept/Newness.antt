@@ -15,10 +15,10 @@ use Rattle.ada_events.specs.Tasks.{task_count, has_task}
 use Rattle.ada_events.specs.Masters.{depends_on}
 use Rattle.ada_events.specs.Phases.{lists_task, has_start, is_elaborated, has_failed, is_completed, is_terminated, has_ended, is_abnormal, is_started}
 use Rattle.ada_events.specs.Outcomes.{raised_in}
-use Rattle.ada_laws.proofs.Searching.{is_number-some, event_at-newest, event_at-older}
-use Rattle.ada_laws.proofs.Growing.{task_count-more}
-use Rattle.ada_laws.proofs.Depending.{depends_exists, some_task}
-use Rattle.ada_laws.proofs.DependentLaws.{IsEnd, is_terminated-cases}
+use Rattle.ada_laws.proofs.searching.Searching.{is_number-some, event_at-newest, event_at-older}
+use Rattle.ada_laws.proofs.searching.Growing.{task_count-more}
+use Rattle.ada_laws.proofs.within.Depending.{depends_exists, some_task}
+use Rattle.ada_laws.proofs.within.DependentLaws.{IsEnd, is_terminated-cases}
 use Rattle.ada_standing.proofs.kept.Fitting.{TellsBelow, Fits}
 
 -- an event that makes a task says nothing else

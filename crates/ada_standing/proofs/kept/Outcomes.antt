@@ -13,9 +13,9 @@ use Rattle.ada_events.specs.Tasks.{task_count}
 use Rattle.ada_events.specs.Phases.{is_completed, is_terminated, has_ended}
 use Rattle.ada_events.specs.Outcomes.{raised_in, released_to, became, last_given, outcome_at, outcome_of}
 use Rattle.ada_laws.specs.Suspension.{IsSuspendedAt}
-use Rattle.ada_laws.proofs.Searching.{is_number-some, event_at-newest, event_at-older, event_at-within, event_at-cases}
-use Rattle.ada_laws.proofs.Growing.{has_ended-before}
-use Rattle.ada_laws.proofs.OutcomeLaws.{became-held}
+use Rattle.ada_laws.proofs.searching.Searching.{is_number-some, event_at-newest, event_at-older, event_at-within, event_at-cases}
+use Rattle.ada_laws.proofs.searching.Growing.{has_ended-before}
+use Rattle.ada_laws.proofs.held.OutcomeLaws.{became-held}
 use Rattle.ada_standing.proofs.alike.Pairs.{active_parts}
 use Rattle.ada_standing.proofs.kept.Fitting.{Fits}
 use Rattle.ada_standing.proofs.kept.Newness.{making_only, fresh, fresh_made}

@@ -7,15 +7,15 @@ use Rattle.ada_events.specs.declared.event.Event.{Event}
 use Rattle.ada_events.specs.declared.names.TaskNo.{TaskNo}
 use Rattle.ada_events.specs.declared.names.Master.TheVariants.{Body}
 use Rattle.ada_events.specs.Search.{is_number}
-use Rattle.ada_events.specs.Says.{started_in, aborted_in, elaborated_in, failed_in, completed_in}
+use Rattle.ada_events.specs.Says.{started_in, aborted_in, elaborated_in, completed_in}
 use Rattle.ada_events.specs.Masters.{depends_on}
-use Rattle.ada_events.specs.Phases.{lists_task, has_start, is_elaborated, has_failed, is_completed, is_terminated, has_ended, is_abnormal, is_started}
-use Rattle.ada_laws.proofs.Growing.{has_ended-before}
+use Rattle.ada_events.specs.Phases.{lists_task, has_start, is_elaborated, is_completed, is_terminated, has_ended, is_abnormal, is_started}
+use Rattle.ada_laws.proofs.searching.Growing.{has_ended-before}
 use Rattle.ada_standing.specs.Renaming.{Renaming, renamed_master, renamed_task, renamed_tasks}
 use Rattle.ada_standing.specs.internal.Next.{next_names}
 use Rattle.ada_standing.proofs.alike.Pairs.{live_from, active_parts, ended_alike}
 use Rattle.ada_standing.proofs.alike.Mastering.{depends_alike, eqb_alike}
-use Rattle.ada_standing.proofs.kept.Saying.{from_both-some, task-some, started_said, aborted_said, elaborated_said, failed_said, completed_said, number_alike}
+use Rattle.ada_standing.proofs.kept.Saying.{from_both-some, task-some, started_said, aborted_said, elaborated_said, completed_said, number_alike}
 use Rattle.ada_standing.proofs.kept.Naming.{AreNext, AreOld, like, one_task, next_cases}
 use Rattle.ada_standing.proofs.kept.Terminating.{unterminated_before, made_fresh, terminated_old}
 
@@ -188,25 +188,4 @@ module _ (old new : List Event) (names : Renaming) (event other : Event) (next :
         | inr made ↦
             let both = made_fresh old new names event other next u v made in
             both.1.normal ∙ sym both.0.normal
-      ]
-
-  -- the event fails a task as the other event fails the other task
-  pub fails_now : (u v : ℕ) → names.task u ≡ Some v → is_number u (failed_in event) ≡ is_number v (failed_in other)
-  fails_now u v named =
-      number_alike names.task (failed_in event) (failed_in other) u v (one_task old new names event other next)
-      (failed_said names event other (like old new names event other next)) named
-
-  failed_old : (u v : ℕ) → names.task u ≡ Some v → has_failed new v ≡ has_failed old u → has_failed (other ∷ new) v ≡ has_failed (event ∷ old) u
-  unfolding has_failed
-  failed_old u v named same = rw (fails_now u v named, same) refl
-
-  -- where they had failed alike before
-  pub failed_kept : (u v : ℕ) → (next_names old new event names).task u ≡ Some v → (names.task u ≡ Some v → has_failed new v ≡ has_failed old u)
-      → has_failed (other ∷ new) v ≡ has_failed (event ∷ old) u
-  failed_kept u v named same =
-      elim (next_cases old new names event other next u v named) [
-        | inl was ↦ failed_old u v was.named (same was.named)
-        | inr made ↦
-            let both = made_fresh old new names event other next u v made in
-            both.1.unfailed ∙ sym both.0.unfailed
       ]

@@ -13,11 +13,11 @@ use Rattle.ada_events.specs.declared.names.Family.{Family}
 use Rattle.ada_events.specs.declared.names.Choice.{Choice}
 use Rattle.ada_events.specs.declared.names.Patience.{Patience}
 use Rattle.ada_events.specs.Search.{is_number}
-use Rattle.ada_events.specs.Says.{Creation, Closing, creation_in, closing_in, moment_in, started_in, aborted_in, elaborated_in, failed_in}
+use Rattle.ada_events.specs.Says.{Creation, Closing, creation_in, closing_in, moment_in, started_in, aborted_in, elaborated_in}
 use Rattle.ada_events.specs.Says.{completed_in, gone_in, quit_in, held_in, released_in}
 use Rattle.ada_events.specs.Outcomes.{raised_in}
 use Rattle.ada_events.specs.Forced.{task_no}
-use Rattle.ada_laws.proofs.Searching.{option_map-some, option_and_then-some}
+use Rattle.ada_laws.proofs.searching.Searching.{option_map-some, option_and_then-some}
 use Rattle.ada_standing.specs.Renaming.{Renaming, renamed_master, renamed_task, renamed_tasks, renamed_event, from_both}
 use Rattle.ada_standing.proofs.alike.Kinds.{AreBoth}
 use Rattle.ada_standing.proofs.alike.Mastering.{eqb_alike}
@@ -187,12 +187,6 @@ pub elaborated_said : (names : Renaming) (e f : Event) → IsLike names e f → 
 unfolding elaborated_in
 elaborated_said names e f (IsLike.elaborated by to ok named) = ap Some named
 elaborated_said names e f _ = refl
-
-pub failed_said : (names : Renaming) (e f : Event) → IsLike names e f → option_map names.task (failed_in e) ≡ option_map Some (failed_in f)
-unfolding failed_in
-failed_said names e f (IsLike.elaborated by to false named) = ap Some named
-failed_said names e f (IsLike.elaborated by to true named) = refl
-failed_said names e f _ = refl
 
 pub completed_said : (names : Renaming) (e f : Event) → IsLike names e f → option_map names.task (completed_in e) ≡ option_map Some (completed_in f)
 unfolding completed_in

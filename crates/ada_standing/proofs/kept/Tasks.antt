@@ -6,7 +6,7 @@ use Rattle.std.proofs.lemmas.Option.{none-some}
 use Rattle.ada_events.specs.declared.event.Event.{Event}
 use Rattle.ada_events.specs.Says.{Creation, creation_in}
 use Rattle.ada_events.specs.Tasks.{task_count, has_task, creation_of, families_of}
-use Rattle.ada_laws.proofs.Growing.{task_count-more}
+use Rattle.ada_laws.proofs.searching.Growing.{task_count-more}
 use Rattle.ada_standing.specs.Renaming.{Renaming}
 use Rattle.ada_standing.specs.internal.Next.{next_names}
 use Rattle.ada_standing.specs.StandsIn.{KeepsTasks, is_live}

@@ -8,7 +8,7 @@ use Rattle.ada_events.specs.Search.{is_some_and}
 use Rattle.ada_events.specs.Says.{gone_in, quit_in}
 use Rattle.ada_events.specs.Masters.{depends_on}
 use Rattle.ada_events.specs.Phases.{is_terminated}
-use Rattle.ada_laws.proofs.Growing.{is_terminated-more}
+use Rattle.ada_laws.proofs.searching.Growing.{is_terminated-more}
 use Rattle.ada_standing.specs.Renaming.{Renaming, renamed_master}
 use Rattle.ada_standing.specs.internal.Next.{next_names}
 use Rattle.ada_standing.proofs.alike.Pairs.{live_from}

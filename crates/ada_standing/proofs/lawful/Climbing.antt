@@ -13,9 +13,9 @@ use Rattle.ada_events.specs.Masters.{same_master, reaches}
 use Rattle.ada_events.specs.Nests.{frame}
 use Rattle.ada_laws.specs.Masters.{parent_of, IsKnown}
 use Rattle.ada_laws.specs.Unlimited.{IsLawfulUnlimited}
-use Rattle.ada_laws.proofs.Searching.{event_at-cases, event_at-newest, event_at-other, event_at-within}
-use Rattle.ada_laws.proofs.Reaching.{reaches-same, frame_known, creation_asked-unlimited, opening_asked-unlimited, reaches_known-unlimited}
-use Rattle.ada_laws.proofs.Parents.{masters_reach_by_parents-unlimited}
+use Rattle.ada_laws.proofs.searching.Searching.{event_at-cases, event_at-newest, event_at-other, event_at-within}
+use Rattle.ada_laws.proofs.within.Reaching.{reaches-same, frame_known, creation_asked-unlimited, opening_asked-unlimited, reaches_known-unlimited}
+use Rattle.ada_laws.proofs.within.Parents.{masters_reach_by_parents-unlimited}
 use Rattle.ada_standing.proofs.alike.Orderly.{IsClimb}
 
 -- the parent of what was known before stays the same

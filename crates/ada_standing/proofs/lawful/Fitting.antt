@@ -21,18 +21,18 @@ use Rattle.ada_events.specs.Outcomes.{raised_in}
 use Rattle.ada_events.specs.Forced.{task_no, is_to_fail, is_to_cancel, is_to_wake, is_to_leave}
 use Rattle.ada_laws.specs.Suspension.{IsSuspendedAt}
 use Rattle.ada_laws.specs.Unlimited.{IsLawfulUnlimited, MayFollowUnlimited, refusal_but_limits}
-use Rattle.ada_laws.proofs.Searching.{option_or-some, if_some, is_number-some, option_map_or-true, event_at-older, event_at-within, event_at-cases}
-use Rattle.ada_laws.proofs.Growing.{task_count-more}
-use Rattle.ada_laws.proofs.Accepting.{running_live, asker_exists-unlimited}
-use Rattle.ada_laws.proofs.Saying.{held_in-wait, held_in-delay, held_in-start, held_in-closing, held_in-asked}
-use Rattle.ada_laws.proofs.Framing.{IsBlockOf, frame_is}
-use Rattle.ada_laws.proofs.Queueing.{is_open_at-call, open_call_suspends}
-use Rattle.ada_laws.proofs.Members.{nest_open, end_within-unlimited}
-use Rattle.ada_laws.proofs.Stepping.{forced-step, pending_parts, queued_open}
-use Rattle.ada_laws.proofs.OutcomeLaws.{row-raises_none, raised_in-asked, suspended_given-unlimited}
-use Rattle.ada_laws.proofs.Rows.{IsRow, forced-row}
-use Rattle.ada_laws.proofs.Rows.IsRow.{halts, fails, meets, cancels, passes, wakes, activates, goes, leaves}
-use Rattle.ada_laws.proofs.Reaching.{creation_asked-unlimited}
+use Rattle.ada_laws.proofs.searching.Searching.{option_or-some, if_some, is_number-some, option_map_or-true, event_at-older, event_at-within, event_at-cases}
+use Rattle.ada_laws.proofs.searching.Growing.{task_count-more}
+use Rattle.ada_laws.proofs.asking.Accepting.{running_live, asker_exists-unlimited}
+use Rattle.ada_laws.proofs.searching.Saying.{held_in-wait, held_in-delay, held_in-start, held_in-closing, held_in-asked}
+use Rattle.ada_laws.proofs.within.Framing.{IsBlockOf, frame_is}
+use Rattle.ada_laws.proofs.queues.Queueing.{is_open_at-call, open_call_suspends}
+use Rattle.ada_laws.proofs.within.Members.{nest_open, end_within-unlimited}
+use Rattle.ada_laws.proofs.forced.Stepping.{forced-step, pending_parts, queued_open}
+use Rattle.ada_laws.proofs.held.OutcomeLaws.{row-raises_none, raised_in-asked, suspended_given-unlimited}
+use Rattle.ada_laws.proofs.forced.Rows.{IsRow, forced-row}
+use Rattle.ada_laws.proofs.forced.Rows.IsRow.{halts, fails, meets, cancels, passes, wakes, activates, goes, leaves}
+use Rattle.ada_laws.proofs.within.Reaching.{creation_asked-unlimited}
 use Rattle.ada_standing.specs.Renaming.{Renaming, renamed_event}
 use Rattle.ada_standing.specs.StandsIn.{StandsIn}
 use Rattle.ada_standing.proofs.alike.Orderly.{IsLivedIn}

@@ -23,20 +23,20 @@ use Rattle.ada_events.specs.Forced.{is_done_activating, task_no}
 use Rattle.ada_events.specs.Asks.{asker, asked_event, member_position}
 use Rattle.ada_events.specs.Refusals.{is_rendezvous, has_no_block, is_not_activating, may_activate, is_not_your_task, has_double_task}
 use Rattle.ada_laws.specs.Unlimited.{IsLawfulUnlimited, MayFollowUnlimited, refusal_but_limits}
-use Rattle.ada_laws.proofs.Limitless.{is_accepted-unlimited}
-use Rattle.ada_laws.proofs.Accepting.{running_live, running_started, asker_exists-unlimited, asker_runs-unlimited}
-use Rattle.ada_laws.proofs.Searching.{event_at-cases, event_at-within, is_number-some, option_map_or-true, option_and_then-some}
-use Rattle.ada_laws.proofs.Saying.{held_in-asked, held_in-closing, held_in-start, held_in-wait}
-use Rattle.ada_laws.proofs.Growing.{task_count-more}
-use Rattle.ada_laws.proofs.Stepping.{forced-step}
-use Rattle.ada_laws.proofs.Depending.{started_named}
-use Rattle.ada_laws.proofs.Meeting.{taken_queued, meeting_in-met, meeting_at-unlimited, met_taking-unlimited}
-use Rattle.ada_laws.proofs.Members.{IsMember, nest_member, nest_open, end_within-unlimited}
-use Rattle.ada_laws.proofs.Members.IsMember.{block_in, rendezvous_in}
-use Rattle.ada_laws.proofs.Gathering.{Contains-first}
-use Rattle.ada_laws.proofs.Rows.{IsRow, forced-row}
-use Rattle.ada_laws.proofs.Rows.IsRow.{halts, fails, meets, cancels, passes, wakes, activates, leaves}
-use Rattle.ada_laws.proofs.Reaching.{opening_asked-unlimited}
+use Rattle.ada_laws.proofs.asking.Limitless.{is_accepted-unlimited}
+use Rattle.ada_laws.proofs.asking.Accepting.{running_live, running_started, asker_exists-unlimited, asker_runs-unlimited}
+use Rattle.ada_laws.proofs.searching.Searching.{event_at-cases, event_at-within, is_number-some, option_map_or-true, option_and_then-some}
+use Rattle.ada_laws.proofs.searching.Saying.{held_in-asked, held_in-closing, held_in-start, held_in-wait}
+use Rattle.ada_laws.proofs.searching.Growing.{task_count-more}
+use Rattle.ada_laws.proofs.forced.Stepping.{forced-step}
+use Rattle.ada_laws.proofs.within.Depending.{started_named}
+use Rattle.ada_laws.proofs.queues.Meeting.{taken_queued, meeting_in-met, meeting_at-unlimited, met_taking-unlimited}
+use Rattle.ada_laws.proofs.within.Members.{IsMember, nest_member, nest_open, end_within-unlimited}
+use Rattle.ada_laws.proofs.within.Members.IsMember.{block_in, rendezvous_in}
+use Rattle.ada_laws.proofs.searching.Gathering.{Contains-first}
+use Rattle.ada_laws.proofs.forced.Rows.{IsRow, forced-row}
+use Rattle.ada_laws.proofs.forced.Rows.IsRow.{halts, fails, meets, cancels, passes, wakes, activates, leaves}
+use Rattle.ada_laws.proofs.within.Reaching.{opening_asked-unlimited}
 use Rattle.ada_standing.proofs.lawful.Leaving.{leaving}
 use Rattle.ada_standing.proofs.lawful.Nesting.{own_member}
 use Rattle.ada_standing.specs.Renaming.{Renaming, renamed_event}

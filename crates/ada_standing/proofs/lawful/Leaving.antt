@@ -1,21 +1,19 @@
 -- Blocks that are left.
-use Rattle.std.proofs.Common.{◌≡◌, ℕ, suc, ◌≤◌, true, false, ◌&&◌, eqb, Some, None, List, [], ◌∷◌, length, refl, sym, ap, ◌∙◌, subst, arith, ◌⊎◌}
+use Rattle.std.proofs.Common.{◌≡◌, ℕ, suc, ◌≤◌, true, ◌&&◌, eqb, Some, List, [], ◌∷◌, length, sym, ap, ◌∙◌, subst, arith, ◌⊎◌}
 use Rattle.std.proofs.Common.{inl, inr}
 use Rattle.std.specs.List.{list_any}
-use Rattle.std.proofs.lemmas.Bool.{and_parts, and_from, or_cases, or_right, eqb-true, false_from_ne_true, true≢false, false≢true}
+use Rattle.std.proofs.lemmas.Bool.{and_parts, and_from, or_cases, eqb-true, false≢true}
 use Rattle.std.proofs.lemmas.Option.{none-some, same_Some}
 use Rattle.ada_events.specs.declared.event.Event.{Event}
-use Rattle.ada_events.specs.declared.request.Request.{Request}
-use Rattle.ada_events.specs.declared.request.Request.TheVariants as request
 use Rattle.ada_events.specs.Search.{is_number, is_some_and, event_at}
 use Rattle.ada_events.specs.Says.{Closing, closing_in, left_in}
-use Rattle.ada_events.specs.Asks.{asked_event}
 use Rattle.ada_events.specs.Nests.{is_left_close, is_left}
 use Rattle.ada_events.specs.Forced.{is_to_leave}
 use Rattle.ada_laws.specs.Unlimited.{IsLawfulUnlimited, MayFollowUnlimited}
-use Rattle.ada_laws.proofs.Searching.{event_at-older, event_at-cases, event_at-within, any_event-found, any_event-from, is_number-some, option_map_or-true}
-use Rattle.ada_laws.proofs.Rows.{IsRow, forced-row}
-use Rattle.ada_laws.proofs.Rows.IsRow.{leaves}
+use Rattle.ada_laws.proofs.searching.Searching.{event_at-cases, event_at-within, any_event-found, any_event-from, is_number-some, option_map_or-true}
+use Rattle.ada_laws.proofs.forced.Rows.{IsRow, forced-row}
+use Rattle.ada_laws.proofs.forced.Rows.IsRow.{leaves}
+use Rattle.ada_laws.proofs.within.Leaving.{left_in-asked}
 
 -- a close that is followed by leaving its block
 pub record IsLeaving (journal : List Event) (close : ℕ) : Type 0 where
@@ -30,11 +28,6 @@ unfolding left_in
 row_leaving journal event close (leaves p e closing at says leave) is =
     subst (IsLeaving journal) (same_Some p close is) (record { closed = e; closing = closing; stands = at; says = says; leave = leave })
 row_leaving journal event close _ is = absurd (none-some close is)
-
-left_in-asked : (journal : List Event) (r : Request) → left_in (asked_event journal r) ≡ None
-unfolding left_in asked_event
-left_in-asked journal (request.Open by) = refl
-left_in-asked journal _ = refl
 
 pub leaving : (event : Event) (before : List Event) (close : ℕ) → MayFollowUnlimited before event → left_in event ≡ Some close
     → IsLeaving before close
@@ -75,21 +68,6 @@ next_unleft event before lawful left =
           let within : suc (length before) ≤ length before = left_within before (suc (length before)) lawful.0 was in
           omega arith
     ]
-
--- a block that is left stays left
-pub left_more : (event : Event) (before : List Event) (p : ℕ) → is_left before p ≡ true → is_left (event ∷ before) p ≡ true
-unfolding is_left is_left_close
-left_more event before p left =
-    let (q, e, at, passes) = any_event-found (λ q e. is_some_and (closing_in e) (λ (c : Closing). eqb c.block p) && is_left_close before q) before left in
-    let both = and_parts (is_some_and (closing_in e) (λ (c : Closing). eqb c.block p)) (is_left_close before q) passes in
-    any_event-from (λ q e. is_some_and (closing_in e) (λ (c : Closing). eqb c.block p) && is_left_close (event ∷ before) q) (event ∷ before) q e
-    (event_at-older event before q e at)
-    (and_from (is_some_and (closing_in e) (λ (c : Closing). eqb c.block p)) (is_left_close (event ∷ before) q) both.0
-    (or_right (is_number q (left_in event)) (is_left_close before q) both.1))
-
-pub unleft_before : (event : Event) (before : List Event) (p : ℕ) → is_left (event ∷ before) p ≡ false → is_left before p ≡ false
-unleft_before event before p unleft =
-    false_from_ne_true (is_left before p) (λ left. true≢false (sym (left_more event before p left) ∙ unleft))
 
 -- the event leaves the block
 pub record Leaves (event : Event) (before : List Event) (p : ℕ) : Type 0 where

@@ -1,15 +1,14 @@
 -- Live tasks are within what they depend on: bodies of live tasks, and blocks that live tasks haven't left.
-use Rattle.std.proofs.Common.{◌≡◌, ℕ, ◌<◌, true, false, ◌||◌, eqb, Option, Some, None, List, [], ◌∷◌, refl, sym, ap, ◌∙◌, subst, ◌⊎◌, inl, inr}
+use Rattle.std.proofs.Common.{◌≡◌, ℕ, ◌<◌, true, false, ◌||◌, eqb, Option, Some, List, [], ◌∷◌, refl, sym, ap, ◌∙◌, subst, ◌⊎◌, inl, inr}
 use Rattle.std.specs.Option.{option_map_or}
 use Rattle.std.proofs.lemmas.Bool.{and_parts, or_cases, or_right, eqb-true, true≢false, false≢true, false_from_ne_true}
 use Rattle.std.proofs.lemmas.Option.{none-some, same_Some}
 use Rattle.ada_events.specs.declared.event.Event.{Event}
-use Rattle.ada_events.specs.declared.event.Event.TheVariants as event
 use Rattle.ada_events.specs.declared.names.TaskNo.{TaskNo}
 use Rattle.ada_events.specs.declared.names.Master.{Master}
 use Rattle.ada_events.specs.declared.names.Master.TheVariants.{Body, Block}
 use Rattle.ada_events.specs.Search.{any_event, event_at}
-use Rattle.ada_events.specs.Says.{creation_in, opening_in, left_in}
+use Rattle.ada_events.specs.Says.{opening_in}
 use Rattle.ada_events.specs.Tasks.{task_count}
 use Rattle.ada_events.specs.Masters.{same_master, parent_in, reaches, depends_on}
 use Rattle.ada_events.specs.Phases.{is_terminated}
@@ -19,16 +18,18 @@ use Rattle.ada_events.specs.Termination.{all_terminated}
 use Rattle.ada_events.specs.Forced.{task_no, is_to_leave}
 use Rattle.ada_laws.specs.Masters.{parent_of, IsKnown}
 use Rattle.ada_laws.specs.Unlimited.{IsLawfulUnlimited}
-use Rattle.ada_laws.proofs.Searching.{event_at-cases}
-use Rattle.ada_laws.proofs.Growing.{is_terminated-more, has_ended-terminated}
-use Rattle.ada_laws.proofs.Accepting.{running_live}
-use Rattle.ada_laws.proofs.Framing.{IsBlockOf, frame_is}
-use Rattle.ada_laws.proofs.Reaching.{reaches-same, reaches_up, reaches_down, parent_in-opened, creation_asked-unlimited, opening_asked-unlimited}
-use Rattle.ada_laws.proofs.Reaching.{reaches_known-unlimited, reaches_trans-unlimited}
-use Rattle.ada_laws.proofs.Reaching.{frame_known}
-use Rattle.ada_laws.proofs.Depending.{IsMadeUnder, depends_on-cases, depends_on-made, depends_on-later, depends_exists, depends_reaches, reaches_from_body}
-use Rattle.ada_laws.proofs.DependentLaws.{all_terminated_at, a_terminated_body_has_no_live_dependent-unlimited}
-use Rattle.ada_laws.proofs.Parents.{masters_reach_by_parents-unlimited}
+use Rattle.ada_laws.proofs.searching.Searching.{event_at-cases}
+use Rattle.ada_laws.proofs.searching.Growing.{is_terminated-more, has_ended-terminated}
+use Rattle.ada_laws.proofs.asking.Accepting.{running_live}
+use Rattle.ada_laws.proofs.within.Framing.{IsBlockOf, frame_is}
+use Rattle.ada_laws.proofs.within.Reaching.{reaches-same, reaches_up, reaches_down, parent_in-opened, creation_asked-unlimited, opening_asked-unlimited}
+use Rattle.ada_laws.proofs.within.Reaching.{reaches_known-unlimited, reaches_trans-unlimited}
+use Rattle.ada_laws.proofs.within.Reaching.{frame_known}
+use Rattle.ada_laws.proofs.within.Depending.{IsMadeUnder, depends_on-cases, depends_on-made, depends_on-later, depends_exists, depends_reaches}
+use Rattle.ada_laws.proofs.within.Depending.{reaches_from_body}
+use Rattle.ada_laws.proofs.within.DependentLaws.{all_terminated_at, a_terminated_body_has_no_live_dependent-unlimited}
+use Rattle.ada_laws.proofs.within.Parents.{masters_reach_by_parents-unlimited}
+use Rattle.ada_laws.proofs.within.Leaving.{leaving_makes_none}
 use Rattle.ada_standing.specs.StandsIn.{is_live}
 use Rattle.ada_standing.proofs.alike.Orderly.{IsClimb, IsLivedIn}
 use Rattle.ada_standing.proofs.alike.Pairs.{live_from, live_parts}
@@ -111,11 +112,6 @@ own_reaches journal task b x lawful (IsClimb.up m w parent climb) (IsOwn.own_blo
     as_own : (z : Master) → IsOuter journal task p z → IsOwn journal task z
     as_own z (IsOuter.in_body) = IsOwn.own_body
     as_own z (IsOuter.in_block q less own) = IsOwn.own_block q own
-
-leaving_makes_none : (e : Event) (c : ℕ) → left_in e ≡ Some c → creation_in e ≡ None
-unfolding left_in creation_in
-leaving_makes_none (event.Left close) c says = refl
-leaving_makes_none _ c says = absurd (none-some c says)
 
 -- no task is made that depends on a block that was left
 no_late_dependent : (event : Event) (before : List Event) (u b : ℕ) → IsLawfulUnlimited (event ∷ before) → is_left before b ≡ true

@@ -1,7 +1,7 @@
 -- Blocks nest: what a block that isn't left was opened in isn't left either.
-use Rattle.std.proofs.Common.{◌≡◌, ℕ, zero, suc, ◌-◌, ◌<◌, ◌≤◌, true, false, not, ◌&&◌, eqb, Option, Some, None, List, [], ◌∷◌, ◌++◌, length, get_or, refl}
-use Rattle.std.proofs.Common.{sym, ap, ◌∙◌, subst, arith, ◌⊎◌, inl, inr, append-nil, length-append}
-use Rattle.std.specs.Option.{option_map_or, option_to_list}
+use Rattle.std.proofs.Common.{◌≡◌, ℕ, zero, suc, ◌-◌, ◌<◌, ◌≤◌, true, false, not, ◌&&◌, eqb, Option, Some, None, List, [], ◌∷◌, length, get_or, refl}
+use Rattle.std.proofs.Common.{sym, ap, ◌∙◌, subst, arith, ◌⊎◌, inl, inr}
+use Rattle.std.specs.Option.{option_map_or}
 use Rattle.std.specs.Bool.{then_some}
 use Rattle.std.specs.List.{Contains, slice_get, list_any}
 use Rattle.std.proofs.lemmas.Bool.{and_parts, or_cases, or_left, or_right, eq-eqb, eqb-true, false_from_ne_true, true≢false, false≢true}
@@ -14,7 +14,7 @@ use Rattle.ada_events.specs.declared.names.Master.{Master}
 use Rattle.ada_events.specs.declared.names.Master.TheVariants.{Body, Block as BlockMaster}
 use Rattle.ada_events.specs.declared.names.Member.{Member}
 use Rattle.ada_events.specs.declared.names.Member.TheVariants.{Block, Rendezvous}
-use Rattle.ada_events.specs.Search.{gathered, event_at}
+use Rattle.ada_events.specs.Search.{event_at}
 use Rattle.ada_events.specs.Says.{Opening, Closing, Meeting, opening_in, closing_in, meeting_in, left_in}
 use Rattle.ada_events.specs.Phases.{is_released, has_ended, is_suspended}
 use Rattle.ada_events.specs.Calls.{is_open_call, is_pending}
@@ -25,20 +25,22 @@ use Rattle.ada_events.specs.Termination.{all_terminated}
 use Rattle.ada_events.specs.Forced.{is_to_leave}
 use Rattle.ada_laws.specs.Masters.{parent_of}
 use Rattle.ada_laws.specs.Unlimited.{IsLawfulUnlimited, MayFollowUnlimited, refusal_but_limits}
-use Rattle.ada_laws.proofs.Limitless.{is_accepted-unlimited}
-use Rattle.ada_laws.proofs.Accepting.{running_free}
-use Rattle.ada_laws.proofs.Searching.{event_at-older, event_at-newest, event_at-other, event_at-within, event_at-cases, then_some-some, option_or-some}
-use Rattle.ada_laws.proofs.Stepping.{forced-step, pending_parts}
-use Rattle.ada_laws.proofs.Saying.{held_in-closing}
-use Rattle.ada_laws.proofs.Suspending.{is_suspended-from}
-use Rattle.ada_laws.proofs.Growing.{is_released-before, has_ended-before}
-use Rattle.ada_laws.proofs.Gathering.{Contains-first, Contains-later, gathered-from}
-use Rattle.ada_laws.proofs.Members.{IsMember, nest_member}
-use Rattle.ada_laws.proofs.Members.IsMember.{block_in}
-use Rattle.ada_laws.proofs.Framing.{IsBlockOf}
-use Rattle.ada_laws.proofs.Reaching.{opening_asked-unlimited}
+use Rattle.ada_laws.proofs.asking.Limitless.{is_accepted-unlimited}
+use Rattle.ada_laws.proofs.asking.Accepting.{running_free}
+use Rattle.ada_laws.proofs.searching.Searching.{event_at-newest, event_at-other, event_at-within, event_at-cases, then_some-some, option_or-some}
+use Rattle.ada_laws.proofs.forced.Stepping.{forced-step, pending_parts}
+use Rattle.ada_laws.proofs.searching.Saying.{held_in-closing}
+use Rattle.ada_laws.proofs.held.Suspending.{is_suspended-from}
+use Rattle.ada_laws.proofs.searching.Growing.{is_released-before, has_ended-before}
+use Rattle.ada_laws.proofs.searching.Gathering.{Contains-first, Contains-later, gathered-from}
+use Rattle.ada_laws.proofs.within.Members.{IsMember, nest_member}
+use Rattle.ada_laws.proofs.within.Members.IsMember.{block_in}
+use Rattle.ada_laws.proofs.within.Framing.{IsBlockOf, block_later}
+use Rattle.ada_laws.proofs.within.Reaching.{opening_asked-unlimited}
+use Rattle.ada_laws.proofs.within.Innermost.{latest}
+use Rattle.ada_laws.proofs.within.Leaving.{unleft_before}
 use Rattle.ada_standing.specs.StandsIn.{is_block}
-use Rattle.ada_standing.proofs.lawful.Leaving.{Leaves, left_cases, unleft_before}
+use Rattle.ada_standing.proofs.lawful.Leaving.{Leaves, left_cases}
 
 -- a block that a task opened and hasn't left
 pub record IsOwnBlock (journal : List Event) (task p : ℕ) : Type 0 where
@@ -115,37 +117,6 @@ frame_own journal task =
       | inr block ↦ subst (IsOwn journal task) (sym block.2) (IsOwn.own_block block.0 (own_member journal task block.0 block.1))
     ]
 
--- the innermost block of a nest is the latest
-
-slice_last : (members : List Member) (x : Member) → slice_get (members ++ x ∷ []) (length members) ≡ Some x
-slice_last [] x = refl
-slice_last (y ∷ rest) x = slice_last rest x
-
-innermost_last : (members : List Member) (x : Member) → innermost (members ++ x ∷ []) ≡ Some x
-innermost_last members x =
-    let many : length (members ++ x ∷ []) - 1 ≡ length members = omega (arith, length-append members (x ∷ [])) in
-    ap (slice_get (members ++ x ∷ [])) many ∙ slice_last members x
-
-latest : (give : ℕ → Event → Option Member) (journal : List Event) (p b : ℕ) (e : Event) → ((q r : ℕ) (f : Event) → give q f ≡ Some (Block r) → q ≡ r)
-    → event_at journal p ≡ Some e → give p e ≡ Some (Block p) → innermost (gathered give journal) ≡ Some (Block b) → p ≤ b
-unfolding gathered event_at
-latest give [] p b e placed at gives last = absurd (none-some e at)
-latest give (newest ∷ earlier) p b e placed at gives last =
-    by_newest (give (suc (length earlier)) newest) refl last (λ older rest. latest give earlier p b e placed older gives rest)
-  where
-    by_newest : (o : Option Member) → give (suc (length earlier)) newest ≡ o → innermost (gathered give earlier ++ option_to_list o) ≡ Some (Block b)
-        → (event_at earlier p ≡ Some e → innermost (gathered give earlier) ≡ Some (Block b) → p ≤ b) → p ≤ b
-    by_newest None is last again =
-        elim (event_at-cases newest earlier p e at) [
-          | inl now ↦ absurd (none-some (Block p) (sym is ∙ ap (give (suc (length earlier))) now.1 ∙ ap (λ n. give n e) (sym now.0) ∙ gives))
-          | inr older ↦ again older (ap innermost (sym (append-nil (gathered give earlier))) ∙ last)
-        ]
-    by_newest (Some x) is last again =
-        let same : Some x ≡ Some (Block b) = sym (innermost_last (gathered give earlier) x) ∙ last in
-        let place : suc (length earlier) ≡ b = placed (suc (length earlier)) b newest (is ∙ same) in
-        let low : p ≤ length (newest ∷ earlier) = event_at-within (newest ∷ earlier) p e at in
-        omega (arith, place, low)
-
 placed_member : (journal : List Event) (task q r : ℕ) (e : Event) → member_at journal task q e ≡ Some (Block r) → q ≡ r
 unfolding member_at
 placed_member journal task q r e gives =
@@ -199,15 +170,6 @@ new_close : (event : Event) (before : List Event) (k : Closing) → MayFollowUnl
     → IsInnermost before k.by k.block
 new_close event before k (inl forces) says = absurd (none-some k.by (sym (forced-step before event forces).holds_none ∙ held_in-closing event k says))
 new_close event before k (inr asked) says = asked_close before asked.request k asked.accepted (ap closing_in (sym asked.becomes) ∙ says)
-
-block_later : (event : Event) (before : List Event) (task p : ℕ) → IsBlockOf before task p → IsBlockOf (event ∷ before) task p
-block_later event before task p block = record {
-  event = block.event;
-  opening = block.opening;
-  stands = event_at-older event before p block.event block.stands;
-  says = block.says;
-  by = block.by;
-}
 
 block_older : (before : List Event) (task p : ℕ) (event : Event) (block : IsBlockOf (event ∷ before) task p) → event_at before p ≡ Some block.event
     → IsBlockOf before task p

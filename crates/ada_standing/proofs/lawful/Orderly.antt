@@ -2,8 +2,8 @@
 use Rattle.std.proofs.Common.{List}
 use Rattle.ada_events.specs.declared.event.Event.{Event}
 use Rattle.ada_laws.specs.Unlimited.{IsLawfulUnlimited}
-use Rattle.ada_laws.proofs.Parents.{masters_reach_by_parents-unlimited, tasks_depend_by_parents-unlimited}
-use Rattle.ada_laws.proofs.Suspending.{suspended_exists-unlimited, suspended_once-unlimited}
+use Rattle.ada_laws.proofs.within.Parents.{masters_reach_by_parents-unlimited, tasks_depend_by_parents-unlimited}
+use Rattle.ada_laws.proofs.held.Suspending.{suspended_exists-unlimited, suspended_once-unlimited}
 use Rattle.ada_standing.proofs.alike.Orderly.{IsOrderly}
 use Rattle.ada_standing.proofs.lawful.Climbing.{climb_of}
 use Rattle.ada_standing.proofs.lawful.Living.{masters_lived_in, parents_lived_in}

@@ -14,11 +14,11 @@ use Rattle.ada_events.specs.Phases.{lists_task}
 use Rattle.ada_events.specs.Asks.{asker, asked_event, named_tasks}
 use Rattle.ada_events.specs.Refusals.{names_unknown_task}
 use Rattle.ada_laws.specs.Unlimited.{IsLawfulUnlimited, MayFollowUnlimited, refusal_but_limits}
-use Rattle.ada_laws.proofs.Limitless.{is_accepted-unlimited}
-use Rattle.ada_laws.proofs.Searching.{event_at-cases}
-use Rattle.ada_laws.proofs.Saying.{held_in-start}
-use Rattle.ada_laws.proofs.Growing.{task_count-more}
-use Rattle.ada_laws.proofs.Stepping.{forced-step}
+use Rattle.ada_laws.proofs.asking.Limitless.{is_accepted-unlimited}
+use Rattle.ada_laws.proofs.searching.Searching.{event_at-cases}
+use Rattle.ada_laws.proofs.searching.Saying.{held_in-start}
+use Rattle.ada_laws.proofs.searching.Growing.{task_count-more}
+use Rattle.ada_laws.proofs.forced.Stepping.{forced-step}
 
 all_exist : (journal : List Event) (tasks : List TaskNo) (u : ℕ) → list_any (λ (t : TaskNo). not (has_task journal t.0)) tasks ≡ false
     → lists_task u tasks ≡ true → u < task_count journal

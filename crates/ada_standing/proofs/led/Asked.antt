@@ -16,8 +16,8 @@ use Rattle.ada_events.specs.Masters.{reaches}
 use Rattle.ada_events.specs.Asks.{asker, named_tasks, body_task, asked_event, member_position}
 use Rattle.ada_events.specs.Refusals.{is_not_your_master, is_not_in_accept, has_no_block}
 use Rattle.ada_laws.specs.Unlimited.{refusal_but_limits}
-use Rattle.ada_laws.proofs.Limitless.{is_accepted-unlimited}
-use Rattle.ada_laws.proofs.Searching.{option_map-some}
+use Rattle.ada_laws.proofs.asking.Limitless.{is_accepted-unlimited}
+use Rattle.ada_laws.proofs.searching.Searching.{option_map-some}
 use Rattle.ada_standing.specs.Renaming.{Renaming, renamed_task, renamed_tasks, renamed_master, renamed_member, renamed_event}
 use Rattle.ada_standing.specs.StandsIn.{StandsIn}
 use Rattle.ada_standing.specs.Asking.{asked_task, asked_master, renamed_request, names_kept}

@@ -8,8 +8,8 @@ use Rattle.ada_events.specs.declared.names.Master.{Master}
 use Rattle.ada_events.specs.declared.names.Master.TheVariants.{Body, Block}
 use Rattle.ada_events.specs.Tasks.{task_count}
 use Rattle.ada_events.specs.Forced.{task_no}
-use Rattle.ada_laws.proofs.Searching.{option_map-some}
-use Rattle.ada_laws.proofs.Growing.{task_count-more}
+use Rattle.ada_laws.proofs.searching.Searching.{option_map-some}
+use Rattle.ada_laws.proofs.searching.Growing.{task_count-more}
 use Rattle.ada_standing.specs.Renaming.{Renaming, renamed_task, renamed_tasks, renamed_master, renamed_event}
 use Rattle.ada_standing.specs.internal.Next.{next_names}
 use Rattle.ada_standing.specs.Leading.{KeepsNames}

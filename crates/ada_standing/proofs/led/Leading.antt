@@ -8,7 +8,7 @@ use Rattle.ada_events.specs.Forced.{forced}
 use Rattle.ada_events.specs.Asks.{asked_event}
 use Rattle.ada_events.specs.Lawful.{IsSettled, Forces}
 use Rattle.ada_laws.specs.Unlimited.{IsLawfulUnlimited, MayFollowUnlimited}
-use Rattle.ada_laws.proofs.Forcing.{settled_same, forces_lawful-unlimited}
+use Rattle.ada_laws.proofs.forced.Forcing.{settled_same, forces_lawful-unlimited}
 use Rattle.ada_standing.specs.Renaming.{Renaming, renamed_event}
 use Rattle.ada_standing.specs.internal.Next.{next_names}
 use Rattle.ada_standing.specs.StandsIn.{StandsIn}

@@ -18,13 +18,13 @@ use Rattle.ada_events.specs.Nests.{nest}
 use Rattle.ada_events.specs.Termination.{all_terminated}
 use Rattle.ada_laws.specs.Calls.{IsCallAt}
 use Rattle.ada_laws.specs.Suspension.{IsSuspendedAt}
-use Rattle.ada_rows.specs.TouchedKeys.{is_uncallable}
-use Rattle.ada_rows.specs.declared.row.Row.{Row}
-use Rattle.ada_rows.specs.declared.row.Row.TheVariants.{Halting, Failing, Activating, Terminating, QuittingBody, QuittingBlock, Leaving}
+use Rattle.ada_step_laws.specs.TouchedKeys.{is_uncallable}
+use Rattle.ada_step_laws.specs.declared.row.Row.{Row}
+use Rattle.ada_step_laws.specs.declared.row.Row.TheVariants.{Halting, Failing, Activating, Terminating, QuittingBody, QuittingBlock, Leaving}
 use Rattle.ada_tables.specs.Dependents.{holds}
 use Rattle.ada_agenda.specs.Keeping.{When, AsKey}
 use Rattle.ada_agenda.specs.internal.Keeping.{Both}
-use Rattle.ada_agenda.specs.Kinds.{quitting_row, quitting_key, due_in, due_row, IsActivationOf, IsOpenCallTo}
+use Rattle.ada_step_laws.specs.Kinds.{quitting_row, quitting_key, due_in, due_row, IsActivationOf, IsOpenCallTo}
 
 -- the keys of one of the first so many tasks
 pub record OfFirst (Key : ℕ → Row → ℕ → Type 0) (many : ℕ) (row : Row) (key : ℕ) : Type 0 where

@@ -1,5 +1,5 @@
 use Rattle.std.proofs.Common.{◌∙◌}
-use Rattle.ada_records.proofs.SlotsApart.{slots_held}
+use Rattle.ada_records.proofs.following.SlotsApart.{slots_held}
 use Rattle.ada_admission.proofs.limits.slot_count.Goals as goal
 
 pub returns : goal.returns

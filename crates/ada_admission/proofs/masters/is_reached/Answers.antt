@@ -1,7 +1,7 @@
 use Rattle.std.proofs.Common.{◌<◌, ◌∙◌, ap, sym, subst}
-use Rattle.ada_records.proofs.Agreeing.{ends_phase}
-use Rattle.ada_records.proofs.Enclosing.{frame_reaches_held}
-use Rattle.ada_records.proofs.Walking.{same_dependents}
+use Rattle.ada_records.proofs.following.Agreeing.{ends_phase}
+use Rattle.ada_records.proofs.holding.Enclosing.{frame_reaches_held}
+use Rattle.ada_records.proofs.holding.Walking.{same_dependents}
 use Rattle.ada_tables.specs.Dependents.{Facts, is_terminated as ends}
 use Rattle.ada_view.proofs.Blocks.{ended_or, else_closed}
 use Rattle.ada_admission.proofs.masters.is_reached.Goals as goal

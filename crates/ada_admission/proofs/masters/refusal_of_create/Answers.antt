@@ -1,7 +1,7 @@
 use Rattle.std.proofs.Common.{sym, ◌∙◌}
 use Rattle.std.proofs.lemmas.Bool.{or_parts}
 use Rattle.ada_events.specs.Phases.{is_completed, is_terminated, has_ended}
-use Rattle.ada_laws.proofs.Accepting.{running_live}
+use Rattle.ada_laws.proofs.asking.Accepting.{running_live}
 use Rattle.ada_admission.proofs.masters.refusal_of_create.Goals as goal
 
 pub is_reached-requires-clause-live : goal.is_reached-requires-clause-live

@@ -1,5 +1,5 @@
 use Rattle.std.proofs.Common.{◌∙◌}
-use Rattle.ada_records.proofs.Queries.{records_tell}
+use Rattle.ada_records.proofs.recording.Queries.{records_tell}
 use Rattle.ada_admission.proofs.names.is_running.Goals as goal
 
 pub returns : goal.returns

@@ -2,7 +2,7 @@ use Rattle.std.proofs.Common.{◌≡◌, ap, refl, List, [], length}
 use Rattle.ada_events.specs.declared.names.Master.TheVariants.{Body}
 use Rattle.ada_events.specs.Limits.{slot_count}
 use Rattle.ada_tables.specs.Queues.{QueuedCall}
-use Rattle.ada_records.proofs.Made.{made_open, made_tasks, made_entries}
+use Rattle.ada_records.proofs.following.Made.{made_open, made_tasks, made_entries}
 use Rattle.ada_kernel_tests.proofs.First.{first_event, first_lawful, main}
 use Rattle.ada_kernel_tests.proofs.creation.the_first_creation_is_followed.Goals as goal
 

@@ -1,5 +1,5 @@
 -- The law, as its lemmas prove it.
-use Rattle.ada_laws.proofs.CallLaws.{one_open_call_each, open_calls_suspend, calls_that_suspend_are_open, open_calls_are_joined_or_queued}
+use Rattle.ada_laws.proofs.queues.CallLaws.{one_open_call_each, open_calls_suspend, calls_that_suspend_are_open, open_calls_are_joined_or_queued}
 use Rattle.ada_laws.proofs.calls.one_open_call_each.Goals as goal
 
 pub returns-clause-one : goal.returns-clause-one

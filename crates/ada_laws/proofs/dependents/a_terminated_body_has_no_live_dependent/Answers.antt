@@ -1,5 +1,5 @@
 -- The law, as its lemmas prove it.
-use Rattle.ada_laws.proofs.DependentLaws.{a_terminated_body_has_no_live_dependent}
+use Rattle.ada_laws.proofs.within.DependentLaws.{a_terminated_body_has_no_live_dependent}
 use Rattle.ada_laws.proofs.dependents.a_terminated_body_has_no_live_dependent.Goals as goal
 
 pub returns : goal.returns

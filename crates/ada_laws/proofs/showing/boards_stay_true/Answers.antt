@@ -1,5 +1,5 @@
 -- The law, as its lemmas prove it.
-use Rattle.ada_laws.proofs.ShowingLaws.{no_boards_are_true, boards_stay_true}
+use Rattle.ada_laws.proofs.boards.ShowingLaws.{no_boards_are_true, boards_stay_true}
 use Rattle.ada_laws.proofs.showing.boards_stay_true.Goals as goal
 
 pub returns-clause-none : goal.returns-clause-none

@@ -1,5 +1,5 @@
 -- The law, as its lemmas prove it.
-use Rattle.ada_laws.proofs.SlotOrder.{slots_are_in_order}
+use Rattle.ada_laws.proofs.entries.SlotOrder.{slots_are_in_order}
 use Rattle.ada_laws.proofs.slots.slots_are_in_order.Goals as goal
 
 pub returns : goal.returns

@@ -1,5 +1,5 @@
 -- The law, as its lemmas prove it.
-use Rattle.ada_laws.proofs.Suspending.{is_suspended-at, is_suspended-from, suspended_latest, suspended_once, suspended_exists}
+use Rattle.ada_laws.proofs.held.Suspending.{is_suspended-at, is_suspended-from, suspended_latest, suspended_once, suspended_exists}
 use Rattle.ada_laws.proofs.suspension.suspended_at_one_position.Goals as goal
 
 pub returns-clause-somewhere : goal.returns-clause-somewhere

@@ -1,6 +1,6 @@
 use Rattle.std.proofs.Common.{refl}
-use Rattle.ada_records.proofs.Applied.{known_followed}
-use Rattle.ada_records.proofs.EndingTurns.{elaboration_known}
+use Rattle.ada_records.proofs.following.Applied.{known_followed}
+use Rattle.ada_records.proofs.turning.EndingTurns.{elaboration_known}
 use Rattle.ada_records.proofs.activation.follow_elaboration.Goals as goal
 
 pub returns : goal.returns

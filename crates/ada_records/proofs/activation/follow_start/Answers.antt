@@ -1,5 +1,5 @@
 use Rattle.std.proofs.Common.{arith}
-use Rattle.ada_records.proofs.Listed.{start_followed}
+use Rattle.ada_records.proofs.following.Listed.{start_followed}
 use Rattle.ada_records.proofs.activation.follow_start.Goals as goal
 
 pub refresh-requires : goal.refresh-requires

@@ -1,6 +1,6 @@
 use Rattle.std.proofs.Common.{refl}
-use Rattle.ada_records.proofs.Applied.{known_followed}
-use Rattle.ada_records.proofs.EndingTurns.{completion_known}
+use Rattle.ada_records.proofs.following.Applied.{known_followed}
+use Rattle.ada_records.proofs.turning.EndingTurns.{completion_known}
 use Rattle.ada_records.proofs.masters.follow_completion.Goals as goal
 
 pub returns : goal.returns

@@ -1,4 +1,4 @@
-use Rattle.ada_records.proofs.Made.{made_stand, made_slots}
+use Rattle.ada_records.proofs.following.Made.{made_stand, made_slots}
 use Rattle.ada_records.proofs.masters.follow_creation.Goals as goal
 
 pub returns-clause-ok : goal.returns-clause-ok

@@ -1,6 +1,6 @@
 use Rattle.std.proofs.Common.{refl}
-use Rattle.ada_records.proofs.Applied.{known_followed}
-use Rattle.ada_records.proofs.MasterTurns.{leaving_known}
+use Rattle.ada_records.proofs.following.Applied.{known_followed}
+use Rattle.ada_records.proofs.turning.MasterTurns.{leaving_known}
 use Rattle.ada_records.proofs.masters.follow_leaving.Goals as goal
 
 pub returns : goal.returns

@@ -1,6 +1,6 @@
 use Rattle.std.proofs.Common.{refl, arith}
-use Rattle.ada_records.proofs.Applied.{known_stand}
-use Rattle.ada_records.proofs.MasterTurns.{opening_known}
+use Rattle.ada_records.proofs.following.Applied.{known_stand}
+use Rattle.ada_records.proofs.turning.MasterTurns.{opening_known}
 use Rattle.ada_records.proofs.masters.follow_opening.Goals as goal
 
 pub returns : goal.returns

@@ -1,4 +1,4 @@
-use Rattle.ada_records.proofs.Listed.{quit_followed}
+use Rattle.ada_records.proofs.following.Listed.{quit_followed}
 use Rattle.ada_records.proofs.masters.follow_quitting.Goals as goal
 
 pub returns : goal.returns

@@ -1,7 +1,7 @@
 use Rattle.std.proofs.Common.{◌≡◌, length, arith, subst}
 use Rattle.ada_events.specs.declared.names.TaskNo.{TaskNo}
 use Rattle.ada_records.specs.internal.Phasing.{AreRefreshed}
-use Rattle.ada_records.proofs.Listed.{none_refreshed, one_more_refreshed}
+use Rattle.ada_records.proofs.following.Listed.{none_refreshed, one_more_refreshed}
 use Rattle.ada_records.proofs.phasing.refresh_listed.Goals as goal
 
 pub loop-i-init : goal.loop-i-init

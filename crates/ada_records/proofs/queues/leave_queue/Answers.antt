@@ -1,6 +1,6 @@
 use Rattle.std.proofs.Common.{List, ap, sym}
 use Rattle.ada_tables.specs.Queues.{QueuedCall}
-use Rattle.ada_records.proofs.Requeued.{without_none}
+use Rattle.ada_records.proofs.following.Requeued.{without_none}
 use Rattle.ada_records.proofs.queues.leave_queue.Goals as goal
 
 pub returns-else-waits-clause-queues : goal.returns-else-waits-clause-queues

@@ -1,7 +1,7 @@
 use Rattle.std.proofs.Common.{refl}
 use Rattle.ada_records.specs.internal.Records.{abort_record}
-use Rattle.ada_records.proofs.Changing.{changed_more, still_there}
-use Rattle.ada_records.proofs.Sweeping.{abort_once, records_aborted}
+use Rattle.ada_records.proofs.recording.Changing.{changed_more, still_there}
+use Rattle.ada_records.proofs.recording.Sweeping.{abort_once, records_aborted}
 use Rattle.ada_records.proofs.records.record_abort.Goals as goal
 
 pub loop-i-init : goal.loop-i-init

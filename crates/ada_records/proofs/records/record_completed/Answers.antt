@@ -1,5 +1,5 @@
 use Rattle.std.proofs.Common.{refl}
-use Rattle.ada_records.proofs.TaskEnds.{records_completed}
+use Rattle.ada_records.proofs.recording.TaskEnds.{records_completed}
 use Rattle.ada_records.proofs.records.record_completed.Goals as goal
 
 pub returns : goal.returns

@@ -1,4 +1,4 @@
-use Rattle.ada_records.proofs.Unmade.{records_made}
+use Rattle.ada_records.proofs.recording.Unmade.{records_made}
 use Rattle.ada_records.proofs.records.record_creation.Goals as goal
 
 pub returns : goal.returns

@@ -1,4 +1,4 @@
-use Rattle.ada_records.proofs.TaskEnds.{records_elaborated}
+use Rattle.ada_records.proofs.recording.TaskEnds.{records_elaborated}
 use Rattle.ada_records.proofs.records.record_elaboration.Goals as goal
 
 pub returns : goal.returns

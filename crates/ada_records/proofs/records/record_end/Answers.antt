@@ -1,5 +1,5 @@
 use Rattle.std.proofs.Common.{refl}
-use Rattle.ada_records.proofs.RecordChanges.{within_set, records_raised, records_served}
+use Rattle.ada_records.proofs.recording.RecordChanges.{within_set, records_raised, records_served}
 use Rattle.ada_records.proofs.records.record_end.Goals as goal
 
 pub bounds-records-by : goal.bounds-records-by

@@ -1,5 +1,5 @@
 use Rattle.std.proofs.Common.{refl}
-use Rattle.ada_records.proofs.RecordChanges.{records_hold}
+use Rattle.ada_records.proofs.recording.RecordChanges.{records_hold}
 use Rattle.ada_records.proofs.records.record_hold.Goals as goal
 
 pub returns : goal.returns

@@ -1,5 +1,5 @@
 use Rattle.std.proofs.Common.{refl}
-use Rattle.ada_records.proofs.RecordChanges.{within_set, records_met}
+use Rattle.ada_records.proofs.recording.RecordChanges.{within_set, records_met}
 use Rattle.ada_records.proofs.records.record_meeting.Goals as goal
 
 pub bounds-records-caller : goal.bounds-records-caller

@@ -1,9 +1,9 @@
 use Rattle.std.proofs.Common.{refl, sym, ap, ◌∙◌, false}
 use Rattle.std.proofs.lemmas.List.{length-set}
 use Rattle.ada_records.specs.internal.Records.{held, start_record}
-use Rattle.ada_records.proofs.Starting.{start_twice, records_started}
-use Rattle.ada_records.proofs.Changing.{changed_more, still_there}
-use Rattle.ada_records.proofs.RecordChanges.{within_set}
+use Rattle.ada_records.proofs.recording.Starting.{start_twice, records_started}
+use Rattle.ada_records.proofs.recording.Changing.{changed_more, still_there}
+use Rattle.ada_records.proofs.recording.RecordChanges.{within_set}
 use Rattle.ada_records.proofs.records.record_start.Goals as goal
 
 pub loop-i-init : goal.loop-i-init

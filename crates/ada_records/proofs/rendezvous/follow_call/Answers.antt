@@ -1,6 +1,6 @@
 use Rattle.std.proofs.Common.{refl}
-use Rattle.ada_records.proofs.Applied.{known_followed, joined}
-use Rattle.ada_records.proofs.RendezvousTurns.{call_known}
+use Rattle.ada_records.proofs.following.Applied.{known_followed, joined}
+use Rattle.ada_records.proofs.turning.RendezvousTurns.{call_known}
 use Rattle.ada_records.proofs.rendezvous.follow_call.Goals as goal
 
 pub returns : goal.returns

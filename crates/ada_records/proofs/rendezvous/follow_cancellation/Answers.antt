@@ -1,6 +1,6 @@
 use Rattle.std.proofs.Common.{refl}
-use Rattle.ada_records.proofs.Applied.{known_followed}
-use Rattle.ada_records.proofs.RendezvousTurns.{cancellation_known}
+use Rattle.ada_records.proofs.following.Applied.{known_followed}
+use Rattle.ada_records.proofs.turning.RendezvousTurns.{cancellation_known}
 use Rattle.ada_records.proofs.rendezvous.follow_cancellation.Goals as goal
 
 pub returns : goal.returns

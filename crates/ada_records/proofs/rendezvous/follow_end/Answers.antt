@@ -1,6 +1,6 @@
 use Rattle.std.proofs.Common.{refl}
-use Rattle.ada_records.proofs.Applied.{known_followed}
-use Rattle.ada_records.proofs.RendezvousTurns.{end_known}
+use Rattle.ada_records.proofs.following.Applied.{known_followed}
+use Rattle.ada_records.proofs.turning.RendezvousTurns.{end_known}
 use Rattle.ada_records.proofs.rendezvous.follow_end.Goals as goal
 
 pub returns : goal.returns

@@ -1,6 +1,6 @@
 use Rattle.std.proofs.Common.{refl}
-use Rattle.ada_records.proofs.Applied.{known_followed}
-use Rattle.ada_records.proofs.SuspensionTurns.{release_known}
+use Rattle.ada_records.proofs.following.Applied.{known_followed}
+use Rattle.ada_records.proofs.turning.SuspensionTurns.{release_known}
 use Rattle.ada_records.proofs.suspension.follow_release.Goals as goal
 
 pub returns : goal.returns

@@ -1,5 +1,5 @@
-use Rattle.ada_records.proofs.OnePhase.{holds_change_one_phase, going_changes_one_phase}
-use Rattle.ada_records.proofs.OnePhaseKinds.{releases_change_one_phase, completions_change_one_phase}
+use Rattle.ada_records.proofs.phase_changes.OnePhase.{holds_change_one_phase, going_changes_one_phase}
+use Rattle.ada_records.proofs.phase_changes.OnePhaseKinds.{releases_change_one_phase, completions_change_one_phase}
 use Rattle.ada_records.proofs.table_laws.one_phase_changes.Goals as goal
 
 pub returns-clause-holds : goal.returns-clause-holds

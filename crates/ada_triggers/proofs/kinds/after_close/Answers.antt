@@ -1,5 +1,5 @@
 use Rattle.std.proofs.Common.{subst}
-use Rattle.ada_rows.specs.declared.row.Row.TheVariants.{QuittingBlock}
+use Rattle.ada_step_laws.specs.declared.row.Row.TheVariants.{QuittingBlock}
 use Rattle.ada_agenda.specs.Keeping.{Puts, When, AsKey}
 use Rattle.ada_agenda.proofs.Noting.{both_put}
 use Rattle.ada_triggers.proofs.Additions.{close_noted}

@@ -2,7 +2,7 @@ use Rattle.std.proofs.Common.{◌≡◌, true, ◌∙◌, sym, ap, w64}
 use Rattle.std.specs.Option.{option_copied}
 use Rattle.std.proofs.lemmas.Int.{to_z-of_z}
 use Rattle.ada_events.specs.Waits.{is_due}
-use Rattle.ada_agenda.specs.Kinds.{due_in}
+use Rattle.ada_step_laws.specs.Kinds.{due_in}
 use Rattle.ada_triggers.proofs.Bounds.{due_there, came_there, nothing_there}
 use Rattle.ada_triggers.proofs.Dues.{due_noted, no_due, position_fits, task_due_put}
 use Rattle.ada_triggers.proofs.moments.put_due.Goals as goal

@@ -1,6 +1,6 @@
 use Rattle.std.proofs.Common.{◌∙◌, sym}
 use Rattle.std.proofs.lemmas.Bool.{ltb-true}
-use Rattle.ada_records.proofs.Queries.{records_tell}
+use Rattle.ada_records.proofs.recording.Queries.{records_tell}
 use Rattle.ada_view.proofs.Counting.{unknown_asks, suspended_asks}
 use Rattle.ada_view.proofs.counts.count.Goals as goal
 

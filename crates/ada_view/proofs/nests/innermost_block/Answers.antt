@@ -1,4 +1,4 @@
-use Rattle.std.proofs.Common.{◌≡◌, ◌+◌, ◌-◌, ◌<◌, ◌≤◌, length, take, refl, sym, ap, ◌∙◌, arith}
+use Rattle.std.proofs.Common.{◌≡◌, ◌+◌, ◌-◌, ◌<◌, length, take, sym, ap, ◌∙◌, arith}
 use Rattle.ada_events.specs.Nests.{innermost_block}
 use Rattle.ada_tables.specs.declared.layers.Layer.TheVariants.{Block, Rendezvous}
 use Rattle.ada_tables.specs.Layers.{members}

@@ -1,5 +1,5 @@
 use Rattle.std.proofs.Common.{◌∙◌}
-use Rattle.ada_records.proofs.Queries.{records_tell}
+use Rattle.ada_records.proofs.recording.Queries.{records_tell}
 use Rattle.ada_view.proofs.Knowing.{told}
 use Rattle.ada_view.proofs.queries.outcome.Goals as goal
 

@@ -1,5 +1,5 @@
 use Rattle.std.proofs.Common.{sym, arith}
-use Rattle.ada_laws.proofs.SlotPlaces.{no_slot}
+use Rattle.ada_laws.proofs.entries.SlotPlaces.{no_slot}
 use Rattle.ada_view.proofs.slots.slot.Goals as goal
 
 pub returns-else-task-tasks : goal.returns-else-task-tasks

@@ -1,6 +1,6 @@
 use Rattle.std.proofs.Common.{◌∙◌, sym}
 use Rattle.std.proofs.lemmas.Bool.{not-true}
-use Rattle.ada_records.proofs.Walking.{same_dependents}
+use Rattle.ada_records.proofs.holding.Walking.{same_dependents}
 use Rattle.ada_view.proofs.QuittingDependents.{elsewhere_apart}
 use Rattle.ada_view.proofs.touched.is_dependent.Goals as goal
 

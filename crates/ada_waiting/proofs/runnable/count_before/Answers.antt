@@ -1,4 +1,4 @@
-use Rattle.std.proofs.Common.{◌≡◌, ◌<◌, ◌≤◌, ◌-◌, ℕ, zero, suc, ◌∙◌, sym, ap, List, [], length, reverse, take, refl, arith}
+use Rattle.std.proofs.Common.{◌≡◌, ◌≤◌, ◌-◌, ℕ, zero, suc, ◌∙◌, sym, ap, List, length, reverse, take, refl, arith}
 use Rattle.ada_events.specs.declared.event.Event.{Event}
 use Rattle.ada_waiting.specs.Runnable.{is_step, before_last}
 use Rattle.ada_waiting.proofs.Groups.{before_last_at}

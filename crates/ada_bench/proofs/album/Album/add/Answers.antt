@@ -1,7 +1,7 @@
 use Rattle.std.proofs.Common.{List, [], ◌∷◌, ◌++◌, subst, sym, ap, ◌∙◌}
 use Rattle.ada_events.specs.declared.board.Board.{Board}
 use Rattle.ada_events.specs.Boards.{AreTrueOf}
-use Rattle.ada_laws.proofs.Publishing.{published_next, published_still}
+use Rattle.ada_laws.proofs.boards.Publishing.{published_next, published_still}
 use Rattle.ada_bench.proofs.album.Album.add.Goals as goal
 
 pub invariant_of-self-in_err-push : goal.invariant_of-self-in_err-push

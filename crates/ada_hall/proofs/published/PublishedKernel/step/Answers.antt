@@ -1,4 +1,4 @@
-use Rattle.ada_laws.proofs.Publishing.{published_next}
+use Rattle.ada_laws.proofs.boards.Publishing.{published_next}
 use Rattle.ada_hall.proofs.Tied.{tied_after}
 use Rattle.ada_hall.proofs.published.PublishedKernel.step.Goals as goal
 

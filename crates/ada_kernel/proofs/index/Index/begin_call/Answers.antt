@@ -3,7 +3,7 @@ use Rattle.std.proofs.lemmas.Int.{to_z-of_z}
 use Rattle.ada_events.specs.declared.request.Request.TheVariants.{Call}
 use Rattle.ada_events.specs.Refusals.{refusal}
 use Rattle.ada_events.specs.Tasks.{moment}
-use Rattle.ada_laws.proofs.Accepting.{is_accepted}
+use Rattle.ada_laws.proofs.asking.Accepting.{is_accepted}
 use Rattle.ada_events.proofs.Dues.{call_asked}
 use Rattle.ada_kernel.proofs.Requests.{may_follow, has_begun}
 use Rattle.ada_kernel.proofs.index.Index.begin_call.Goals as goal

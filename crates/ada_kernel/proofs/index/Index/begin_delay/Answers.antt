@@ -4,7 +4,7 @@ use Rattle.ada_events.specs.declared.event.Event.TheVariants.{Paused}
 use Rattle.ada_events.specs.declared.request.Request.TheVariants.{Delay}
 use Rattle.ada_events.specs.Tasks.{moment}
 use Rattle.ada_events.specs.Refusals.{refusal}
-use Rattle.ada_laws.proofs.Accepting.{is_accepted}
+use Rattle.ada_laws.proofs.asking.Accepting.{is_accepted}
 use Rattle.ada_events.proofs.Dues.{delay_asked}
 use Rattle.ada_kernel.specs.internal.Stepping.{MayNote}
 use Rattle.ada_kernel.proofs.Requests.{may_note, has_begun}

@@ -5,7 +5,7 @@ use Rattle.ada_events.specs.Asks.{asked_event, asker, member_position}
 use Rattle.ada_events.specs.Nests.{nest, innermost}
 use Rattle.ada_events.specs.Refusals.{refusal}
 use Rattle.ada_events.specs.Tasks.{task_count}
-use Rattle.ada_laws.proofs.Accepting.{asker_exists}
+use Rattle.ada_laws.proofs.asking.Accepting.{asker_exists}
 use Rattle.ada_kernel.proofs.Requests.{may_note, has_begun}
 use Rattle.ada_kernel.proofs.index.Index.begin_end.Goals as goal
 

@@ -4,7 +4,7 @@ use Rattle.ada_events.specs.declared.names.Choice.{Choice}
 use Rattle.ada_events.specs.declared.request.Request.TheVariants.{Wait}
 use Rattle.ada_events.specs.Tasks.{moment}
 use Rattle.ada_events.specs.Refusals.{refusal}
-use Rattle.ada_laws.proofs.Accepting.{is_accepted}
+use Rattle.ada_laws.proofs.asking.Accepting.{is_accepted}
 use Rattle.ada_events.proofs.Dues.{wait_asked}
 use Rattle.ada_kernel.proofs.Requests.{may_note, has_begun}
 use Rattle.ada_kernel.proofs.index.Index.begin_wait.Goals as goal

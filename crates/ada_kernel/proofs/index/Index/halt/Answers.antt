@@ -1,7 +1,7 @@
 use Rattle.std.proofs.Common.{◌≡◌, ℕ, None, ◌∷◌, sym, subst, rules}
 use Rattle.ada_events.specs.declared.event.Event.TheVariants.{Halted}
-use Rattle.ada_rows.specs.declared.row.Row.TheVariants.{Halting}
-use Rattle.ada_rows.specs.Rows.{step_at}
+use Rattle.ada_step_laws.specs.declared.row.Row.TheVariants.{Halting}
+use Rattle.ada_step_laws.specs.Rows.{step_at}
 use Rattle.ada_kernel.specs.internal.Indexes.{IsIndexOf}
 use Rattle.ada_kernel.proofs.Spent.{halted_no_more}
 use Rattle.ada_kernel.proofs.index.Index.halt.Goals as goal

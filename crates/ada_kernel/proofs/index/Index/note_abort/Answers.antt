@@ -4,7 +4,7 @@ use Rattle.ada_events.specs.Says.{creation_in, moment_in}
 use Rattle.ada_kernel.proofs.Quiet.{kept_up, noted}
 use Rattle.ada_triggers.proofs.Bounds.{bound_kept}
 use Rattle.ada_kernel.proofs.Recorded.{noted_as}
-use Rattle.ada_records.proofs.Applied.{abort_stand}
+use Rattle.ada_records.proofs.following.Applied.{abort_stand}
 use Rattle.ada_kernel.proofs.index.Index.note_abort.Goals as goal
 
 pub returns : goal.returns

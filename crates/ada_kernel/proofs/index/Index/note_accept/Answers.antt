@@ -2,7 +2,7 @@ use Rattle.std.proofs.Common.{arith, ◌∷◌, [], true, refl, ap, ◌+◌}
 use Rattle.ada_events.specs.declared.event.Event.TheVariants.{Waiting}
 use Rattle.ada_events.specs.declared.event.EventTail.TheVariants.{Nothing}
 use Rattle.ada_events.specs.Says.{creation_in, moment_in, call_in, held_in, started_in, wait_in}
-use Rattle.ada_laws.proofs.LimitLaws.{events_are_few}
+use Rattle.ada_laws.proofs.asking.LimitLaws.{events_are_few}
 use Rattle.ada_triggers.proofs.Bounds.{bound_kept}
 use Rattle.ada_kernel.proofs.Quiet.{kept_up, noted}
 use Rattle.ada_kernel.proofs.Recorded.{recorded_task, tabled_task, noted_hold, followed_hold}

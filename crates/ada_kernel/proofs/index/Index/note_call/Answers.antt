@@ -1,8 +1,8 @@
 use Rattle.std.proofs.Common.{arith, ◌∷◌, refl, sym, ap, ◌∙◌, subst, ◌+◌}
 use Rattle.ada_events.specs.Says.{creation_in, moment_in, call_in, held_in, started_in, wait_in}
 use Rattle.ada_events.specs.Waits.{earlier}
-use Rattle.ada_laws.proofs.LimitLaws.{events_are_few}
-use Rattle.ada_records.proofs.Allowed.{joins_queue}
+use Rattle.ada_laws.proofs.asking.LimitLaws.{events_are_few}
+use Rattle.ada_records.proofs.following.Allowed.{joins_queue}
 use Rattle.ada_triggers.specs.Bounds.{IsDueBound}
 use Rattle.ada_triggers.proofs.Bounds.{bound_noted}
 use Rattle.ada_records.specs.Noted.{waits_at_open_terminate}

@@ -2,7 +2,7 @@ use Rattle.std.proofs.Common.{arith, refl, ap, subst, sym, ◌+◌}
 use Rattle.ada_events.specs.declared.event.Event.TheVariants.{Closed}
 use Rattle.ada_events.specs.Says.{creation_in, moment_in, call_in, held_in, started_in, wait_in}
 use Rattle.ada_triggers.specs.Bounds.{IsStartBound}
-use Rattle.ada_laws.proofs.LimitLaws.{events_are_few}
+use Rattle.ada_laws.proofs.asking.LimitLaws.{events_are_few}
 use Rattle.ada_kernel.proofs.Quiet.{kept_up, noted_from}
 use Rattle.ada_events.specs.declared.names.Master.TheVariants.{Block as BlockMaster}
 use Rattle.ada_view.specs.Views.{IsHeldBySome}

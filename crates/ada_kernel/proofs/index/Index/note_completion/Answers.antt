@@ -5,7 +5,7 @@ use Rattle.ada_events.specs.Says.{creation_in, moment_in}
 use Rattle.ada_triggers.specs.Bounds.{IsStartBound}
 use Rattle.ada_kernel.proofs.Quiet.{kept_up, noted_from}
 use Rattle.ada_triggers.proofs.Bounds.{bound_kept}
-use Rattle.ada_records.proofs.TaskEnds.{completion_exists}
+use Rattle.ada_records.proofs.recording.TaskEnds.{completion_exists}
 use Rattle.ada_kernel.proofs.Recorded.{recorded_task, tabled_task, noted_as}
 use Rattle.ada_kernel.proofs.index.Index.note_completion.Goals as goal
 

@@ -1,9 +1,9 @@
 use Rattle.std.proofs.Common.{arith, ◌∙◌, ◌+◌, ap, sym, rules}
-use Rattle.ada_laws.proofs.LimitLaws.{events_are_few}
+use Rattle.ada_laws.proofs.asking.LimitLaws.{events_are_few}
 use Rattle.ada_triggers.proofs.Bounds.{creation_keeps_bound}
 use Rattle.ada_triggers.proofs.Starts.{bound_stays}
-use Rattle.ada_records.proofs.EventKinds.{makes_some}
-use Rattle.ada_records.proofs.Made.{made_open, made_tasks, made_entries}
+use Rattle.ada_records.proofs.recording.EventKinds.{makes_some}
+use Rattle.ada_records.proofs.following.Made.{made_open, made_tasks, made_entries}
 use Rattle.ada_kernel.proofs.Creations.{creation_made, moment_kept}
 use Rattle.ada_kernel.proofs.index.Index.note_creation.Goals as goal
 

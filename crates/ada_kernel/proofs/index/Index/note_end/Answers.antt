@@ -2,9 +2,9 @@ use Rattle.std.proofs.Common.{arith, refl}
 use Rattle.ada_events.specs.declared.event.Event.TheVariants.{Ended}
 use Rattle.ada_events.specs.Says.{creation_in, moment_in, released_in}
 use Rattle.ada_triggers.proofs.Bounds.{bound_kept}
-use Rattle.ada_records.proofs.RecordChanges.{release_holds}
+use Rattle.ada_records.proofs.recording.RecordChanges.{release_holds}
 use Rattle.ada_kernel.proofs.Quiet.{kept_up, noted}
-use Rattle.ada_records.proofs.Existing.{ender_exists}
+use Rattle.ada_step_laws.proofs.changing.Existing.{ender_exists}
 use Rattle.ada_kernel.proofs.Recorded.{suspended_recorded, recorded_task, noted_as, suspended_tabled, tabled_task}
 use Rattle.ada_kernel.proofs.index.Index.note_end.Goals as goal
 

@@ -3,8 +3,8 @@ use Rattle.ada_events.specs.declared.event.Event.TheVariants.{Failed}
 use Rattle.ada_events.specs.Outcomes.{raised_in, released_to}
 use Rattle.ada_events.specs.Says.{creation_in, moment_in, released_in, meeting_in}
 use Rattle.ada_triggers.proofs.Bounds.{bound_kept}
-use Rattle.ada_records.proofs.Allowed.{fails_callee}
-use Rattle.ada_records.proofs.RecordChanges.{release_holds}
+use Rattle.ada_records.proofs.following.Allowed.{fails_callee}
+use Rattle.ada_records.proofs.recording.RecordChanges.{release_holds}
 use Rattle.ada_kernel.proofs.Quiet.{kept_up, noted}
 use Rattle.ada_kernel.proofs.Recorded.{suspended_recorded, noted_release, suspended_tabled}
 use Rattle.ada_kernel.proofs.index.Index.note_failure.Goals as goal

@@ -3,8 +3,8 @@ use Rattle.ada_events.specs.declared.event.Event.TheVariants.{Met}
 use Rattle.ada_events.specs.Says.{creation_in, moment_in}
 use Rattle.ada_triggers.proofs.Additions.{nothing_noted}
 use Rattle.ada_triggers.proofs.Bounds.{bound_kept}
-use Rattle.ada_records.proofs.Allowed.{enters_rendezvous}
-use Rattle.ada_records.proofs.RecordChanges.{met_holds}
+use Rattle.ada_records.proofs.following.Allowed.{enters_rendezvous}
+use Rattle.ada_records.proofs.recording.RecordChanges.{met_holds}
 use Rattle.ada_kernel.proofs.Quiet.{noted}
 use Rattle.ada_kernel.proofs.Recorded.{suspended_recorded, noted_as, suspended_tabled}
 use Rattle.ada_kernel.proofs.index.Index.note_meeting.Goals as goal

@@ -1,12 +1,12 @@
 use Rattle.std.proofs.Common.{arith, refl, sym, ap, ◌+◌}
 use Rattle.ada_events.specs.declared.event.Event.TheVariants.{Opened}
 use Rattle.ada_events.specs.Says.{creation_in, moment_in}
-use Rattle.ada_laws.proofs.LimitLaws.{events_are_few}
+use Rattle.ada_laws.proofs.asking.LimitLaws.{events_are_few}
 use Rattle.ada_triggers.proofs.Bounds.{bound_kept}
 use Rattle.ada_triggers.proofs.Additions.{nothing_noted}
 use Rattle.ada_kernel.proofs.Quiet.{noted_tables}
-use Rattle.ada_records.proofs.Allowed.{opens_block}
-use Rattle.ada_records.proofs.EventKinds.{records_opened}
+use Rattle.ada_records.proofs.following.Allowed.{opens_block}
+use Rattle.ada_records.proofs.recording.EventKinds.{records_opened}
 use Rattle.ada_kernel.proofs.index.Index.note_opening.Goals as goal
 
 pub overflow_add-len : goal.overflow_add-len

@@ -1,10 +1,10 @@
 use Rattle.std.proofs.Common.{arith, refl, sym, ap, ◌+◌}
 use Rattle.ada_events.specs.declared.event.Event.TheVariants.{Started}
 use Rattle.ada_events.specs.Says.{creation_in, moment_in, start_in}
-use Rattle.ada_laws.proofs.LimitLaws.{events_are_few}
+use Rattle.ada_laws.proofs.asking.LimitLaws.{events_are_few}
 use Rattle.ada_kernel.proofs.Quiet.{noted}
 use Rattle.ada_triggers.proofs.Bounds.{bound_kept}
-use Rattle.ada_records.proofs.Starting.{starter_exists, named_exists}
+use Rattle.ada_records.proofs.recording.Starting.{starter_exists, named_exists}
 use Rattle.ada_kernel.proofs.Recorded.{recorded_task, noted_as, tabled_task}
 use Rattle.ada_kernel.proofs.index.Index.note_start.Goals as goal
 

@@ -3,7 +3,7 @@ use Rattle.ada_events.specs.declared.event.Event.TheVariants.{Gone}
 use Rattle.ada_events.specs.Says.{creation_in, moment_in}
 use Rattle.ada_triggers.proofs.Bounds.{bound_kept}
 use Rattle.ada_kernel.proofs.Quiet.{kept_up, noted}
-use Rattle.ada_records.proofs.TaskEnds.{goer_exists}
+use Rattle.ada_records.proofs.recording.TaskEnds.{goer_exists}
 use Rattle.ada_kernel.proofs.Recorded.{recorded_task, tabled_task, noted_as}
 use Rattle.ada_kernel.proofs.index.Index.note_termination.Goals as goal
 

@@ -7,8 +7,8 @@ use Rattle.ada_kernel.proofs.Quiet.{kept_up}
 use Rattle.ada_triggers.specs.Bounds.{IsDueBound}
 use Rattle.ada_triggers.proofs.Bounds.{ticked_to}
 use Rattle.ada_triggers.proofs.Starts.{bound_stays}
-use Rattle.ada_records.proofs.Applied.{tick_stand}
-use Rattle.ada_records.proofs.EventKinds.{records_ticked}
+use Rattle.ada_records.proofs.following.Applied.{tick_stand}
+use Rattle.ada_records.proofs.recording.EventKinds.{records_ticked}
 use Rattle.ada_kernel.proofs.index.Index.note_tick.Goals as goal
 
 pub returns : goal.returns

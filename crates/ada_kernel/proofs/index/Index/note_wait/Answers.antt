@@ -6,7 +6,7 @@ use Rattle.ada_events.specs.Says.{creation_in, moment_in, call_in, held_in, star
 use Rattle.ada_events.specs.Waits.{earlier}
 use Rattle.ada_triggers.specs.Bounds.{IsDueBound}
 use Rattle.ada_triggers.proofs.Bounds.{bound_noted}
-use Rattle.ada_laws.proofs.LimitLaws.{events_are_few}
+use Rattle.ada_laws.proofs.asking.LimitLaws.{events_are_few}
 use Rattle.ada_kernel.proofs.Quiet.{kept_up, noted}
 use Rattle.ada_kernel.proofs.Recorded.{holder_recorded, holder_tabled, noted_hold, followed_hold}
 use Rattle.ada_kernel.proofs.index.Index.note_wait.Goals as goal

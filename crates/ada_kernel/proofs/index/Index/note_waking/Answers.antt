@@ -2,7 +2,7 @@ use Rattle.std.proofs.Common.{arith, refl}
 use Rattle.ada_events.specs.declared.event.Event.TheVariants.{Woken}
 use Rattle.ada_events.specs.Says.{creation_in, moment_in, released_in, meeting_in}
 use Rattle.ada_triggers.proofs.Additions.{nothing_noted}
-use Rattle.ada_records.proofs.RecordChanges.{release_holds}
+use Rattle.ada_records.proofs.recording.RecordChanges.{release_holds}
 use Rattle.ada_events.specs.Outcomes.{raised_in, released_to}
 use Rattle.ada_kernel.proofs.Quiet.{noted}
 use Rattle.ada_triggers.proofs.Bounds.{bound_kept}

@@ -1,7 +1,7 @@
 use Rattle.std.proofs.Common.{List, subst, sym}
 use Rattle.ada_events.specs.declared.event.Event.{Event}
 use Rattle.ada_events.specs.Lawful.{IsLawful, IsSettled}
-use Rattle.ada_laws.proofs.GroupLaws.{empty_is_settled}
+use Rattle.ada_laws.proofs.asking.GroupLaws.{empty_is_settled}
 use Rattle.ada_kernel.specs.internal.Indexes.{IsIndexOf}
 use Rattle.ada_kernel.proofs.kernel.Kernel.new.Goals as goal
 

@@ -1,6 +1,6 @@
 use Rattle.std.proofs.Common.{◌∙◌, refl, sym}
 use Rattle.ada_events.specs.Termination.{is_complete}
-use Rattle.ada_laws.proofs.Framing.{IsBlockOf}
+use Rattle.ada_laws.proofs.within.Framing.{IsBlockOf}
 use Rattle.ada_view.proofs.Blocks.{complete_told, ended_or, else_closed}
 use Rattle.ada_view.proofs.view.View.is_complete_block.Goals as goal
 

@@ -1,5 +1,5 @@
 use Rattle.std.proofs.Common.{arith}
-use Rattle.ada_laws.proofs.LimitLaws.{events_are_few}
+use Rattle.ada_laws.proofs.asking.LimitLaws.{events_are_few}
 use Rattle.ada_agenda.proofs.Noting.{next_fits}
 use Rattle.ada_view.proofs.view.View.next_position.Goals as goal
 

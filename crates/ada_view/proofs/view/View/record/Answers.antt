@@ -1,7 +1,7 @@
 use Rattle.std.proofs.Common.{◌≤◌, sym, subst}
 use Rattle.std.proofs.lemmas.Bool.{ltb-false}
 use Rattle.ada_records.specs.Records.{IsRecordOf}
-use Rattle.ada_records.proofs.Unmade.{unmade}
+use Rattle.ada_records.proofs.recording.Unmade.{unmade}
 use Rattle.ada_view.proofs.view.View.record.Goals as goal
 
 pub returns-in-None-clause-right : goal.returns-in-None-clause-right

@@ -1,0 +1,5 @@
+-- What a journal forces, step by step.
+pub mod Rows
+pub mod Stepping
+pub mod Forcing
+pub mod Working

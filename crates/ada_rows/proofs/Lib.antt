@@ -1,4 +1,0 @@
-pub mod Keys
-pub mod Ranks
-pub mod TakenCalls
-pub mod TouchedKeys

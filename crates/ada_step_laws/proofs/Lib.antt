@@ -1,0 +1,3 @@
+pub mod rows
+pub mod changing
+pub mod newly

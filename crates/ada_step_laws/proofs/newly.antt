@@ -1,0 +1,23 @@
+-- At which keys each kind of event can newly force a step.
+pub mod Adding
+pub mod Answering
+pub mod Changing
+pub mod Completing
+pub mod Completions
+pub mod Depending
+pub mod Endings
+pub mod Moments
+pub mod Newcomers
+pub mod OwnPositions
+pub mod Places
+pub mod QuietEvents
+pub mod Quitting
+pub mod Readying
+pub mod Refining
+pub mod Releases
+pub mod StartedTasks
+pub mod Suspensions
+pub mod Unhalted
+pub mod Unstarted
+pub mod Waiting
+pub mod Ways

@@ -1,0 +1,10 @@
+pub mod Rows
+pub mod Agendas
+pub mod CalledTasks
+pub mod TouchedKeys
+pub mod internal
+pub mod Held
+pub mod Changes
+pub mod Latest
+pub mod Kinds
+pub mod Additions
