@@ -7,7 +7,9 @@ pub mod lives;
 pub mod rows;
 pub mod scene;
 pub mod source;
+pub mod witness;
 
-pub use account::{Account, account_of};
+pub use account::{Account, account_before, account_of};
 pub use scene::Scene;
 pub use source::Source;
+pub use witness::{Refused, Witness};

@@ -1,7 +1,6 @@
 //! What each task does from event to event.
 use ada_events::journal::event_in;
 use ada_events::{Event, Master, TaskNo};
-use ada_reference::masters::same_master;
 use std::alloc::{AllocError, Global};
 
 /// What a task does.
@@ -243,7 +242,7 @@ impl Lives {
         let mut next = self.around(events, Master::Body(task));
         for _ in 0..MOST_MASTERS {
             match next {
-                Some(around) if same_master(around, master) => return true,
+                Some(around) if around == master => return true,
                 Some(around) => next = self.around(events, around),
                 None => return false,
             }

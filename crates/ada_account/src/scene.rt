@@ -1,28 +1,28 @@
 //! A journal as its reader sees it.
 ghost use Rattle.std.specs.Prelude.{◌<◌, ◌^◌, length};
 
-use crate::Account;
 use ada_events::{Entry, Event, Family, Master, TaskNo};
-use ada_reference::families;
+use ada_kernel::Kernel;
 use ada_statements::{Bound, Names};
 use std::alloc::AllocError;
 use std::fmt;
 
-/// The events of a journal, or of its beginning, in the order in which they came, and the names of its script.
+/// A kernel, the events of its journal in the order in which they came, and the names of its script.
 #[derive(Clone, Copy)]
 pub struct Scene<'a> {
+    pub kernel: &'a Kernel,
     pub events: &'a [Event],
     pub names: &'a Names,
     ghost short: { length events.now < 2 ^ 32 },
 }
 
 impl<'a> Scene<'a> {
-    /// The first events of the journal that a play ended with, at most so many.
-    pub fn of(account: &'a Account, count: u32) -> Self {
-        let events = account.kernel.journal().as_slice();
+    /// The journal of a kernel as it stands, with the names of its script.
+    pub fn of(kernel: &'a Kernel, names: &'a Names) -> Self {
         Scene {
-            events: &events[..events.len().min(count as usize)],
-            names: &account.names,
+            kernel,
+            events: kernel.journal().as_slice(),
+            names,
         }
     }
 
@@ -53,10 +53,20 @@ impl<'a> Scene<'a> {
         }
     }
 
+    /// The family of that number among those that a task declares (9.5); none where there is no such task.
+    pub fn declared(self, task: TaskNo, family: u8) -> Option<Family> {
+        let view = self.kernel.view();
+        let tables = view.tables();
+        if task.0 >= tables.tasks() {
+            return None;
+        }
+        let families = tables.families(task);
+        families.as_slice().get(usize::from(family)).copied()
+    }
+
     /// A task's entry; with an index only where its family has several.
     pub fn entry(self, task: TaskNo, entry: Entry) -> EntryText<'a> {
-        let families = families(self.events, task);
-        let index = match families.get(usize::from(entry.family)) {
+        let index = match self.declared(task, entry.family) {
             Some(Family { low: 0, high: 0 }) => None,
             _ => Some(entry.index),
         };

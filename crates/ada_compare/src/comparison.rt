@@ -60,7 +60,7 @@ impl<'a> Side<'a> {
         let steps = steps_of(alloc, played.account, &rows)?;
         Ok(Side {
             name: played.name,
-            scene: Scene::of(played.account, u32::MAX),
+            scene: played.account.scene(),
             rows,
             steps,
         })

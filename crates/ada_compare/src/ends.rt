@@ -12,8 +12,12 @@ use std::alloc::{AllocError, Global};
 /// refused, and what can let the plays go on, as far as these differ.
 pub fn write_ends(text: &mut String, first: &Account, second: &Account) -> Result<(), AllocError> {
     let alloc = *text.allocator();
-    let one = End::of(&first.kernel, &first.names);
-    let other = End::of(&second.kernel, &second.names);
+    let one = End {
+        scene: first.scene(),
+    };
+    let other = End {
+        scene: second.scene(),
+    };
     write!(text, "\nAt the end:\n")?;
     let before = text.len();
     for task in 0..one.tasks() {

@@ -25,7 +25,7 @@ pub fn steps_of(
     account: &Account,
     rows: &Rows<'_>,
 ) -> Result<Vec<Step>, AllocError> {
-    let scene = Scene::of(account, u32::MAX);
+    let scene = account.scene();
     let mut steps: Vec<Step> = Vec::new(alloc);
     for (place, row) in rows.rows.iter().enumerate() {
         if row.is_first() {

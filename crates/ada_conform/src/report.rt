@@ -3,7 +3,7 @@
 use crate::course::Course;
 use crate::input::Log;
 use crate::judgement::Judgement;
-use ada_account::Scene;
+use ada_account::{Refused, Scene};
 use ada_events::Refusal;
 use ada_explain::refusals::write_refused;
 use ada_explain::standstill::write_standstill;
@@ -96,7 +96,7 @@ fn write_rest(text: &mut String, log: &Log, course: &Course) -> Result<(), Alloc
 // What stands still, if the main program isn't terminated.
 fn write_end(text: &mut String, course: &Course) -> Result<(), AllocError> {
     if !course.kernel.finished() {
-        write_standstill(text, &course.kernel, &course.names)?;
+        write_standstill(text, Scene::of(&course.kernel, &course.names))?;
     }
     Ok(())
 }
@@ -107,11 +107,13 @@ fn write_why(
     statement: &Statement,
     cause: Refusal,
 ) -> Result<(), AllocError> {
-    let scene = Scene {
-        events: course.kernel.journal().as_slice(),
-        names: &course.names,
+    let refused = Refused {
+        scene: Scene::of(&course.kernel, &course.names),
+        lines: &[],
+        statement,
+        cause,
     };
-    write_refused(text, scene, &[], statement, cause)?;
+    write_refused(text, refused)?;
     write!(text, " [{cause}]\n")
 }
 

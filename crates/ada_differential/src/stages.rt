@@ -3,9 +3,9 @@ ghost use Rattle.std.specs.Prelude.{◌<◌, ◌^◌, length};
 
 use ada_account::lives::{Lives, Stage};
 use ada_events::{Event, TaskNo};
-use ada_reference::is_elaborated;
 use ada_reference::phases::{is_abnormal, is_terminated};
-use ada_waiting::{Reason, reason_of};
+use ada_reference::{is_elaborated, reason_of};
+use ada_waiting::Reason;
 
 /// What a task does by a journal's definitions.
 fn stage_of(events: &[Event], task: TaskNo) -> Stage

@@ -3,12 +3,12 @@
 use ada_account::{Account, Scene};
 use ada_events::TaskNo;
 use ada_explain::reasons::{awaited, write_reason};
-use ada_waiting::reason_of;
+use ada_waiting::reason_in;
 use std::alloc::{AllocError, Global};
 
 /// A graph with a node for each task that waits or is waited for, and an edge from each to those for which it waits.
 pub fn write_graph(alloc: Global, account: &Account) -> Result<String, AllocError> {
-    let scene = Scene::of(account, u32::MAX);
+    let scene = account.scene();
     let mut out = String::new(alloc);
     write!(out, "digraph waits {{\n")?;
     for task in 0..account.kernel.tasks() {
@@ -20,7 +20,7 @@ pub fn write_graph(alloc: Global, account: &Account) -> Result<String, AllocErro
 
 // The node of a task that waits, and its edges.
 fn write_waits(out: &mut String, scene: Scene<'_>, task: TaskNo) -> Result<(), AllocError> {
-    let Some(reason) = reason_of(scene.events, task) else {
+    let Some(reason) = reason_in(scene.kernel, task) else {
         return Ok(());
     };
     let name = scene.task(task);

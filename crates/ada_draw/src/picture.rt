@@ -119,7 +119,7 @@ pub fn write_picture<'a>(
     source: &'a [u8],
     account: &'a Account,
 ) -> Result<String, AllocError> {
-    let scene = Scene::of(account, u32::MAX);
+    let scene = account.scene();
     let page = Page {
         scene,
         rows: Rows::of(alloc, source, account)?,

@@ -7,7 +7,7 @@ use std::alloc::{AllocError, Global};
 
 /// A sequence diagram: each call, its rendezvous, and what became of it.
 pub fn write_sequence(alloc: Global, account: &Account) -> Result<String, AllocError> {
-    let scene = Scene::of(account, u32::MAX);
+    let scene = account.scene();
     let mut out = String::new(alloc);
     write!(out, "sequenceDiagram\n")?;
     write_participants(&mut out, scene, account.kernel.tasks())?;

@@ -1,19 +1,33 @@
 //! The sentence of each cause for which a request is refused.
 
-use crate::nesting::nest_of;
-use crate::reasons::write_reason;
+use crate::nesting::{frame, innermost, served};
+use crate::reasons::{maker, write_reason};
 use ada_account::Scene;
 use ada_events::journal::event_in;
 use ada_events::limits::{
     LAST_MOMENT, MOST_APPENDED, MOST_EVENTS, MOST_MEMBERS, MOST_SLOTS, MOST_TASKS,
 };
 use ada_events::{Choice, Entry, Event, Family, Master, Member, Refusal, Request, TaskNo};
-use ada_reference::limits::slot_count;
-use ada_reference::phases::has_start;
-use ada_reference::refusals::{asker, is_outside};
-use ada_reference::{families, frame, making_of, moment};
-use ada_waiting::reason_of;
+use ada_waiting::reason_in;
 use std::alloc::AllocError;
+
+// The task that makes a request; none of a tick.
+fn asker(request: &Request) -> Option<TaskNo> {
+    match request {
+        Request::Open { by }
+        | Request::Create { by, .. }
+        | Request::Activate { by, .. }
+        | Request::Elaborated { by, .. }
+        | Request::Call { by, .. }
+        | Request::Wait { by, .. }
+        | Request::Delay { by, .. }
+        | Request::End { by, .. }
+        | Request::Close { by }
+        | Request::Complete { by }
+        | Request::Abort { by, .. } => Some(*by),
+        Request::Tick { .. } => None,
+    }
+}
 
 /// Appends why a request was refused, whose tasks all exist.
 pub fn write_cause(
@@ -32,7 +46,7 @@ pub fn write_cause(
 fn write_moment(text: &mut String, scene: Scene<'_>, cause: Refusal) -> Result<(), AllocError> {
     match cause {
         Refusal::MomentBack => {
-            let now = moment(scene.events);
+            let now = scene.kernel.view().moment();
             write!(
                 text,
                 "the moment is {now} already, and a tick names a moment, not a duration"
@@ -129,7 +143,7 @@ pub fn write_not_running(
     scene: Scene<'_>,
     task: TaskNo,
 ) -> Result<(), AllocError> {
-    match reason_of(scene.events, task) {
+    match reason_in(scene.kernel, task) {
         Some(reason) => write_reason(text, scene, task, reason),
         None => write!(text, "{} is terminated", scene.task(task)),
     }
@@ -156,7 +170,7 @@ fn write_not_your_master(
         Master::Block(_) => "block ",
     };
     let master = scene.master(*master);
-    match frame(scene.events, by) {
+    match frame(scene, by) {
         Master::Body(_) => {
             write!(
                 text,
@@ -181,19 +195,19 @@ fn write_not_activated(
     task: TaskNo,
 ) -> Result<bool, AllocError> {
     let name = scene.task(task);
-    let Some(making) = making_of(scene.events, task) else {
+    let Some(maker) = maker(scene, task) else {
         write!(text, "{name} is the main program, which nobody activates")?;
         return Ok(true);
     };
-    if making.by.0 != by.0 {
-        let maker = scene.task(making.by);
+    if maker.0 != by.0 {
+        let maker = scene.task(maker);
         write!(
             text,
             "{name} was made by {maker}, who alone may activate it"
         )?;
         return Ok(true);
     }
-    if has_start(scene.events, task) {
+    if scene.kernel.view().record(task).stage.named {
         write!(text, "{name} was activated already")?;
         return Ok(true);
     }
@@ -226,7 +240,7 @@ pub fn write_outside(
 ) -> Result<(), AllocError> {
     let index = entry.index;
     let name = scene.family(task, entry.family);
-    match families(scene.events, task).get(usize::from(entry.family)) {
+    match scene.declared(task, entry.family) {
         Some(Family { low: 0, high: 0 }) => {
             write!(
                 text,
@@ -248,10 +262,18 @@ pub fn write_outside(
     }
 }
 
+// Whether the index of an entry lies outside the range of its family.
+fn is_outside(scene: Scene<'_>, task: TaskNo, entry: Entry) -> bool {
+    match scene.declared(task, entry.family) {
+        Some(family) => !family.contains(entry.index),
+        None => false,
+    }
+}
+
 // The first open choice whose index is outside of its range.
 fn outside_choice(scene: Scene<'_>, by: TaskNo, choices: &[Choice]) -> Option<Entry> {
     for choice in choices {
-        if choice.guard && is_outside(scene.events, by, choice.entry) {
+        if choice.guard && is_outside(scene, by, choice.entry) {
             return Some(choice.entry);
         }
     }
@@ -274,19 +296,6 @@ fn write_constraint(
     }
 }
 
-// The entry of a family that a task serves.
-fn served_entry(scene: Scene<'_>, nest: &[Member], family: u8) -> Option<Entry> {
-    for member in nest {
-        if let Member::Rendezvous(call) = member
-            && let Some(Event::Called { entry, .. }) = event_in(scene.events, *call)
-            && entry.family == family
-        {
-            return Some(*entry);
-        }
-    }
-    None
-}
-
 fn write_same_family(
     text: &mut String,
     scene: Scene<'_>,
@@ -296,10 +305,9 @@ fn write_same_family(
     let Request::Wait { choices, .. } = request else {
         return Ok(());
     };
-    let nest = nest_of(*text.allocator(), scene.events, by)?;
     let name = scene.task(by);
     for choice in choices.as_slice() {
-        if let Some(served) = served_entry(scene, &nest, choice.entry.family) {
+        if let Some(served) = served(scene, by, choice.entry.family) {
             let entry = scene.entry(by, served);
             return write!(text, "{name} serves a call of the same family: {entry}");
         }
@@ -318,8 +326,7 @@ fn write_in_accept(text: &mut String, scene: Scene<'_>, by: TaskNo) -> Result<()
 // What a task is innermost within.
 fn write_nest(text: &mut String, scene: Scene<'_>, by: TaskNo) -> Result<(), AllocError> {
     let name = scene.task(by);
-    let nest = nest_of(*text.allocator(), scene.events, by)?;
-    match nest.first().copied() {
+    match innermost(scene, by) {
         None => write!(text, "{name} is within no block and serves no call"),
         Some(Member::Block(opened)) => {
             write!(
@@ -362,7 +369,7 @@ fn write_slots(text: &mut String, scene: Scene<'_>, request: &Request) -> Result
     let Request::Create { families, .. } = request else {
         return Ok(());
     };
-    let count = slot_count(scene.events);
+    let count = scene.kernel.view().tables().slots();
     let more = Family::entries_in(families.as_slice());
     write!(
         text,

@@ -3,49 +3,35 @@
 use crate::reasons::awaited;
 use ada_account::Scene;
 use ada_events::TaskNo;
-use ada_kernel::Kernel;
-use ada_statements::Names;
 use ada_waiting::{Reason, due_in, reason_in};
 use std::alloc::{AllocError, Global};
 
-/// The end of a play: the journal with its names, and its kernel.
+/// The end of a play.
 #[derive(Clone, Copy)]
 pub struct End<'a> {
     pub scene: Scene<'a>,
-    kernel: &'a Kernel,
 }
 
-impl<'a> End<'a> {
-    /// The end of the play of a kernel, with the names of its script.
-    pub fn of(kernel: &'a Kernel, names: &'a Names) -> Self {
-        End {
-            scene: Scene {
-                events: kernel.journal().as_slice(),
-                names,
-            },
-            kernel,
-        }
-    }
-
+impl End<'_> {
     /// How many tasks there are, the main program counted.
     pub fn tasks(&self) -> u16 {
-        self.kernel.tasks()
+        self.scene.kernel.tasks()
     }
 
     /// Whether a task runs.
     pub fn runs(&self, task: TaskNo) -> bool {
-        self.kernel.running(task) == Some(true)
+        self.scene.kernel.running(task) == Some(true)
     }
 
     /// Why a task doesn't go on; none if it runs or is terminated.
     pub fn reason(&self, task: TaskNo) -> Option<Reason> {
-        reason_in(self.kernel, task)
+        reason_in(self.scene.kernel, task)
     }
 
     /// The tasks without which a task can't go on, since its time isn't limited.
     pub fn awaited(&self, alloc: Global, task: TaskNo) -> Result<Vec<TaskNo>, AllocError> {
         match self.reason(task) {
-            Some(reason) if due_in(self.kernel, task).is_none() => {
+            Some(reason) if due_in(self.scene.kernel, task).is_none() => {
                 awaited(alloc, self.scene, task, reason)
             }
             _ => Ok(Vec::new(alloc)),

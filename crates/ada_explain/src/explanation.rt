@@ -1,12 +1,11 @@
 //! A journal beside its script, with the reason under each refused line.
 
-use crate::refusals::write_refused;
+use crate::sentences::Sentences;
 use crate::standstill::{Standstill, write_standstill};
 use ada_account::rows::{Rows, write_margin};
-use ada_account::{Account, Scene};
-use ada_events::Refusal;
-use ada_replay::Answer;
-use ada_script::Line;
+use ada_account::{Account, account_before};
+use ada_replay::{Answer, RunFault};
+use ada_script::Script;
 use std::alloc::{AllocError, Global};
 
 /// An explanation, and what it found.
@@ -18,48 +17,42 @@ pub struct Explanation {
     pub standstill: Standstill,
 }
 
-/// Explains the play of a script, of which this is the source.
-pub fn explain(alloc: Global, source: &[u8], account: &Account) -> Result<Explanation, AllocError> {
+/// Plays a script, of which this is the source, and explains the play. An `Err` is `Memory`.
+pub fn explain(alloc: Global, source: &[u8], script: Script) -> Result<Explanation, RunFault> {
+    let mut sentences = Sentences::new(alloc);
+    let account = account_before(alloc, script, &mut sentences)?;
+    explanation_of(alloc, source, &account, &sentences).map_err(|_| RunFault::Memory)
+}
+
+// The explanation of a play, with the sentences of its refused lines.
+fn explanation_of(
+    alloc: Global,
+    source: &[u8],
+    account: &Account,
+    sentences: &Sentences,
+) -> Result<Explanation, AllocError> {
     let rows = Rows::of(alloc, source, account)?;
     let width = rows.width();
     let mut text = String::new(alloc);
-    let mut answers = account.lines.iter().zip(account.answers.iter());
-    let mut before = 0u32;
+    let mut answers = account.answers.iter();
+    let mut sentences = sentences.sentences.iter();
     let mut refused = 0u32;
     for row in &rows.rows {
         row.write(&mut text, "", width)?;
         text.push('\n')?;
-        if !row.is_first() {
-            continue;
-        }
-        match answers.next() {
-            Some((_, Answer::Group { last, .. })) => before = *last,
-            Some((line, Answer::Refused(cause))) => {
-                write_margin(&mut text, width)?;
-                write_why(&mut text, account, line, before, *cause)?;
-                refused = refused.saturating_add(1);
-            }
-            _ => {}
+        if row.is_first()
+            && let Some(Answer::Refused(_)) = answers.next()
+            && let Some(sentence) = sentences.next()
+        {
+            write_margin(&mut text, width)?;
+            write!(text, "  {sentence}\n")?;
+            refused = refused.saturating_add(1);
         }
     }
-    let standstill = write_standstill(&mut text, &account.kernel, &account.names)?;
+    let standstill = write_standstill(&mut text, account.scene())?;
     Ok(Explanation {
         text,
         refused,
         standstill,
     })
-}
-
-// The reason for which a line was refused by a journal's first events.
-fn write_why(
-    text: &mut String,
-    account: &Account,
-    line: &Line,
-    before: u32,
-    cause: Refusal,
-) -> Result<(), AllocError> {
-    let scene = Scene::of(account, before);
-    write!(text, "  ")?;
-    write_refused(text, scene, &account.lines, &line.statement, cause)?;
-    write!(text, "\n")
 }

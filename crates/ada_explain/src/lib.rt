@@ -8,6 +8,7 @@ pub mod explanation;
 pub mod nesting;
 pub mod reasons;
 pub mod refusals;
+pub mod sentences;
 pub mod standstill;
 
 pub use explanation::{Explanation, explain};

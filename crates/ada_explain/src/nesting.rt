@@ -1,62 +1,49 @@
-//! What a task is within, found from the newest event backwards.
-ghost use Rattle.std.specs.Prelude.{◌<◌, ◌^◌, length};
+//! What a task is within, by what the kernel keeps.
 
+use ada_account::Scene;
 use ada_events::journal::event_in;
-use ada_events::{Event, Member, TaskNo};
-use std::alloc::{AllocError, Global};
+use ada_events::{Entry, Event, Master, Member, TaskNo};
+use ada_tables::Layer;
 
-/// The task of the wait at a position.
-fn acceptor(events: &[Event], wait: u32) -> Option<TaskNo> {
-    match event_in(events, wait) {
-        Some(Event::Waiting { by, .. }) => Some(*by),
+/// What a task is innermost within: a block that it hasn't left, or a call whose rendezvous it hasn't ended; none where
+/// there is no such task.
+pub fn innermost(scene: Scene<'_>, task: TaskNo) -> Option<Member> {
+    if task.0 >= scene.kernel.tasks() {
+        return None;
+    }
+    scene.kernel.view().innermost(task)
+}
+
+/// The innermost block that a task is in, else its body (9.4).
+pub fn frame(scene: Scene<'_>, task: TaskNo) -> Master {
+    if task.0 >= scene.kernel.tasks() {
+        return Master::Body(task);
+    }
+    scene.kernel.view().frame(task)
+}
+
+// The entry of the call that a member is the rendezvous of, if it is one.
+fn entry_of(scene: Scene<'_>, layer: Layer) -> Option<Entry> {
+    let Member::Rendezvous(call) = layer.member() else {
+        return None;
+    };
+    match event_in(scene.events, call)? {
+        Event::Called { entry, .. } => Some(*entry),
         _ => None,
     }
 }
 
-/// The task of the close at a position.
-fn closer(events: &[Event], close: u32) -> Option<TaskNo> {
-    match event_in(events, close) {
-        Some(Event::Closed { by, .. }) => Some(*by),
-        _ => None,
+/// The entry of a family of which a task serves a call (9.5).
+pub fn served(scene: Scene<'_>, task: TaskNo, family: u8) -> Option<Entry> {
+    if task.0 >= scene.kernel.tasks() {
+        return None;
     }
-}
-
-// What a task enters with the event at a position.
-fn entered(events: &[Event], task: TaskNo, position: u32, event: &Event) -> Option<Member> {
-    match event {
-        Event::Opened { by, .. } if *by == task => Some(Member::Block(position)),
-        Event::Met { call, wait } if acceptor(events, *wait) == Some(task) => {
-            Some(Member::Rendezvous(*call))
-        }
-        _ => None,
-    }
-}
-
-// Whether a task leaves a block or a rendezvous with an event.
-fn leaves(events: &[Event], task: TaskNo, event: &Event) -> bool {
-    match event {
-        Event::Left { close } => closer(events, *close) == Some(task),
-        Event::Ended { by, .. } => *by == task,
-        _ => false,
-    }
-}
-
-/// What a task is within that isn't terminated, the innermost first: each block that it hasn't left, and each call
-/// whose rendezvous it hasn't ended.
-pub fn nest_of(alloc: Global, events: &[Event], task: TaskNo) -> Result<Vec<Member>, AllocError>
-    requires { length events.now < 2 ^ 32 }
-{
-    let mut nest = Vec::new(alloc);
-    let mut left = 0u32;
-    for (i, event) in events.iter().enumerate().rev() {
-        if leaves(events, task, event) {
-            left = left.saturating_add(1);
-        } else if let Some(member) = entered(events, task, i as u32 + 1, event) {
-            if left == 0 {
-                nest.push(member)?;
-            }
-            left = left.saturating_sub(1);
+    let view = scene.kernel.view();
+    for layer in view.nest(task).as_slice() {
+        match entry_of(scene, *layer) {
+            Some(entry) if entry.family == family => return Some(entry),
+            _ => {}
         }
     }
-    Ok(nest)
+    None
 }

@@ -3,10 +3,7 @@
 use ada_account::Scene;
 use ada_events::journal::event_in;
 use ada_events::{Choice, Entry, Event, EventTail, TaskNo};
-use ada_reference::calls::{is_call_of, is_queued_at};
-use ada_waiting::Reason;
-use ada_waiting::awaited::awaits;
-use ada_waiting::holds::latest_hold;
+use ada_waiting::{Reason, awaits};
 use std::alloc::{AllocError, Global};
 
 /// Appends why a task doesn't go on: what it waits for, and since which event.
@@ -19,7 +16,7 @@ pub fn write_reason(
     let name = scene.task(task);
     match reason {
         Reason::NotStarted => {
-            let made = creation_of(scene, task).unwrap_or(0);
+            let made = scene.kernel.view().record(task).created;
             write!(text, "{name} was made at event {made}, and never activated")
         }
         Reason::Activating { start } => {
@@ -46,18 +43,12 @@ pub fn write_reason(
     }
 }
 
-/// The position of the event that made a task; the main program has none.
-pub fn creation_of(scene: Scene<'_>, task: TaskNo) -> Option<u32> {
-    let mut made = 0u16;
-    for (i, event) in scene.events.iter().enumerate() {
-        if let Event::Created { .. } = event {
-            made = made.saturating_add(1);
-            if made == task.0 {
-                return Some(i as u32 + 1);
-            }
-        }
+/// The task that made a task; none of the main program.
+pub fn maker(scene: Scene<'_>, task: TaskNo) -> Option<TaskNo> {
+    match scene.kernel.view().creation(task)? {
+        Event::Created { by, .. } => Some(*by),
+        _ => None,
     }
-    None
 }
 
 /// The tasks for which a task waits for a reason, in order of their creation.
@@ -67,9 +58,10 @@ pub fn awaited(
     task: TaskNo,
     reason: Reason,
 ) -> Result<Vec<TaskNo>, AllocError> {
+    let view = scene.kernel.view();
     let mut tasks = Vec::new(alloc);
-    for other in 0..256u16 {
-        if awaits(scene.events, task, TaskNo(other), reason) {
+    for other in 0..scene.kernel.tasks() {
+        if awaits(&view, task, TaskNo(other), reason) {
             tasks.push(TaskNo(other))?;
         }
     }
@@ -115,36 +107,36 @@ fn write_queued(
     write_place(text, place_in_queue(scene, *callee, *entry, call))
 }
 
-// Whether the event at a position is a call that stands in the queue of an entry. Most calls are over, so it is asked
-// first whether the caller has done nothing else since.
-fn is_in_queue(
-    scene: Scene<'_>,
-    callee: TaskNo,
-    entry: Entry,
-    position: u32,
-    event: &Event,
-) -> bool {
-    let Event::Called { by, .. } = event else {
-        return false;
-    };
-    is_call_of(callee, entry, event)
-        && latest_hold(scene.events, *by) == Some(position)
-        && is_queued_at(scene.events, position, event)
+// The position of the call of an entry with which a task stands in its queue, if it does.
+fn queued_call(scene: Scene<'_>, by: TaskNo, callee: TaskNo, entry: Entry) -> Option<u32> {
+    let suspension = scene.kernel.view().record(by).suspension;
+    match event_in(scene.events, suspension.at)? {
+        Event::Called {
+            callee: other,
+            entry: called,
+            ..
+        } if *other == callee && *called == entry && !suspension.joined => Some(suspension.at),
+        _ => None,
+    }
+}
+
+// Whether a task stands before a call in the queue of its entry.
+fn is_before(scene: Scene<'_>, by: TaskNo, callee: TaskNo, entry: Entry, call: u32) -> bool {
+    match queued_call(scene, by, callee, entry) {
+        Some(other) => other < call,
+        None => false,
+    }
 }
 
 /// The place of a call in the queue of its entry, from 1.
-pub fn place_in_queue(scene: Scene<'_>, callee: TaskNo, entry: Entry, call: u32) -> u32 {
-    let mut place = 1u32;
-    for (i, event) in scene.events.iter().enumerate() {
-        let position = i as u32 + 1;
-        if position < call && is_in_queue(scene, callee, entry, position, event) {
-            place = place.saturating_add(1);
-        }
-    }
-    place
+pub fn place_in_queue(scene: Scene<'_>, callee: TaskNo, entry: Entry, call: u32) -> usize {
+    (0..scene.kernel.tasks())
+        .filter(|by| is_before(scene, TaskNo(*by), callee, entry, call))
+        .count()
+        .saturating_add(1)
 }
 
-fn write_place(text: &mut String, place: u32) -> Result<(), AllocError> {
+fn write_place(text: &mut String, place: usize) -> Result<(), AllocError> {
     match place {
         1 => write!(text, ", first in the queue"),
         2 => write!(text, ", second in the queue"),

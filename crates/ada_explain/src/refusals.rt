@@ -1,19 +1,19 @@
 //! Why a line was refused, in a sentence with the facts.
 
 use crate::causes::{write_cause, write_not_running, write_outside};
-use ada_account::Scene;
+use ada_account::{Refused, Scene};
 use ada_events::Refusal;
 use ada_script::{Line, Name, Statement, request};
 use std::alloc::AllocError;
 
-/// Appends why a line was refused. The scene is the one by which it was, and the lines are those of its script.
-pub fn write_refused(
-    text: &mut String,
-    scene: Scene<'_>,
-    lines: &[Line],
-    statement: &Statement,
-    cause: Refusal,
-) -> Result<(), AllocError> {
+/// Appends why a line was refused.
+pub fn write_refused(text: &mut String, refused: Refused<'_>) -> Result<(), AllocError> {
+    let Refused {
+        scene,
+        lines,
+        statement,
+        cause,
+    } = refused;
     if cause == Refusal::UnknownTask {
         return write_unknown_task(text, scene, lines, statement);
     }

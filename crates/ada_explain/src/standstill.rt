@@ -1,13 +1,10 @@
 //! What stands still at the end of a play, and what would let it go on.
 use crate::circles::circles;
 use crate::end::End;
-use crate::reasons::write_reason;
+use crate::reasons::{maker, write_reason};
 use ada_account::Scene;
 use ada_events::journal::event_in;
 use ada_events::{Event, TaskNo};
-use ada_kernel::Kernel;
-use ada_reference::making_of;
-use ada_statements::Names;
 use ada_waiting::{Reason, Verdict, verdict_in};
 use std::alloc::AllocError;
 
@@ -19,14 +16,10 @@ pub struct Standstill {
     pub has_circle: bool,
 }
 
-/// Appends what each task waits for that isn't terminated when a kernel's play ends, circles of them, and what can let
-/// the journal go on. The names are those of its script.
-pub fn write_standstill(
-    text: &mut String,
-    kernel: &Kernel,
-    names: &Names,
-) -> Result<Standstill, AllocError> {
-    let verdict = verdict_in(kernel);
+/// Appends what each task waits for that isn't terminated when a play ends, circles of them, and what can let the
+/// journal go on.
+pub fn write_standstill(text: &mut String, scene: Scene<'_>) -> Result<Standstill, AllocError> {
+    let verdict = verdict_in(scene.kernel);
     if verdict == Verdict::Finished {
         write!(text, "\nThe main program is terminated.\n")?;
         return Ok(Standstill {
@@ -34,7 +27,7 @@ pub fn write_standstill(
             has_circle: false,
         });
     }
-    let end = End::of(kernel, names);
+    let end = End { scene };
     write!(text, "\nAt the end:\n")?;
     for task in 0..end.tasks() {
         write_task(text, &end, TaskNo(task))?;
@@ -70,14 +63,8 @@ fn write_remedy(
 ) -> Result<(), AllocError> {
     let scene = end.scene;
     match reason {
-        Reason::NotStarted => match making_of(scene.events, task) {
-            Some(making) => {
-                write!(
-                    text,
-                    "; {} would have to activate it",
-                    scene.task(making.by)
-                )
-            }
+        Reason::NotStarted => match maker(scene, task) {
+            Some(maker) => write!(text, "; {} would have to activate it", scene.task(maker)),
             None => Ok(()),
         },
         Reason::Activating { .. } => write!(text, ", which would have to come up"),

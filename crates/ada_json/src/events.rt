@@ -16,7 +16,7 @@ pub fn write_events(alloc: Global, source: &[u8], account: &Account) -> Result<S
     let source = Source::of(alloc, source)?;
     let mut writer = Writer {
         alloc,
-        scene: Scene::of(account, u32::MAX),
+        scene: account.scene(),
         lives: Lives::new(alloc)?,
         out: String::new(alloc),
     };

@@ -3,30 +3,35 @@
 use crate::asserts::{assert_accepted, assert_events};
 use ada_events::{Master, Request, TaskNo};
 use ada_kernel::Kernel;
+use ada_reference::{reason_of, verdict_of, waits_for};
 use ada_test_requests::{
     MAIN, SINGLE, accept, activate, call, complete, create, end, timed_call, up,
 };
-use ada_waiting::{Reason, Verdict, reason_of, verdict_of, waits_for};
+use ada_waiting::{Reason, Verdict, first_awaited, reason_in, verdict_in};
 use std::process::Abort;
 use std::test::Fail;
 
-/// Why a task doesn't go on.
+/// Why a task doesn't go on, by a search and by what the kernel keeps.
 fn assert_reason<R: Abort>(rt: &R, kernel: &Kernel, task: u16, reason: Option<Reason>) {
     let events = kernel.journal().as_slice();
     assert_eq!(rt; reason_of(events, TaskNo(task)), reason);
+    assert_eq!(rt; reason_in(kernel, TaskNo(task)), reason);
 }
 
-/// What can let the journal go on.
+/// What can let the journal go on, by a search and by what the kernel keeps.
 fn assert_verdict<R: Abort>(rt: &R, kernel: &Kernel, verdict: Verdict) {
     assert_eq!(rt; verdict_of(kernel.journal().as_slice()), verdict);
+    assert_eq!(rt; verdict_in(kernel), verdict);
 }
 
-/// Of the tasks 0 to 4, for which a task waits.
+/// Of the tasks 0 to 4, for which a task waits, by a search and by what the kernel keeps.
 fn assert_awaited<R: Abort>(rt: &R, kernel: &Kernel, task: u16, awaited: [bool; 5]) {
     let events = kernel.journal().as_slice();
     for other in 0..5u16 {
         let waits = waits_for(events, TaskNo(task), TaskNo(other));
         assert_eq!(rt; Some(&waits), awaited.get(usize::from(other)), "{other}");
+        let found = first_awaited(kernel, TaskNo(task), TaskNo(other)) == Some(TaskNo(other));
+        assert_eq!(rt; found, waits, "{other}");
     }
 }
 

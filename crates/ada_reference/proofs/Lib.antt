@@ -5,7 +5,6 @@ pub mod Filling
 pub mod Latest
 pub mod Loops
 pub mod Members
-pub mod Numbers
 pub mod Places
 pub mod Resting
 pub mod SlotSums

@@ -14,14 +14,7 @@ use Rattle.ada_events.specs.Search.{is_number, any_event, first_given, gathered}
 use Rattle.ada_events.specs.Says.{Creation, creation_in, moment_in, gone_in, quit_in, aborted_in, started_in}
 use Rattle.ada_events.specs.Tasks.{task_count, creation_of, moment}
 use Rattle.ada_events.specs.Masters.{same_master, parent_in, reaches, depends_on}
-
--- the journal after one more event of a list in the order of arrival
-pub journal_more : (events : List Event) (i : ℕ) (d : Event) → i < length events → reverse (take (i + 1) events) ≡ get_or events i d ∷ reverse (take i events)
-journal_more events i d below = rw (take_more events i d below, reverse-append (take i events) (get_or events i d ∷ [])) refl
-
--- and how many there were before it
-pub length_journal : (events : List Event) (i : ℕ) → i ≤ length events → length (reverse (take i events)) ≡ i
-length_journal events i within = length-reverse (take i events) ∙ length-take-le i events within
+use Rattle.ada_waiting.proofs.Arriving.{journal_more, length_journal}
 
 pub any_event_more : (test : ℕ → Event → Bool) (events : List Event) (i : ℕ) (d : Event) → i < length events
     → any_event test (reverse (take (i + 1) events)) ≡ (test (i + 1) (get_or events i d) || any_event test (reverse (take i events)))

@@ -38,7 +38,7 @@ fn halted_task(events: &[Event], task: TaskNo) -> Option<Event>
 }
 
 /// The least abnormal task that is to complete (9.10).
-#[tactic(auto, unfolding(ada_events::specs::Forced::halted, ada_events::specs::Search::first_below), using(crate::proofs::Numbers::first_below_more))]
+#[tactic(auto, unfolding(ada_events::specs::Forced::halted, ada_events::specs::Search::first_below), using(ada_waiting::proofs::Numbers::first_below_more))]
 pub fn halted(events: &[Event]) -> Option<Event>
     requires short { length events.now < 2 ^ 32 }
     requires few { count_of_tasks (reverse events.now) ≤ MOST_TASKS }

@@ -30,7 +30,7 @@ fn is_terminated_if_dependent(events: &[Event], task: TaskNo, master: Master) ->
 }
 
 /// Every dependent of the master is terminated.
-#[tactic(auto, unfolding(ada_events::specs::Termination::all_terminated, ada_events::specs::Search::all_below), using(crate::proofs::Numbers::all_below_more))]
+#[tactic(auto, unfolding(ada_events::specs::Termination::all_terminated, ada_events::specs::Search::all_below), using(ada_waiting::proofs::Numbers::all_below_more))]
 pub fn all_terminated(events: &[Event], master: Master) -> bool
     requires short { length events.now < 2 ^ 32 }
     requires few { count_of_tasks (reverse events.now) ≤ MOST_TASKS }
@@ -222,7 +222,7 @@ fn is_ready_if_dependent(events: &[Event], task: TaskNo, master: Master) -> bool
 }
 
 // Each dependent of the master is terminated or ready to quit.
-#[tactic(auto, unfolding(ada_events::specs::Search::all_below), using(crate::proofs::Numbers::all_below_more))]
+#[tactic(auto, unfolding(ada_events::specs::Search::all_below), using(ada_waiting::proofs::Numbers::all_below_more))]
 fn all_ready(events: &[Event], master: Master) -> bool
     requires short { length events.now < 2 ^ 32 }
     requires few { count_of_tasks (reverse events.now) ≤ MOST_TASKS }

@@ -96,8 +96,7 @@ fn tell<R: Files + Input + Print + AllocGlobal>(
 
 fn explanation_of(alloc: Global, text: &[u8]) -> Result<Explanation, RunFault> {
     let script = read_script(alloc, text)?;
-    let account = account_of(alloc, script)?;
-    explain(alloc, text, &account).map_err(|_| RunFault::Memory)
+    explain(alloc, text, script)
 }
 
 // Whether something was found that was looked for.

@@ -1,10 +1,13 @@
+pub mod Arriving
+pub mod Numbers
 mod Holding
 mod Reasoning
 mod Settling
-mod Moments
+pub mod Moments
 mod Ticking
 mod Standing
 mod Awaiting
+mod Unawaited
 mod Kept
 mod Groups
 mod Going

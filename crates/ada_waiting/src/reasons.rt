@@ -1,13 +1,11 @@
-//! Why a task doesn't go on by itself.
-ghost use Rattle.std.specs.Prelude.{◌≡◌, ◌<◌, ◌^◌, length, reverse};
+//! Why a task doesn't go on by itself, by what a kernel keeps of it.
+ghost use Rattle.std.specs.Prelude.{◌≡◌};
 ghost use Rattle.ada_waiting.specs.Reasons as reasons;
+ghost use Rattle.ada_waiting.specs.internal.Kept as kept_of;
 
-use crate::holds::suspended_at;
-use ada_events::journal::event_in;
 use ada_events::{Event, TaskNo};
-use ada_reference::calls::is_met;
-use ada_reference::phases::{is_completed, is_started, is_terminated};
-use ada_reference::tasks::has_task;
+use ada_kernel::Kernel;
+use ada_records::Record;
 
 /// Why a task that isn't terminated doesn't run: what it waits for, with the position at which it began to.
 #[derive(Clone, Copy, Debug, PartialEq, Eq)]
@@ -31,13 +29,11 @@ pub enum Reason {
 }
 
 #[tactic(auto, unfolding(crate::specs::Reasons::reason_by))]
-fn reason_at(events: &[Event], position: u32, event: &Event) -> Option<Reason>
-    ensures { result ≡ reasons.reason_at (reverse events.now) position event.now }
+fn reason_by(is_met: bool, position: u32, event: &Event) -> Option<Reason>
+    ensures { result ≡ reasons.reason_by is_met position event.now }
 {
     match event {
-        Event::Called { .. } if is_met(events, position) => {
-            Some(Reason::InRendezvous { call: position })
-        }
+        Event::Called { .. } if is_met => Some(Reason::InRendezvous { call: position }),
         Event::Called { .. } => Some(Reason::Queued { call: position }),
         Event::Waiting { .. } => Some(Reason::Waiting { wait: position }),
         Event::Paused { .. } => Some(Reason::Delayed { pause: position }),
@@ -47,31 +43,42 @@ fn reason_at(events: &[Event], position: u32, event: &Event) -> Option<Reason>
     }
 }
 
-#[tactic(auto, unfolding(crate::specs::Reasons::held_reason))]
-fn held_reason(events: &[Event], task: TaskNo) -> Option<Reason>
-    requires { length events.now < 2 ^ 32 }
-    ensures { result ≡ reasons.held_reason (reverse events.now) task.0 }
+// Why a task doesn't go on that hasn't ended, by its record.
+fn live_reason(kernel: &Kernel, kept: &Record) -> Option<Reason>
+    ensures { result ≡ kept_of.live_reason kernel.now kept.now }
 {
-    let position = suspended_at(events, task)?;
-    reason_at(events, position, event_in(events, position)?)
+    let at = kept.suspension.at;
+    if at > 0 {
+        let event = kernel.journal().get(at)?;
+        reason_by(kept.suspension.joined, at, event)
+    } else if kept.stage.started {
+        None
+    } else {
+        Some(Reason::NotStarted)
+    }
 }
 
-/// Why a task doesn't go on by itself, by a journal in the order of arrival; none if it runs, is terminated, or
-/// doesn't exist.
-#[tactic(auto, unfolding(crate::specs::Reasons::reason_of))]
-pub fn reason_of(events: &[Event], task: TaskNo) -> Option<Reason>
-    requires { length events.now < 2 ^ 32 }
-    ensures { result ≡ reasons.reason_of (reverse events.now) task.0 }
+// Why a task doesn't go on, by its record.
+fn kept_reason(kernel: &Kernel, kept: &Record) -> Option<Reason>
+    ensures { result ≡ kept_of.kept_reason kernel.now kept.now }
 {
-    if !has_task(events, task) || is_terminated(events, task) {
-        return None;
+    if kept.stage.terminated {
+        None
+    } else if kept.stage.completed {
+        Some(Reason::Completed)
+    } else {
+        live_reason(kernel, kept)
     }
-    if is_completed(events, task) {
-        return Some(Reason::Completed);
-    }
-    match held_reason(events, task) {
-        Some(reason) => Some(reason),
-        None if is_started(events, task) => None,
-        None => Some(Reason::NotStarted),
+}
+
+/// Why a task of a kernel doesn't go on by itself; none if it runs, is terminated, or doesn't exist. Nothing is
+/// searched.
+pub fn reason_in(kernel: &Kernel, task: TaskNo) -> Option<Reason>
+    ensures { result ≡ reasons.reason_of kernel.now task.0 }
+{
+    let _journal = kernel.journal();
+    match kernel.record(task) {
+        Some(kept) => kept_reason(kernel, &kept),
+        None => None,
     }
 }

@@ -10,10 +10,10 @@ ghost use Rattle.ada_events.specs.Search.{event_at};
 ghost use Rattle.ada_waiting.specs.Runnable as runnable;
 ghost use Rattle.ada_waiting.specs.internal.Going as going;
 
+use crate::says::{held_in, is_task, released_in, started_in};
 use ada_events::journal::event_in;
 use ada_events::{Event, TaskNo};
 use ada_kernel::Kernel;
-use ada_reference::says::{held_in, is_task, released_in, started_in};
 
 #[tactic(auto, unfolding(crate::specs::Runnable::is_step))]
 fn is_step(event: &Event) -> bool
@@ -112,7 +112,7 @@ fn runnable_from(kernel: &Kernel, from: TaskNo, task: TaskNo) -> Option<TaskNo>
 }
 
 /// The first task of a number or more that runs and didn't before the last request; none if there is no such task.
-#[tactic(auto, unfolding(crate::specs::Runnable::first_runnable, ada_events::specs::Search::first_below), using(ada_reference::proofs::Numbers::first_below_more))]
+#[tactic(auto, unfolding(crate::specs::Runnable::first_runnable, ada_events::specs::Search::first_below), using(crate::proofs::Numbers::first_below_more))]
 pub fn first_runnable(kernel: &Kernel, from: TaskNo) -> Option<TaskNo>
     ensures { option_map (λ (t : Task). t.0) result
         ≡ runnable.first_runnable kernel.now from.0 }

@@ -1,16 +1,13 @@
-//! When nothing but a tick, or nothing at all, can let a journal go on.
-ghost use Rattle.std.specs.Prelude.{◌≡◌, ◌<◌, ◌^◌, length, reverse};
-ghost use Rattle.ada_events.specs.Lawful.{IsLawful};
+//! When nothing but a tick, or nothing at all, can let a kernel's journal go on, by what the kernel keeps.
+ghost use Rattle.std.specs.Prelude.{◌≡◌};
 ghost use Rattle.ada_step_laws.specs.Kinds as kinds;
 ghost use Rattle.ada_waiting.specs.Standstill as standstill;
+ghost use Rattle.ada_waiting.specs.internal.Kept as kept_of;
 
-use crate::holds::suspended_at;
-use ada_events::journal::event_in;
 use ada_events::waits::{earlier, least_due};
 use ada_events::{Event, EventTail, TaskNo};
-use ada_reference::calls::is_met;
-use ada_reference::phases::{is_running, is_terminated};
-use ada_reference::tasks_in;
+use ada_kernel::Kernel;
+use ada_records::Record;
 
 /// What can let a lawful and settled journal go on.
 #[derive(Clone, Copy, Debug, PartialEq, Eq)]
@@ -26,7 +23,7 @@ pub enum Verdict {
 }
 
 // The least moment of a wait's delay alternatives.
-pub(crate) fn tail_due(tail: &EventTail) -> Option<i64>
+fn tail_due(tail: &EventTail) -> Option<i64>
     ensures { result ≡ kinds.tail_due tail.now }
 {
     match tail {
@@ -36,68 +33,72 @@ pub(crate) fn tail_due(tail: &EventTail) -> Option<i64>
 }
 
 #[tactic(auto, unfolding(crate::specs::Standstill::due_by))]
-fn due_at(events: &[Event], position: u32, event: &Event) -> Option<i64>
-    ensures { result ≡ standstill.due_at (reverse events.now) position event.now }
+fn due_by(is_met: bool, event: &Event) -> Option<i64>
+    ensures { result ≡ standstill.due_by is_met event.now }
 {
     match event {
-        Event::Called { due, .. } if !is_met(events, position) => *due,
+        Event::Called { due, .. } if !is_met => *due,
         Event::Waiting { tail, .. } => tail_due(tail),
         Event::Paused { due, .. } => Some(*due),
         _ => None,
     }
 }
 
-/// The moment in milliseconds for which a suspended task waits, by a journal in the order of arrival.
-#[tactic(auto, unfolding(crate::specs::Standstill::due_of))]
-pub fn due_of(events: &[Event], task: TaskNo) -> Option<i64>
-    requires { length events.now < 2 ^ 32 }
-    ensures { result ≡ standstill.due_of (reverse events.now) task.0 }
+// The moment for which a task is suspended, by its record.
+fn kept_due(kernel: &Kernel, kept: &Record) -> Option<i64>
+    ensures { result ≡ kept_of.kept_due kernel.now kept.now }
 {
-    let position = suspended_at(events, task)?;
-    due_at(events, position, event_in(events, position)?)
+    let event = kernel.journal().get(kept.suspension.at)?;
+    due_by(kept.suspension.joined, event)
 }
 
-/// The first moment in milliseconds for which any task waits, by a journal in the order of arrival.
+/// The moment, in milliseconds, for which a task of a kernel is suspended; none if it isn't, or for no moment. Nothing
+/// is searched.
+pub fn due_in(kernel: &Kernel, task: TaskNo) -> Option<i64>
+    ensures { result ≡ standstill.due_of kernel.now task.0 }
+{
+    let _journal = kernel.journal();
+    match kernel.record(task) {
+        Some(kept) => kept_due(kernel, &kept),
+        None => None,
+    }
+}
+
+/// The first moment, in milliseconds, for which any task of a kernel waits; none if none does (9.6, 9.7.1, 9.7.3).
+/// Nothing is searched.
 #[tactic(auto, unfolding(crate::specs::Standstill::first_due, crate::specs::Standstill::first_due_below), using(crate::proofs::Moments::first_due_below_more))]
-pub fn first_due(events: &[Event]) -> Option<i64>
-    requires short { length events.now < 2 ^ 32 }
-    requires lawful { IsLawful (reverse events.now) }
-    ensures { result ≡ standstill.first_due (reverse events.now) }
+pub fn next_due(kernel: &Kernel) -> Option<i64>
+    ensures { result ≡ standstill.first_due kernel.now }
 {
     let mut first = None;
-    for task in 0..tasks_in(events) {
-        first = earlier(first, due_of(events, TaskNo(task)));
+    for number in 0..kernel.tasks() {
+        first = earlier(first, due_in(kernel, TaskNo(number)));
     }
     first
 }
 
-/// Whether no task runs, by a journal in the order of arrival.
-#[tactic(auto, unfolding(crate::specs::Standstill::nobody_runs, ada_events::specs::Search::all_below), using(ada_reference::proofs::Numbers::all_below_more))]
-pub fn nobody_runs(events: &[Event]) -> bool
-    requires short { length events.now < 2 ^ 32 }
-    requires lawful { IsLawful (reverse events.now) }
-    ensures { result ≡ standstill.nobody_runs (reverse events.now) }
+#[tactic(auto, unfolding(crate::specs::Standstill::nobody_runs, ada_events::specs::Search::all_below), using(crate::proofs::Numbers::all_below_more))]
+fn nobody_runs(kernel: &Kernel) -> bool
+    ensures { result ≡ standstill.nobody_runs kernel.now }
 {
     let mut nobody = true;
-    for task in 0..tasks_in(events) {
-        nobody = nobody && !is_running(events, TaskNo(task));
+    for number in 0..kernel.tasks() {
+        nobody = nobody && kernel.running(TaskNo(number)) != Some(true);
     }
     nobody
 }
 
-/// What can let a journal go on, of which the events are in the order of arrival.
-#[tactic(auto, unfolding(crate::specs::Standstill::verdict_of))]
-pub fn verdict_of(events: &[Event]) -> Verdict
-    requires short { length events.now < 2 ^ 32 }
-    requires lawful { IsLawful (reverse events.now) }
-    ensures { result ≡ standstill.verdict_of (reverse events.now) }
+/// What can let a kernel's journal go on. Nothing is searched.
+#[tactic(auto, unfolding(crate::specs::Standstill::verdict_of, ada_events::specs::Attributes::is_finished))]
+pub fn verdict_in(kernel: &Kernel) -> Verdict
+    ensures { result ≡ standstill.verdict_of kernel.now }
 {
-    if is_terminated(events, TaskNo(0)) {
+    if kernel.finished() {
         Verdict::Finished
-    } else if !nobody_runs(events) {
+    } else if !nobody_runs(kernel) {
         Verdict::GoesOn
     } else {
-        match first_due(events) {
+        match next_due(kernel) {
             Some(until) => Verdict::WaitsForTick { until },
             None => Verdict::Stuck,
         }

@@ -132,7 +132,7 @@ fn gone_task(events: &[Event], task: TaskNo) -> Option<Event>
 }
 
 /// The least task that is to terminate by itself (9.3, 9.4).
-#[tactic(auto, unfolding(ada_events::specs::Forced::gone, ada_events::specs::Search::first_below), using(crate::proofs::Numbers::first_below_more))]
+#[tactic(auto, unfolding(ada_events::specs::Forced::gone, ada_events::specs::Search::first_below), using(ada_waiting::proofs::Numbers::first_below_more))]
 pub fn gone(events: &[Event]) -> Option<Event>
     requires short { length events.now < 2 ^ 32 }
     requires few { count_of_tasks (reverse events.now) ≤ MOST_TASKS }
@@ -161,7 +161,7 @@ fn quit_of(events: &[Event], master: Master) -> Option<Event>
 }
 
 /// The least task's body whose dependents are to terminate together (9.4).
-#[tactic(auto, unfolding(ada_events::specs::Forced::quit_body, ada_events::specs::Search::first_below), using(crate::proofs::Numbers::first_below_more))]
+#[tactic(auto, unfolding(ada_events::specs::Forced::quit_body, ada_events::specs::Search::first_below), using(ada_waiting::proofs::Numbers::first_below_more))]
 pub fn quit_body(events: &[Event]) -> Option<Event>
     requires short { length events.now < 2 ^ 32 }
     requires few { count_of_tasks (reverse events.now) ≤ MOST_TASKS }

@@ -4,7 +4,7 @@ use Rattle.std.specs.Bool.{then_some}
 use Rattle.ada_events.specs.Search.{first_below}
 use Rattle.ada_events.specs.declared.names.TaskNo.{TaskNo}
 use Rattle.ada_waiting.specs.Awaited.{waits_for}
-use Rattle.ada_waiting.proofs.kernels.first_awaited.Given as goal
+use Rattle.ada_waiting.proofs.awaited.first_awaited.Given as goal
 
 abbrev pub invariant-loop-number : goal.invariant-loop-number
 invariant-loop-number l =

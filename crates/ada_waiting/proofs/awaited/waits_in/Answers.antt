@@ -1,12 +1,12 @@
 use Rattle.std.proofs.Common.{sym, ap, ◌∙◌, refl}
 use Rattle.ada_waiting.specs.Awaited.{awaits, waits_for}
-use Rattle.ada_waiting.proofs.kernels.waits_in.Goals as goal
+use Rattle.ada_waiting.proofs.awaited.waits_in.Goals as goal
 
 pub returns-in-Some : goal.returns-in-Some
 unfolding waits_for
 returns-in-Some c =
-    let events = c.as_slice.ensures.value ∙ c.journal.ensures.events in
-    rw (sym c.reason_in.ensures ∙ c.in-Some.is) (c.awaits.ensures ∙ ap (λ j. awaits j c.args.task.0 c.args.other.0 c.in-Some.reason) events)
+    rw (sym c.reason_in.ensures ∙ c.in-Some.is)
+    (c.awaits.ensures ∙ ap (λ j. awaits j c.args.task.0 c.args.other.0 c.in-Some.reason) c.view.ensures)
 
 pub returns-in-None : goal.returns-in-None
 unfolding waits_for

@@ -4,7 +4,7 @@ use Rattle.std.specs.Bool.{then_some}
 use Rattle.ada_events.specs.Search.{is_number}
 use Rattle.ada_events.specs.Says.{held_in}
 use Rattle.ada_events.specs.Outcomes.{last_given}
-use Rattle.ada_waiting.proofs.holds.latest_hold.Given as goal
+use Rattle.ada_reference.proofs.reasons.latest_hold.Given as goal
 
 abbrev pub invariant-loop-left : goal.invariant-loop-left
 invariant-loop-left l =

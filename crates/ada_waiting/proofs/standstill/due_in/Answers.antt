@@ -1,6 +1,6 @@
 use Rattle.std.proofs.Common.{◌∙◌}
 use Rattle.ada_waiting.proofs.Kept.{due_by_record, unknown_due}
-use Rattle.ada_waiting.proofs.kernels.due_in.Goals as goal
+use Rattle.ada_waiting.proofs.standstill.due_in.Goals as goal
 
 pub returns-in-Some : goal.returns-in-Some
 returns-in-Some c =

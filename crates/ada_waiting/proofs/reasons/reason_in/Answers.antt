@@ -1,6 +1,6 @@
 use Rattle.std.proofs.Common.{◌∙◌}
 use Rattle.ada_waiting.proofs.Kept.{by_record, unknown_reason}
-use Rattle.ada_waiting.proofs.kernels.reason_in.Goals as goal
+use Rattle.ada_waiting.proofs.reasons.reason_in.Goals as goal
 
 pub returns-in-Some : goal.returns-in-Some
 returns-in-Some c =
