@@ -1,7 +1,7 @@
 //! A kernel and the plain one, of one journal, and what a picture shows of it.
 
 use crate::stages::agree_on_stages;
-use ada_account::lives::Lives;
+use ada_explain::lives::Lives;
 use ada_events::{Refusal, Request, TaskNo};
 use ada_kernel::Kernel;
 use ada_reference::{

@@ -1,8 +1,8 @@
 //! The sentence of each cause for which a request is refused.
 
+use crate::Scene;
 use crate::nesting::{frame, innermost, served};
 use crate::reasons::{maker, write_reason};
-use ada_account::Scene;
 use ada_events::journal::event_in;
 use ada_events::limits::{
     LAST_MOMENT, MOST_APPENDED, MOST_EVENTS, MOST_MEMBERS, MOST_SLOTS, MOST_TASKS,

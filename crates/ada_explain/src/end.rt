@@ -1,7 +1,7 @@
 //! What all tasks do at the end of a play.
 
+use crate::Scene;
 use crate::reasons::awaited;
-use ada_account::Scene;
 use ada_events::TaskNo;
 use ada_waiting::{Reason, due_in, reason_in};
 use std::alloc::{AllocError, Global};

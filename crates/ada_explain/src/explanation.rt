@@ -1,9 +1,9 @@
 //! A journal beside its script, with the reason under each refused line.
 
+use crate::rows::{Rows, write_margin};
 use crate::sentences::Sentences;
 use crate::standstill::{Standstill, write_standstill};
-use ada_account::rows::{Rows, write_margin};
-use ada_account::{Account, account_before};
+use crate::{Account, account_before};
 use ada_replay::{Answer, RunFault};
 use ada_script::Script;
 use std::alloc::{AllocError, Global};

@@ -1,14 +1,26 @@
-//! Sentences about a play: why a line was refused, who waits for whom at its end, and what would let it go on.
+//! A play is told: its account, which has the answer to each line, the kernel and the names at its end, its rows, and
+//! what each task does from event to event; and sentences about it, why a line was refused, who waits for whom at its
+//! end, and what would let it go on.
 #![tactic(auto)]
 
+pub mod account;
 pub mod causes;
 pub mod circles;
 pub mod end;
 pub mod explanation;
+pub mod lives;
 pub mod nesting;
 pub mod reasons;
 pub mod refusals;
+pub mod rows;
+pub mod scene;
 pub mod sentences;
+pub mod source;
 pub mod standstill;
+pub mod witness;
 
+pub use account::{Account, account_before, account_of};
 pub use explanation::{Explanation, explain};
+pub use scene::Scene;
+pub use source::Source;
+pub use witness::{Refused, Witness};

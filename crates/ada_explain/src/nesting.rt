@@ -1,6 +1,6 @@
 //! What a task is within, by what the kernel keeps.
 
-use ada_account::Scene;
+use crate::Scene;
 use ada_events::journal::event_in;
 use ada_events::{Entry, Event, Master, Member, TaskNo};
 use ada_tables::Layer;

@@ -1,6 +1,6 @@
 //! Why a task doesn't go on, and what would let it go on, in a sentence each.
 
-use ada_account::Scene;
+use crate::Scene;
 use ada_events::journal::event_in;
 use ada_events::{Choice, Entry, Event, EventTail, TaskNo};
 use ada_waiting::{Reason, awaits};

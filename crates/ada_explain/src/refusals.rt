@@ -1,7 +1,7 @@
 //! Why a line was refused, in a sentence with the facts.
 
 use crate::causes::{write_cause, write_not_running, write_outside};
-use ada_account::{Refused, Scene};
+use crate::{Refused, Scene};
 use ada_events::Refusal;
 use ada_script::{Line, Name, Statement, request};
 use std::alloc::AllocError;

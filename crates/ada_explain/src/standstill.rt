@@ -1,8 +1,8 @@
 //! What stands still at the end of a play, and what would let it go on.
+use crate::Scene;
 use crate::circles::circles;
 use crate::end::End;
 use crate::reasons::{maker, write_reason};
-use ada_account::Scene;
 use ada_events::journal::event_in;
 use ada_events::{Event, TaskNo};
 use ada_waiting::{Reason, Verdict, verdict_in};

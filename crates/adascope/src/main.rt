@@ -1,10 +1,23 @@
-//! Explains and checks a script of requests to the tasking kernel.
+//! Explains and checks a script of requests to the tasking kernel: what a command line orders, and how it is obeyed.
 #![tactic(auto)]
 
+mod conforming;
+mod course;
+mod fault;
+mod input;
+mod judgement;
+mod obeying;
+mod order;
+mod painting;
+mod report;
+mod step;
+
 use ada_replay::RunFault;
-use ada_scope::{Failure, Finding, ScopeFault, obey, order_of, status_of};
 use clap::Error;
 use clap::error::ErrorKind;
+use fault::{Failure, Finding, ScopeFault, status_of};
+use obeying::obey;
+use order::order_of;
 use std::env::VarError;
 use std::io::{Eprint, IsTerminal, Print};
 use std::process::ExitCode;

@@ -1,8 +1,0 @@
-use Rattle.std.proofs.Common.{◌≤◌, length}
-use Rattle.ada_conform.proofs.input.complete_bytes.Given as goal
-
-abbrev pub invariant-loop-complete : goal.invariant-loop-complete
-invariant-loop-complete l = l.complete ≤ length l.bytes
-
-abbrev pub decreases-loop-complete : goal.decreases-loop-complete
-decreases-loop-complete l = l.complete

@@ -1,8 +1,0 @@
-//! A play as JSON: an object for each event, refusal and shown attribute, each on a line of its own.
-#![tactic(auto)]
-
-pub mod events;
-pub mod members;
-pub mod telling;
-
-pub use events::write_events;

@@ -1,0 +1,34 @@
+//! Who waits for whom at the end of a play, as a graph of Graphviz.
+
+use ada_events::TaskNo;
+use ada_explain::reasons::{awaited, write_reason};
+use ada_explain::{Account, Scene};
+use ada_waiting::reason_in;
+use std::alloc::{AllocError, Global};
+
+/// A graph with a node for each task that waits or is waited for, and an edge from each to those for which it waits.
+pub fn write_graph(alloc: Global, account: &Account) -> Result<String, AllocError> {
+    let scene = account.scene();
+    let mut out = String::new(alloc);
+    write!(out, "digraph waits {{\n")?;
+    for task in 0..account.kernel.tasks() {
+        write_waits(&mut out, scene, TaskNo(task))?;
+    }
+    write!(out, "}}\n")?;
+    Ok(out)
+}
+
+// The node of a task that waits, and its edges.
+fn write_waits(out: &mut String, scene: Scene<'_>, task: TaskNo) -> Result<(), AllocError> {
+    let Some(reason) = reason_in(scene.kernel, task) else {
+        return Ok(());
+    };
+    let name = scene.task(task);
+    write!(out, "  \"{name}\" [tooltip=\"")?;
+    write_reason(out, scene, task, reason)?;
+    write!(out, "\"];\n")?;
+    for other in &awaited(*out.allocator(), scene, task, reason)? {
+        write!(out, "  \"{name}\" -> \"{}\";\n", scene.task(*other))?;
+    }
+    Ok(())
+}

@@ -1,0 +1,5 @@
+pub mod Lines
+pub mod Courses
+pub mod internal
+pub mod Findings
+pub mod Statuses

@@ -1,0 +1,74 @@
+//! How a log is checked.
+
+use crate::course::{Course, follow};
+use crate::fault::{Finding, ScopeFault};
+use crate::input::{Log, read_log};
+use crate::judgement::Judgement;
+use crate::obeying::{STANDARD_INPUT, check};
+use crate::report::{report_of, write_before};
+use ada_replay::RunFault;
+use ada_replay::output::write_output;
+use ada_script::ScriptFault;
+use std::alloc::Global;
+use std::io::{Input, Print};
+use std::rt::Files;
+use std::{fs, io};
+
+/// The last line that a script has, and so the last of which `lint` can say what is wrong with it.
+const LAST_LINE: u32 = 4096;
+
+// The log that a file has, or the standard input.
+fn log_of<R: Files + Input + AllocGlobal>(rt: &R, file: Option<&str>) -> Result<Log, ScopeFault> {
+    let bytes = match file {
+        Some(file) => {
+            let reader = fs::open(rt, file).map_err(|_| ScopeFault::Open)?;
+            read_log(rt.alloc(), reader)?
+        }
+        None => read_log(rt.alloc(), rt.reader())?,
+    };
+    Log::of(bytes).ok_or(ScopeFault::TooLong)
+}
+
+// What `lint` says of a log's first faulty line, where a script may have that many lines, and how far the log conforms.
+fn faulty_report(
+    alloc: Global,
+    file: &str,
+    log: &Log,
+    course: &Course,
+    fault: ScriptFault,
+) -> Result<String, RunFault> {
+    if fault.line > LAST_LINE {
+        return report_of(alloc, file, log, course).map_err(|_| RunFault::Memory);
+    }
+    let (mut text, _) = check(alloc, file, log.first_lines(fault.line))?;
+    write_before(&mut text, course).map_err(|_| RunFault::Memory)?;
+    Ok(text)
+}
+
+fn text_of(alloc: Global, file: &str, log: &Log, course: &Course) -> Result<String, RunFault> {
+    match &course.judgement {
+        Judgement::Faulty(fault) => faulty_report(alloc, file, log, course, *fault),
+        _ => report_of(alloc, file, log, course).map_err(|_| RunFault::Memory),
+    }
+}
+
+// What is found in a log that is judged so.
+fn finding_of(judgement: &Judgement) -> Finding {
+    match judgement {
+        Judgement::Conforms => Finding::Nothing,
+        Judgement::Refused { .. } => Finding::Refused,
+        Judgement::Faulty(_) => Finding::NoLog,
+    }
+}
+
+/// Checks the log that a file has, or the standard input, writes what is told of it, and says what was found.
+pub fn tell_conformance<R: Files + Input + Print + AllocGlobal>(
+    rt: &R,
+    file: Option<&str>,
+) -> Result<Finding, ScopeFault> {
+    let log = log_of(rt, file)?;
+    let course = follow(rt.alloc(), log.lines())?;
+    let text = text_of(rt.alloc(), file.unwrap_or(STANDARD_INPUT), &log, &course)?;
+    write_output(&mut io::writer(rt), text.as_bytes())?;
+    Ok(finding_of(&course.judgement))
+}

@@ -1,0 +1,233 @@
+//! How an order is obeyed.
+ghost use Rattle.std.specs.Prelude.{IfOk};
+ghost use Rattle.adascope.specs.Findings.{IsFoundIn};
+
+use crate::conforming::tell_conformance;
+use crate::fault::{Failure, Finding, ScopeFault};
+use crate::order::{Job, What};
+use crate::painting::{Kind, painted};
+use ada_explain::{Account, Explanation, account_of, explain};
+use ada_lint::{print_review, review_of};
+use ada_renderings::compare::compare;
+use ada_renderings::compare::comparison::Played;
+use ada_renderings::draw::{write_graph, write_picture, write_sequence};
+use ada_renderings::json::write_events;
+use ada_replay::RunFault;
+use ada_replay::input::read_input;
+use ada_replay::output::write_output;
+use ada_replay::replaying::read_script;
+use ada_waiting::Verdict;
+use std::alloc::Global;
+use std::io::{Input, Print};
+use std::rt::Files;
+use std::{fs, io};
+
+/// How the standard input is called where a file's name would stand.
+pub(crate) static STANDARD_INPUT: &str = "<stdin>";
+
+/// Does what was ordered, with colours or without, and says what was found.
+pub fn obey<'a, R: Files + Input + Print + AllocGlobal>(
+    rt: &R,
+    job: Job<'a>,
+    is_colored: bool,
+) -> Result<Finding, Failure<'a>> {
+    match job {
+        Job::Tell {
+            what,
+            file,
+            is_strict,
+        } => {
+            let told = tell(rt, what, file, is_strict, is_colored);
+            told.map_err(|fault| Failure { file, fault })
+        }
+        Job::Compare { first, second } => tell_difference(rt, first, second, is_colored),
+        Job::Conform { file } => {
+            tell_conformance(rt, file).map_err(|fault| Failure { file, fault })
+        }
+    }
+}
+
+// Writes a text, with colours if it has some.
+fn print<R: Print + AllocGlobal>(
+    rt: &R,
+    text: &str,
+    kind: Kind,
+    is_colored: bool,
+) -> Result<(), RunFault> {
+    if !is_colored {
+        return write_output(&mut io::writer(rt), text.as_bytes());
+    }
+    let text = painted(rt.alloc(), text, kind).map_err(|_| RunFault::Memory)?;
+    write_output(&mut io::writer(rt), text.as_bytes())
+}
+
+// The text of a file, or of the standard input.
+fn text_of<R: Files + Input + AllocGlobal>(
+    rt: &R,
+    file: Option<&str>,
+) -> Result<Vec<u8>, ScopeFault> {
+    match file {
+        Some(file) => {
+            let mut reader = fs::open(rt, file).map_err(|_| ScopeFault::Open)?;
+            let text = read_input(rt.alloc(), &mut reader)?;
+            Ok(text)
+        }
+        None => {
+            let text = read_input(rt.alloc(), &mut rt.reader())?;
+            Ok(text)
+        }
+    }
+}
+
+fn tell<R: Files + Input + Print + AllocGlobal>(
+    rt: &R,
+    what: What,
+    file: Option<&str>,
+    is_strict: bool,
+    is_colored: bool,
+) -> Result<Finding, ScopeFault> {
+    let text = text_of(rt, file)?;
+    match what {
+        What::Explanation => tell_explanation(rt, &text, is_strict, is_colored),
+        What::Faults => tell_faults(rt, file.unwrap_or(STANDARD_INPUT), &text, is_colored),
+        What::Picture | What::Sequence | What::Graph | What::Events => draw(rt, &text, what),
+    }
+}
+
+fn explanation_of(alloc: Global, text: &[u8]) -> Result<Explanation, RunFault> {
+    let script = read_script(alloc, text)?;
+    explain(alloc, text, script)
+}
+
+// Whether something was found that was looked for.
+fn finding(explanation: &Explanation, is_strict: bool) -> Finding {
+    let standstill = &explanation.standstill;
+    let is_found = explanation.refused > 0
+        || standstill.has_circle
+        || standstill.verdict == Verdict::Stuck;
+    if is_strict && is_found {
+        Finding::Standstill
+    } else {
+        Finding::Nothing
+    }
+}
+
+fn tell_explanation<R: Print + AllocGlobal>(
+    rt: &R,
+    text: &[u8],
+    is_strict: bool,
+    is_colored: bool,
+) -> Result<Finding, ScopeFault> {
+    let explanation = explanation_of(rt.alloc(), text)?;
+    print(rt, &explanation.text, Kind::Explanation, is_colored)?;
+    Ok(finding(&explanation, is_strict))
+}
+
+fn drawn(alloc: Global, text: &[u8], what: What) -> Result<String, RunFault> {
+    let script = read_script(alloc, text)?;
+    let account = account_of(alloc, script)?;
+    let drawn = match what {
+        What::Sequence => write_sequence(alloc, &account),
+        What::Graph => write_graph(alloc, &account),
+        What::Events => write_events(alloc, text, &account),
+        _ => write_picture(alloc, text, &account),
+    };
+    drawn.map_err(|_| RunFault::Memory)
+}
+
+fn draw<R: Print + AllocGlobal>(rt: &R, text: &[u8], what: What) -> Result<Finding, ScopeFault> {
+    let drawn = drawn(rt.alloc(), text, what)?;
+    write_output(&mut io::writer(rt), drawn.as_bytes())?;
+    Ok(Finding::Nothing)
+}
+
+/// Checks a text: what is printed of the file that has it, and what was found. An `Err` is `Memory`.
+pub fn check(alloc: Global, file: &str, text: &[u8]) -> Result<(String, Finding), RunFault>
+    ensures { IfOk result (λ checked. IsFoundIn text.now checked.1) }
+{
+    let review = review_of(alloc, text).map_err(|_| RunFault::Memory)?;
+    let printed = print_review(alloc, file, text, &review).map_err(|_| RunFault::Memory)?;
+    let finding = match review.fault {
+        None => Finding::Nothing,
+        Some(_) => Finding::Faulty,
+    };
+    Ok((printed, finding))
+}
+
+fn tell_faults<R: Print + AllocGlobal>(
+    rt: &R,
+    file: &str,
+    text: &[u8],
+    is_colored: bool,
+) -> Result<Finding, ScopeFault> {
+    let (printed, finding) = check(rt.alloc(), file, text)?;
+    print(rt, &printed, Kind::Findings, is_colored)?;
+    Ok(finding)
+}
+
+// The text of a script that is to be compared, and its play.
+fn play<R: Files + Input + AllocGlobal>(
+    rt: &R,
+    file: Option<&str>,
+) -> Result<(Vec<u8>, Account), ScopeFault> {
+    let text = text_of(rt, file)?;
+    let script = match read_script(rt.alloc(), &text) {
+        Ok(script) => script,
+        Err(RunFault::Memory) => return Err(ScopeFault::Run(RunFault::Memory)),
+        Err(fault) => return Err(ScopeFault::Compared(fault)),
+    };
+    let account = account_of(rt.alloc(), script)?;
+    Ok((text, account))
+}
+
+fn tell_difference<'a, R: Files + Input + Print + AllocGlobal>(
+    rt: &R,
+    first: Option<&'a str>,
+    second: Option<&'a str>,
+    is_colored: bool,
+) -> Result<Finding, Failure<'a>> {
+    let (text, account) = play(rt, first).map_err(|fault| Failure { file: first, fault })?;
+    let one = Played {
+        name: first.unwrap_or(STANDARD_INPUT),
+        source: &text,
+        account: &account,
+    };
+    compare_with(rt, one, second, is_colored)
+}
+
+// Compares a play with that of a second script.
+fn compare_with<'a, R: Files + Input + Print + AllocGlobal>(
+    rt: &R,
+    one: Played<'_>,
+    second: Option<&'a str>,
+    is_colored: bool,
+) -> Result<Finding, Failure<'a>> {
+    let (text, account) = play(rt, second).map_err(|fault| Failure {
+        file: second,
+        fault,
+    })?;
+    let two = Played {
+        name: second.unwrap_or(STANDARD_INPUT),
+        source: &text,
+        account: &account,
+    };
+    write_difference(rt, one, two, is_colored).map_err(|fault| Failure {
+        file: None,
+        fault: ScopeFault::Run(fault),
+    })
+}
+
+fn write_difference<R: Print + AllocGlobal>(
+    rt: &R,
+    first: Played<'_>,
+    second: Played<'_>,
+    is_colored: bool,
+) -> Result<Finding, RunFault> {
+    let comparison = compare(rt.alloc(), first, second).map_err(|_| RunFault::Memory)?;
+    print(rt, &comparison.text, Kind::Difference, is_colored)?;
+    Ok(if comparison.differs {
+        Finding::Difference
+    } else {
+        Finding::Nothing
+    })
+}
