@@ -1,8 +1,8 @@
 //! What each task does, as a picture shows it and as the definitions say.
 ghost use Rattle.std.specs.Prelude.{◌<◌, ◌^◌, length};
 
-use ada_explain::lives::{Lives, Stage};
 use ada_events::{Event, TaskNo};
+use ada_explain::lives::{Lives, Stage};
 use ada_reference::phases::{is_abnormal, is_terminated};
 use ada_reference::{is_elaborated, reason_of};
 use ada_waiting::Reason;

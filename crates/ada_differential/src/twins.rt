@@ -1,8 +1,8 @@
 //! A kernel and the plain one, of one journal, and what a picture shows of it.
 
 use crate::stages::agree_on_stages;
-use ada_explain::lives::Lives;
 use ada_events::{Refusal, Request, TaskNo};
+use ada_explain::lives::Lives;
 use ada_kernel::Kernel;
 use ada_reference::{
     PlainKernel, board, is_finished, known_callable, known_outcome, known_terminated,
