@@ -1,16 +1,16 @@
 //! Explains and checks a script of requests to the tasking kernel: what a command line orders, and how it is obeyed.
 #![tactic(auto)]
 
-mod conforming;
-mod course;
-mod fault;
-mod input;
-mod judgement;
-mod obeying;
-mod order;
-mod painting;
-mod report;
-mod step;
+pub mod conforming;
+pub mod course;
+pub mod fault;
+pub mod input;
+pub mod judgement;
+pub mod obeying;
+pub mod order;
+pub mod painting;
+pub mod report;
+pub mod step;
 
 use ada_replay::RunFault;
 use clap::Error;
