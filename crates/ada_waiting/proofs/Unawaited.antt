@@ -5,7 +5,7 @@ use Rattle.ada_events.specs.declared.event.Event.{Event}
 use Rattle.ada_events.specs.declared.names.Master.{Master}
 use Rattle.ada_events.specs.Masters.{depends_on}
 use Rattle.ada_events.specs.Tasks.{has_task, task_count}
-use Rattle.ada_laws.proofs.Depending.{depends_exists}
+use Rattle.ada_laws.proofs.within.Depending.{depends_exists}
 use Rattle.ada_waiting.specs.Awaited.{is_live_dependent}
 
 pub unknown_dependent : (journal : List Event) (master : Master) (task : ℕ) → has_task journal task ≡ false → false ≡ is_live_dependent journal master task

@@ -1,5 +1,5 @@
 use Rattle.std.proofs.Common.{not, ap, sym, ◌∙◌}
-use Rattle.ada_records.proofs.Queries.{records_tell}
+use Rattle.ada_records.proofs.recording.Queries.{records_tell}
 use Rattle.ada_waiting.proofs.awaited.is_coming_up.Goals as goal
 
 pub returns-then-not-kept : goal.returns-then-not-kept
