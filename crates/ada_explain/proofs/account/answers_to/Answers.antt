@@ -5,10 +5,10 @@ use Rattle.ada_explain.proofs.Playing.{answers_grow}
 use Rattle.ada_explain.proofs.account.answers_to.Goals as goal
 
 pub loop-line-init : goal.loop-line-init
-loop-line-init c = rw (c.new-answers.ensures.items, c.new-text.ensures.items) no_more
+loop-line-init g c = rw (c.new-answers.ensures.items, c.new-text.ensures.items) no_more
 
 pub loop-line-preserved : goal.loop-line-preserved
-loop-line-preserved c =
+loop-line-preserved g c =
     answers_grow c.args.lines.now c.loop-line.line-index c.line-item.result (state c.args.kernel.now c.args.names.now)
     (state c.loop-line.kernel c.loop-line.names) (state c.say.new.kernel c.say.new.names) c.loop-line.answers.items c.push.new.self.items
     c.loop-line.text.items c.say.new.text.items c.in_ok-answer.answer c.loop-line-test.true c.line-item.is c.loop-line.invariant
