@@ -20,10 +20,11 @@ pub fn play_all(rt: &HostRuntime, first: u64, runs: u64, length: u64) -> anyhow:
     Ok(sum)
 }
 
-/// Fails unless every kind of event came up, and tasks were given up: runs that bring up less are a sham.
+/// Fails unless every kind of event came up, and some tasks were given up and some kept: runs that bring up less are a
+/// sham.
 pub fn want_much(sum: &Sum) -> anyhow::Result<()> {
-    let much = sum.kinds == ALL_KINDS && sum.accepted > 2000 && sum.given_up > 100;
-    if much {
+    let is_given_up = sum.given_up > 100 && sum.tasks > sum.given_up;
+    if sum.kinds == ALL_KINDS && sum.accepted > 2000 && is_given_up {
         Ok(())
     } else {
         Err(anyhow!("too little came up: {sum:?}"))
