@@ -6,7 +6,7 @@ use Rattle.ada_events.specs.declared.event.Event.{Event}
 use Rattle.ada_events.specs.Search.{is_number}
 use Rattle.ada_events.specs.Says.{released_in}
 use Rattle.ada_events.specs.Outcomes.{released_to, became, last_given}
-use Rattle.ada_waiting.proofs.Arriving.{journal_more, length_journal}
+use Rattle.ada_events.proofs.Beginnings.{journal_more, length_journal}
 
 pub became_more : (position : ℕ) (events : List Event) (i : ℕ) (d : Event) → i < length events
     → became (reverse (take (i + 1) events)) position

@@ -14,7 +14,7 @@ use Rattle.ada_events.specs.Search.{is_number, any_event, first_given, gathered}
 use Rattle.ada_events.specs.Says.{Creation, creation_in, moment_in, gone_in, quit_in, aborted_in, started_in}
 use Rattle.ada_events.specs.Tasks.{task_count, creation_of, moment}
 use Rattle.ada_events.specs.Masters.{same_master, parent_in, reaches, depends_on}
-use Rattle.ada_waiting.proofs.Arriving.{journal_more, length_journal}
+use Rattle.ada_events.proofs.Beginnings.{journal_more, length_journal}
 
 pub any_event_more : (test : ℕ → Event → Bool) (events : List Event) (i : ℕ) (d : Event) → i < length events
     → any_event test (reverse (take (i + 1) events)) ≡ (test (i + 1) (get_or events i d) || any_event test (reverse (take i events)))

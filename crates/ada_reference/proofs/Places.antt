@@ -16,7 +16,7 @@ use Rattle.ada_events.specs.Slots.{Place, number_within, slot_made, slot_of, ent
 use Rattle.ada_reference.specs.Places.{capped}
 use Rattle.ada_reference.specs.internal.Places.{entry_here, place_made}
 use Rattle.ada_reference.proofs.Loops.{task_count_more}
-use Rattle.ada_waiting.proofs.Arriving.{journal_more}
+use Rattle.ada_events.proofs.Beginnings.{journal_more}
 
 pub capped_sum : (first : ℕ) (o : Option ℕ) → option_map (λ n. capped (capped first + n)) (option_map capped o)
     ≡ option_map capped (option_map (λ n. first + n) o)

@@ -5,7 +5,7 @@ use Rattle.ada_events.specs.declared.event.Event.{Event}
 use Rattle.ada_events.specs.Says.{Creation, creation_in}
 use Rattle.ada_events.specs.Entries.{entries_in}
 use Rattle.ada_events.specs.Limits.{slot_count}
-use Rattle.ada_waiting.proofs.Arriving.{journal_more}
+use Rattle.ada_events.proofs.Beginnings.{journal_more}
 
 pub slot_count_more : (events : List Event) (i : ℕ) (d : Event) → i < length events
     → slot_count (reverse (take (i + 1) events)) ≡ option_map_or (λ (c : Creation). entries_in c.families) (creation_in (get_or events i d)) 0 + slot_count

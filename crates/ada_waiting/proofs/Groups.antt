@@ -4,7 +4,7 @@ use Rattle.std.proofs.Common.{refl, sym, ap, ◌∙◌, arith, inl, inr}
 use Rattle.std.proofs.lemmas.Bool.{cases_Bool}
 use Rattle.std.proofs.lemmas.List.{reverse-append, reverse-reverse, length-reverse, take_at, drop_at}
 use Rattle.ada_events.specs.declared.event.Event.{Event}
-use Rattle.ada_waiting.proofs.Arriving.{journal_more, length_journal}
+use Rattle.ada_events.proofs.Beginnings.{journal_more, length_journal}
 use Rattle.ada_waiting.specs.Runnable.{is_step, before_last}
 use Rattle.ada_waiting.specs.internal.Going.{last_group}
 

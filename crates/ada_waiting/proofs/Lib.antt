@@ -1,4 +1,3 @@
-pub mod Arriving
 pub mod Numbers
 mod Holding
 mod Reasoning
