@@ -1,5 +1,6 @@
 -- What the kernel answers to a request, from what its present journal answers.
-use Rattle.std.proofs.Common.{◌≡◌, ℕ, suc, ◌+◌, ◌-◌, ◌≤◌, Bool, true, false, Option, List, ◌∷◌, length, take, if◌then◌else◌, refl, sym, ap, ◌∙◌, subst, arith}
+use Rattle.std.proofs.Common.{◌≡◌, ℕ, suc, ◌+◌, ◌-◌, ◌≤◌, ◌⊎◌, Bool, true, false, Option, List, ◌∷◌, length, take, if◌then◌else◌, refl, sym, ap, ◌∙◌, subst, arith}
+use Rattle.std.specs.Prelude.{Result, Ok, Err, IfErr, OnErr}
 use Rattle.std.specs.Option.{option_map, is_some}
 use Rattle.ada_events.specs.declared.event.Event.{Event}
 use Rattle.ada_events.specs.declared.request.Request.{Request}
@@ -12,20 +13,19 @@ use Rattle.ada_standing.specs.Asking.{renamed_request}
 use Rattle.ada_lasting.specs.declared.masters.Dependent.{Dependent}
 use Rattle.ada_lasting.specs.declared.requests.LastingMaster.{LastingMaster}
 use Rattle.ada_lasting.specs.declared.failure.NotDone.{NotDone}
-use Rattle.ada_lasting.specs.declared.failure.NotDone.TheVariants.{GivenUp}
 use Rattle.ada_lasting.specs.Naming.{Naming, length_of, renaming_of}
 use Rattle.ada_lasting.specs.internal.Keeping.{with_task, grown_to}
 use Rattle.ada_lasting.specs.Meaning.{meant_master}
 use Rattle.ada_lasting.specs.internal.Mastering.{asked_under, masters_next}
-use Rattle.ada_lasting.specs.internal.Nameable.{creates, names_nameable}
+use Rattle.ada_lasting.specs.Refusing.{creates}
+use Rattle.ada_lasting.specs.internal.Nameable.{names_nameable}
 use Rattle.ada_lasting.specs.Following.{Long, Follows, IsStepped}
-use Rattle.ada_lasting.specs.Refusing.{IsRefused, IsWant}
+use Rattle.ada_lasting.specs.Refusing.{IsCause, IsMadeShorter, IsRefused}
 use Rattle.ada_lasting.specs.internal.Causes.{named_cause}
 use Rattle.ada_lasting.specs.internal.Present.{IsPresent, named_next}
-use Rattle.ada_lasting.proofs.Meant.{kept_nameable}
 use Rattle.ada_lasting.proofs.Growing.{names_after}
 use Rattle.ada_lasting.proofs.Stepping.{refused_too, stepped, stepped_kernel}
-use Rattle.ada_lasting.proofs.Refused.{named_by_limits, is_cause, want_is_cause, IsNamed}
+use Rattle.ada_lasting.proofs.Refused.{named_by_limits, is_cause, IsNamed}
 
 -- a request makes a journal no shorter
 
@@ -55,14 +55,6 @@ same_long : (x y : Long) → x.present ≡ y.present → x.names ≡ y.names →
 same_long x y present names group masters = λ i. record { present = present i; names = names i; group = group i; masters = masters i }
 
 module _ (journal : List Event) (kernel : Long) (follows : Follows journal kernel) (r : Request) where
-  -- a task that was given up is named
-  pub given_up : (task : ℕ) → names_nameable kernel.names r ≡ false → IsRefused journal r (GivenUp task) kernel
-  given_up task none = record { follows = follows; named = kept_nameable journal kernel.names follows.made r ∙ none }
-
-  -- there is a want before the present journal is asked
-  pub wanted : (cause : NotDone) → IsWant cause → IsRefused journal r cause kernel
-  wanted cause want = record { follows = follows; named = want_is_cause journal r kernel cause want }
-
   module _ (is_present : IsPresent kernel) (nameable : names_nameable kernel.names r ≡ true) where
     pub stepped_by : (master : Option LastingMaster) → option_map meant_master master ≡ asked_under r → is_some master ≡ creates r
         → (at : ℕ) (result : Long) (position : ℕ)
@@ -85,11 +77,26 @@ module _ (journal : List Event) (kernel : Long) (follows : Follows journal kerne
 
     pub refused_by : (cause : Refusal) (present : List Event)
         → IsRefusedNow kernel.present (renamed_request (renaming_of kernel.names) r) cause present
-        → IsRefused journal r (named_cause cause) kernel
+        → IsCause journal r kernel (named_cause cause)
     refused_by cause present refused =
-        record {
-          follows = follows;
-          named = is_cause journal r kernel cause
-              (subst (λ o. IsNamed o cause) (refused_too journal kernel follows is_present r nameable)
-              (named_by_limits kernel.present (renamed_request (renaming_of kernel.names) r) cause refused.named));
-        }
+        is_cause journal r kernel (renaming_of kernel.names) cause
+        (subst (λ o. IsNamed kernel.present (renamed_request (renaming_of kernel.names) r) o cause)
+        (refused_too journal kernel follows is_present r nameable)
+        (named_by_limits kernel.present (renamed_request (renaming_of kernel.names) r) cause refused.named))
+
+-- a request that was refused after the present journal was made shorter, or was left as it was
+pub refused : (journal : List Event) (r : Request) (cause : NotDone) (before between after : Long) → Follows journal between
+    → (between ≡ before) ⊎ IsMadeShorter before between → after ≡ between → IsCause journal r between cause → IsRefused journal r cause before after
+refused journal r cause before between after follows first same named =
+    subst (IsRefused journal r cause before) (sym same) (record { follows = follows; named = named; unchanged = first })
+
+-- what is known of an error
+pub err_refused : {A S : Type 0} {P Q : NotDone → Type 0} (result : Result A NotDone) → IfErr result P → OnErr result S
+    → ((cause : NotDone) → P cause → S → Q cause) → IfErr result Q
+err_refused (Ok at) known same follows = tt
+err_refused (Err cause) known same follows = follows cause known same
+
+-- names for a task more know as long a present journal
+pub until_next : (b : Bool) (names : Naming) (task : ℕ) → (named_next b names task).until ≡ names.until
+until_next true names task = refl
+until_next false names task = refl

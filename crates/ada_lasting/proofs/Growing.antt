@@ -18,7 +18,7 @@ use Rattle.ada_standing.specs.Leading.{LedAlike}
 use Rattle.ada_lasting.specs.declared.rows.Row.{Row}
 use Rattle.ada_lasting.specs.Naming.{Naming, found, rises_between, position_of, renaming_of, length_of}
 use Rattle.ada_lasting.specs.internal.Keeping.{with_task}
-use Rattle.ada_lasting.specs.internal.Nameable.{creates}
+use Rattle.ada_lasting.specs.Refusing.{creates}
 use Rattle.ada_lasting.proofs.MovedNames.{found_above}
 
 -- how many tasks a request makes

@@ -1,5 +1,6 @@
 mod Finding
 mod Meant
+mod Noting
 mod Growing
 mod Stepping
 mod Beginning
@@ -14,3 +15,4 @@ mod WithoutTask
 mod Gone
 mod Remembering
 mod GivingUp
+mod OneToOne

@@ -27,7 +27,7 @@ use Rattle.ada_lasting.specs.Meaning.{meant_master}
 use Rattle.ada_lasting.specs.Remembering.{IsRemembered, KnowsMasters, has_master}
 use Rattle.ada_lasting.specs.internal.Keeping.{with_task}
 use Rattle.ada_lasting.specs.internal.Mastering.{asked_under, masters_next, named_masters}
-use Rattle.ada_lasting.specs.internal.Nameable.{creates}
+use Rattle.ada_lasting.specs.Refusing.{creates}
 use Rattle.ada_lasting.proofs.Finding.{if_cases}
 use Rattle.ada_lasting.proofs.Growing.{found_first, names_after}
 

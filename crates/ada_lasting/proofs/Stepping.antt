@@ -21,7 +21,8 @@ use Rattle.ada_lasting.specs.declared.masters.Dependent.{Dependent}
 use Rattle.ada_lasting.specs.declared.requests.LastingMaster.{LastingMaster}
 use Rattle.ada_lasting.specs.Meaning.{meant_master}
 use Rattle.ada_lasting.specs.internal.Mastering.{asked_under, masters_next}
-use Rattle.ada_lasting.specs.internal.Nameable.{creates, names_nameable}
+use Rattle.ada_lasting.specs.Refusing.{creates}
+use Rattle.ada_lasting.specs.internal.Nameable.{names_nameable}
 use Rattle.ada_lasting.specs.Following.{Long, Follows, IsStepped}
 use Rattle.ada_lasting.specs.internal.Present.{IsPresent}
 use Rattle.ada_lasting.proofs.Meant.{kept_nameable}

@@ -1,5 +1,5 @@
 -- A kernel that lives on follows a journal without an end.
-use Rattle.std.specs.Prelude.{◌≡◌, ℕ, ◌+◌, Some, None, List, ◌++◌, length, map}
+use Rattle.std.specs.Prelude.{◌≡◌, ℕ, ◌+◌, ◌-◌, Some, None, List, ◌++◌, length, map, take}
 use Rattle.ada_events.specs.declared.event.Event.{Event}
 use Rattle.ada_events.specs.declared.request.Request.{Request}
 use Rattle.ada_events.specs.Tasks.{task_count}
@@ -19,6 +19,15 @@ pub record Long : Type 0 where
   pub group : List Event
   pub masters : List Dependent
 
+-- the same of a kernel whose present journal had so many events before the last request
+abbrev pub seen : List Event → Naming → ℕ → List Dependent → Long
+seen present names before masters = record {
+  present = present;
+  names = names;
+  group = take (length present - before) present;
+  masters = masters;
+}
+
 -- the kernel follows a journal without an end: this is lawful, where tasks, slots and events have no limit, and settled,
 -- the present journal stands in for it, the next event and the next task will have their places in it as names, and the
 -- masters of tasks are remembered
@@ -29,6 +38,10 @@ pub record Follows (journal : List Event) (kernel : Long) : Type 0 where
   pub length : length journal ≡ length_of kernel.names
   pub made : task_count journal ≡ kernel.names.made
   pub masters : KnowsMasters journal kernel.names kernel.masters
+
+-- there is a journal without an end that the kernel follows
+abbrev pub LivesOn : Long → Type 0
+LivesOn kernel = (journal : List Event) × Follows journal kernel
 
 -- the request was accepted: it isn't refused, where tasks, slots and events have no limit; its event stands at this
 -- position of what it leads to, which the kernel follows then; and each of the events by which the present journal grew

@@ -57,3 +57,8 @@ pub record AreInOrder (names : Naming) : Type 0 where
   pub tasks : rises_between 0 names.made names.tasks ≡ true
   pub places : rises_between 0 (suc names.since) names.places ≡ true
   pub grows : names.from ≤ names.until
+
+-- no two names of tasks, and no two of positions, lead to the same
+pub record AreOneToOne (names : Naming) : Type 0 where
+  pub tasks : (s t v : ℕ) → found names.tasks s ≡ Some v → found names.tasks t ≡ Some v → s ≡ t
+  pub positions : (p q a : ℕ) → position_of names p ≡ Some a → position_of names q ≡ Some a → p ≡ q

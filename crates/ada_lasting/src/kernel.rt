@@ -1,6 +1,6 @@
 //! A kernel that lives on.
 
-ghost use Rattle.std.specs.Prelude.{◌≡◌, ◌≢◌, ◌<◌, ℕ, IfErr, IfOk, Ok, OnErr, OnOk, List, [], None, Some, is_some, reverse};
+ghost use Rattle.std.specs.Prelude.{◌≡◌, ◌≢◌, ◌⊎◌, ℕ, true, IfErr, IfOk, Ok, OnErr, OnOk, List, [], None, Some, is_some, reverse};
 ghost use Rattle.std.specs.Bool.{then_some};
 ghost use Rattle.ada_events.specs.declared.event.Event.{Event as Happening};
 ghost use Rattle.ada_events.specs.Attributes.{is_callable, is_finished, own_count};
@@ -8,14 +8,17 @@ ghost use Rattle.ada_events.specs.Outcomes.{outcome_of};
 ghost use Rattle.ada_standing.specs.Renaming.{renamed_outcome};
 ghost use Rattle.std.specs.Option.{option_and_then, option_map};
 ghost use Rattle.ada_events.specs.Phases.{is_running, is_terminated};
-ghost use Rattle.ada_lasting.specs.internal.Present.{IsPresent, with_next};
-ghost use Rattle.ada_lasting.specs.Following.{Follows, IsStepped, Long};
+ghost use Rattle.ada_events.specs.declared.refusal.Refusal.TheVariants.{OutOfMemory};
+ghost use Rattle.ada_events.specs.Limits.{is_full};
+ghost use Rattle.ada_lasting.specs.declared.failure.NotDone.TheVariants.{Refused};
+ghost use Rattle.ada_lasting.specs.internal.Present.{IsPresent};
+ghost use Rattle.ada_lasting.specs.Following.{Follows, IsStepped, LivesOn};
 ghost use Rattle.ada_lasting.specs.GivingUp.{GivesUpOnly};
 ghost use Rattle.ada_lasting.specs.Meaning.{meant, meant_master};
 ghost use Rattle.ada_lasting.specs.internal.Mastering.{asked_under};
-ghost use Rattle.ada_lasting.specs.internal.Nameable.{creates};
-ghost use Rattle.ada_lasting.specs.Naming.{found, renaming_of};
-ghost use Rattle.ada_lasting.specs.Refusing.{IsRefused, IsUncounted, IsWant};
+ghost use Rattle.ada_lasting.specs.internal.Causes.{IsRoomless};
+ghost use Rattle.ada_lasting.specs.Naming.{AreOneToOne, found, renaming_of};
+ghost use Rattle.ada_lasting.specs.Refusing.{IsCause, IsMadeShorter, IsRefused, IsUncompacted, IsUncounted, IsUnreleased, creates};
 
 use crate::failure::NotDone;
 use crate::masters::Masters;
@@ -39,24 +42,22 @@ pub struct LongKernel {
     // The number of events that its maker chose, and the one from which on the present journal is made shorter next.
     threshold: u32,
     due: u32,
+    // How many events it had when that was tried last; 0 if a task was released since.
+    tried: u32,
     // How many events the present journal had before the last request.
     group: u32,
 }
 
 impl Model for LongKernel {
-    ghost use Rattle.std.specs.Prelude.{◌≡◌, ◌≤◌, ◌-◌, length, take};
-    ghost use Rattle.ada_lasting.specs.Following.{Long};
+    ghost use Rattle.std.specs.Prelude.{◌≡◌, ◌≤◌, length};
+    ghost use Rattle.ada_lasting.specs.Following.{LivesOn, Long, seen};
 
     ghost Value = { Long };
 
-    ghost view = { λ k. record {
-      present = k.kernel;
-      names = k.names;
-      group = take (length k.kernel - k.group) k.kernel;
-      masters = k.masters;
-    } };
+    ghost view = { λ k. seen k.kernel k.names k.group k.masters };
 
-    ghost invariant = { λ k. (length k.kernel ≡ k.names.until) × (k.group ≤ length k.kernel) };
+    ghost invariant = { λ k. (length k.kernel ≡ k.names.until) × (k.group ≤ length k.kernel)
+        × LivesOn (seen k.kernel k.names k.group k.masters) };
 }
 
 impl LastingRequest {
@@ -84,9 +85,11 @@ impl LastingRequest {
 
 impl LongKernel {
     /// A kernel with an empty journal. The present journal is made shorter when it has `threshold` events, or twice as
-    /// many as it had after it was made shorter last, if these are more. Fails with `OutOfMemory` alone.
+    /// many as it had after it was made shorter last, if these are more. If that fails, it is tried again when it has
+    /// twice as many, or `threshold` more. Fails with `OutOfMemory` alone.
     pub fn new(alloc: Global, threshold: u32) -> Result<Self, NotDone>
-        ensures { IfOk result (λ kernel. Follows [] kernel) }
+        ensures ok { IfOk result (λ kernel. Follows [] kernel) }
+        ensures err { IfErr result (λ cause. cause ≡ Refused OutOfMemory) }
     {
         let kernel = match Kernel::new(alloc) {
             Ok(kernel) => kernel,
@@ -102,6 +105,7 @@ impl LongKernel {
             alloc,
             threshold,
             due: threshold,
+            tried: 0,
             group: 0,
         })
     }
@@ -110,14 +114,15 @@ impl LongKernel {
     /// that it forces, in order, and the answer is the position of its event, from 1. Refused, nothing is changed.
     ///
     /// Before the request is asked, the present journal may be made shorter, as by [`LongKernel::compact`]. It stays so
-    /// if the request is refused.
+    /// if the request is refused, for a limit too, and the tasks that were given up by that stay without names.
     // Inlined, as all that it does for each request, so that no request is copied on its way to the present kernel.
     #[inline(always)]
     pub fn step(&mut self, request: LastingRequest) -> Result<u64, NotDone>
         ensures ok { IfOk result (λ at. (journal : List Happening) → Follows journal self.old
             → IsStepped journal (meant request) at self.new) }
         ensures err { IfErr result (λ cause. (journal : List Happening)
-            → Follows journal self.old → IsRefused journal (meant request) cause self.new) }
+            → Follows journal self.old
+            → IsRefused journal (meant request) cause self.old self.new) }
         ensures given_up { (journal : List Happening) → Follows journal self.old
             → GivesUpOnly journal self.old.names self.new.names }
     {
@@ -127,8 +132,9 @@ impl LongKernel {
         self.ask(request)
     }
 
-    /// Makes the present journal shorter. Terminated tasks are given up whose masters are gone, and no others: a master
-    /// is gone if the task is terminated whose body it is, or if no task that lives is within the block (9.4).
+    /// Makes the present journal shorter, or longer if little of it is over. Terminated tasks are given up whose masters
+    /// are gone, and no others: a master is gone if the task is terminated whose body it is, or if no task that lives
+    /// is within the block (9.4).
     ///
     /// # Errors
     ///
@@ -140,8 +146,9 @@ impl LongKernel {
             → Follows journal self.new }
         ensures given_up { (journal : List Happening) → Follows journal self.old
             → GivesUpOnly journal self.old.names self.new.names }
+        ensures shorter { OnOk result (IsMadeShorter self.old self.new) }
         ensures err { OnErr result (self.new ≡ self.old) }
-        ensures want { IfErr result (λ cause. IsWant cause) }
+        ensures want { IfErr result (λ cause. IsUncompacted self.old.names cause) }
     {
         self.known();
         let Ok(kept) = self
@@ -167,6 +174,7 @@ impl LongKernel {
         self.names = names;
         self.group = until;
         self.due = until.saturating_mul(2).max(self.threshold);
+        self.tried = until;
         Ok(())
     }
 
@@ -179,7 +187,9 @@ impl LongKernel {
     }
 
     #[inline(always)]
-    fn is_full(&self) -> bool {
+    fn is_full(&self) -> bool
+        ensures { result ≡ is_full self.now.present }
+    {
         MOST_EVENTS < self.kernel.journal().len() as usize + MOST_APPENDED
     }
 
@@ -199,10 +209,12 @@ impl LongKernel {
             → Follows journal self.new }
         ensures given_up { (journal : List Happening) → Follows journal self.old
             → GivesUpOnly journal self.old.names self.new.names }
-        ensures want { IfErr result (λ cause. IsWant cause) }
+        ensures unchanged { (self.new ≡ self.old) ⊎ IsMadeShorter self.old self.new }
+        ensures want { IfErr result (λ cause. IsRoomless self.new cause) }
     {
-        let due = self.kernel.journal().len() >= self.due;
-        if !due && !self.is_full() && !self.is_crowded(request) {
+        let length = self.kernel.journal().len();
+        let crowded = self.is_crowded(request) && length > self.tried;
+        if length < self.due && !self.is_full() && !crowded {
             return Ok(());
         }
         self.shorten()
@@ -216,50 +228,17 @@ impl LongKernel {
             → Follows journal self.new }
         ensures given_up { (journal : List Happening) → Follows journal self.old
             → GivesUpOnly journal self.old.names self.new.names }
-        ensures want { IfErr result (λ cause. IsWant cause) }
+        ensures unchanged { (self.new ≡ self.old) ⊎ IsMadeShorter self.old self.new }
+        ensures want { IfErr result (λ cause. IsRoomless self.new cause) }
     {
         match self.compact() {
             Err(cause) if self.is_full() => Err(cause),
             Err(_) => {
-                self.due = self.kernel.journal().len().saturating_add(self.threshold);
+                self.tried = self.kernel.journal().len();
+                self.due = self.tried.saturating_add(self.tried.max(self.threshold));
                 Ok(())
             }
             Ok(()) => Ok(()),
-        }
-    }
-
-    // Names the task that a request makes, if it makes one.
-    #[inline(always)]
-    fn name_next(&mut self, master: Option<LastingMaster>) -> Result<(), NotDone>
-        ensures ok { OnOk result (self.new ≡ with_next master self.old) }
-        ensures err { OnErr result (self.new ≡ self.old) }
-        ensures want { IfErr result (λ cause. IsWant cause) }
-    {
-        let Some(master) = master else {
-            return Ok(());
-        };
-        let task = self.names.made();
-        if task == u64::MAX {
-            return Err(NotDone::NoMoreNames);
-        }
-        if self.names.add_task(TaskNo(self.kernel.tasks())).is_err() {
-            return Err(NotDone::Refused(Refusal::OutOfMemory));
-        }
-        if self.masters.add(task, master).is_err() {
-            self.names.take_back();
-            return Err(NotDone::Refused(Refusal::OutOfMemory));
-        }
-        Ok(())
-    }
-
-    // Takes the name back, since the task wasn't made.
-    #[inline(always)]
-    fn unname_next(&mut self, master: Option<LastingMaster>)
-        ensures { (kernel : Long) → self.old ≡ with_next master kernel → self.new ≡ kernel }
-    {
-        if master.is_some() {
-            self.names.take_back();
-            self.masters.take_back();
         }
     }
 
@@ -267,8 +246,9 @@ impl LongKernel {
     fn ask(&mut self, request: LastingRequest) -> Result<u64, NotDone>
         ensures ok { IfOk result (λ at. (journal : List Happening) → Follows journal self.old
             → IsStepped journal (meant request) at self.new) }
-        ensures err { IfErr result (λ cause. (journal : List Happening)
-            → Follows journal self.old → IsRefused journal (meant request) cause self.new) }
+        ensures err { IfErr result (λ cause. (journal : List Happening) → Follows journal self.old
+            → IsCause journal (meant request) self.old cause) }
+        ensures unchanged { OnErr result (self.new ≡ self.old) }
         ensures names { (task v : ℕ) → found self.old.names.tasks task ≡ Some v
             → found self.new.names.tasks task ≡ Some v }
     {
@@ -281,7 +261,8 @@ impl LongKernel {
         if let Some(task) = given_up {
             return Err(NotDone::GivenUp(task));
         }
-        if let Err(cause) = self.name_next(master) {
+        let present = TaskNo(self.kernel.tasks());
+        if let Err(cause) = self.masters.name_next(&mut self.names, present, master) {
             return Err(cause);
         }
         match self.kernel.step(asked) {
@@ -291,7 +272,7 @@ impl LongKernel {
                 Ok(position)
             }
             Err(cause) => {
-                self.unname_next(master);
+                self.masters.unname_next(&mut self.names, master);
                 Err(NotDone::named(cause))
             }
         }
@@ -306,10 +287,14 @@ impl LongKernel {
     pub fn release(&mut self, task: u64) -> Result<(), NotDone>
         ensures follows { (journal : List Happening) → Follows journal self.old
             → Follows journal self.new }
+        ensures named { OnOk result (is_some (found self.old.names.tasks task) ≡ true) }
         ensures ok { OnOk result (found self.new.names.tasks task ≡ None) }
         ensures others { (other : ℕ) → other ≢ task
             → found self.new.names.tasks other ≡ found self.old.names.tasks other }
+        ensures shown { OnOk result (self.new.group ≡ []) }
         ensures err { OnErr result (self.new ≡ self.old) }
+        ensures why { IfErr result (λ cause. (journal : List Happening) → Follows journal self.old
+            → IsUnreleased journal self.old.names task cause) }
     {
         self.known();
         match self.names.task(task) {
@@ -317,6 +302,7 @@ impl LongKernel {
             Some(present) if self.kernel.terminated(present) == Some(true) => {
                 self.names.forget(task);
                 self.group = self.kernel.journal().len();
+                self.tried = 0;
                 Ok(())
             }
             Some(_) => Err(NotDone::NotTerminated(task)),
@@ -337,14 +323,18 @@ impl LongKernel {
 
     /// What has lasting names in the present journal.
     pub fn names(&self) -> &Names
-        ensures { result.now ≡ self.now.names }
+        ensures names { result.now ≡ self.now.names }
+        ensures one { AreOneToOne result.now }
     {
         &self.names
     }
 
-    /// The kernel with the present journal.
+    /// The kernel with the present journal. There is a journal without an end that this kernel follows: each clause
+    /// that begins with one tells of it. How many tasks and slots there are, and who began to run last, is answered of
+    /// the present journal alone.
     pub fn present(&self) -> &Kernel
-        ensures { result.now ≡ self.now.present }
+        ensures present { result.now ≡ self.now.present }
+        ensures follows { LivesOn self.now }
     {
         &self.kernel
     }
@@ -397,7 +387,7 @@ impl LongKernel {
         ensures ok { IfOk result (λ count. (journal : List Happening) → Follows journal self.now
             → own_count journal by entry ≡ Ok count) }
         ensures err { IfErr result (λ cause. (journal : List Happening) → Follows journal self.now
-            → IsUncounted (own_count journal by entry) cause) }
+            → IsUncounted self.now.names by (own_count journal by entry) cause) }
     {
         self.known();
         match self.names.task(by) {

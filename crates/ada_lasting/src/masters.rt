@@ -1,20 +1,23 @@
 //! On whom the tasks depend that may still be named, so that a task is given up when its master is gone (9.4).
 
-ghost use Rattle.std.specs.Prelude.{◌≡◌, ◌&&◌, ◌++◌, [], ◌∷◌, List, true, IfOk, IfNone, IfSome, OnErr, OnOk, Some};
+ghost use Rattle.std.specs.Prelude.{◌≡◌, ◌&&◌, ◌++◌, ℕ, [], ◌∷◌, List, true, is_some, IfErr, IfOk, IfNone, IfSome, OnErr, OnOk, Some};
 ghost use Rattle.std.specs.List.{All, list_any};
 ghost use Rattle.ada_events.specs.declared.names.Master.TheVariants.{Block as BlockMaster};
 ghost use Rattle.ada_events.specs.Nests.{nest};
 ghost use Rattle.ada_lasting.specs.GivingUp.{IsGone};
 ghost use Rattle.ada_lasting.specs.Meaning.{meant_master};
-ghost use Rattle.ada_lasting.specs.Naming.{found, renaming_of};
+ghost use Rattle.ada_lasting.specs.Naming.{Naming, found, renaming_of};
 ghost use Rattle.ada_lasting.specs.declared.masters.Dependent.{Dependent as DependentValue};
-ghost use Rattle.ada_lasting.specs.internal.Mastering.{IsKeptOrGone, named_masters};
+ghost use Rattle.ada_lasting.specs.internal.Causes.{IsUnnamed};
+ghost use Rattle.ada_lasting.specs.internal.Mastering.{IsKeptOrGone, masters_next, named_masters};
+ghost use Rattle.ada_lasting.specs.internal.Present.{named_next};
 ghost use Rattle.ada_standing.specs.Renaming.{renamed_master};
 ghost use Rattle.ada_standing.specs.StandsIn.{is_block, is_live};
 
 use crate::Names;
+use crate::failure::NotDone;
 use crate::requests::LastingMaster;
-use ada_events::{Master, TaskNo};
+use ada_events::{Master, Refusal, TaskNo};
 use ada_view::{View, queries};
 use std::alloc::{AllocError, Global};
 use std::marker::Model;
@@ -120,8 +123,8 @@ impl Masters {
         }
     }
 
-    /// Adds a task, which is made last.
-    pub(crate) fn add(&mut self, task: u64, master: LastingMaster) -> Result<(), AllocError>
+    // Adds a task, which is made last.
+    fn add(&mut self, task: u64, master: LastingMaster) -> Result<(), AllocError>
         ensures ok { OnOk result (self.new
             ≡ self.old ++ (record { task = task; master = master } ∷ [])) }
         ensures err { OnErr result (self.new ≡ self.old) }
@@ -130,12 +133,51 @@ impl Masters {
         Ok(())
     }
 
-    /// Takes back the task that was added last.
-    pub(crate) fn take_back(&mut self)
-        ensures { (before : List DependentValue) (last : DependentValue)
-            → self.old ≡ before ++ (last ∷ []) → self.new ≡ before }
+    /// Names the task that a request makes, if it makes one, which will have this number in the present journal, and
+    /// remembers its master.
+    #[inline(always)]
+    pub(crate) fn name_next(
+        &mut self,
+        names: &mut Names,
+        present: TaskNo,
+        master: Option<LastingMaster>,
+    ) -> Result<(), NotDone>
+        ensures named { OnOk result (names.new ≡ named_next (is_some master) names.old present.0) }
+        ensures added { OnOk result (self.new ≡ masters_next master names.old.made self.old) }
+        ensures unnamed { OnErr result (names.new ≡ names.old) }
+        ensures unchanged { OnErr result (self.new ≡ self.old) }
+        ensures why { IfErr result (λ cause. IsUnnamed master names.old cause) }
     {
-        let _ = self.dependents.pop();
+        let Some(master) = master else {
+            return Ok(());
+        };
+        let task = names.made();
+        if task == u64::MAX {
+            return Err(NotDone::NoMoreNames);
+        }
+        if names.add_task(present).is_err() {
+            return Err(NotDone::Refused(Refusal::OutOfMemory));
+        }
+        if self.add(task, master).is_err() {
+            names.take_back();
+            return Err(NotDone::Refused(Refusal::OutOfMemory));
+        }
+        Ok(())
+    }
+
+    /// Takes back the name that a request was given, and the master, since the task wasn't made.
+    #[inline(always)]
+    pub(crate) fn unname_next(&mut self, names: &mut Names, master: Option<LastingMaster>)
+        ensures names { (before : Naming) (present : ℕ)
+            → names.old ≡ named_next (is_some master) before present → names.new ≡ before }
+        ensures masters { (task : ℕ) (before : List DependentValue)
+            → self.old ≡ masters_next master task before → self.new ≡ before }
+        ensures until { names.new.until ≡ names.old.until }
+    {
+        if master.is_some() {
+            names.take_back();
+            let _ = self.dependents.pop();
+        }
     }
 
     /// The terminated tasks that have names, and whose masters aren't gone.

@@ -1,8 +1,8 @@
 //! What has lasting names, where a shorter present journal takes the place of the present one.
 
-ghost use Rattle.std.specs.Prelude.{◌≡◌, ◌+◌, ◌++◌, IfOk, OnOk, true};
+ghost use Rattle.std.specs.Prelude.{◌≡◌, ◌+◌, ◌++◌, IfErr, IfOk, OnOk, true};
 ghost use Rattle.ada_lasting.specs.internal.Keeping.{name_tasks};
-ghost use Rattle.ada_lasting.specs.internal.Moving.{later, moved, moved_names};
+ghost use Rattle.ada_lasting.specs.internal.Moving.{IsUnmoved, later, moved, moved_names};
 ghost use Rattle.ada_standing.specs.Names.{named, placed};
 
 use crate::names::Names;
@@ -27,12 +27,22 @@ pub enum NotMoved {
 }
 
 impl From<AllocError> for NotMoved {
+    ghost use Rattle.std.specs.Prelude.{◌≡◌};
+    ghost use Rattle.ada_lasting.specs.declared.moving.NotMoved.TheVariants.{OutOfMemory};
+
+    ghost from_gives = { λ _ why. why ≡ OutOfMemory };
+
     fn from(_: AllocError) -> Self {
         NotMoved::OutOfMemory
     }
 }
 
 impl<T: Drop> From<AllocFailed<T>> for NotMoved {
+    ghost use Rattle.std.specs.Prelude.{◌≡◌};
+    ghost use Rattle.ada_lasting.specs.declared.moving.NotMoved.TheVariants.{OutOfMemory};
+
+    ghost from_gives = { λ _ why. why ≡ OutOfMemory };
+
     fn from(_: AllocFailed<T>) -> Self {
         NotMoved::OutOfMemory
     }
@@ -97,7 +107,8 @@ impl Names {
         renaming: &Renaming,
         until: u32,
     ) -> Result<Names, NotMoved>
-        ensures { IfOk result (λ names. names ≡ moved_names self.now renaming.now until) }
+        ensures ok { IfOk result (λ names. names ≡ moved_names self.now renaming.now until) }
+        ensures err { IfErr result (λ why. IsUnmoved self.now why) }
     {
         let since = self.since + u64::from(self.until - self.from);
         if since > MOST_LASTING {

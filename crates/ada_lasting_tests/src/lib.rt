@@ -16,6 +16,8 @@ mod events;
 #[cfg(test)]
 mod given_up;
 #[cfg(test)]
+mod lengths;
+#[cfg(test)]
 mod limits;
 #[cfg(test)]
 mod no_room;

@@ -3,7 +3,10 @@ use Rattle.std.specs.Prelude.{ℕ, ◌+◌, ◌-◌, ◌==◌, ◌&&◌, not, na
 use Rattle.ada_standing.specs.declared.renaming.Place.{Place}
 use Rattle.ada_standing.specs.Names.{Names, named, placed}
 use Rattle.ada_lasting.specs.declared.rows.Row.{Row}
+use Rattle.ada_lasting.specs.declared.moving.NotMoved.{NotMoved}
+use Rattle.ada_lasting.specs.declared.moving.NotMoved.TheVariants.{NoMoreNames, OutOfMemory}
 use Rattle.ada_lasting.specs.Naming.{Naming, length_of}
+use Rattle.ada_lasting.specs.Refusing.{AreUsedUp}
 
 -- a row of the lasting name before the rest, where there is a number for it
 abbrev pub with_row : ℕ → Option ℕ → List Row → List Row
@@ -39,6 +42,11 @@ moved_names old names until = record {
   from = until;
   until = until;
 }
+
+-- why names weren't moved
+abbrev pub IsUnmoved : Naming → NotMoved → Type 0
+IsUnmoved names NoMoreNames = AreUsedUp names
+IsUnmoved names OutOfMemory = Unit {0}
 
 -- the rows but those of the lasting name
 abbrev pub without : ℕ → List Row → List Row

@@ -1,12 +1,8 @@
 -- What is known of the present journal.
-use Rattle.std.specs.Prelude.{◌≡◌, ℕ, Bool, if◌then◌else◌, Option, length}
-use Rattle.std.specs.Option.{is_some}
+use Rattle.std.specs.Prelude.{◌≡◌, ℕ, Bool, if◌then◌else◌, length}
 use Rattle.ada_events.specs.Lawful.{IsLawful, IsSettled}
-use Rattle.ada_events.specs.Tasks.{task_count}
 use Rattle.ada_lasting.specs.Naming.{Naming, AreInOrder}
-use Rattle.ada_lasting.specs.declared.requests.LastingMaster.{LastingMaster}
 use Rattle.ada_lasting.specs.internal.Keeping.{with_task}
-use Rattle.ada_lasting.specs.internal.Mastering.{masters_next}
 use Rattle.ada_lasting.specs.Following.{Long}
 
 -- the present journal is lawful and settled, and the names know how long it is
@@ -19,12 +15,3 @@ pub record IsPresent (kernel : Long) : Type 0 where
 -- the names with one for a task more, which has this number in the present journal, if one is made
 abbrev pub named_next : Bool → Naming → ℕ → Naming
 named_next more names task = if more then with_task names task else names
-
--- the kernel with a name for the task that its present journal is to make next, if it is to make one, and its master
-abbrev pub with_next : Option LastingMaster → Long → Long
-with_next master kernel = record {
-  present = kernel.present;
-  names = named_next (is_some master) kernel.names (task_count kernel.present);
-  group = kernel.group;
-  masters = masters_next master kernel.names.made kernel.masters;
-}

@@ -1,4 +1,4 @@
-use Rattle.std.proofs.Common.{List, sym, subst}
+use Rattle.std.proofs.Common.{List, length, sym, ap, ◌∙◌, subst, arith}
 use Rattle.std.specs.List.{All}
 use Rattle.ada_events.specs.declared.event.Event.{Event}
 use Rattle.ada_events.specs.declared.names.TaskNo.{TaskNo}
@@ -18,7 +18,17 @@ pub returns-clause-follows : goal.returns-clause-follows
 returns-clause-follows c = λ journal follows.
     let here = subst (Follows journal) (sym c.self.view_is) follows in
     let is_present = subst IsPresent (sym c.self.view_is) c.known.ensures in
-    rw (c.retain.ensures, c.in-Ok-moved.ensures) (shortened journal _ _ _ _ _ here is_present.order c.in-Ok-compact.ensures.stands)
+    rw (c.retain.ensures, c.in-Ok-moved.ensures.ok) (shortened journal _ _ _ _ _ here is_present.order c.in-Ok-compact.ensures.stands)
+
+pub invariant_of-self : goal.invariant_of-self
+invariant_of-self c =
+    let (journal, follows) = c.self.invariant.2 in
+    let order = (subst IsPresent (sym c.self.view_is) c.known.ensures).order in
+    let long = c.len-until.ensures ∙ ap length c.journal.ensures.events in (
+      rw c.in-Ok-moved.ensures.ok (sym long),
+      omega (arith, long),
+      (journal, rw (c.retain.ensures, c.in-Ok-moved.ensures.ok) (shortened journal _ _ _ _ _ follows order c.in-Ok-compact.ensures.stands)),
+    )
 
 -- who has no name in the shorter journal wasn't kept, so his master is gone
 pub returns-clause-given_up : goal.returns-clause-given_up
@@ -33,6 +43,6 @@ returns-clause-given_up c = λ journal follows.
     subst (λ (tasks : List TaskNo). AreNamed present (standing_of names) tasks) c.deref.ensures.value c.in-Ok-compact.ensures.kept in
     let answered : All (IsKeptOrGone present old kept) c.self.inside.masters =
     subst (λ (j : List Event). All (IsKeptOrGone j old kept) c.self.inside.masters) c.view.ensures c.in-Ok.ensures in
-    rw c.in-Ok-moved.ensures
+    rw c.in-Ok-moved.ensures.ok
     (subst (λ (k : Long). GivesUpOnly journal k.names (moved_names old names c.len-until.result)) c.self.view_is
     (gives_up_only journal _ here is_present.order _ names c.in-Ok-compact.ensures.stands kept named answered c.len-until.result))

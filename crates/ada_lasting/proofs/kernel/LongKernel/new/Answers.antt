@@ -1,5 +1,14 @@
+use Rattle.std.proofs.Common.{[], length, ap, arith}
+use Rattle.ada_lasting.specs.Naming.{Naming}
 use Rattle.ada_lasting.proofs.Beginning.{begins}
 use Rattle.ada_lasting.proofs.kernel.LongKernel.new.Goals as goal
 
-pub returns : goal.returns
-returns c = begins _ c.in-Ok.ensures.ok c.in-Ok-new.ensures c.new-3.ensures
+pub returns-clause-ok : goal.returns-clause-ok
+returns-clause-ok c = begins _ c.in-Ok.ensures.ok c.in-Ok-new.ensures c.new-3.ensures
+
+pub invariant_of-result : goal.invariant_of-result
+invariant_of-result c = (
+  omega (arith, ap length c.in-Ok.ensures.ok, ap (λ (n : Naming). n.until) c.in-Ok-new.ensures),
+  omega arith,
+  ([], begins _ c.in-Ok.ensures.ok c.in-Ok-new.ensures c.new-3.ensures),
+)

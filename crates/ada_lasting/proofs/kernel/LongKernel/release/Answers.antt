@@ -1,4 +1,4 @@
-use Rattle.std.proofs.Common.{◌≡◌, true, Some, sym, ap, ◌∙◌, subst}
+use Rattle.std.proofs.Common.{◌≡◌, true, Some, length, sym, ap, ◌∙◌, subst, arith}
 use Rattle.std.specs.Option.{option_map}
 use Rattle.ada_events.specs.declared.names.TaskNo.{TaskNo}
 use Rattle.ada_events.specs.Tasks.{has_task}
@@ -18,6 +18,19 @@ returns-in-Some-clause-follows c = λ journal follows.
     dead_told (has_task c.self.inside.kernel c.in-Some.present.0) (is_terminated c.self.inside.kernel c.in-Some.present.0) c.terminated.result
     c.terminated.ensures c.if-eq.ensures in
     rw c.forget.ensures (released journal _ c.args.task c.in-Some.present.0 _ here named dead c.if-task-eq0.false)
+
+pub invariant_of-self : goal.invariant_of-self
+invariant_of-self c =
+    let named : found c.self.inside.names.tasks c.args.task ≡ Some c.in-Some.present.0 =
+    sym c.task.ensures ∙ ap (option_map (λ (t : TaskNo). t.0)) c.in-Some.is in
+    let dead : is_terminated c.self.inside.kernel c.in-Some.present.0 ≡ true =
+    dead_told (has_task c.self.inside.kernel c.in-Some.present.0) (is_terminated c.self.inside.kernel c.in-Some.present.0) c.terminated.result
+    c.terminated.ensures c.if-eq.ensures in
+    let (journal, follows) = c.self.invariant.2 in (
+      rw c.forget.ensures c.self.invariant.0,
+      omega (arith, c.len-self-inside.ensures, ap length c.journal.ensures.events),
+      (journal, rw c.forget.ensures (released journal _ c.args.task c.in-Some.present.0 _ follows named dead c.if-task-eq0.false)),
+    )
 
 pub returns-in-Some-clause-ok : goal.returns-in-Some-clause-ok
 returns-in-Some-clause-ok c = rw c.forget.ensures (found-without-same c.self.inside.names.tasks c.args.task)
