@@ -15,4 +15,3 @@ mod WithoutTask
 mod Gone
 mod Remembering
 mod GivingUp
-mod OneToOne

@@ -1,6 +1,6 @@
 -- Why the kernel refuses: what its present journal refuses is refused for the same cause by the journal that is followed, or
 -- for want of room.
-use Rattle.std.proofs.Common.{◌≡◌, ◌⊎◌, Bool, true, false, ◌||◌, Option, Some, None, List, [], ◌∷◌, ◌++◌, refl, sym, ap, ◌∙◌, inl, inr}
+use Rattle.std.proofs.Common.{◌≡◌, ◌⊎◌, Bool, true, false, Option, Some, None, List, [], ◌∷◌, refl, sym, ap, ◌∙◌, inl, inr}
 use Rattle.std.specs.Prelude.{is_some}
 use Rattle.std.specs.Option.{option_or}
 use Rattle.std.specs.List.{list_any}
@@ -12,8 +12,8 @@ use Rattle.ada_events.specs.declared.request.Request.TheVariants.{Create}
 use Rattle.ada_events.specs.declared.refusal.Refusal.{Refusal}
 use Rattle.ada_events.specs.declared.refusal.Refusal.TheVariants.{TooManyTasks, TooManySlots, JournalFull, OutOfMemory}
 use Rattle.ada_events.specs.Limits.{makes_too_many_tasks, makes_too_many_slots, is_full}
-use Rattle.ada_events.specs.Refusals.{Cause, refusal, first_cause, causes_by_name, causes_by_entry, causes_by_nest}
-use Rattle.ada_laws.specs.Unlimited.{refusal_but_limits, causes_but_limits, causes_at_last, limit_refusal}
+use Rattle.ada_events.specs.Refusals.{Cause, refusal, first_cause}
+use Rattle.ada_laws.specs.Unlimited.{refusal_but_limits, causes_but_limits, limit_refusal}
 use Rattle.ada_laws.proofs.asking.Limitless.{limits_refuse_at_last}
 use Rattle.ada_standing.specs.Renaming.{Renaming}
 use Rattle.ada_standing.specs.Asking.{renamed_request}
@@ -21,7 +21,7 @@ use Rattle.ada_lasting.specs.declared.failure.NotDone.{NotDone}
 use Rattle.ada_lasting.specs.declared.failure.NotDone.TheVariants.{Refused, GivenUp, NotTerminated, NotCompacted, NoMoreNames}
 use Rattle.ada_lasting.specs.declared.requests.LastingMaster.{LastingMaster}
 use Rattle.ada_lasting.specs.Following.{Long}
-use Rattle.ada_lasting.specs.Refusing.{IsLimit, IsCause, creates}
+use Rattle.ada_lasting.specs.Refusing.{IsCause, creates}
 use Rattle.ada_lasting.specs.internal.Causes.{named_cause, IsRoomless, IsUnnamed}
 
 -- the limit that the cause names is reached, that of the journal's length too

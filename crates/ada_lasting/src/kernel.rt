@@ -132,9 +132,9 @@ impl LongKernel {
         self.ask(request)
     }
 
-    /// Makes the present journal shorter, or longer if little of it is over. Terminated tasks are given up whose masters
-    /// are gone, and no others: a master is gone if the task is terminated whose body it is, or if no task that lives
-    /// is within the block (9.4).
+    /// Makes the present journal shorter; or longer, if little of it is over. Terminated tasks are given up whose
+    /// masters are gone, and no others: a master is gone if the task is terminated whose body it is, or if no task that
+    /// lives is within the block (9.4).
     ///
     /// # Errors
     ///

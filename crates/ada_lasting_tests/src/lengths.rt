@@ -41,8 +41,8 @@ struct Lengths {
 }
 
 impl Lengths {
-    // One more request was made, which appended one event, of a journal that had so many events. Made shorter, it had
-    // twice as many as after the last time.
+    // One more request was made, which appended one event to a journal that had so many. Made shorter, it had twice
+    // as many as after the last time.
     fn follow<R: Abort>(&mut self, rt: &R, before: u32, after: u32) {
         if after <= before {
             assert_eq!(rt; before, self.short.wrapping_mul(2));
@@ -52,7 +52,7 @@ impl Lengths {
     }
 }
 
-// With no threshold the journal of ten tasks that live is made shorter at twice its length, and not before each request.
+// With no threshold the journal of ten tasks that live is made shorter at twice its length, not before each request.
 #[test]
 fn a_short_journal_grows_to_twice_its_length(rt: HostRuntime) -> Result<(), Fail> {
     let mut kernel = LongKernel::new(rt.alloc(), 0)?;
@@ -100,7 +100,7 @@ fn given_up(kernel: &LongKernel) -> u64 {
         .count() as u64
 }
 
-// Ten such blocks of 19 events each: all tasks are given up, and nothing of them is left. The moment is still the first.
+// Ten such blocks of 19 events each: all tasks are given up, and nothing of them is left but for the moment.
 #[test]
 fn what_is_gone_takes_no_event(rt: HostRuntime) -> Result<(), Fail> {
     let mut kernel = LongKernel::new(rt.alloc(), LATE)?;

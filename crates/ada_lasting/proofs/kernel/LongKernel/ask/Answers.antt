@@ -1,11 +1,10 @@
-use Rattle.std.proofs.Common.{◌≡◌, ◌+◌, ◌-◌, ℕ, Bool, true, None, List, length, take, sym, ap, ◌∙◌, subst, arith}
+use Rattle.std.proofs.Common.{◌≡◌, ◌+◌, ◌-◌, Bool, true, List, length, take, sym, ap, ◌∙◌, subst, arith}
 use Rattle.std.specs.Prelude.{is_some}
 use Rattle.ada_events.specs.declared.event.Event.{Event}
 use Rattle.ada_events.specs.declared.request.Request.{Request}
 use Rattle.ada_events.specs.Tasks.{task_count}
 use Rattle.ada_events.specs.Steps.{IsAccepted, IsRefused as IsRefusedNow}
 use Rattle.ada_standing.specs.Asking.{renamed_request}
-use Rattle.ada_lasting.specs.declared.masters.Dependent.{Dependent}
 use Rattle.ada_lasting.specs.declared.failure.NotDone.TheVariants.{GivenUp}
 use Rattle.ada_lasting.specs.Naming.{Naming, found, renaming_of, length_of}
 use Rattle.ada_lasting.specs.internal.Keeping.{grown_to}
@@ -14,7 +13,7 @@ use Rattle.ada_lasting.specs.Meaning.{meant}
 use Rattle.ada_lasting.specs.internal.Nameable.{names_nameable}
 use Rattle.ada_lasting.specs.Following.{Long, Follows, IsStepped}
 use Rattle.ada_lasting.specs.Refusing.{IsCause}
-use Rattle.ada_lasting.specs.internal.Causes.{IsUnnamed, named_cause}
+use Rattle.ada_lasting.specs.internal.Causes.{IsUnnamed}
 use Rattle.ada_lasting.specs.internal.Present.{named_next}
 use Rattle.ada_lasting.proofs.GivingUp.{names_stay}
 use Rattle.ada_lasting.proofs.Noting.{nothing_noted, noted_task}
