@@ -100,7 +100,8 @@ fn given_up(kernel: &LongKernel) -> u64 {
         .count() as u64
 }
 
-// Ten such blocks of 19 events each: all tasks are given up, and nothing of them is left but for the moment.
+// Ten such blocks of 19 events each: all tasks are given up, and nothing of them is left. The main program only left a
+// block last, so it opens one again, closes it, and leaves it.
 #[test]
 fn what_is_gone_takes_no_event(rt: HostRuntime) -> Result<(), Fail> {
     let mut kernel = LongKernel::new(rt.alloc(), LATE)?;
@@ -111,7 +112,7 @@ fn what_is_gone_takes_no_event(rt: HostRuntime) -> Result<(), Fail> {
     assert_eq!(&rt; given_up(&kernel), 0);
     assert_compacts(&rt, &mut kernel);
     assert_eq!(&rt; given_up(&kernel), 20);
-    assert!(&rt; length(&kernel) <= 1, "{}", length(&kernel));
+    assert_eq!(&rt; length(&kernel), 3);
     Ok(())
 }
 
