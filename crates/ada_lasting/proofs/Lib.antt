@@ -14,3 +14,4 @@ mod WithoutTask
 mod Gone
 mod Remembering
 mod GivingUp
+mod waits
