@@ -1,11 +1,10 @@
 -- Tasks wait alike.
-use Rattle.std.proofs.Common.{◌≡◌, ℕ, true, Option, Some, None, is_none, List, refl, sym, ap, ◌∙◌}
-use Rattle.std.proofs.lemmas.Bool.{true≢false}
+use Rattle.std.proofs.Common.{◌≡◌, ℕ, Some, List, sym, ap, ◌∙◌}
+use Rattle.std.specs.Option.{option_and_then}
 use Rattle.ada_events.specs.declared.event.Event.{Event}
-use Rattle.ada_events.specs.Forced.{forced}
 use Rattle.ada_events.specs.Lawful.{IsSettled}
 use Rattle.ada_laws.specs.Unlimited.{IsLawfulUnlimited}
-use Rattle.ada_standing.specs.Renaming.{Renaming}
+use Rattle.ada_standing.specs.Renaming.{Renaming, renamed_event}
 use Rattle.ada_standing.specs.StandsIn.{StandsIn}
 use Rattle.ada_standing.proofs.lawful.Orderly.{lawful_orderly}
 use Rattle.ada_standing.proofs.lawful.Laws.{forced_alike}
@@ -21,11 +20,7 @@ use Rattle.ada_lasting.proofs.waits.First.{first_alike}
 settled_alike : (old new : List Event) (names : Renaming) → StandsIn old new names → IsLawfulUnlimited old → IsLawfulUnlimited new → IsSettled old
     → IsSettled new
 settled_alike old new names stands lawful also settled =
-    none_there (forced new) ((forced_alike old new names stands lawful also).settled ∙ ap (λ (o : Option Event). is_none o) settled)
-  where
-    none_there : (o : Option Event) → is_none o ≡ true → o ≡ None
-    none_there None is = refl
-    none_there (Some event) is = absurd (true≢false (sym is))
+    sym (forced_alike old new names stands lawful also).renamed ∙ ap (option_and_then (renamed_event names)) settled
 
 waits_alike : (old new : List Event) (names : Renaming) (u v : ℕ) → StandsIn old new names → IsLawfulUnlimited old → IsLawfulUnlimited new
     → names.task u ≡ Some v → WaitsAlike old new names u v

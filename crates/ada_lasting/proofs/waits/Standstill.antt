@@ -1,6 +1,6 @@
 -- Nobody runs in both journals or in neither, and the same can let both go on.
-use Rattle.std.proofs.Common.{◌≡◌, ℕ, Bool, true, false, not, List, refl, sym, ap}
-use Rattle.std.proofs.lemmas.Bool.{true≢false}
+use Rattle.std.proofs.Common.{◌≡◌, ℕ, false, not, List, refl, sym, ap}
+use Rattle.std.proofs.lemmas.Bool.{not-false}
 use Rattle.ada_events.specs.declared.event.Event.{Event}
 use Rattle.ada_events.specs.Phases.{is_started, is_terminated, has_ended, is_suspended, is_running}
 use Rattle.ada_laws.specs.Unlimited.{IsLawfulUnlimited}
@@ -18,11 +18,7 @@ running_unterminated : (journal : List Event) (u : ℕ) → not (is_running jour
 unfolding is_running
 running_unterminated journal u runs =
     (active_parts journal u
-    (three_parts (is_started journal u) (has_ended journal u) (is_suspended journal u) (not_not _ runs)).1).1
-  where
-    not_not : (b : Bool) → not b ≡ false → b ≡ true
-    not_not true is = refl
-    not_not false is = absurd (true≢false is)
+    (three_parts (is_started journal u) (has_ended journal u) (is_suspended journal u) (not-false (is_running journal u) runs)).1).1
 
 pub nobody_runs_alike : (old new : List Event) (names : Renaming) → StandsIn old new names → nobody_runs new ≡ nobody_runs old
 unfolding nobody_runs
