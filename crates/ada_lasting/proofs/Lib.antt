@@ -15,3 +15,4 @@ mod WithoutTask
 mod Gone
 mod Remembering
 mod GivingUp
+mod waits

@@ -5,3 +5,4 @@ pub mod GivingUp
 pub mod Following
 pub mod Refusing
 pub mod internal
+pub mod Waiting

@@ -12,6 +12,7 @@ pub mod moving;
 pub mod names;
 pub mod requests;
 pub mod rows;
+pub mod waiting;
 
 pub use failure::NotDone;
 pub use kernel::LongKernel;

@@ -122,7 +122,7 @@ called_live journal task call other settled h called =
     (unended journal c.callee (no_open_call_to_a_finished_task journal settled c call opened).0)
 
 -- a task that isn't started, and hasn't ended, is named by no start
-no_start : (journal : List Event) (task : ℕ) → has_ended journal task ≡ false → is_started journal task ≡ false → has_start journal task ≡ false
+pub no_start : (journal : List Event) (task : ℕ) → has_ended journal task ≡ false → is_started journal task ≡ false → has_start journal task ≡ false
 unfolding has_start is_started
 no_start [] task live unstarted = refl
 no_start (event ∷ before) task live unstarted =

@@ -11,9 +11,11 @@ use Rattle.ada_events.specs.Phases.{has_ended, is_released}
 use Rattle.ada_events.specs.Lawful.{IsLawful}
 use Rattle.ada_events.specs.Outcomes.{last_given}
 use Rattle.ada_laws.specs.Suspension.{IsSuspendedAt}
+use Rattle.ada_laws.specs.Unlimited.{IsLawfulUnlimited}
+use Rattle.ada_laws.proofs.asking.Limitless.{lawful_unlimited}
 use Rattle.ada_laws.proofs.searching.Searching.{option_or-some, then_some-some, option_and_then-some, is_number-some, is_number-from}
 use Rattle.ada_laws.proofs.searching.Searching.{event_at-within, event_at-cases, event_at-newest, event_at-older}
-use Rattle.ada_laws.proofs.held.Suspending.{suspended_latest}
+use Rattle.ada_laws.proofs.held.Suspending.{suspended_latest-unlimited}
 use Rattle.ada_waiting.specs.Reasons.{latest_hold, suspended_at}
 use Rattle.ada_waiting.specs.Laws.{SuspendedThere}
 
@@ -54,13 +56,17 @@ latest_found (event ∷ before) task p is =
           (e, event_at-older event before p e at, holds)
     ]
 
-pub suspended_at_is : (journal : List Event) (task position : ℕ) → IsLawful journal → IsSuspendedAt journal task position
+pub suspended_at_is-unlimited : (journal : List Event) (task position : ℕ) → IsLawfulUnlimited journal → IsSuspendedAt journal task position
     → suspended_at journal task ≡ Some position
 unfolding suspended_at
-suspended_at_is journal task position lawful h =
+suspended_at_is-unlimited journal task position lawful h =
     let latest = latest_is journal task position h.event h.stands h.holds
-    (λ other d stands held. suspended_latest journal task position other d lawful h stands held) in
+    (λ other d stands held. suspended_latest-unlimited journal task position other d lawful h stands held) in
     rw (h.live, latest, h.unreleased) refl
+
+pub suspended_at_is : (journal : List Event) (task position : ℕ) → IsLawful journal → IsSuspendedAt journal task position
+    → suspended_at journal task ≡ Some position
+suspended_at_is journal task position lawful h = suspended_at_is-unlimited journal task position (lawful_unlimited journal lawful) h
 
 pub suspended_at_from : (journal : List Event) (task position : ℕ) → suspended_at journal task ≡ Some position → IsSuspendedAt journal task position
 unfolding suspended_at

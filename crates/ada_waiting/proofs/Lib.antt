@@ -1,11 +1,11 @@
 pub mod Numbers
-mod Holding
+pub mod Holding
 mod Reasoning
 mod Settling
 pub mod Moments
-mod Ticking
+pub mod Ticking
 mod Standing
-mod Awaiting
+pub mod Awaiting
 mod Unawaited
 mod Kept
 mod Groups

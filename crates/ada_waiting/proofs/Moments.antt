@@ -47,7 +47,7 @@ unfolding first_due_below
 first_due_below_more journal n = let e : n + 1 ≡ suc n = omega arith in rw e refl
 
 -- the first moment has come where that of a task has
-first_comes : (journal : List Event) (n task : ℕ) (now : ℤ) → task < n → is_due now (due_of journal task) ≡ true
+pub first_comes : (journal : List Event) (n task : ℕ) (now : ℤ) → task < n → is_due now (due_of journal task) ≡ true
     → is_due now (first_due_below journal n) ≡ true
 unfolding first_due_below
 first_comes journal zero task now below comes = absurd (omega arith)

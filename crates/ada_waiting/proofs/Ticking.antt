@@ -63,12 +63,12 @@ one_came None b now comes = inr comes
 one_came (Some m) None now comes = inl comes
 one_came (Some m) (Some n) now comes = chosen m n now (int_lt n m) comes
 
-record IsDueTask (journal : List Event) (n : ℕ) (now : ℤ) : Type 0 where
-  task : ℕ
-  below : task < n
-  comes : is_due now (due_of journal task) ≡ true
+pub record IsDueTask (journal : List Event) (n : ℕ) (now : ℤ) : Type 0 where
+  pub task : ℕ
+  pub below : task < n
+  pub comes : is_due now (due_of journal task) ≡ true
 
-some_task : (journal : List Event) (n : ℕ) (now : ℤ) → is_due now (first_due_below journal n) ≡ true → IsDueTask journal n now
+pub some_task : (journal : List Event) (n : ℕ) (now : ℤ) → is_due now (first_due_below journal n) ≡ true → IsDueTask journal n now
 unfolding first_due_below
 some_task journal zero now comes = absurd (false≢true comes)
 some_task journal (suc n) now comes =
