@@ -10,7 +10,8 @@ ghost use Rattle.ada_lasting.specs.Naming.{found, renaming_of};
 ghost use Rattle.ada_lasting.specs.declared.masters.Dependent.{Dependent as DependentValue};
 ghost use Rattle.ada_lasting.specs.internal.Mastering.{IsKeptOrGone, named_masters};
 ghost use Rattle.ada_standing.specs.Renaming.{renamed_master};
-ghost use Rattle.ada_standing.specs.StandsIn.{is_block, is_live};
+ghost use Rattle.ada_events.specs.Holders.{is_block};
+ghost use Rattle.ada_standing.specs.StandsIn.{is_live};
 
 use crate::Names;
 use crate::requests::LastingMaster;

@@ -12,7 +12,8 @@ use Rattle.ada_tables.specs.declared.task.Task.{Task}
 use Rattle.ada_tables.specs.declared.layers.Layer.{Layer}
 use Rattle.ada_tables.specs.Layers.{members, member_of}
 use Rattle.ada_tables.specs.internal.Layers.{layer_of, live_at}
-use Rattle.ada_tables.specs.Dependents.{Facts, task_at, is_block, has_block, holds, encloses, is_live_dependent, live_dependents}
+use Rattle.ada_events.specs.Holders.{is_block, has_block, holds, encloses}
+use Rattle.ada_tables.specs.Dependents.{Facts, task_at, is_live_dependent, live_dependents}
 use Rattle.ada_tables.specs.Counts.{facts}
 use Rattle.ada_tables.specs.internal.Counts.{record_at, AreCounted}
 use Rattle.ada_tables.proofs.Nests.{live_at-append, live_at-new, up_to-append}

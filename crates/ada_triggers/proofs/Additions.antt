@@ -30,7 +30,7 @@ use Rattle.ada_step_laws.proofs.newly.Adding.{agendas_stay}
 use Rattle.ada_agenda.proofs.Noting.{noted_giving, own_is}
 use Rattle.ada_step_laws.proofs.newly.Places.{closing_open}
 use Rattle.ada_records.specs.Records.{ListsLive, is_hit}
-use Rattle.ada_records.proofs.holding.Owners.{nest_has_block}
+use Rattle.ada_laws.proofs.within.Owners.{nest_has_block}
 use Rattle.ada_view.specs.Flags.{AreNamed}
 use Rattle.ada_view.specs.Views.{IsHeldBySome}
 use Rattle.ada_view.proofs.Blocks.{opener_exists}

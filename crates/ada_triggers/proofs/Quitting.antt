@@ -26,7 +26,7 @@ use Rattle.ada_laws.proofs.held.Suspending.{suspended_exists, suspended_once}
 use Rattle.ada_step_laws.specs.Rows.{step_at}
 use Rattle.ada_step_laws.specs.declared.row.Row.{Row}
 use Rattle.ada_step_laws.specs.declared.row.Row.TheVariants.{Terminating, QuittingBody, QuittingBlock, Leaving}
-use Rattle.ada_tables.specs.Dependents.{holds, encloses}
+use Rattle.ada_events.specs.Holders.{holds, encloses}
 use Rattle.ada_agenda.specs.Keeping.{has_key, IsAgendaOf, Puts, KeepsUp}
 use Rattle.ada_agenda.specs.internal.Keeping.{Both}
 use Rattle.ada_step_laws.specs.Kinds.{quitting_row, quitting_key, IsLeaving, OfTermination, OfQuit}
@@ -39,9 +39,9 @@ use Rattle.ada_step_laws.proofs.newly.Quitting.{IsQuitter, live_depends}
 use Rattle.ada_step_laws.proofs.newly.Refining.{task_step, position_step, quits_body, quits_block}
 use Rattle.ada_step_laws.proofs.newly.Releases.{same_event}
 use Rattle.ada_step_laws.proofs.newly.Waiting.{at_wait}
-use Rattle.ada_records.specs.Holders.{IsHeld}
-use Rattle.ada_records.proofs.holding.Enclosing.{reaches_held}
-use Rattle.ada_records.proofs.holding.Owners.{has_contained, one_holder}
+use Rattle.ada_step_laws.specs.Holders.{IsHeld}
+use Rattle.ada_step_laws.proofs.holding.Enclosing.{reaches_held}
+use Rattle.ada_laws.proofs.within.Owners.{has_contained, one_holder}
 use Rattle.ada_triggers.specs.internal.Keys.{OfFirst, AsUnstarted, AsHolder, AsDependent, AsMaster, holder_of}
 use Rattle.ada_triggers.specs.internal.Keys.AsUnstarted.{goes}
 use Rattle.ada_triggers.specs.internal.Keys.AsHolder.{quits, goes as holder_goes, leaves}

@@ -34,9 +34,9 @@ use Rattle.ada_records.specs.Records.{IsRecordOf}
 use Rattle.ada_records.specs.RecordedStates.{has_ended_by}
 use Rattle.ada_records.proofs.recording.Queries.{records_tell}
 use Rattle.ada_step_laws.proofs.newly.Completing.{any_at}
-use Rattle.ada_tables.specs.Dependents.{has_block}
-use Rattle.ada_records.proofs.holding.Owners.{block_in_nest, nest_has_block}
-use Rattle.ada_records.proofs.holding.LiveHolders.{a_left_block_has_no_live_dependent}
+use Rattle.ada_events.specs.Holders.{has_block}
+use Rattle.ada_laws.proofs.within.Owners.{block_in_nest, nest_has_block}
+use Rattle.ada_step_laws.proofs.holding.LiveHolders.{a_left_block_has_no_live_dependent}
 use Rattle.ada_view.specs.internal.Ending.{closes, closes_at}
 use Rattle.ada_view.proofs.Closing.{closed_at}
 use Rattle.ada_view.proofs.Pending.{held_there}

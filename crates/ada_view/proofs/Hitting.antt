@@ -21,11 +21,11 @@ use Rattle.ada_events.specs.Lawful.{IsLawful}
 use Rattle.ada_laws.proofs.searching.Searching.{option_map-some}
 use Rattle.ada_laws.proofs.within.Parents.{tasks_depend_by_parents}
 use Rattle.ada_records.specs.Records.{is_hit}
-use Rattle.ada_records.specs.Holders.{IsHeld}
-use Rattle.ada_tables.specs.Dependents.{holds}
-use Rattle.ada_records.proofs.holding.Enclosing.{reaches_held}
-use Rattle.ada_records.proofs.holding.LiveHolders.{masters_are_held}
-use Rattle.ada_records.proofs.holding.Owners.{block_in_nest}
+use Rattle.ada_step_laws.specs.Holders.{IsHeld}
+use Rattle.ada_events.specs.Holders.{holds}
+use Rattle.ada_step_laws.proofs.holding.Enclosing.{reaches_held}
+use Rattle.ada_step_laws.proofs.holding.LiveHolders.{masters_are_held}
+use Rattle.ada_laws.proofs.within.Owners.{block_in_nest}
 use Rattle.ada_view.specs.internal.Hitting.{TellsOfLive, hits_bodies}
 
 any_same : (one other : TaskNo → Bool) (tasks : List TaskNo) → ((t : TaskNo) → one t ≡ other t) → list_any one tasks ≡ list_any other tasks

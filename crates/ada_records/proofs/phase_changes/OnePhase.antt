@@ -5,7 +5,7 @@ use Rattle.std.proofs.lemmas.Bool.{ne_eqb}
 use Rattle.std.proofs.lemmas.List.Elements.{All-weaker}
 use Rattle.std.proofs.lemmas.Option.{none-some, same_Some}
 use Rattle.ada_events.specs.declared.event.Event.{Event}
-use Rattle.ada_events.specs.declared.event.Event.TheVariants.{Called, Waiting, Paused, Started, Closed, Gone}
+use Rattle.ada_events.specs.declared.event.Event.TheVariants.{Gone}
 use Rattle.ada_events.specs.declared.names.Entry.{Entry}
 use Rattle.ada_events.specs.declared.names.TaskNo.{TaskNo}
 use Rattle.ada_events.specs.Search.{event_at}
@@ -14,7 +14,7 @@ use Rattle.ada_events.specs.Phases.{is_completed, is_terminated}
 use Rattle.ada_events.specs.Calls.{queue}
 use Rattle.ada_laws.proofs.searching.Searching.{event_at-older}
 use Rattle.ada_step_laws.proofs.changing.Calling.{same_completed, same_terminated}
-use Rattle.ada_step_laws.proofs.changing.Holding.{hold_only}
+use Rattle.ada_step_laws.proofs.changing.Holding.{hold_only, held_opens_none}
 use Rattle.ada_step_laws.proofs.changing.KeptQueues.{others_keep_queues}
 use Rattle.ada_step_laws.proofs.changing.NestKinds.{others_keep_nests}
 use Rattle.ada_tables.specs.Queues.{QueuedCall}
@@ -39,15 +39,6 @@ queued_later event before task entry calls same old = record {
   callers = All-weaker (λ (c : QueuedCall). caller_of before c.call ≡ Some c.caller) (λ (c : QueuedCall). caller_of (event ∷ before) c.call ≡ Some c.caller)
       (λ c made. caller_later event before c.call c.caller made) calls old.callers;
 }
-
-pub held_opens_none : (e : Event) (task : ℕ) → held_in e ≡ Some task → opening_in e ≡ None
-unfolding held_in opening_in
-held_opens_none (Called by callee entry patience due) task holds = refl
-held_opens_none (Waiting by pick choices tail) task holds = refl
-held_opens_none (Paused by due) task holds = refl
-held_opens_none (Started by tasks) task holds = refl
-held_opens_none (Closed by block) task holds = refl
-held_opens_none _ task holds = absurd (none-some task holds)
 
 pub holds_change_one_phase : HoldsChangeOnePhase
 holds_change_one_phase event before task lawful hold calls =

@@ -23,7 +23,8 @@ use Rattle.ada_laws.proofs.searching.Searching.{option_map-some, option_map_or-f
 use Rattle.ada_laws.proofs.searching.Saying.{held_in-call, held_in-closing}
 use Rattle.ada_laws.proofs.forced.Rows.{settled_at_rest}
 use Rattle.ada_laws.proofs.queues.CallLaws.{no_open_call_to_a_finished_task}
-use Rattle.ada_standing.specs.StandsIn.{is_live, is_block, made_within}
+use Rattle.ada_events.specs.Holders.{is_block}
+use Rattle.ada_standing.specs.StandsIn.{is_live, made_within}
 use Rattle.ada_standing.specs.Laws.{FewerNamesStandIn}
 use Rattle.ada_standing.proofs.alike.Orderly.{IsLivedIn}
 use Rattle.ada_standing.proofs.alike.Pairs.{live_from, live_parts, active_parts}

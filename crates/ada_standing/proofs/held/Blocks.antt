@@ -22,7 +22,8 @@ use Rattle.ada_laws.proofs.searching.Growing.{is_terminated-more, has_ended-more
 use Rattle.ada_laws.proofs.within.Leaving.{unleft_before}
 use Rattle.ada_standing.specs.Renaming.{Renaming, renamed_master, renamed_member}
 use Rattle.ada_standing.specs.internal.Next.{next_names}
-use Rattle.ada_standing.specs.StandsIn.{IsSameBlock, IsSameNest, KeepsPositions, is_live, is_block}
+use Rattle.ada_events.specs.Holders.{is_block}
+use Rattle.ada_standing.specs.StandsIn.{IsSameBlock, IsSameNest, KeepsPositions, is_live}
 use Rattle.ada_standing.proofs.alike.Kinds.{AreBoth}
 use Rattle.ada_standing.proofs.alike.Pairs.{ended_alike, live_from, live_parts}
 use Rattle.ada_standing.proofs.lawful.Nesting.{IsOwnBlock, nested_own, own_nested}

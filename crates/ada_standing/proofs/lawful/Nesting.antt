@@ -1,10 +1,10 @@
 -- Blocks nest: what a block that isn't left was opened in isn't left either.
-use Rattle.std.proofs.Common.{◌≡◌, ℕ, zero, suc, ◌-◌, ◌<◌, ◌≤◌, true, false, not, ◌&&◌, eqb, Option, Some, None, List, [], ◌∷◌, length, get_or, refl}
+use Rattle.std.proofs.Common.{◌≡◌, ℕ, suc, ◌-◌, ◌<◌, ◌≤◌, true, false, not, ◌&&◌, eqb, Option, Some, None, List, [], ◌∷◌, length, refl}
 use Rattle.std.proofs.Common.{sym, ap, ◌∙◌, subst, arith, ◌⊎◌, inl, inr}
 use Rattle.std.specs.Option.{option_map_or}
 use Rattle.std.specs.Bool.{then_some}
 use Rattle.std.specs.List.{Contains, slice_get, list_any}
-use Rattle.std.proofs.lemmas.Bool.{and_parts, or_cases, or_left, or_right, eq-eqb, eqb-true, false_from_ne_true, true≢false, false≢true}
+use Rattle.std.proofs.lemmas.Bool.{and_parts, eq-eqb, false_from_ne_true, true≢false}
 use Rattle.std.proofs.lemmas.Option.{none-some, same_Some, slice_get_within, get_or_from_slice_get}
 use Rattle.ada_events.specs.declared.event.Event.{Event}
 use Rattle.ada_events.specs.declared.event.Event.TheVariants as event
@@ -32,14 +32,15 @@ use Rattle.ada_laws.proofs.forced.Stepping.{forced-step, pending_parts}
 use Rattle.ada_laws.proofs.searching.Saying.{held_in-closing}
 use Rattle.ada_laws.proofs.held.Suspending.{is_suspended-from}
 use Rattle.ada_laws.proofs.searching.Growing.{is_released-before, has_ended-before}
-use Rattle.ada_laws.proofs.searching.Gathering.{Contains-first, Contains-later, gathered-from}
+use Rattle.ada_laws.proofs.searching.Gathering.{Contains-first, Contains-later}
 use Rattle.ada_laws.proofs.within.Members.{IsMember, nest_member}
 use Rattle.ada_laws.proofs.within.Members.IsMember.{block_in}
+use Rattle.ada_laws.proofs.within.Owners.{contains_block, nest_has_block}
 use Rattle.ada_laws.proofs.within.Framing.{IsBlockOf, block_later}
 use Rattle.ada_laws.proofs.within.Reaching.{opening_asked-unlimited}
 use Rattle.ada_laws.proofs.within.Innermost.{latest}
 use Rattle.ada_laws.proofs.within.Leaving.{unleft_before}
-use Rattle.ada_standing.specs.StandsIn.{is_block}
+use Rattle.ada_events.specs.Holders.{is_block}
 use Rattle.ada_standing.proofs.lawful.Leaving.{Leaves, left_cases}
 
 -- a block that a task opened and hasn't left
@@ -63,29 +64,11 @@ member_given : (journal : List Event) (task p : ℕ) (own : IsOwnBlock journal t
 unfolding member_at
 member_given journal task p own = rw (own.block.says, eq-eqb own.block.opening.by task own.block.by, own.unleft) refl
 
-has_contained : (members : List Member) (b k : ℕ) → k < length members → get_or members k (Block b) ≡ Block b → list_any (is_block b) members ≡ true
-has_contained [] b k below is = absurd (omega (arith, below))
-has_contained (member ∷ rest) b zero below is =
-    or_left (is_block b member) (list_any (is_block b) rest) (ap (is_block b) is ∙ eq-eqb b b refl)
-has_contained (member ∷ rest) b (suc k) below is =
-    or_right (is_block b member) (list_any (is_block b) rest) (has_contained rest b k (omega (arith, below)) is)
-
 pub own_nested : (journal : List Event) (task p : ℕ) → IsOwnBlock journal task p → list_any (is_block p) (nest journal task) ≡ true
-unfolding nest
-own_nested journal task p own =
-    let (k, below, is) = gathered-from (member_at journal task) journal p own.block.event (Block p) own.block.stands (member_given journal task p own) in
-    has_contained (nest journal task) p k below is
-
-contains_block : (p : ℕ) (members : List Member) → list_any (is_block p) members ≡ true → Contains members (Block p)
-contains_block p [] has = absurd (false≢true has)
-contains_block p (Block q ∷ rest) has = elim (or_cases (eqb q p) (list_any (is_block p) rest) has) [
-  | inl same ↦ subst (λ (n : ℕ). Contains (Block n ∷ rest) (Block p)) (sym (eqb-true q p same)) (Contains-first (Block p) rest)
-  | inr later ↦ Contains-later (Block q) (Block p) rest (contains_block p rest later)
-]
-contains_block p (Rendezvous call ∷ rest) has = Contains-later (Rendezvous call) (Block p) rest (contains_block p rest has)
+own_nested journal task p own = nest_has_block journal task p own.block own.unleft
 
 pub nested_own : (journal : List Event) (task p : ℕ) → list_any (is_block p) (nest journal task) ≡ true → IsOwnBlock journal task p
-nested_own journal task p has = own_member journal task p (contains_block p (nest journal task) has)
+nested_own journal task p has = own_member journal task p (contains_block (nest journal task) p has)
 
 -- the frame of a task is its body, or such a block
 

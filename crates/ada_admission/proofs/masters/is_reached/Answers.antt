@@ -1,6 +1,6 @@
 use Rattle.std.proofs.Common.{◌<◌, ◌∙◌, ap, sym, subst}
 use Rattle.ada_records.proofs.following.Agreeing.{ends_phase}
-use Rattle.ada_records.proofs.holding.Enclosing.{frame_reaches_held}
+use Rattle.ada_step_laws.proofs.holding.Enclosing.{frame_reaches_held}
 use Rattle.ada_records.proofs.holding.Walking.{same_dependents}
 use Rattle.ada_tables.specs.Dependents.{Facts, is_terminated as ends}
 use Rattle.ada_view.proofs.Blocks.{ended_or, else_closed}

@@ -13,7 +13,7 @@ use Rattle.ada_events.specs.Says.{Opening, opening_in}
 use Rattle.ada_events.specs.Nests.{is_left, member_at, nest}
 use Rattle.ada_laws.proofs.searching.Gathering.{gathered-from, Contains-first, Contains-later}
 use Rattle.ada_laws.proofs.within.Framing.{IsBlockOf}
-use Rattle.ada_tables.specs.Dependents.{is_block, has_block, holds}
+use Rattle.ada_events.specs.Holders.{is_block, has_block, holds}
 use Rattle.ada_laws.proofs.within.Members.{IsMember, nest_member}
 use Rattle.ada_laws.proofs.within.Members.IsMember.{block_in}
 

@@ -14,9 +14,9 @@ use Rattle.ada_events.specs.Tasks.{task_count}
 use Rattle.ada_events.specs.Masters.{same_master, reaches, depends_on}
 use Rattle.ada_events.specs.Nests.{nest, innermost_block, frame}
 use Rattle.ada_events.specs.Lawful.{IsLawful}
-use Rattle.ada_tables.specs.Dependents.{has_block, up_to, holds, encloses}
-use Rattle.ada_records.specs.Holders.{IsUnder, AreNested}
-use Rattle.ada_records.proofs.holding.NestedBlocks.{nest_properly}
+use Rattle.ada_events.specs.Holders.{has_block, up_to, holds, encloses}
+use Rattle.ada_step_laws.specs.Holders.{IsUnder, AreNested}
+use Rattle.ada_step_laws.proofs.holding.NestedBlocks.{nest_properly}
 
 parent_under : (journal : List Event) (p : ℕ) (outer : Master) → IsUnder journal p outer → parent_of journal (BlockMaster p) ≡ Some outer
 parent_under journal p outer is = rw (is.stands, is.says) (ap Some is.under)
