@@ -120,12 +120,6 @@ deserted journal by block lawful own without =
     ended u false apart = rw apart refl
     ended u true depends = rw depends (a_left_block_has_no_live_dependent journal block u lawful left depends)
 
-pub ended_or : (e c : Bool) → e ≡ true → e ≡ (e || c)
-ended_or e c is = rw is refl
-
-pub else_closed : (e c : Bool) → e ≡ false → c ≡ (e || c)
-else_closed e c isnt = rw isnt refl
-
 -- a block that is left has nobody who is to quit
 pub left_stays : (journal : List Event) (by : TaskNo) (under : Master) (at : ℕ) → IsLawful journal → event_at journal at ≡ Some (Opened by under)
     → has_block at (nest journal by.0) ≡ false → is_to_quit journal (Block at) ≡ false

@@ -25,6 +25,7 @@ use Rattle.ada_step_laws.specs.Holders.{IsHeld}
 use Rattle.ada_events.specs.Holders.{holds}
 use Rattle.ada_step_laws.proofs.holding.Enclosing.{reaches_held}
 use Rattle.ada_step_laws.proofs.holding.LiveHolders.{masters_are_held}
+use Rattle.ada_step_laws.proofs.changing.QueueChanges.{or_swap}
 use Rattle.ada_laws.proofs.within.Owners.{block_in_nest}
 use Rattle.ada_view.specs.internal.Hitting.{TellsOfLive, hits_bodies}
 
@@ -32,16 +33,10 @@ any_same : (one other : TaskNo → Bool) (tasks : List TaskNo) → ((t : TaskNo)
 any_same one other [] same = refl
 any_same one other (t ∷ rest) same = rw (same t, any_same one other rest same) refl
 
-or_both : (a b c d : Bool) → ((a || b) || (c || d)) ≡ ((a || c) || (b || d))
-or_both true b c d = refl
-or_both false true true d = refl
-or_both false true false d = refl
-or_both false false c d = refl
-
 any_or : (one other : TaskNo → Bool) (tasks : List TaskNo) → list_any (λ (t : TaskNo). one t || other t) tasks ≡ (list_any one tasks || list_any other tasks)
 any_or one other [] = refl
 any_or one other (t ∷ rest) =
-    ap (λ (b : Bool). (one t || other t) || b) (any_or one other rest) ∙ or_both (one t) (other t) (list_any one rest) (list_any other rest)
+    ap (λ (b : Bool). (one t || other t) || b) (any_or one other rest) ∙ or_swap (one t) (other t) (list_any one rest) (list_any other rest)
 
 any_none : (tasks : List TaskNo) → list_any (λ (t : TaskNo). false) tasks ≡ false
 any_none [] = refl

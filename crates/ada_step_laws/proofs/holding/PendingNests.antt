@@ -31,13 +31,13 @@ use Rattle.ada_laws.proofs.asking.Accepting.{is_accepted, running_free}
 use Rattle.ada_laws.proofs.searching.Growing.{is_released-before, is_released-now, has_ended-before}
 use Rattle.ada_laws.proofs.queues.Meeting.{met_taking, meeting_in-met}
 use Rattle.ada_laws.proofs.within.Reaching.{opening_asked}
-use Rattle.ada_laws.proofs.searching.Saying.{held_in-closing, held_in-wait}
+use Rattle.ada_laws.proofs.searching.Saying.{held_in-closing, held_in-wait, left_frees}
 use Rattle.ada_laws.proofs.searching.Searching.{event_at-cases, option_map_or-true}
 use Rattle.ada_laws.proofs.forced.Stepping.{forced-step, pending_parts}
 use Rattle.ada_laws.proofs.held.Suspending.{is_suspended-from, suspended_once}
 use Rattle.ada_laws.proofs.within.Innermost.{innermost_last}
 use Rattle.ada_step_laws.proofs.changing.Holding.{hold_only, held_opens_none}
-use Rattle.ada_step_laws.proofs.changing.LeftBlocks.{left_cases, left_frees}
+use Rattle.ada_step_laws.proofs.changing.LeftBlocks.{left_cases}
 use Rattle.ada_step_laws.proofs.changing.Nesting.{wait_same}
 use Rattle.ada_step_laws.proofs.changing.NestKinds.{nest_more, others_keep_nests, stays}
 use Rattle.ada_step_laws.proofs.changing.Saying.{met_frees}
