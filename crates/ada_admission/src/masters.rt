@@ -10,7 +10,7 @@ ghost use Rattle.ada_events.specs.Nests.{nest, frame};
 ghost use Rattle.ada_events.specs.Phases as phases;
 ghost use Rattle.ada_events.specs.Refusals as refusals;
 ghost use Rattle.ada_events.specs.Tasks.{has_task, task_count};
-ghost use Rattle.ada_tables.specs.Dependents.{holds};
+ghost use Rattle.ada_events.specs.Holders.{holds};
 
 use crate::limits::{has_most_tasks, is_full, passes_most_slots};
 use crate::names::{is_elaborated, is_known, is_running};

@@ -8,7 +8,8 @@ use Rattle.ada_events.specs.Nests.{nest}
 use Rattle.ada_tables.specs.declared.layers.Layer.{Layer}
 use Rattle.ada_tables.specs.Layers.{member_of, members}
 use Rattle.ada_standing.specs.Renaming.{Renaming}
-use Rattle.ada_standing.specs.StandsIn.{is_block, IsSameNest}
+use Rattle.ada_events.specs.Holders.{is_block}
+use Rattle.ada_standing.specs.StandsIn.{IsSameNest}
 use Rattle.ada_compact.specs.internal.Nesting.{IsSameMember, AreSameMembers}
 
 members_more : (layers : List Layer) (i : ℕ) (d : Layer) → i < length layers

@@ -1,19 +1,17 @@
 -- Positions that are placed kind by kind are kept apart, and in their order.
-use Rattle.std.proofs.Common.{◌≡◌, ℕ, ◌<◌, ◌≤◌, true, ◌&&◌, Some, List, [], ◌∷◌, length, refl, sym, ◌∙◌, arith, inl, inr, is_some}
+use Rattle.std.proofs.Common.{◌≡◌, ℕ, ◌<◌, ◌≤◌, true, ◌&&◌, Some, List, length, refl, sym, ◌∙◌, arith, inl, inr, is_some}
 use Rattle.std.specs.List.{list_any}
 use Rattle.std.proofs.lemmas.Bool.{and_parts, or_cases, cases_lt, cases_eq}
 use Rattle.ada_events.specs.declared.event.Event.{Event}
-use Rattle.ada_events.specs.declared.names.Member.{Member}
-use Rattle.ada_events.specs.declared.names.Member.TheVariants.{Block as BlockMember, Rendezvous}
 use Rattle.ada_events.specs.Search.{event_at}
 use Rattle.ada_events.specs.Says.{call_in, wait_in, delay_in, start_in, closing_in}
 use Rattle.ada_events.specs.Nests.{nest}
 use Rattle.ada_laws.proofs.searching.Searching.{event_at-within, option_map_or-true}
-use Rattle.ada_tables.specs.Dependents.{has_block}
-use Rattle.ada_records.proofs.holding.Owners.{block_in_nest}
+use Rattle.ada_laws.proofs.within.Owners.{block_in_nest}
 use Rattle.ada_standing.specs.Names.{Names, placed, rises_from, renaming_of}
 use Rattle.ada_standing.specs.Holds.{is_same_kind}
-use Rattle.ada_standing.specs.StandsIn.{is_block, KeepsPositions}
+use Rattle.ada_events.specs.Holders.{is_block}
+use Rattle.ada_standing.specs.StandsIn.{KeepsPositions}
 use Rattle.ada_compact.specs.declared.comparison.kinds.Kind.{Kind}
 use Rattle.ada_compact.specs.declared.comparison.kinds.Kind.TheVariants.{Call, Wait, Delay, Start, Close, Block}
 use Rattle.ada_compact.specs.internal.Kinds.{has_kind, is_kind_at, IsAlikePlace, AreAlikePlaces, rises_among}
@@ -55,15 +53,10 @@ shared_kind d e same =
           ]
     ]
 
-same_blocks : (block : ℕ) (members : List Member) → list_any (is_block block) members ≡ has_block block members
-same_blocks block [] = refl
-same_blocks block (BlockMember p ∷ rest) = rw (same_blocks block rest) refl
-same_blocks block (Rendezvous call ∷ rest) = same_blocks block rest
-
 -- what stands in a nest as a block was opened there
 block_opened : (journal : List Event) (u p : ℕ) → list_any (is_block p) (nest journal u) ≡ true → is_kind_at journal Block p ≡ true
 block_opened journal u p inside =
-    let opened = (block_in_nest journal u p (sym (same_blocks p (nest journal u)) ∙ inside)).0 in
+    let opened = (block_in_nest journal u p inside).0 in
     kind_from journal Block p opened.event opened.stands (rw opened.says refl)
 
 module _ (old new : List Event) (names : Names) (olds : rises_from 0 names.places ≡ true) (alike : AreAlikePlaces old new names.places)

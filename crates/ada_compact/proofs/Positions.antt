@@ -7,6 +7,7 @@ use Rattle.std.proofs.lemmas.Option.{none-some, same_Some}
 use Rattle.ada_standing.specs.declared.renaming.Place.{Place}
 use Rattle.ada_standing.specs.Names.{placed, rises_from}
 use Rattle.ada_compact.specs.internal.Kinds.{rises_among}
+use Rattle.ada_standing.proofs.Placing.{first_and_later}
 
 -- a position that is placed stands at the first place, or further
 placed_cases : (place : Place) (rest : List Place) (p a : ℕ) → placed (place ∷ rest) p ≡ Some a
@@ -34,17 +35,12 @@ placed_all P (place ∷ rest) all p a found =
     place_of : (p q a b : ℕ) → p ≡ q → a ≡ b → (let x : Place = record { old = p; new = a } in x) ≡ (let y : Place = record { old = q; new = b } in y)
     place_of p q a b olds news = rw (olds, news) refl
 
-old_parts : (place : Place) (rest : List Place) (low : ℕ) → rises_from low (place ∷ rest) ≡ true → (low ≤ place.old) × (rises_from (suc place.old) rest ≡ true)
-unfolding rises_from
-old_parts place rest low rises =
-    let both = and_parts (nat_le low place.old) (rises_from (suc place.old) rest) rises in (leb-true low place.old both.0, both.1)
-
 -- what is placed isn't before the first old position that there may be
 placed_from : (places : List Place) (low p a : ℕ) → rises_from low places ≡ true → placed places p ≡ Some a → low ≤ p
 unfolding placed
 placed_from [] low p a rises found = absurd (none-some a found)
 placed_from (place ∷ rest) low p a rises found =
-    let both = old_parts place rest low rises in
+    let both = first_and_later place rest low rises in
     elim (placed_cases place rest p a found) [
       | inl here ↦ omega (arith, both.0, here.0)
       | inr further ↦
@@ -97,11 +93,11 @@ module _ (test : ℕ → Bool) where
                   omega (arith, below, here.1)
             ]
         | inr further ↦
-            let later_old : suc place.old ≤ p = placed_from rest (suc place.old) p a (old_parts place rest first olds).1 further.1 in
+            let later_old : suc place.old ≤ p = placed_from rest (suc place.old) p a (first_and_later place rest first olds).1 further.1 in
             elim (placed_cases place rest q b other) [
               | inl is ↦ absurd (omega (arith, before, is.0, later_old))
               | inr beyond ↦
-                  order_among rest (after (test place.old)) (suc place.old) p q a b (old_parts place rest first olds).1
+                  order_among rest (after (test place.old)) (suc place.old) p q a b (first_and_later place rest first olds).1
                   (rest_rises (test place.old) refl) further.1 beyond.1 passes also before
             ]
       ]

@@ -10,7 +10,7 @@ use Rattle.ada_laws.specs.Suspension.{IsSuspendedAt}
 use Rattle.ada_laws.proofs.held.Suspending.{is_suspended-from, suspended_once}
 use Rattle.ada_standing.specs.Renaming.{Renaming}
 use Rattle.ada_standing.specs.Holds.{IsSameHold}
-use Rattle.ada_compact.specs.internal.Suspending.{IsHeldTheSame}
+use Rattle.ada_standing.specs.internal.Suspending.{IsHeldTheSame}
 
 module _ (old new : List Event) (names : Renaming) (u v : ℕ) where
   pub same_free : is_suspended old u ≡ false → is_suspended new v ≡ false → IsHeldTheSame old new names u v

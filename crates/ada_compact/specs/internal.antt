@@ -4,4 +4,3 @@ pub mod Kinds
 pub mod Making
 pub mod Nesting
 pub mod Starting
-pub mod Suspending

@@ -1,5 +1,5 @@
 pub mod Positions
-mod worked
+pub mod worked
 mod Entries
 pub mod Dues
 pub mod Lists

@@ -11,9 +11,9 @@ use Rattle.ada_events.specs.declared.event.Event.{Event}
 use Rattle.ada_events.specs.Search.{event_at}
 
 -- a newer event changes nothing at an older position
-event_at-older : (event : Event) (before : List Event) (p : ℕ) → p ≢ suc (length before) → event_at (event ∷ before) p ≡ event_at before p
+pub event_at-other : (event : Event) (before : List Event) (p : ℕ) → p ≢ suc (length before) → event_at (event ∷ before) p ≡ event_at before p
 unfolding event_at
-event_at-older event before p other = rw (ne_eqb p (suc (length before)) other) refl
+event_at-other event before p other = rw (ne_eqb p (suc (length before)) other) refl
 
 event_at-newest : (event : Event) (before : List Event) (p : ℕ) → p ≡ suc (length before) → event_at (event ∷ before) p ≡ Some event
 unfolding event_at
@@ -23,12 +23,12 @@ event_at-past : (journal : List Event) (p : ℕ) → length journal < p → even
 unfolding event_at
 event_at-past [] p past = refl
 event_at-past (event ∷ before) p past =
-    event_at-older event before p (omega arith) ∙ event_at-past before p (omega arith)
+    event_at-other event before p (omega arith) ∙ event_at-past before p (omega arith)
 
 event_at-zero : (journal : List Event) → event_at journal 0 ≡ None
 unfolding event_at
 event_at-zero [] = refl
-event_at-zero (event ∷ before) = event_at-older event before 0 (omega arith) ∙ event_at-zero before
+event_at-zero (event ∷ before) = event_at-other event before 0 (omega arith) ∙ event_at-zero before
 
 read_newest : (event : Event) (before : List Event) (d : Event) → get_or (reverse (event ∷ before)) (length before) d ≡ event
 read_newest event before d =
@@ -43,7 +43,7 @@ event_at-within [] p d low high = absurd (omega arith)
 event_at-within (event ∷ before) p d low high =
     elim (cases_eq p (suc (length before))) [
       | inl same ↦ event_at-newest event before p same ∙ ap Some (sym (rw (let e : p - 1 ≡ length before = omega arith in e) (read_newest event before d)))
-      | inr other ↦ event_at-older event before p other ∙ event_at-within before p d low (omega arith)
+      | inr other ↦ event_at-other event before p other ∙ event_at-within before p d low (omega arith)
           ∙ ap Some (sym (read_older event before (p - 1) d (omega arith)))
     ]
 

@@ -1,5 +1,5 @@
 -- Worked journals: scripts played by the definitions alone, each event and each refusal as it has to be.
-mod Turns
+pub mod Turns
 mod Rendezvous
 mod Waiting
 mod Termination

@@ -7,6 +7,7 @@ pub mod Masters
 pub mod Phases
 pub mod Calls
 pub mod Nests
+pub mod Holders
 pub mod Waits
 pub mod Termination
 pub mod Forced

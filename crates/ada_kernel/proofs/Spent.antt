@@ -3,6 +3,7 @@ use Rattle.std.proofs.Common.{◌≡◌, ◌≢◌, ◌⊎◌, ℕ, ◌<◌, Boo
 use Rattle.std.specs.Bool.{then_some}
 use Rattle.std.specs.Option.{option_and_then}
 use Rattle.std.proofs.lemmas.Bool.{eq-eqb}
+use Rattle.std.proofs.Math.Bool.{and-false}
 use Rattle.ada_agenda.specs.declared.numbers.TheConstants.{MOST_KEYS}
 use Rattle.ada_agenda.specs.Keeping.{has_key}
 use Rattle.ada_events.specs.declared.event.Event.{Event}
@@ -19,7 +20,6 @@ use Rattle.ada_step_laws.specs.declared.row.Row.TheVariants.{Halting, Failing, M
 use Rattle.ada_step_laws.specs.Rows.{at_event, step_at}
 use Rattle.ada_laws.proofs.asking.LimitLaws.{events_are_few}
 use Rattle.ada_laws.proofs.searching.Searching.{event_at-within}
-use Rattle.ada_step_laws.proofs.changing.Nesting.{and_false}
 use Rattle.ada_records.proofs.recording.RecordChanges.{met_holds, release_holds}
 use Rattle.ada_kernel.specs.declared.index.Index.{Index}
 use Rattle.ada_kernel.specs.internal.Indexes.{IsIndexOf}
@@ -34,7 +34,7 @@ module _ (before : List Event) (task : TaskNo) where
   -- who was halted has ended
   halted_once : is_to_halt (Halted task ∷ before) task.0 ≡ false
   unfolding is_to_halt has_ended is_completed completed_in
-  halted_once = rw (eq-eqb task.0 task.0 refl, and_false (is_abnormal (Halted task ∷ before) task.0)) refl
+  halted_once = rw (eq-eqb task.0 task.0 refl, and-false (is_abnormal (Halted task ∷ before) task.0)) refl
 
   pub halted_no_more : step_at (Halted task ∷ before) Halting task.0 ≡ None
   unfolding step_at
@@ -58,7 +58,7 @@ module _ (before : List Event) (call : ℕ) where
 
   failed_once : (e : Event) → is_to_fail (Failed call ∷ before) call e ≡ false
   unfolding is_to_fail is_open_at
-  failed_once e = rw (closed (call_in e)) (and_false _)
+  failed_once e = rw (closed (call_in e)) (and-false _)
 
   at_none : (e : Option Event) → option_and_then (at_event (Failed call ∷ before) Failing call) e ≡ None
   at_none None = refl

@@ -1,7 +1,8 @@
 //! The tables behind calls that look at each condition as they run, so that a test proves none.
 ghost use Rattle.std.specs.Prelude.{◌≡◌, ℕ, ◌<◌, true, false, Some, IfOk, OnOk, MatchOption, length};
 ghost use Rattle.ada_events.specs.Nests.{innermost};
-ghost use Rattle.ada_tables.specs.Dependents.{task_at, holds, live_dependents, is_terminated, Stands, IsOpen, IsFresh, IsIdle};
+ghost use Rattle.ada_events.specs.Holders.{holds};
+ghost use Rattle.ada_tables.specs.Dependents.{task_at, live_dependents, is_terminated, Stands, IsOpen, IsFresh, IsIdle};
 ghost use Rattle.ada_tables.specs.Queues as queues;
 ghost use Rattle.ada_tables.specs.Tables.{HasEntry};
 

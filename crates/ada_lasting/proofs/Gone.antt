@@ -12,7 +12,8 @@ use Rattle.ada_events.specs.Phases.{is_terminated}
 use Rattle.ada_events.specs.Nests.{nest}
 use Rattle.ada_laws.specs.Masters.{IsKnown}
 use Rattle.ada_standing.specs.Renaming.{Renaming, renamed_master}
-use Rattle.ada_standing.specs.StandsIn.{StandsIn, is_live, is_block}
+use Rattle.ada_events.specs.Holders.{is_block}
+use Rattle.ada_standing.specs.StandsIn.{StandsIn, is_live}
 use Rattle.ada_standing.proofs.alike.Orderly.{IsLivedIn}
 use Rattle.ada_standing.proofs.alike.Mastering.{lived_forth}
 use Rattle.ada_standing.proofs.alike.Pairs.{live_from, live_parts}

@@ -8,7 +8,8 @@ use Rattle.ada_events.specs.Says.{Creation}
 use Rattle.ada_events.specs.Tasks.{creation_of}
 use Rattle.ada_events.specs.Phases.{is_terminated}
 use Rattle.ada_events.specs.Nests.{nest}
-use Rattle.ada_standing.specs.StandsIn.{is_live, is_block}
+use Rattle.ada_events.specs.Holders.{is_block}
+use Rattle.ada_standing.specs.StandsIn.{is_live}
 use Rattle.ada_lasting.specs.Naming.{Naming, found}
 
 -- the master is gone: the task is terminated whose body it is, or no task that lives is within the block

@@ -12,7 +12,8 @@ ghost use Rattle.ada_lasting.specs.internal.Causes.{IsUnnamed};
 ghost use Rattle.ada_lasting.specs.internal.Mastering.{IsKeptOrGone, masters_next, named_masters};
 ghost use Rattle.ada_lasting.specs.internal.Present.{named_next};
 ghost use Rattle.ada_standing.specs.Renaming.{renamed_master};
-ghost use Rattle.ada_standing.specs.StandsIn.{is_block, is_live};
+ghost use Rattle.ada_events.specs.Holders.{is_block};
+ghost use Rattle.ada_standing.specs.StandsIn.{is_live};
 
 use crate::Names;
 use crate::failure::NotDone;

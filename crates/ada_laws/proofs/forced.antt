@@ -3,3 +3,4 @@ pub mod Rows
 pub mod Stepping
 pub mod Forcing
 pub mod Working
+pub mod Parts

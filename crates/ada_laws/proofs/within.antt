@@ -7,3 +7,4 @@ pub mod Members
 pub mod Framing
 pub mod Innermost
 pub mod Leaving
+pub mod Owners

@@ -16,6 +16,11 @@ pub record IsSuspendedAt (journal : List Event) (task position : ℕ) : Type 0 w
   pub unreleased : is_released journal position ≡ false
   pub live : has_ended journal task ≡ false
 
+-- a task is suspended at the position
+pub record HoldsSomebody (journal : List Event) (position : ℕ) : Type 0 where
+  pub task : ℕ
+  pub held : IsSuspendedAt journal task position
+
 -- a suspended task is suspended at some position
 abbrev pub SuspendedAtSomePosition : Type 0
 SuspendedAtSomePosition =

@@ -1,8 +1,3 @@
--- Who holds a master, and how blocks nest.
-pub mod NestedBlocks
-pub mod Owners
-pub mod LiveHolders
-pub mod PendingNests
-pub mod Enclosing
+-- What the tables find by holders of masters, and what they take out of nests.
 pub mod Cuts
 pub mod Walking

@@ -2,8 +2,6 @@ pub mod Records
 pub mod RecordedStates
 pub mod internal
 pub mod Facing
-pub mod Holders
-pub mod Pending
 pub mod RecordedPhases
 pub mod TableChanges
 pub mod TableEvents

@@ -15,7 +15,6 @@ use Rattle.ada_events.specs.Phases.{has_start, is_started, is_elaborated, has_fa
 use Rattle.ada_events.specs.Calls.{is_met}
 use Rattle.ada_events.specs.Termination.{is_at_open_terminate}
 use Rattle.ada_events.specs.Outcomes.{raised_in}
-use Rattle.ada_laws.specs.Suspension.{IsSuspendedAt}
 use Rattle.ada_records.specs.declared.record.Suspension.{Suspension}
 use Rattle.ada_records.specs.declared.record.Stage.{Stage}
 use Rattle.ada_records.specs.declared.record.Record.{Record}
@@ -95,11 +94,6 @@ is_hit journal tasks task = list_any (λ (t : TaskNo). t.0 == task || depends_on
 pub record IsPlainHold (event : Event) (task : ℕ) : Type 0 where
   pub holds : held_in event ≡ Some task
   pub starts : started_in event ≡ []
-
--- a task is suspended at the position
-pub record HoldsSomebody (journal : List Event) (position : ℕ) : Type 0 where
-  pub task : ℕ
-  pub held : IsSuspendedAt journal task position
 
 -- the event releases what stands at a position, begins no rendezvous and raises nothing
 pub record IsPlainRelease (event : Event) (position : ℕ) : Type 0 where

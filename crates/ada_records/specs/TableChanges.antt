@@ -1,5 +1,5 @@
 -- Tables that follow a journal: what has to be changed in them by one more event. Laws.
-use Rattle.std.specs.Prelude.{◌≡◌, ℕ, ◌<◌, false, Some, None, List, ◌∷◌, length}
+use Rattle.std.specs.Prelude.{◌≡◌, ℕ, ◌<◌, false, Some, None, List, ◌∷◌, length, filter}
 use Rattle.ada_events.specs.declared.event.Event.{Event}
 use Rattle.ada_events.specs.declared.event.Event.TheVariants.{Gone}
 use Rattle.ada_events.specs.declared.names.TaskNo.{TaskNo}
@@ -10,8 +10,9 @@ use Rattle.ada_events.specs.Nests.{nest}
 use Rattle.ada_events.specs.Lawful.{IsLawful}
 use Rattle.ada_events.specs.Phases.{is_suspended}
 use Rattle.ada_laws.specs.Suspension.{IsSuspendedAt}
+use Rattle.ada_step_laws.specs.Changes.{is_apart_from}
 use Rattle.ada_records.specs.Records.{IsPlainHold, IsPlainRelease}
-use Rattle.ada_tables.specs.Dependents.{Facts, task_at}
+use Rattle.ada_tables.specs.Dependents.{Facts, task_at, cut}
 use Rattle.ada_tables.specs.Queues.{queue_at}
 use Rattle.ada_tables.specs.Tables.{TableState, slot_at, HasEntry}
 use Rattle.ada_tables.specs.Standing.{phase_of, AreQueued, StandFor}
@@ -34,6 +35,12 @@ abbrev pub TablesFollow : Type 0
 TablesFollow =
     (event : Event) (before : List Event) (old new : TableState) → IsLawful (event ∷ before) → creation_in event ≡ None
     → StandFor old before → AreFollowing event before old new → StandFor new (event ∷ before)
+
+-- to take the rendezvous with a call out of a nest is to keep all else
+abbrev pub CutsKeepTheRest : Type 0
+CutsKeepTheRest =
+    (journal : List Event) (task call : ℕ) → IsLawful journal
+    → filter (is_apart_from call) (nest journal task) ≡ cut call (nest journal task)
 
 -- the event makes no task, and of nests, phases and queues it changes one task's phase alone
 pub record ChangesOnePhase (event : Event) (before : List Event) (task : ℕ) : Type 0 where

@@ -1,35 +1,9 @@
-//! Laws of nests and of tables that stand for a journal.
+//! Laws of tables that stand for a journal.
 
-ghost use Rattle.ada_records.specs.Holders.{BlocksNestProperly, OneHolderEach, ALeftBlockHasNoLiveDependent, MastersAreHeld, HeldTablesStand, CutsKeepTheRest};
-ghost use Rattle.ada_records.specs.Pending.{ClosedBlocksAreInnermost, WaitsHaveRoom, OpenTerminatesAreInNoRendezvous};
+ghost use Rattle.ada_records.specs.Facing.{HeldTablesStand};
 ghost use Rattle.ada_records.specs.RecordedPhases.{RecordsTellPhases, OthersKeepPhases};
-ghost use Rattle.ada_records.specs.TableChanges.{TablesFollow, HoldsChangeOnePhase, ReleasesChangeOnePhase, CompletionsChangeOnePhase, GoingChangesOnePhase};
-
-/// Each block that a task is within was opened within the block before it, the first within the task's body
-/// (9.4).
-#[tactic(auto, using(crate::proofs::holding::NestedBlocks::nest_properly))]
-pub fn blocks_nest_properly()
-    ensures { BlocksNestProperly }
-{}
-
-/// A master is held by one task at most: a body by its task, a block by the task that is within it.
-#[tactic(auto, using(crate::proofs::holding::Owners::one_holder))]
-pub fn one_holder_each()
-    ensures { OneHolderEach }
-{}
-
-/// No block that was left has a dependent that isn't terminated (9.4).
-#[tactic(auto, using(crate::proofs::holding::LiveHolders::a_left_block_has_no_live_dependent))]
-pub fn a_left_block_has_no_live_dependent()
-    ensures { ALeftBlockHasNoLiveDependent }
-{}
-
-/// What a task that isn't terminated was made under is held by one task, which was made before it and isn't
-/// terminated either (9.4).
-#[tactic(auto, using(crate::proofs::holding::LiveHolders::masters_are_held))]
-pub fn masters_are_held()
-    ensures { MastersAreHeld }
-{}
+ghost use Rattle.ada_records.specs.TableChanges.{TablesFollow, CutsKeepTheRest};
+ghost use Rattle.ada_records.specs.TableChanges.{HoldsChangeOnePhase, ReleasesChangeOnePhase, CompletionsChangeOnePhase, GoingChangesOnePhase};
 
 /// Tables that hold what a lawful journal says of each task and each queue stand for it, the counts of dependents
 /// included.
@@ -42,15 +16,6 @@ pub fn held_tables_stand()
 /// leave there what the journal says once the call is released (9.5).
 pub fn cuts_keep_the_rest()
     ensures { CutsKeepTheRest }
-{}
-
-/// While a task waits for the dependents of a block that it closed, nothing is further within than that block; while it
-/// waits selectively, its nest has room for the rendezvous that may begin; while it waits at an open terminate
-/// alternative, it is in no rendezvous (9.4, 9.5, 9.7.1).
-pub fn pending_nests()
-    ensures blocks { ClosedBlocksAreInnermost }
-    ensures room { WaitsHaveRoom }
-    ensures alone { OpenTerminatesAreInNoRendezvous }
 {}
 
 /// A right record tells its task's phase (9.3, 9.4, 9.7.1).

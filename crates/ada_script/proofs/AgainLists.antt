@@ -1,7 +1,6 @@
 -- What is spelled to the end of a line is read again.
 use Rattle.std.proofs.Common.{◌≡◌, ℕ, zero, suc, ◌≤◌, false, List, [], ◌∷◌, ◌++◌, length, map, Ok, refl, sym, ap, ◌∙◌, arith, append_assoc}
-use Rattle.std.specs.List.{flat_map, list_any, AllByRecursion}
-use Rattle.std.specs.Str.{bytes_eq}
+use Rattle.std.specs.List.{flat_map, AllByRecursion}
 use Rattle.std.proofs.lemmas.List.{append-nil}
 use Rattle.std.proofs.lemmas.List.Concat.{flat_map-cons}
 use Rattle.ada_statements.specs.declared.statement.Declaration.{Declaration}
@@ -10,7 +9,7 @@ use Rattle.ada_statements.specs.Scope.{Scope, IsTaskName, AreTaskNames, IsFamily
 use Rattle.ada_script.specs.Cursor.{is_over}
 use Rattle.ada_script.specs.internal.Reading.{Read, repeat_at, task_name_at, tasks_at, family_at, families_at, number_is_next}
 use Rattle.ada_script.proofs.AgainParts.{task_again, name_again, bounds_again, name_begins}
-use Rattle.ada_script.proofs.TakenLists.{Chain, flat_map-single, list_any-names, map-push}
+use Rattle.ada_script.proofs.TakenLists.{Chain, flat_map-single, list_any-names, map-push, IsNextFamily}
 
 -- some words that aren't over and don't begin with a number, or none
 abbrev pub Starts : List (List ℕ) → Type 0
@@ -57,9 +56,6 @@ tasks_again names tasks known =
     (chain_of_each (IsTaskName names) [] tasks known.1) known.0
 
 -- ---- families
-
-abbrev IsNextFamily : List Declaration → Declaration → Type 0
-IsNextFamily before family = IsFamily family × (list_any (λ other. bytes_eq family.name other.name) before ≡ false)
 
 family_again : (before : List Declaration) (family : Declaration) (rest : List (List ℕ)) → IsNextFamily before family → number_is_next rest ≡ false
     → family_at before (family_words family ++ rest) ≡ Ok (family, rest)

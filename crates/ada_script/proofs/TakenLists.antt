@@ -69,7 +69,7 @@ tasks_read names words x e =
 
 -- ---- families
 
-abbrev IsNextFamily : List Declaration → Declaration → Type 0
+abbrev pub IsNextFamily : List Declaration → Declaration → Type 0
 IsNextFamily before family = IsFamily family × (list_any (λ other. bytes_eq family.name other.name) before ≡ false)
 
 abbrev FamilyRead : List Declaration → List (List ℕ) → Declaration × List (List ℕ) → Type 0

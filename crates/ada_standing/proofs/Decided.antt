@@ -22,7 +22,8 @@ use Rattle.ada_laws.proofs.within.Reaching.{same_master-true}
 use Rattle.ada_standing.specs.Renaming.{renamed_master, renamed_member, renamed_outcome, renamed_parent}
 use Rattle.ada_standing.specs.Names.{Names, named, renaming_of}
 use Rattle.ada_standing.specs.Holds.{is_same_kind}
-use Rattle.ada_standing.specs.StandsIn.{is_live, activator_of, made_within, is_block, StandsIn, KeepsTasks, KeepsPositions}
+use Rattle.ada_events.specs.Holders.{is_block}
+use Rattle.ada_standing.specs.StandsIn.{is_live, activator_of, made_within, StandsIn, KeepsTasks, KeepsPositions}
 use Rattle.ada_standing.specs.StandsIn.{IsSameTask, IsSameDependent, IsSameBlock, IsSameNest, IsSameActive}
 use Rattle.ada_standing.proofs.Sameness.{same_Bool-true, same_index-true, same_option, same_option-true, same_list-true}
 use Rattle.ada_standing.proofs.Sameness.{same_family, same_family-true, same_member, same_member-true, same_outcome, same_outcome-true}

@@ -22,7 +22,8 @@ use Rattle.ada_standing.specs.declared.renaming.Place.{Place}
 use Rattle.ada_standing.specs.Renaming.{renamed_master, renamed_member, renamed_outcome, renamed_parent}
 use Rattle.ada_standing.specs.Names.{Names, named, placed, renaming_of}
 use Rattle.ada_standing.specs.Holds.{is_same_kind}
-use Rattle.ada_standing.specs.StandsIn.{is_live, activator_of, made_within, is_block}
+use Rattle.ada_events.specs.Holders.{is_block}
+use Rattle.ada_standing.specs.StandsIn.{is_live, activator_of, made_within}
 use Rattle.ada_standing.proofs.Sameness.{same_Bool, same_option, same_list, same_family, same_choice, same_tail, same_member, same_outcome}
 
 -- all tasks that may still be named pass, each with the one that stands for it

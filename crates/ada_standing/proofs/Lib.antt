@@ -1,4 +1,4 @@
-mod Placing
+pub mod Placing
 mod Sameness
 mod Deciding
 mod Passing

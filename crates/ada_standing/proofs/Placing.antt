@@ -5,7 +5,7 @@ use Rattle.std.proofs.lemmas.Bool.{and_parts, leb-true, ne_eqb, eq-eqb}
 use Rattle.ada_standing.specs.declared.renaming.Place.{Place}
 use Rattle.ada_standing.specs.Names.{placed, rises_from}
 
-first_and_later : (place : Place) (rest : List Place) (low : ℕ) → rises_from low (place ∷ rest) ≡ true
+pub first_and_later : (place : Place) (rest : List Place) (low : ℕ) → rises_from low (place ∷ rest) ≡ true
     → (low ≤ place.old) × (rises_from (suc place.old) rest ≡ true)
 unfolding rises_from
 first_and_later place rest low rises =

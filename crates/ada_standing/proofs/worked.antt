@@ -1,5 +1,5 @@
 -- Worked pairs of journals: short ones that stand in for longer ones, and wrong ones that don't, all computed.
-mod Turns
+mod Pairs
 mod Server
 mod Arrival
 mod Queued

@@ -1,17 +1,16 @@
 -- When a second journal may stand in for a first one: all that can still matter of the first is alike in the second.
-use Rattle.std.specs.Prelude.{◌≡◌, ℕ, ◌<◌, ◌≤◌, Bool, true, false, not, ◌==◌, ◌&&◌, Option, Some, List, length, map}
+use Rattle.std.specs.Prelude.{◌≡◌, ℕ, ◌<◌, ◌≤◌, Bool, true, false, not, ◌&&◌, Option, Some, List, length, map}
 use Rattle.std.specs.Option.{option_map, option_and_then}
 use Rattle.std.specs.Bool.{then_some}
 use Rattle.std.specs.List.{list_any}
 use Rattle.ada_events.specs.declared.event.Event.{Event}
 use Rattle.ada_events.specs.declared.names.Master.{Master}
 use Rattle.ada_events.specs.declared.names.Master.TheVariants.{Body, Block}
-use Rattle.ada_events.specs.declared.names.Member.{Member}
-use Rattle.ada_events.specs.declared.names.Member.TheVariants.{Block as BlockMember, Rendezvous}
 use Rattle.ada_events.specs.Says.{Creation}
 use Rattle.ada_events.specs.Tasks.{has_task, creation_of, families_of, moment}
 use Rattle.ada_events.specs.Phases.{has_start, is_started, is_elaborated, is_completed, is_terminated, has_ended, is_abnormal, is_suspended}
 use Rattle.ada_events.specs.Nests.{nest}
+use Rattle.ada_events.specs.Holders.{is_block}
 use Rattle.ada_events.specs.Termination.{is_complete, is_abandoned}
 use Rattle.ada_events.specs.Outcomes.{outcome_of}
 use Rattle.ada_events.specs.Forced.{task_no}
@@ -32,11 +31,6 @@ activator_of journal task =
 -- what the task was made within (9.3); the main program within nothing
 abbrev pub made_within : List Event → ℕ → Option Master
 made_within journal task = option_map (λ (c : Creation). c.under) (creation_of journal task)
-
--- the member of a nest is the block
-abbrev pub is_block : ℕ → Member → Bool
-is_block block (BlockMember p) = p == block
-is_block block (Rendezvous call) = false
 
 -- the task u of the old journal may still be named, and v stands for it: terminated or not, with the same
 -- entries, to be activated by the same task

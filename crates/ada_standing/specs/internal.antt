@@ -1,2 +1,3 @@
--- What only proofs cite: no caller meets it.
+-- What only proofs and private functions cite: no caller meets it.
 pub mod Next
+pub mod Suspending

@@ -1,3 +1,4 @@
 pub mod rows
 pub mod changing
+pub mod holding
 pub mod newly

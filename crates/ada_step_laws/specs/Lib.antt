@@ -6,5 +6,7 @@ pub mod internal
 pub mod Held
 pub mod Changes
 pub mod Latest
+pub mod Holders
+pub mod Pending
 pub mod Kinds
 pub mod Additions

@@ -8,7 +8,8 @@ use Rattle.ada_events.specs.declared.names.Master.{Master}
 use Rattle.ada_events.specs.declared.names.Master.TheVariants.{Body, Block}
 use Rattle.ada_tables.specs.declared.task.Task.{Task}
 use Rattle.ada_tables.specs.internal.Layers.{live_at}
-use Rattle.ada_tables.specs.Dependents.{Facts, nobody, task_at, has_block, holds, reaches, is_terminated, is_live_dependent, live_dependents, depends_on}
+use Rattle.ada_events.specs.Holders.{has_block, holds}
+use Rattle.ada_tables.specs.Dependents.{Facts, nobody, task_at, reaches, is_terminated, is_live_dependent, live_dependents, depends_on}
 use Rattle.ada_tables.specs.Dependents.{count_below}
 use Rattle.ada_tables.specs.Counts.{facts_of, facts}
 use Rattle.ada_tables.specs.internal.Counts.{no_record, record_at, ChangesAlong, StandAlone, AreCounted, IsLed, is_led}

@@ -13,7 +13,8 @@ use Rattle.ada_tables.specs.declared.change.Change.{Change}
 use Rattle.ada_tables.specs.internal.Changes.{changed}
 use Rattle.ada_tables.specs.Layers.{members}
 use Rattle.ada_tables.specs.internal.Layers.{live_at}
-use Rattle.ada_tables.specs.Dependents.{Facts, nobody, task_at, has_block, holds, encloses, reaches, depends_on}
+use Rattle.ada_events.specs.Holders.{has_block, holds, encloses}
+use Rattle.ada_tables.specs.Dependents.{Facts, nobody, task_at, reaches, depends_on}
 use Rattle.ada_tables.specs.Counts.{facts_of, facts, first_slots}
 use Rattle.ada_tables.specs.internal.Counts.{no_record, record_at, recounted, ChangesAlong, StandAlone, IsLed}
 use Rattle.ada_tables.proofs.Nests.{members-moved_to, live_at-moved_to}

@@ -1,8 +1,9 @@
 -- A call that comes last in a queue.
-use Rattle.std.proofs.Common.{◌≡◌, ◌≢◌, ℕ, ◌+◌, ◌<◌, Bool, true, false, ◌||◌, List, [], ◌∷◌, ◌++◌, length, get_or, set, map, Option, Some, None}
+use Rattle.std.proofs.Common.{◌≡◌, ◌≢◌, ℕ, ◌+◌, ◌<◌, true, false, ◌||◌, List, [], ◌∷◌, ◌++◌, length, get_or, set, map, Option, Some, None}
 use Rattle.std.proofs.Common.{is_some, cond, refl, ap, sym, subst, ◌∙◌, inl, inr, arith, length-append}
 use Rattle.std.specs.Prelude.{◌==◌}
 use Rattle.std.specs.Option.{option_or, ForSome}
+use Rattle.std.proofs.Math.Bool.{or-false}
 use Rattle.std.proofs.lemmas.Bool.{cases_eq, eq-eqb, ne_eqb, or_left, or_right, or_from, false_from_ne_true}
 use Rattle.std.proofs.lemmas.List.{map-append, length-set, length-map, get_or-set_same, get_or-set_other}
 use Rattle.std.proofs.lemmas.List.Folds.{list_any-append, list_any_at}
@@ -141,13 +142,9 @@ module _ (nodes with_node : List (Option Node)) (keys : List (Option ℕ)) (queu
             (list_any-append (is_by task) (queue_at (map (calls_in nodes) queues) slot) (called ∷ [])
             ∙ ap (λ b. waits_in task (queue_at (map (calls_in nodes) queues) slot) || b)
             (or_from (by == task) false (ne_eqb by task (λ same. differs (sym same))) refl)
-            ∙ or_nothing (waits_in task (queue_at (map (calls_in nodes) queues) slot))))
+            ∙ or-false (waits_in task (queue_at (map (calls_in nodes) queues) slot))))
       ]
     where
-      or_nothing : (b : Bool) → (b || false) ≡ b
-      or_nothing true = refl
-      or_nothing false = refl
-
       first_waits : (call : QueuedCall) → waits_in call.caller (call ∷ []) ≡ true
       first_waits call = or_left (call.caller == call.caller) false (eq-eqb _ _ refl)
 

@@ -9,7 +9,8 @@ use Rattle.ada_tables.specs.declared.layers.Layer.{Layer}
 use Rattle.ada_tables.specs.declared.layers.Layer.TheVariants.{Block as BlockLayer, Rendezvous as RendezvousLayer}
 use Rattle.ada_tables.specs.Layers.{members, member_of}
 use Rattle.ada_tables.specs.internal.Layers.{live_at}
-use Rattle.ada_tables.specs.Dependents.{Facts, task_at, is_block, has_block, up_to, holds, encloses}
+use Rattle.ada_events.specs.Holders.{is_block, has_block, up_to, holds, encloses}
+use Rattle.ada_tables.specs.Dependents.{Facts, task_at}
 use Rattle.ada_tables.specs.Counts.{facts}
 use Rattle.ada_tables.specs.internal.Counts.{record_at, AreCounted}
 use Rattle.ada_tables.proofs.Reaching.{Alike}

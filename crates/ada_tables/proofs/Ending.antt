@@ -8,7 +8,8 @@ use Rattle.ada_events.specs.declared.names.Master.TheVariants.{Body, Block}
 use Rattle.ada_tables.specs.declared.task.Task.{Task}
 use Rattle.ada_tables.specs.declared.phase.Phase.{Phase}
 use Rattle.ada_tables.specs.internal.Layers.{live_at}
-use Rattle.ada_tables.specs.Dependents.{Facts, task_at, has_block, holds, encloses, reaches, depends_on, is_terminated, is_live_dependent, live_dependents}
+use Rattle.ada_events.specs.Holders.{has_block, holds, encloses}
+use Rattle.ada_tables.specs.Dependents.{Facts, task_at, reaches, depends_on, is_terminated, is_live_dependent, live_dependents}
 use Rattle.ada_tables.specs.Counts.{facts_of, facts}
 use Rattle.ada_tables.specs.internal.Counts.{no_record, record_at, ChangesAlong, AreCounted}
 use Rattle.ada_tables.proofs.Reaching.{Alike, reaches_alike, led_alike}

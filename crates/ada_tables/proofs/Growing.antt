@@ -1,7 +1,8 @@
 -- One more task that may call, with its queues.
-use Rattle.std.proofs.Common.{◌≡◌, ℕ, zero, suc, ◌-◌, ◌<◌, Bool, true, false, ◌||◌, List, [], ◌∷◌, ◌++◌, length, get_or, map, Option, None, is_some, cond}
+use Rattle.std.proofs.Common.{◌≡◌, ℕ, zero, suc, ◌-◌, ◌<◌, false, ◌||◌, List, [], ◌∷◌, ◌++◌, length, get_or, map, Option, None, is_some, cond}
 use Rattle.std.proofs.Common.{refl, ap, sym, ◌∙◌, inl, inr, arith, length-append, replicate}
 use Rattle.std.specs.List.{sum_by}
+use Rattle.std.proofs.Math.Bool.{or-false}
 use Rattle.std.proofs.lemmas.Bool.{cases_lt}
 use Rattle.std.proofs.lemmas.List.{map-append, get_or_append_left, get_or-append_right, get_or-replicate, length-replicate}
 use Rattle.std.proofs.lemmas.List.Folds.{list_any-append}
@@ -35,10 +36,6 @@ idle_none task (suc many) = idle_none task many
 len_none : (many : ℕ) → sum_by (λ (queue : Queue). queue.len) (replicate many no_queue) ≡ 0
 len_none zero = refl
 len_none (suc many) = omega (arith, sum_by-cons (λ (queue : Queue). queue.len) no_queue (replicate many no_queue), len_none many)
-
-or_nothing : (b : Bool) → (b || false) ≡ b
-or_nothing true = refl
-or_nothing false = refl
 
 module _ (nodes : List (Option Node)) (keys : List (Option ℕ)) (queues : List Queue) (many : ℕ) (linked : AreLinked nodes keys queues) where
   abbrev with_caller : List (Option ℕ)
@@ -81,7 +78,7 @@ module _ (nodes : List (Option Node)) (keys : List (Option ℕ)) (queues : List 
         own = own_grown;
         waiting = λ task. rw (one_more keys task, grown_calls)
             (linked.waiting task ∙ sym (list_any-append (waits_in task) (map (calls_in nodes) queues) (replicate many [])
-            ∙ ap (λ b. waits task (map (calls_in nodes) queues) || b) (idle_none task many) ∙ or_nothing (waits task (map (calls_in nodes) queues))));
+            ∙ ap (λ b. waits task (map (calls_in nodes) queues) || b) (idle_none task many) ∙ or-false (waits task (map (calls_in nodes) queues))));
         total =
             omega (
               arith,

@@ -9,7 +9,8 @@ use Rattle.ada_tables.specs.declared.task.Task.{Task}
 use Rattle.ada_tables.specs.declared.layers.Layer.{Layer}
 use Rattle.ada_tables.specs.Layers.{members}
 use Rattle.ada_tables.specs.internal.Layers.{live_at}
-use Rattle.ada_tables.specs.Dependents.{Facts, task_at, has_block, reaches, depends_on, is_terminated, is_live_dependent, live_dependents, count_below}
+use Rattle.ada_events.specs.Holders.{has_block}
+use Rattle.ada_tables.specs.Dependents.{Facts, task_at, reaches, depends_on, is_terminated, is_live_dependent, live_dependents, count_below}
 use Rattle.ada_tables.specs.Counts.{facts_of, facts}
 use Rattle.ada_tables.specs.internal.Counts.{no_record, record_at, AreCounted, IsLed}
 use Rattle.ada_tables.proofs.Reaching.{reached_held, Alike, AlikeBut, alike_same, reaches_alike, led_alike, led_but}

@@ -1,6 +1,7 @@
 -- A nest grows or shrinks, and the counts stay right.
-use Rattle.std.proofs.Common.{subst, ◌≡◌, ◌≢◌, ℕ, ◌<◌, Bool, true, false, ◌||◌, List, [], ◌∷◌, ◌++◌, length, set, refl, ap, sym, ◌∙◌, arith, inl, inr}
+use Rattle.std.proofs.Common.{subst, ◌≡◌, ◌≢◌, ℕ, ◌<◌, true, false, ◌||◌, List, [], ◌∷◌, ◌++◌, length, set, refl, ap, sym, ◌∙◌, arith, inl, inr}
 use Rattle.std.specs.Prelude.{◌==◌}
+use Rattle.std.proofs.Math.Bool.{or-false}
 use Rattle.std.proofs.lemmas.Bool.{cases_Bool, both_ways, eqb-true, ne_eqb, or_left, or_from, false_from_ne_true}
 use Rattle.std.proofs.lemmas.List.{length-map, map-append}
 use Rattle.std.proofs.lemmas.List.Folds.{list_any-append}
@@ -12,17 +13,14 @@ use Rattle.ada_tables.specs.declared.task.Task.{Task}
 use Rattle.ada_tables.specs.declared.layers.Layer.{Layer}
 use Rattle.ada_tables.specs.Layers.{members, member_of}
 use Rattle.ada_tables.specs.internal.Layers.{layer_of, live_at}
-use Rattle.ada_tables.specs.Dependents.{Facts, task_at, is_block, has_block, holds, encloses, is_live_dependent, live_dependents}
+use Rattle.ada_events.specs.Holders.{is_block, has_block, holds, encloses}
+use Rattle.ada_tables.specs.Dependents.{Facts, task_at, is_live_dependent, live_dependents}
 use Rattle.ada_tables.specs.Counts.{facts}
 use Rattle.ada_tables.specs.internal.Counts.{record_at, AreCounted}
 use Rattle.ada_tables.proofs.Nests.{live_at-append, live_at-new, up_to-append}
 use Rattle.ada_tables.proofs.Reaching.{reached_held, Alike, AlikeBut}
 use Rattle.ada_tables.proofs.Alongs.{facts_at}
 use Rattle.ada_tables.proofs.Keeping.{nest_changed, ways_alike, ways_but, count_none}
-
-or_nothing : (b : Bool) → (b || false) ≡ b
-or_nothing true = refl
-or_nothing false = refl
 
 pub member_of-layer_of : (member : Member) → member_of (layer_of member) ≡ member
 member_of-layer_of (BlockMember block) = refl
@@ -46,7 +44,7 @@ alike_longer task call old nest is =
   where
     holding : (from : Master) → holds task (nest ++ Rendezvous call ∷ []) from ≡ holds task old.nest from
     holding (Body t) = refl
-    holding (Block block) = rw is (has_block-append block nest (Rendezvous call ∷ []) ∙ or_nothing (has_block block nest))
+    holding (Block block) = rw is (has_block-append block nest (Rendezvous call ∷ []) ∙ or-false (has_block block nest))
 
     enclosing : (from to : Master) → holds task old.nest from ≡ true → encloses task (nest ++ Rendezvous call ∷ []) from to ≡ encloses task old.nest from to
     enclosing (Body t) (Body u) held = refl
@@ -69,7 +67,7 @@ but_longer task block old nest is =
     holding (Block at) other =
         rw is (has_block-append at nest (BlockMember block ∷ [])
         ∙ ap (λ b. has_block at nest || b) (or_from (block == at) false (ne_eqb block at (λ same. other (ap Block (sym same)))) refl)
-        ∙ or_nothing (has_block at nest))
+        ∙ or-false (has_block at nest))
 
     enclosing : (from to : Master) → holds task old.nest from ≡ true → encloses task (nest ++ BlockMember block ∷ []) from to ≡ encloses task old.nest from to
     enclosing (Body t) (Body u) held = refl
@@ -91,7 +89,7 @@ module _ (tasks : List Task) (task : ℕ) (right : AreCounted tasks) (within : t
   pushed_rendezvous call =
       nest_changed tasks task (nest ++ layer_of (Rendezvous call) ∷ []) right within
       (λ block has.
-      let there : has_block block (members nest) ≡ true = sym (or_nothing (has_block block (members nest)))
+      let there : has_block block (members nest) ≡ true = sym (or-false (has_block block (members nest)))
       ∙ sym (has_block-append block (members nest) (Rendezvous call ∷ [])) ∙ ap (has_block block) (sym (members_pushed (Rendezvous call))) ∙ has in
       inl (stood block there, live_at-append block nest (layer_of (Rendezvous call) ∷ []) there))
       (ways_alike tasks task (nest ++ layer_of (Rendezvous call) ∷ []) right within
@@ -108,7 +106,7 @@ module _ (tasks : List Task) (task : ℕ) (right : AreCounted tasks) (within : t
         | inr new ↦
             let last : (has_block at (members nest) || ((block == at) || false)) ≡ true = sym (has_block-append at (members nest) (BlockMember block ∷ []))
             ∙ ap (has_block at) (sym (members_pushed (BlockMember block))) ∙ has in
-            let same : block ≡ at = eqb-true block at (sym (or_nothing (block == at)) ∙ rw new at last) in
+            let same : block ≡ at = eqb-true block at (sym (or-false (block == at)) ∙ rw new at last) in
             inr (subst (λ b. ((other : ℕ) → other < length tasks → has_block b (task_at (facts tasks) other).nest ≡ false)
             × (live_at b (nest ++ layer_of (BlockMember block) ∷ []) ≡ 0)) same
             (fresh, live_at-new block nest (ap (has_block block) (sym (nest_is tasks task)) ∙ fresh task within)))

@@ -9,7 +9,7 @@ use Rattle.ada_tables.specs.declared.layers.Layer.{Layer}
 use Rattle.ada_tables.specs.declared.layers.Layer.TheVariants.{Block as BlockLayer, Rendezvous as RendezvousLayer}
 use Rattle.ada_tables.specs.Layers.{member_of, members}
 use Rattle.ada_tables.specs.internal.Layers.{layer_of, is_block_at, live_of, moved, moved_to, live_at}
-use Rattle.ada_tables.specs.Dependents.{is_block, has_block, up_to}
+use Rattle.ada_events.specs.Holders.{is_block, has_block, up_to}
 
 pub is_block-member : (block : ℕ) (layer : Layer) → is_block block (member_of layer) ≡ is_block_at block layer
 is_block-member block (BlockLayer live opening) = refl

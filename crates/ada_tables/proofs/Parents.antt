@@ -9,7 +9,8 @@ use Rattle.ada_tables.specs.declared.task.Task.{Task}
 use Rattle.ada_tables.specs.Layers.{members, member_of}
 use Rattle.ada_tables.specs.internal.Layers.{is_block_at}
 use Rattle.ada_events.specs.declared.names.Master.TheVariants.{Block}
-use Rattle.ada_tables.specs.Dependents.{Facts, task_at, has_block, Stands, block_of, outside, parent_within, parent_from}
+use Rattle.ada_events.specs.Holders.{has_block}
+use Rattle.ada_tables.specs.Dependents.{Facts, task_at, Stands, block_of, outside, parent_within, parent_from}
 use Rattle.ada_tables.specs.Counts.{facts_of, facts}
 use Rattle.ada_tables.specs.internal.Counts.{no_record, record_at, StandAlone}
 use Rattle.ada_tables.proofs.Nesting.{nest_is}

@@ -6,7 +6,8 @@ use Rattle.ada_events.specs.declared.names.TaskNo.{TaskNo}
 use Rattle.ada_events.specs.declared.names.Master.{Master}
 use Rattle.ada_events.specs.declared.names.Master.TheVariants.{Body, Block}
 use Rattle.ada_tables.specs.declared.task.Task.{Task}
-use Rattle.ada_tables.specs.Dependents.{Facts, task_at, holds, encloses, passes, beyond, reaches, depends_on}
+use Rattle.ada_events.specs.Holders.{holds, encloses}
+use Rattle.ada_tables.specs.Dependents.{Facts, task_at, passes, beyond, reaches, depends_on}
 use Rattle.ada_tables.specs.Counts.{facts}
 use Rattle.ada_tables.specs.internal.Counts.{record_at, is_led, IsLed}
 use Rattle.ada_tables.proofs.Nests.{has_block-up_to, has_block-from_up_to}

@@ -12,7 +12,8 @@ use Rattle.ada_tables.specs.declared.layers.Layer.TheVariants.{Rendezvous as Ren
 use Rattle.ada_tables.specs.declared.phase.Phase.{Phase}
 use Rattle.ada_tables.specs.Layers.{members, member_of}
 use Rattle.ada_tables.specs.internal.Layers.{layer_of, live_at}
-use Rattle.ada_tables.specs.Dependents.{Facts, task_at, has_block, depends_on, is_terminated, live_dependents, holds, cut, Known}
+use Rattle.ada_events.specs.Holders.{has_block, holds}
+use Rattle.ada_tables.specs.Dependents.{Facts, task_at, depends_on, is_terminated, live_dependents, cut, Known}
 use Rattle.ada_tables.specs.Counts.{facts_of, facts, first_slots}
 use Rattle.ada_tables.specs.internal.Counts.{no_record, record_at, ChangesAlong, StandAlone, AreCounted, IsLed, is_led}
 use Rattle.ada_tables.proofs.Alongs.{facts_at, first_slot_at, first_slots-set}

@@ -5,7 +5,8 @@ use Rattle.ada_events.specs.declared.names.Master.{Master}
 use Rattle.std.proofs.lemmas.List.{get_or_default}
 use Rattle.ada_tables.specs.declared.task.Task.{Task}
 use Rattle.ada_tables.specs.Layers.{members}
-use Rattle.ada_tables.specs.Dependents.{Facts, task_at, holds, encloses, reaches, depends_on, count_below}
+use Rattle.ada_events.specs.Holders.{holds, encloses}
+use Rattle.ada_tables.specs.Dependents.{Facts, task_at, reaches, depends_on, count_below}
 use Rattle.ada_tables.specs.Counts.{facts}
 use Rattle.ada_tables.specs.internal.Counts.{no_record, record_at, IsLed}
 use Rattle.ada_tables.proofs.Reaching.{reaches_none, Leads, leads}

@@ -4,12 +4,12 @@
 -- parents.
 use Rattle.std.specs.Prelude.{◌≡◌, ℕ, zero, suc, ◌<◌, Bool, true, false, not, ◌==◌, ◌+◌, ◌&&◌, ◌||◌, if◌then◌else◌, Option, Some, None, List, [], ◌∷◌, length}
 use Rattle.std.specs.Prelude.{slice_index_or}
-use Rattle.std.specs.List.{list_any}
 use Rattle.ada_events.specs.declared.names.Family.{Family}
 use Rattle.ada_events.specs.declared.names.Master.{Master}
 use Rattle.ada_events.specs.declared.names.Master.TheVariants.{Body, Block}
 use Rattle.ada_events.specs.declared.names.Member.{Member}
 use Rattle.ada_events.specs.declared.names.Member.TheVariants.{Block as BlockMember, Rendezvous}
+use Rattle.ada_events.specs.Holders.{is_block, has_block, holds, encloses}
 use Rattle.ada_tables.specs.declared.phase.Phase.{Phase}
 use Rattle.ada_tables.specs.declared.phase.Phase.TheVariants.{Unstarted, Terminated}
 use Rattle.std.specs.Prelude.{slice_set}
@@ -29,31 +29,6 @@ nobody = record { master = None; families = []; nest = []; phase = Unstarted }
 
 abbrev pub task_at : List Facts → ℕ → Facts
 task_at tasks task = slice_index_or tasks task nobody
-
--- the member is the block that was opened at a position
-abbrev pub is_block : ℕ → Member → Bool
-is_block position (BlockMember opened) = opened == position
-is_block position (Rendezvous call) = false
-
--- the block stands in the nest
-abbrev pub has_block : ℕ → List Member → Bool
-has_block block nest = list_any (is_block block) nest
-
--- a nest from its outermost member up to a block
-abbrev pub up_to : ℕ → List Member → List Member
-up_to block [] = []
-up_to block (member ∷ rest) = member ∷ (if is_block block member then [] else up_to block rest)
-
--- the master is the body of the task of that number, or a block of its nest
-abbrev pub holds : ℕ → List Member → Master → Bool
-holds task nest (Body t) = t.0 == task
-holds task nest (Block block) = has_block block nest
-
--- of two masters that a task holds, the second is the first or stands outside it
-abbrev pub encloses : ℕ → List Member → Master → Master → Bool
-encloses task nest from (Body t) = t.0 == task
-encloses task nest (Body t) (Block block) = false
-encloses task nest (Block inner) (Block block) = has_block block (up_to inner nest)
 
 -- the second master is passed on the way from the first out of a task
 abbrev pub passes : ℕ → Facts → Option Master → Master → Bool

@@ -4,7 +4,8 @@ ghost use Rattle.std.specs.List.{list_any};
 ghost use Rattle.ada_tables.specs.Layers.{member_of, members};
 ghost use Rattle.ada_tables.specs.internal.Layers as nests;
 ghost use Rattle.ada_tables.specs.declared.layers.Layer.TheVariants.{Block};
-ghost use Rattle.ada_tables.specs.Dependents.{has_block, up_to, block_of, outside};
+ghost use Rattle.ada_events.specs.Holders.{has_block, up_to};
+ghost use Rattle.ada_tables.specs.Dependents.{block_of, outside};
 ghost use Rattle.ada_tables.specs.internal.Changes.{changed};
 ghost use Rattle.ada_events.specs.declared.limits.TheConstants.{MOST_MEMBERS};
 

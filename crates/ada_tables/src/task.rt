@@ -1,7 +1,8 @@
 //! The record of one task.
 ghost use Rattle.std.specs.Prelude.{◌≡◌, true, false};
 ghost use Rattle.ada_tables.specs.Layers.{members};
-ghost use Rattle.ada_tables.specs.Dependents.{holds, encloses, parent_within};
+ghost use Rattle.ada_events.specs.Holders.{holds, encloses};
+ghost use Rattle.ada_tables.specs.Dependents.{parent_within};
 ghost use Rattle.ada_tables.specs.internal.Counts.{recounted, made};
 
 use crate::change::Change;

@@ -3,7 +3,8 @@ ghost use Rattle.std.specs.Prelude.{◌≡◌, ◌-◌, ◌<◌, ◌≤◌, Some
 ghost use Rattle.std.specs.Option.{ForSome};
 ghost use Rattle.ada_events.specs.Nests.{innermost};
 ghost use Rattle.ada_tables.specs.Layers.{members};
-ghost use Rattle.ada_tables.specs.Dependents.{depends_on, task_at, has_block, holds, cut, is_terminated, parent_of, made_facts, with_nest, with_phase};
+ghost use Rattle.ada_events.specs.Holders.{has_block, holds};
+ghost use Rattle.ada_tables.specs.Dependents.{depends_on, task_at, cut, is_terminated, parent_of, made_facts, with_nest, with_phase};
 ghost use Rattle.ada_tables.specs.Dependents.{live_dependents, Stands};
 ghost use Rattle.ada_tables.specs.Dependents.{IsOpen, IsFresh, IsIdle};
 ghost use Rattle.ada_tables.specs.Counts.{facts, first_slots};

@@ -6,7 +6,7 @@ use Rattle.ada_events.specs.declared.event.Event.TheVariants.{Closed, Aborted}
 use Rattle.ada_events.specs.declared.limits.TheConstants.{MOST_TASKS}
 use Rattle.ada_events.specs.declared.names.TaskNo.{TaskNo}
 use Rattle.ada_events.specs.declared.names.Master.TheVariants.{Block}
-use Rattle.ada_events.specs.Says.{Closing, closing_in, aborted_in, creation_in}
+use Rattle.ada_events.specs.Says.{Closing, aborted_in, creation_in}
 use Rattle.ada_events.specs.Tasks.{task_count}
 use Rattle.ada_events.specs.Tasks.{has_task}
 use Rattle.ada_events.specs.Phases.{is_abnormal, is_terminated}
@@ -29,8 +29,9 @@ use Rattle.ada_step_laws.proofs.newly.StartedTasks.{created_exists}
 use Rattle.ada_step_laws.proofs.newly.Adding.{agendas_stay}
 use Rattle.ada_agenda.proofs.Noting.{noted_giving, own_is}
 use Rattle.ada_step_laws.proofs.newly.Places.{closing_open}
+use Rattle.ada_step_laws.proofs.changing.NestKinds.{closed_says}
 use Rattle.ada_records.specs.Records.{ListsLive, is_hit}
-use Rattle.ada_records.proofs.holding.Owners.{nest_has_block}
+use Rattle.ada_laws.proofs.within.Owners.{nest_has_block}
 use Rattle.ada_view.specs.Flags.{AreNamed}
 use Rattle.ada_view.specs.Views.{IsHeldBySome}
 use Rattle.ada_view.proofs.Blocks.{opener_exists}
@@ -49,21 +50,16 @@ pub nothing_noted : (event : Event) (before : List Event) (old : List (List ℕ)
 nothing_noted event before old lawful agenda nothing =
     record { covers = agendas_stay event before (has_key old) lawful agenda.covers nothing }
 
--- a close
-closing_here : (by : TaskNo) (block : ℕ) → closing_in (Closed by block) ≡ Some (record { by = by.0; block = block })
-unfolding closing_in
-closing_here by block = refl
-
 pub closed_fits : (before : List Event) (by : TaskNo) (block : ℕ) → IsLawful (Closed by block ∷ before) → block < MOST_KEYS
 closed_fits before by block lawful =
     let closing : Closing = record { by = by.0; block = block } in
-    block_fits before by.0 block lawful.0 (closing_open (Closed by block) before closing lawful.1 (closing_here by block)).block
+    block_fits before by.0 block lawful.0 (closing_open (Closed by block) before closing lawful.1 (closed_says by block)).block
 
 -- who closes a block is within it
 pub close_held : (before : List Event) (by : TaskNo) (block : ℕ) → IsLawful (Closed by block ∷ before) → IsHeldBySome before (Block block)
 close_held before by block lawful =
     let closing : Closing = record { by = by.0; block = block } in
-    let opened = closing_open (Closed by block) before closing lawful.1 (closing_here by block) in
+    let opened = closing_open (Closed by block) before closing lawful.1 (closed_says by block) in
     let own = opened.block in
     record {
       task = by.0;

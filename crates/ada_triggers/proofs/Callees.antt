@@ -25,7 +25,7 @@ use Rattle.ada_step_laws.specs.Kinds.OfHalt.{completes, quits_block, empties}
 use Rattle.ada_step_laws.specs.Kinds.OfCancellation.{quits as quits_with}
 use Rattle.ada_step_laws.specs.Held.{IsHeldAt}
 use Rattle.ada_agenda.proofs.Noting.{grows_same, held_there, noted_giving}
-use Rattle.ada_records.proofs.holding.Owners.{has_contained}
+use Rattle.ada_laws.proofs.within.Owners.{has_contained}
 use Rattle.ada_triggers.specs.internal.Keys.{OfFirst, AsBlock, AsCompletion, AsDependent, AsCalleeAt, may_quit}
 use Rattle.ada_triggers.specs.internal.Keys.AsMember.{block}
 use Rattle.ada_triggers.specs.internal.Keys.AsHolder.{quits}

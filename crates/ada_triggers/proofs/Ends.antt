@@ -36,9 +36,9 @@ use Rattle.ada_step_laws.proofs.newly.StartedTasks.{created_exists}
 use Rattle.ada_step_laws.proofs.newly.Depending.{quits_live}
 use Rattle.ada_agenda.proofs.Noting.{grows_same, noted, noted_giving}
 use Rattle.ada_step_laws.proofs.newly.Refining.{task_step, position_step, quits_block}
-use Rattle.ada_records.specs.Holders.{IsHeld}
-use Rattle.ada_records.proofs.holding.LiveHolders.{of_master}
-use Rattle.ada_records.proofs.holding.Owners.{has_contained}
+use Rattle.ada_step_laws.specs.Holders.{IsHeld}
+use Rattle.ada_step_laws.proofs.holding.LiveHolders.{of_master}
+use Rattle.ada_laws.proofs.within.Owners.{has_contained}
 use Rattle.ada_view.proofs.Orphans.{gone_stays}
 use Rattle.ada_triggers.specs.internal.Keys.{AsHeld, AsUncallable, AsDependent, AsActivation, AsCompletion}
 use Rattle.ada_agenda.specs.Keeping.AsKey.{itself}

@@ -13,7 +13,7 @@ use Rattle.ada_events.specs.Phases.{has_start, is_completed, is_terminated}
 use Rattle.ada_events.specs.Termination.{is_complete, is_abandoned, all_terminated}
 use Rattle.ada_events.specs.Forced.{task_no, is_to_go, is_to_quit}
 use Rattle.ada_laws.proofs.within.Depending.{created_positive}
-use Rattle.ada_laws.proofs.searching.Growing.{is_terminated-more}
+use Rattle.ada_laws.proofs.searching.Growing.{is_terminated-more, is_completed-same}
 use Rattle.ada_laws.proofs.searching.Searching.{then_some-some, option_map_or-true}
 use Rattle.ada_step_laws.specs.declared.row.Row.TheVariants.{Terminating, QuittingBody}
 use Rattle.ada_step_laws.specs.Rows.{step_at}
@@ -42,11 +42,6 @@ goes_so journal t goes =
           (and_from (not (has_start journal t)) (not (t == 0)) (and_parts _ (not (has_start journal t)) abandoned).1 (not_main journal t abandoned))
     ]
 
--- an event that completes nobody leaves it so
-uncompleted : (event : Event) (before : List Event) (t : ℕ) → completed_in event ≡ None → is_completed (event ∷ before) t ≡ is_completed before t
-unfolding is_completed
-uncompleted event before t none = rw none refl
-
 unstarted : (event : Event) (before : List Event) (t : ℕ) → not (has_start (event ∷ before) t) ≡ true → not (has_start before t) ≡ true
 unfolding has_start
 unstarted event before t never =
@@ -59,7 +54,7 @@ goer event step before t none gives =
     let after = event ∷ before in
     let goes = (then_some-some (is_to_go after t) (Gone (task_no t)) step (task_step after Terminating t step refl gives)).0 in
     elim (or_cases (is_completed after t) (not (has_start after t) && not (t == 0)) (goes_so after t goes)) [
-      | inl done ↦ or_left (is_completed before t) _ (sym (uncompleted event before t none) ∙ done)
+      | inl done ↦ or_left (is_completed before t) _ (sym (is_completed-same event before t none) ∙ done)
       | inr never ↦
           let both = and_parts (not (has_start after t)) (not (t == 0)) never in
           or_right (is_completed before t) _
@@ -92,7 +87,7 @@ pub quitter : (event step : Event) (before : List Event) (m : Master) → comple
 quitter event step before (Body t) none gives =
     let quits = (then_some-some (is_to_quit (event ∷ before) (Body (task_no t.0))) (Quit (Body (task_no t.0))) step
     (task_step (event ∷ before) QuittingBody t.0 step refl gives)).0 in
-    sym (uncompleted event before t.0 none) ∙ body_done (event ∷ before) t quits
+    sym (is_completed-same event before t.0 none) ∙ body_done (event ∷ before) t quits
 quitter event step before (Block p) none gives = refl
 
 -- where the event completes a task, the body may be that task's own

@@ -17,13 +17,13 @@ use Rattle.ada_laws.proofs.asking.LimitLaws.{events_are_few}
 use Rattle.ada_laws.proofs.within.Framing.{IsBlockOf}
 use Rattle.ada_step_laws.specs.declared.row.Row.{Row}
 use Rattle.ada_step_laws.specs.declared.row.Row.TheVariants.{Terminating, QuittingBody, QuittingBlock, Leaving}
-use Rattle.ada_tables.specs.Dependents.{has_block, holds}
+use Rattle.ada_events.specs.Holders.{has_block, holds}
 use Rattle.ada_agenda.specs.declared.numbers.TheConstants.{MOST_KEYS}
 use Rattle.ada_agenda.specs.Keeping.{has_key, Puts, When, AsKey}
 use Rattle.ada_agenda.specs.internal.Keeping.{Both}
 use Rattle.ada_step_laws.specs.Kinds.{quitting_row, quitting_key}
 use Rattle.ada_agenda.proofs.Noting.{grows_same}
-use Rattle.ada_records.proofs.holding.Owners.{block_in_nest, contains_block, has_contained}
+use Rattle.ada_laws.proofs.within.Owners.{block_in_nest, contains_block, has_contained}
 use Rattle.ada_tables.specs.declared.layers.Layer.{Layer}
 use Rattle.ada_tables.specs.Layers.{member_of, members}
 use Rattle.std.proofs.lemmas.List.{length-map}

@@ -19,12 +19,12 @@ use Rattle.ada_laws.proofs.searching.Searching.{option_map-some, option_map_or-t
 use Rattle.ada_laws.proofs.within.Depending.{depends_exists}
 use Rattle.ada_laws.proofs.within.Parents.{tasks_depend_by_parents}
 use Rattle.ada_step_laws.specs.declared.row.Row.{Row}
-use Rattle.ada_tables.specs.Dependents.{holds, encloses}
+use Rattle.ada_events.specs.Holders.{holds, encloses}
 use Rattle.ada_agenda.specs.Keeping.{has_key, Grows, Puts}
 use Rattle.ada_agenda.proofs.Noting.{grows_same, grows_on}
-use Rattle.ada_records.proofs.holding.LiveHolders.{within, masters_are_held}
-use Rattle.ada_records.proofs.holding.Enclosing.{reaches_held}
-use Rattle.ada_records.proofs.holding.Owners.{block_in_nest, one_holder}
+use Rattle.ada_step_laws.proofs.holding.LiveHolders.{within, masters_are_held}
+use Rattle.ada_step_laws.proofs.holding.Enclosing.{reaches_held}
+use Rattle.ada_laws.proofs.within.Owners.{block_in_nest, one_holder}
 use Rattle.ada_triggers.specs.internal.Keys.{AsHolder, AsDependent, holder_of, holder_above}
 use Rattle.ada_triggers.specs.internal.Keys.AsDependent.{through}
 

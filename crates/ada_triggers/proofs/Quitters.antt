@@ -41,7 +41,7 @@ use Rattle.ada_step_laws.proofs.newly.Refining.{older_step}
 use Rattle.ada_step_laws.proofs.newly.Releases.{same_event}
 use Rattle.ada_step_laws.proofs.newly.Unstarted.{quit_quits}
 use Rattle.ada_step_laws.proofs.newly.Waiting.{IsReady, at_wait, ready_parts}
-use Rattle.ada_records.proofs.holding.PendingNests.{open_terminates_are_in_no_rendezvous}
+use Rattle.ada_step_laws.proofs.holding.PendingNests.{open_terminates_are_in_no_rendezvous}
 
 -- what the event says
 pub quit_says : (m : Master) → quit_in (Quit m) ≡ Some m

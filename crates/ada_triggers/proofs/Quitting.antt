@@ -1,7 +1,7 @@
 -- What is put into an agenda where all that depend on a master terminate together: what the master may force, what those
 -- may on which its task depends, and that tasks go that were never started.
 use Rattle.std.proofs.Common.{◌≡◌, ℕ, ◌⊎◌, ◌<◌, true, false, not, Option, Some, None, List, [], ◌∷◌, sym, refl, ap, ◌∙◌, subst, arith, inl, inr}
-use Rattle.std.proofs.lemmas.Bool.{and_parts, or_cases, or_parts, not-true, both_ways, eqb-true}
+use Rattle.std.proofs.lemmas.Bool.{and_parts, or_cases, not-true, both_ways, eqb-true}
 use Rattle.std.proofs.lemmas.Option.{none-some, same_Some}
 use Rattle.ada_events.specs.declared.event.Event.{Event}
 use Rattle.ada_events.specs.declared.event.Event.TheVariants.{Closed, Gone, Quit}
@@ -12,7 +12,7 @@ use Rattle.ada_events.specs.Search.{is_some_and, event_at}
 use Rattle.ada_events.specs.Says.{Creation, Closing, wait_in, closing_in, completed_in}
 use Rattle.ada_events.specs.Tasks.{task_count, creation_of}
 use Rattle.ada_events.specs.Masters.{same_master, parent_in, reaches, depends_on}
-use Rattle.ada_events.specs.Phases.{is_completed, is_terminated, has_ended}
+use Rattle.ada_events.specs.Phases.{is_terminated}
 use Rattle.ada_events.specs.Nests.{nest}
 use Rattle.ada_events.specs.Forced.{task_no, is_to_go, is_to_quit}
 use Rattle.ada_events.specs.Lawful.{IsLawful}
@@ -26,7 +26,7 @@ use Rattle.ada_laws.proofs.held.Suspending.{suspended_exists, suspended_once}
 use Rattle.ada_step_laws.specs.Rows.{step_at}
 use Rattle.ada_step_laws.specs.declared.row.Row.{Row}
 use Rattle.ada_step_laws.specs.declared.row.Row.TheVariants.{Terminating, QuittingBody, QuittingBlock, Leaving}
-use Rattle.ada_tables.specs.Dependents.{holds, encloses}
+use Rattle.ada_events.specs.Holders.{holds, encloses}
 use Rattle.ada_agenda.specs.Keeping.{has_key, IsAgendaOf, Puts, KeepsUp}
 use Rattle.ada_agenda.specs.internal.Keeping.{Both}
 use Rattle.ada_step_laws.specs.Kinds.{quitting_row, quitting_key, IsLeaving, OfTermination, OfQuit}
@@ -35,13 +35,13 @@ use Rattle.ada_step_laws.specs.Kinds.OfQuit.{ends, abandons}
 use Rattle.ada_step_laws.proofs.newly.StartedTasks.{created_exists}
 use Rattle.ada_step_laws.proofs.newly.Depending.{quits_live}
 use Rattle.ada_agenda.proofs.Noting.{grows_same, noted_giving}
-use Rattle.ada_step_laws.proofs.newly.Quitting.{IsQuitter, live_depends}
+use Rattle.ada_step_laws.proofs.newly.Quitting.{IsQuitter, live_depends, unended_live}
 use Rattle.ada_step_laws.proofs.newly.Refining.{task_step, position_step, quits_body, quits_block}
 use Rattle.ada_step_laws.proofs.newly.Releases.{same_event}
 use Rattle.ada_step_laws.proofs.newly.Waiting.{at_wait}
-use Rattle.ada_records.specs.Holders.{IsHeld}
-use Rattle.ada_records.proofs.holding.Enclosing.{reaches_held}
-use Rattle.ada_records.proofs.holding.Owners.{has_contained, one_holder}
+use Rattle.ada_step_laws.specs.Holders.{IsHeld}
+use Rattle.ada_step_laws.proofs.holding.Enclosing.{reaches_held}
+use Rattle.ada_laws.proofs.within.Owners.{has_contained, one_holder}
 use Rattle.ada_triggers.specs.internal.Keys.{OfFirst, AsUnstarted, AsHolder, AsDependent, AsMaster, holder_of}
 use Rattle.ada_triggers.specs.internal.Keys.AsUnstarted.{goes}
 use Rattle.ada_triggers.specs.internal.Keys.AsHolder.{quits, goes as holder_goes, leaves}
@@ -186,10 +186,6 @@ close_waits_none : (e : Event) (k : Closing) → closing_in e ≡ Some k → wai
 unfolding closing_in wait_in
 close_waits_none (Closed by block) k says = refl
 close_waits_none _ k says = absurd (none-some k says)
-
-unended_live : (journal : List Event) (t : ℕ) → has_ended journal t ≡ false → is_terminated journal t ≡ false
-unfolding has_ended
-unended_live journal t live = (or_parts (is_completed journal t) (is_terminated journal t) live).1
 
 -- who is suspended at a close doesn't terminate with the others
 closer_apart : (m : Master) (before : List Event) (block p : ℕ) → IsLawful (Quit m ∷ before) → (leaving : IsLeaving before block p)

@@ -34,9 +34,9 @@ use Rattle.ada_records.specs.Records.{IsRecordOf}
 use Rattle.ada_records.specs.RecordedStates.{has_ended_by}
 use Rattle.ada_records.proofs.recording.Queries.{records_tell}
 use Rattle.ada_step_laws.proofs.newly.Completing.{any_at}
-use Rattle.ada_tables.specs.Dependents.{has_block}
-use Rattle.ada_records.proofs.holding.Owners.{block_in_nest, nest_has_block}
-use Rattle.ada_records.proofs.holding.LiveHolders.{a_left_block_has_no_live_dependent}
+use Rattle.ada_events.specs.Holders.{has_block}
+use Rattle.ada_laws.proofs.within.Owners.{block_in_nest, nest_has_block}
+use Rattle.ada_step_laws.proofs.holding.LiveHolders.{a_left_block_has_no_live_dependent}
 use Rattle.ada_view.specs.internal.Ending.{closes, closes_at}
 use Rattle.ada_view.proofs.Closing.{closed_at}
 use Rattle.ada_view.proofs.Pending.{held_there}
@@ -119,12 +119,6 @@ deserted journal by block lawful own without =
     ended : (u : ℕ) (d : Bool) → depends_on journal u (Block block) ≡ d → (not (depends_on journal u (Block block)) || is_terminated journal u) ≡ true
     ended u false apart = rw apart refl
     ended u true depends = rw depends (a_left_block_has_no_live_dependent journal block u lawful left depends)
-
-pub ended_or : (e c : Bool) → e ≡ true → e ≡ (e || c)
-ended_or e c is = rw is refl
-
-pub else_closed : (e c : Bool) → e ≡ false → c ≡ (e || c)
-else_closed e c isnt = rw isnt refl
 
 -- a block that is left has nobody who is to quit
 pub left_stays : (journal : List Event) (by : TaskNo) (under : Master) (at : ℕ) → IsLawful journal → event_at journal at ≡ Some (Opened by under)

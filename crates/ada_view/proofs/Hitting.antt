@@ -21,27 +21,22 @@ use Rattle.ada_events.specs.Lawful.{IsLawful}
 use Rattle.ada_laws.proofs.searching.Searching.{option_map-some}
 use Rattle.ada_laws.proofs.within.Parents.{tasks_depend_by_parents}
 use Rattle.ada_records.specs.Records.{is_hit}
-use Rattle.ada_records.specs.Holders.{IsHeld}
-use Rattle.ada_tables.specs.Dependents.{holds}
-use Rattle.ada_records.proofs.holding.Enclosing.{reaches_held}
-use Rattle.ada_records.proofs.holding.LiveHolders.{masters_are_held}
-use Rattle.ada_records.proofs.holding.Owners.{block_in_nest}
+use Rattle.ada_step_laws.specs.Holders.{IsHeld}
+use Rattle.ada_events.specs.Holders.{holds}
+use Rattle.ada_step_laws.proofs.holding.Enclosing.{reaches_held}
+use Rattle.ada_step_laws.proofs.holding.LiveHolders.{masters_are_held}
+use Rattle.ada_step_laws.proofs.changing.QueueChanges.{or_swap}
+use Rattle.ada_laws.proofs.within.Owners.{block_in_nest}
 use Rattle.ada_view.specs.internal.Hitting.{TellsOfLive, hits_bodies}
 
 any_same : (one other : TaskNo → Bool) (tasks : List TaskNo) → ((t : TaskNo) → one t ≡ other t) → list_any one tasks ≡ list_any other tasks
 any_same one other [] same = refl
 any_same one other (t ∷ rest) same = rw (same t, any_same one other rest same) refl
 
-or_both : (a b c d : Bool) → ((a || b) || (c || d)) ≡ ((a || c) || (b || d))
-or_both true b c d = refl
-or_both false true true d = refl
-or_both false true false d = refl
-or_both false false c d = refl
-
 any_or : (one other : TaskNo → Bool) (tasks : List TaskNo) → list_any (λ (t : TaskNo). one t || other t) tasks ≡ (list_any one tasks || list_any other tasks)
 any_or one other [] = refl
 any_or one other (t ∷ rest) =
-    ap (λ (b : Bool). (one t || other t) || b) (any_or one other rest) ∙ or_both (one t) (other t) (list_any one rest) (list_any other rest)
+    ap (λ (b : Bool). (one t || other t) || b) (any_or one other rest) ∙ or_swap (one t) (other t) (list_any one rest) (list_any other rest)
 
 any_none : (tasks : List TaskNo) → list_any (λ (t : TaskNo). false) tasks ≡ false
 any_none [] = refl

@@ -16,12 +16,13 @@ use Rattle.ada_events.specs.Nests.{nest}
 use Rattle.ada_events.specs.Termination.{all_terminated}
 use Rattle.ada_events.specs.Lawful.{IsLawful}
 use Rattle.ada_laws.proofs.held.Suspending.{suspended_exists}
-use Rattle.ada_tables.specs.Dependents.{Facts, Stands, count_below, holds, live_dependents}
+use Rattle.ada_events.specs.Holders.{holds}
+use Rattle.ada_tables.specs.Dependents.{Facts, Stands, count_below, live_dependents}
 use Rattle.ada_tables.specs.Tables.{TableState}
 use Rattle.ada_tables.specs.Standing.{StandFor}
 use Rattle.ada_step_laws.proofs.newly.Places.{closer_within}
 use Rattle.ada_step_laws.proofs.newly.Waiting.{suspended_at}
-use Rattle.ada_records.proofs.holding.Owners.{has_contained}
+use Rattle.ada_laws.proofs.within.Owners.{has_contained}
 use Rattle.ada_view.specs.Views.{IsHeldBySome}
 
 -- a master that a task holds stands in the tables

@@ -24,8 +24,8 @@ use Rattle.ada_step_laws.specs.declared.row.Row.TheVariants.{Terminating}
 use Rattle.ada_step_laws.specs.Rows.{step_at}
 use Rattle.ada_step_laws.proofs.newly.Completing.{unclosed_unleft}
 use Rattle.ada_step_laws.proofs.newly.Places.{closer_owns}
-use Rattle.ada_tables.specs.Dependents.{has_block}
-use Rattle.ada_records.proofs.holding.Owners.{nest_has_block}
+use Rattle.ada_events.specs.Holders.{has_block}
+use Rattle.ada_laws.proofs.within.Owners.{nest_has_block}
 use Rattle.ada_view.specs.internal.Ending.{closes}
 use Rattle.ada_view.proofs.Closing.{any_found}
 

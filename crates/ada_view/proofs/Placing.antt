@@ -15,12 +15,13 @@ use Rattle.ada_events.specs.Says.{Creation, creation_in}
 use Rattle.ada_events.specs.Slots.{number_within, slot_made, slot_of, count_at}
 use Rattle.ada_events.specs.Tasks.{task_count, families_of}
 use Rattle.ada_laws.proofs.entries.SlotPlaces.{no_slot, entries_stand_at_their_slots, declared_entries_have_slots}
+use Rattle.ada_laws.proofs.searching.Growing.{task_count-same}
 use Rattle.ada_tables.specs.Dependents.{Facts, task_at}
 use Rattle.ada_tables.specs.Queues.{queue_at}
 use Rattle.ada_tables.specs.Tables.{TableState, slot_at, slots_before, declared, HasEntry}
 use Rattle.ada_tables.specs.Standing.{StandFor}
 use Rattle.ada_records.proofs.following.Entries.{families_stay}
-use Rattle.ada_records.proofs.following.SlotsApart.{HaveFamilies, slots_counted, slots_held, slot_found, number_found, main_families, same_tasks, new_families}
+use Rattle.ada_records.proofs.following.SlotsApart.{HaveFamilies, slots_counted, slots_held, slot_found, number_found, main_families, new_families}
 use Rattle.ada_records.proofs.following.SlotsApart.{one_more_task}
 use Rattle.ada_view.proofs.Counting.{length_told}
 
@@ -74,7 +75,7 @@ slot_is tasks (event ∷ before) task entry have known =
         → option_or (slot_made before event task entry) (slot_of before task entry) ≡ slot_by tasks task entry
     by_creation None makes was =
         ap (λ (o : Option ℕ). option_or o (slot_of before task entry)) (none_made before event task entry makes)
-        ∙ was (omega (arith, known, same_tasks event before makes))
+        ∙ was (omega (arith, known, task_count-same event before makes))
     by_creation (Some c) makes was =
         elim (cases_eq task (task_count before)) [
           | inl this ↦

@@ -7,7 +7,7 @@ use Rattle.ada_events.specs.Nests.{nest}
 use Rattle.ada_events.specs.Lawful.{IsLawful}
 use Rattle.ada_records.specs.declared.record.Record.{Record}
 use Rattle.ada_records.specs.Records.{AreRecords, IsRecordOf}
-use Rattle.ada_tables.specs.Dependents.{holds}
+use Rattle.ada_events.specs.Holders.{holds}
 use Rattle.ada_tables.specs.Tables.{TableState}
 use Rattle.ada_tables.specs.Standing.{StandFor}
 

@@ -16,7 +16,7 @@ ghost use Rattle.ada_step_laws.specs.declared.row.Row.TheVariants as row;
 ghost use Rattle.ada_events.specs.Tasks.{task_count};
 ghost use Rattle.ada_view.specs.internal.Ending.{IsOfOpener, closes_at};
 ghost use Rattle.ada_view.specs.Views.{IsHeldBySome};
-ghost use Rattle.ada_tables.specs.Dependents.{has_block};
+ghost use Rattle.ada_events.specs.Holders.{has_block};
 
 use crate::view::View;
 use ada_events::{Event, Master, TaskNo};

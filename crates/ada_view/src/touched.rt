@@ -8,7 +8,7 @@ ghost use Rattle.ada_events.specs.Nests.{nest};
 ghost use Rattle.ada_events.specs.Phases.{is_terminated, lists_task};
 ghost use Rattle.ada_events.specs.Tasks.{task_count};
 ghost use Rattle.ada_events.specs.declared.names.TaskNo.{TaskNo as Number};
-ghost use Rattle.ada_tables.specs.Dependents.{holds};
+ghost use Rattle.ada_events.specs.Holders.{holds};
 ghost use Rattle.ada_records.specs.Records as records;
 ghost use Rattle.ada_view.specs.Flags.{AreNamed};
 ghost use Rattle.ada_view.specs.internal.Hitting.{TellsOfLive, hits_bodies};

@@ -35,10 +35,7 @@ use Rattle.ada_waiting.specs.Awaited.{has_made, is_started_at, is_called, is_liv
 use Rattle.ada_waiting.specs.Laws.{OnlyLiveTasksAreAwaited}
 use Rattle.ada_waiting.proofs.Holding.{suspended_at_from}
 use Rattle.ada_waiting.proofs.Settling.{settled_gives_nothing}
-
-unended : (journal : List Event) (task : ℕ) → has_ended journal task ≡ false → is_terminated journal task ≡ false
-unfolding has_ended
-unended journal task live = (or_parts (is_completed journal task) (is_terminated journal task) live).1
+use Rattle.ada_step_laws.proofs.newly.Quitting.{unended_live}
 
 -- ---- where a reason comes from
 
@@ -119,7 +116,7 @@ called_live journal task call other settled h called =
     let opened = calls_that_suspend_are_open journal c call (record { event = e; stands = stands; says = says })
     (subst (λ t. IsSuspendedAt journal t call) (sym by) h) in
     subst (λ t. is_terminated journal t ≡ false) (eqb-true c.callee other of)
-    (unended journal c.callee (no_open_call_to_a_finished_task journal settled c call opened).0)
+    (unended_live journal c.callee (no_open_call_to_a_finished_task journal settled c call opened).0)
 
 -- a task that isn't started, and hasn't ended, is named by no start
 pub no_start : (journal : List Event) (task : ℕ) → has_ended journal task ≡ false → is_started journal task ≡ false → has_start journal task ≡ false
@@ -171,7 +168,7 @@ held_awaits : (journal : List Event) (task other : ℕ) (r : Reason) → IsSettl
 unfolding awaits place
 held_awaits journal task other reason.NotStarted settled at waits = absurd (none-some at.position at.named)
 held_awaits journal task other (reason.Activating start) settled at waits =
-    unended journal other (three_parts (is_started_at journal start other) (is_elaborated journal other) (has_ended journal other) waits).2
+    unended_live journal other (three_parts (is_started_at journal start other) (is_elaborated journal other) (has_ended journal other) waits).2
 held_awaits journal task other (reason.Queued call) settled at waits =
     called_live journal task call other settled (subst (IsSuspendedAt journal task) (sym (same_Some call at.position at.named)) at.suspended) waits
 held_awaits journal task other (reason.InRendezvous call) settled at waits =

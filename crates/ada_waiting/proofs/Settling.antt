@@ -1,9 +1,8 @@
 -- A settled journal's rows give nothing, and so an agenda without keys is its agenda.
-use Rattle.std.proofs.Common.{◌≡◌, ℕ, zero, suc, ◌<◌, false, Option, None, Some, List, [], ◌∷◌, length, refl, sym, ap, ◌∙◌, arith, inl, inr}
+use Rattle.std.proofs.Common.{◌≡◌, ℕ, zero, suc, false, Option, None, Some, List, [], ◌∷◌, length, refl, sym, ap, ◌∙◌, inl, inr}
 use Rattle.std.proofs.Common.{nat_lt}
 use Rattle.std.specs.Option.{option_and_then}
 use Rattle.std.specs.Bool.{then_some}
-use Rattle.std.proofs.lemmas.Bool.{cases_eq}
 use Rattle.std.proofs.lemmas.Option.{none-some}
 use Rattle.ada_events.specs.declared.event.Event.{Event}
 use Rattle.ada_events.specs.declared.event.Event.TheVariants.{Halted}
@@ -16,6 +15,7 @@ use Rattle.ada_step_laws.specs.declared.row.Row.TheVariants.{Halting, Failing, M
 use Rattle.ada_step_laws.specs.declared.row.Row.TheVariants.{QuittingBlock, Leaving}
 use Rattle.ada_step_laws.specs.Rows.{at_event, of_task, step_at, IsAgenda}
 use Rattle.ada_step_laws.proofs.rows.Keys.{of_found, row_step}
+use Rattle.ada_step_laws.proofs.newly.Unhalted.{nothing_below}
 
 none_given : (give : ℕ → Event → Option Event) (journal : List Event) (p : ℕ) (e : Event) → first_given give journal ≡ None → event_at journal p ≡ Some e
     → give p e ≡ None
@@ -29,21 +29,11 @@ none_given give (event ∷ before) p e none at =
       | inr older ↦ none_given give before p e both.0 older
     ]
 
-none_below : (give : ℕ → Option Event) (n k : ℕ) → first_below give n ≡ None → k < n → give k ≡ None
-unfolding first_below
-none_below give zero k none below = absurd (omega arith)
-none_below give (suc n) k none below =
-    let both = option_or-none (first_below give n) (give n) none in
-    elim (cases_eq k n) [
-      | inl same ↦ ap give same ∙ both.1
-      | inr other ↦ none_below give n k both.0 (omega arith)
-    ]
-
 no_task_key : (give : ℕ → Option Event) (n k : ℕ) (step : Event) → first_below give n ≡ None
     → option_and_then (λ (_ : Event). give k) (then_some (nat_lt k n) (Halted (task_no k))) ≡ Some step → ⊥
 no_task_key give n k step none gives =
     let found = of_found give n k step (Halted (task_no k)) (nat_lt k n) refl gives in
-    none-some step (sym (none_below give n k none found.0) ∙ found.1)
+    none-some step (sym (nothing_below give n k none found.0) ∙ found.1)
 
 no_event_key : (give : ℕ → Event → Option Event) (journal : List Event) (k : ℕ) (step : Event) → first_given give journal ≡ None
     → option_and_then (give k) (event_at journal k) ≡ Some step → ⊥

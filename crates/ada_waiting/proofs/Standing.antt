@@ -20,11 +20,13 @@ use Rattle.ada_events.specs.Lawful.{IsLawful, IsSettled}
 use Rattle.ada_laws.proofs.searching.Searching.{event_at-older, all_below-holds}
 use Rattle.ada_laws.proofs.asking.Accepting.{asker_runs, asker_exists}
 use Rattle.ada_laws.proofs.held.Suspending.{is_suspended-at, is_suspended-from, suspended_before}
+use Rattle.ada_laws.proofs.within.Parents.{same_truth}
 use Rattle.ada_waiting.specs.Standstill.{due_of, first_due_below, first_due, nobody_runs, by_first_due, verdict_of}
 use Rattle.ada_waiting.specs.declared.standstill.Verdict.TheVariants.{Finished, GoesOn, Stuck}
 use Rattle.ada_waiting.specs.Laws.{OnlyTicksAreAccepted, IsTick, StuckForEver}
 use Rattle.ada_waiting.proofs.Moments.{due_of_suspended, not_due, early_ticks_force_nothing}
 use Rattle.ada_waiting.proofs.Ticking.{tick_suspends, same_at}
+use Rattle.ada_step_laws.proofs.rows.TouchedKeys.{all_below-same}
 
 -- nobody asks while nobody runs
 no_asker : (journal : List Event) (request : Request) (task : ℕ) → nobody_runs journal ≡ true → refusal journal request ≡ None → asker request ≡ Some task → ⊥
@@ -44,15 +46,10 @@ only_ticks_are_accepted journal request nobody accepted = tick_alone request (λ
 
 -- ---- a tick changes nobody's state
 
-both_ways : (a b : Bool) → (a ≡ true → b ≡ true) → (b ≡ true → a ≡ true) → a ≡ b
-both_ways true b to from = sym (to refl)
-both_ways false true to from = from refl
-both_ways false false to from = refl
-
 same_suspended : (before : List Event) (now : ℤ) (task : ℕ) → is_suspended (Ticked now ∷ before) task ≡ is_suspended before task
 unfolding held_in
 same_suspended before now task =
-    both_ways (is_suspended (Ticked now ∷ before) task) (is_suspended before task)
+    same_truth (is_suspended (Ticked now ∷ before) task) (is_suspended before task)
     (λ yes.
     let (p, h) = is_suspended-at (Ticked now ∷ before) task yes in
     is_suspended-from before task p (suspended_before (Ticked now) before task p refl h))
@@ -63,11 +60,6 @@ same_suspended before now task =
 same_running : (before : List Event) (now : ℤ) (task : ℕ) → is_running (Ticked now ∷ before) task ≡ is_running before task
 unfolding is_running is_started started_in has_ended is_completed completed_in is_terminated gone_in quit_in
 same_running before now task = rw (same_suspended before now task) refl
-
-all_below-same : (f g : ℕ → Bool) (n : ℕ) → ((t : ℕ) → f t ≡ g t) → all_below f n ≡ all_below g n
-unfolding all_below
-all_below-same f g zero same = refl
-all_below-same f g (suc n) same = rw (all_below-same f g n same, same n) refl
 
 same_count : (before : List Event) (now : ℤ) → task_count (Ticked now ∷ before) ≡ task_count before
 unfolding task_count creation_in

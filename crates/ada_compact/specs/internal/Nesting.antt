@@ -4,7 +4,8 @@ use Rattle.std.specs.List.{list_any}
 use Rattle.ada_events.specs.declared.event.Event.{Event}
 use Rattle.ada_events.specs.declared.names.Member.{Member}
 use Rattle.ada_standing.specs.Renaming.{Renaming, renamed_member}
-use Rattle.ada_standing.specs.StandsIn.{is_block, IsSameBlock}
+use Rattle.ada_events.specs.Holders.{is_block}
+use Rattle.ada_standing.specs.StandsIn.{IsSameBlock}
 
 pub record IsSameMember (old new : List Event) (names : Renaming) (m n : Member) : Type 0 where
   pub member : renamed_member names m ≡ Some n

@@ -9,7 +9,7 @@ ghost use Rattle.ada_events.specs.Phases.{has_failed};
 ghost use Rattle.ada_standing.specs.Holds.{IsSameHold};
 ghost use Rattle.ada_standing.specs.Names.{renaming_of};
 ghost use Rattle.ada_standing.specs.StandsIn.{IsSameActive};
-ghost use Rattle.ada_compact.specs.internal.Suspending.{IsHeldTheSame};
+ghost use Rattle.ada_standing.specs.internal.Suspending.{IsHeldTheSame};
 ghost use Rattle.ada_compact.specs.internal.Starting.{IsListedAlike, AreListedAlike};
 
 use crate::comparison::Comparison;

@@ -26,7 +26,7 @@ use Rattle.ada_laws.proofs.searching.Searching.{then_some-some, option_or-some, 
 use Rattle.ada_laws.proofs.asking.Accepting.{is_accepted}
 use Rattle.ada_laws.proofs.forced.Stepping.{forced-step}
 
-slot_count-same : (event : Event) (before : List Event) → creation_in event ≡ None → slot_count (event ∷ before) ≡ slot_count before
+pub slot_count-same : (event : Event) (before : List Event) → creation_in event ≡ None → slot_count (event ∷ before) ≡ slot_count before
 unfolding slot_count
 slot_count-same event before says = rw says (omega arith)
 

@@ -9,7 +9,7 @@ use Rattle.ada_events.specs.declared.event.Event.TheVariants.{Failed, Met, Cance
 use Rattle.ada_events.specs.declared.names.Master.{Master}
 use Rattle.ada_events.specs.declared.names.Master.TheVariants.{Body, Block}
 use Rattle.ada_events.specs.Search.{all_below, event_at}
-use Rattle.ada_events.specs.Says.{Call, call_in, opening_in, creation_in, held_in, released_in, completed_in, gone_in, quit_in}
+use Rattle.ada_events.specs.Says.{Call, call_in, opening_in, creation_in, held_in, released_in, completed_in, gone_in, quit_in, elaborated_in, failed_in}
 use Rattle.ada_events.specs.Tasks.{task_count, moment}
 use Rattle.ada_events.specs.Masters.{depends_on}
 use Rattle.ada_events.specs.Phases.{is_completed, is_terminated, has_ended, is_abnormal, is_released}
@@ -64,7 +64,7 @@ release_call journal position held event at opened frees makes_none holds_none =
     release journal position call.by held event at (held_in-call held call says)
     (not-true (is_released journal position) both.0, not-true (has_ended journal call.by) both.1) frees makes_none holds_none
 
-middle_false : (a b c : Bool) → (a && not b && c) ≡ true → b ≡ false
+pub middle_false : (a b c : Bool) → (a && not b && c) ≡ true → b ≡ false
 middle_false true false c all = refl
 middle_false true true c all = absurd (false≢true all)
 middle_false false b c all = absurd (false≢true all)
@@ -127,3 +127,13 @@ pub row-opens_none : (journal : List Event) (event : Event) → IsRow journal ev
 unfolding opening_in
 row-opens_none journal event (halts u below halt) = refl
 row-opens_none journal event _ = refl
+
+pub row_elaborates : (journal : List Event) (event : Event) → IsRow journal event → elaborated_in event ≡ None
+unfolding elaborated_in
+row_elaborates journal event (halts v below halt) = refl
+row_elaborates journal event _ = refl
+
+pub row_fails : (journal : List Event) (e : Event) → IsRow journal e → failed_in e ≡ None
+unfolding failed_in
+row_fails journal e (halts u below halt) = refl
+row_fails journal e _ = refl

@@ -184,3 +184,7 @@ held_tasks_are_suspended journal task held =
       unreleased = held_unreleased journal position both.1;
       live = or_from (is_completed journal task) (is_terminated journal task) live.1 live.0;
     })
+
+pub same_fate : (event : Event) (before : List Event) (p : ℕ) → is_number p (released_in event) ≡ false → became (event ∷ before) p ≡ became before p
+unfolding became
+same_fate event before p unfreed = rw unfreed refl

@@ -82,7 +82,7 @@ one_meeting_for_a_joined_call journal lawful call met =
       },
     )
 
-then_none : {A : Type 0} (b : Bool) (x : A) → then_some b x ≡ None → b ≡ false
+pub then_none : {A : Type 0} (b : Bool) (x : A) → then_some b x ≡ None → b ≡ false
 then_none true x none = absurd (none-some x (sym none))
 then_none false x none = refl
 

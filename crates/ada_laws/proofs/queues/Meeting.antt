@@ -57,7 +57,7 @@ pub met_taking : (journal : List Event) (event : Event) (m : Meeting) → MayFol
 met_taking journal event m follows meeting = met_taking-unlimited journal event m (may_follow_unlimited journal event follows) meeting
 
 -- what is in a list at some place is among its items
-contained_at : {A : Type 0} (xs : List A) (k : ℕ) (x : A) → slice_get xs k ≡ Some x → Contains xs x
+pub contained_at : {A : Type 0} (xs : List A) (k : ℕ) (x : A) → slice_get xs k ≡ Some x → Contains xs x
 contained_at xs k x found = (k, slice_get_within xs k x found, get_or_from_slice_get xs k x x found)
 
 -- the call that a wait takes is at the front of the queue of an open choice

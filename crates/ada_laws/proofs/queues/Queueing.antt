@@ -1,5 +1,5 @@
 -- Open calls and the queues that they stand in.
-use Rattle.std.proofs.Common.{◌≡◌, ℕ, ◌<◌, true, false, not, ◌&&◌, Some, List, sym, refl, ◌∙◌, subst, arith, ℤ, pos, negsuc, eqb}
+use Rattle.std.proofs.Common.{◌≡◌, ℕ, ◌<◌, true, false, not, ◌&&◌, Some, List, sym, refl, ◌∙◌, subst, arith, ℤ, pos, negsuc, eqb, ◌≤◌, length}
 use Rattle.std.specs.Prelude.{int_le}
 use Rattle.std.specs.Bool.{then_some}
 use Rattle.std.specs.List.{AllPairs, Contains}
@@ -11,10 +11,10 @@ use Rattle.ada_events.specs.Search.{event_at}
 use Rattle.ada_events.specs.Says.{Call, call_in}
 use Rattle.ada_events.specs.Entries.{same_entry, same_index}
 use Rattle.ada_events.specs.Phases.{is_released, has_ended}
-use Rattle.ada_events.specs.Calls.{is_pending, is_met, is_open_at, is_queued_at, is_call_of, queue}
+use Rattle.ada_events.specs.Calls.{is_pending, is_met, is_open_at, is_queued_at, is_call_of, queue, is_open_call}
 use Rattle.ada_laws.specs.Suspension.{IsSuspendedAt}
 use Rattle.ada_laws.specs.Calls.{IsOpenCallAt}
-use Rattle.ada_laws.proofs.searching.Searching.{then_some-some, option_map_or-true}
+use Rattle.ada_laws.proofs.searching.Searching.{then_some-some, option_map_or-true, event_at-within}
 use Rattle.ada_laws.proofs.searching.Gathering.{gathered-found, gathered-from, gathered-rises}
 use Rattle.ada_laws.proofs.searching.Saying.{held_in-call}
 
@@ -121,3 +121,9 @@ unfolding queue
 queue-rises journal task entry =
     gathered-rises (λ p e. then_some (is_call_of task entry e && is_queued_at journal p e) p) journal
     (λ p q e gives. (then_some-some (is_call_of task entry e && is_queued_at journal p e) p q gives).1)
+
+pub open_within : (journal : List Event) (call : ℕ) → is_open_call journal call ≡ true → call ≤ length journal
+unfolding is_open_call
+open_within journal call opened =
+    let (e, at, found) = option_map_or-true (is_open_at journal call) (event_at journal call) opened in
+    event_at-within journal call e at

@@ -1,5 +1,5 @@
 -- What one more event changes.
-use Rattle.std.proofs.Common.{◌≡◌, ℕ, ◌≤◌, true, false, ◌||◌, Some, None, List, ◌∷◌, sym, ◌∙◌, arith, inl, inr}
+use Rattle.std.proofs.Common.{◌≡◌, ℕ, ◌≤◌, true, false, ◌||◌, Some, None, List, ◌∷◌, refl, sym, ◌∙◌, arith, inl, inr}
 use Rattle.std.specs.Option.{option_map_or}
 use Rattle.std.specs.List.{list_any}
 use Rattle.std.proofs.lemmas.Bool.{or_cases, or_left, or_right, false_from_ne_true, true≢false}
@@ -86,3 +86,8 @@ task_count-more event before = omega arith
 pub task_count-same : (event : Event) (before : List Event) → creation_in event ≡ None → task_count (event ∷ before) ≡ task_count before
 unfolding task_count
 task_count-same event before says = rw says (omega arith)
+
+pub is_completed-same : (event : Event) (before : List Event) (task : ℕ) → completed_in event ≡ None
+    → is_completed (event ∷ before) task ≡ is_completed before task
+unfolding is_completed
+is_completed-same event before task completes = rw completes refl

@@ -1,12 +1,13 @@
 -- What events say, one thing against another.
-use Rattle.std.proofs.Common.{◌≡◌, ℕ, Some, List, ap}
+use Rattle.std.proofs.Common.{◌≡◌, ℕ, true, false, Some, List, ap}
 use Rattle.std.proofs.lemmas.Option.{same_Some, none-some}
 use Rattle.ada_events.specs.declared.event.Event.{Event}
 use Rattle.ada_events.specs.declared.event.Event.TheVariants as event
 use Rattle.ada_events.specs.declared.request.Request.{Request}
 use Rattle.ada_events.specs.declared.request.Request.TheVariants as request
-use Rattle.ada_events.specs.Says.{Call, Wait, Delay, Start, Closing, call_in, wait_in, delay_in, start_in, closing_in, held_in}
+use Rattle.ada_events.specs.Says.{Call, Wait, Delay, Start, Closing, call_in, wait_in, delay_in, start_in, closing_in, held_in, left_in, released_in}
 use Rattle.ada_events.specs.Asks.{asker, asked_event}
+use Rattle.ada_events.specs.Says.{completed_in, elaborated_in}
 
 -- what holds a task up: its calls, waits, delays, starts and closes
 pub held_in-call : (e : Event) (c : Call) → call_in e ≡ Some c → held_in e ≡ Some c.by
@@ -43,3 +44,20 @@ held_in-asked journal (request.Delay by duration) task says = says
 held_in-asked journal (request.Activate by tasks) task says = says
 held_in-asked journal (request.Close by) task says = says
 held_in-asked journal _ task says = absurd (none-some task says)
+
+pub left_frees : (e : Event) (c : ℕ) → left_in e ≡ Some c → released_in e ≡ Some c
+unfolding left_in released_in
+left_frees (event.Left close) c says = says
+left_frees _ c says = absurd (none-some c says)
+
+pub asked_completes : (journal : List Event) (r : Request) (u : ℕ) → completed_in (asked_event journal r) ≡ Some u → asker r ≡ Some u
+unfolding completed_in asked_event asker
+asked_completes journal (request.Complete by) u says = says
+asked_completes journal (request.Elaborated by false) u says = says
+asked_completes journal (request.Elaborated by true) u says = absurd (none-some u says)
+asked_completes journal _ u says = absurd (none-some u says)
+
+pub asked_elaborates : (journal : List Event) (r : Request) (u : ℕ) → elaborated_in (asked_event journal r) ≡ Some u → asker r ≡ Some u
+unfolding elaborated_in asked_event asker
+asked_elaborates journal (request.Elaborated by ok) u says = says
+asked_elaborates journal _ u says = absurd (none-some u says)

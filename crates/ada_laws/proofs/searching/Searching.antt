@@ -1,18 +1,27 @@
 -- What a search of a journal finds, and what is found where something passes.
 use Rattle.std.proofs.Common.{◌≡◌, ℕ, zero, suc, ◌<◌, ◌≤◌, Bool, true, false, cond, not, ◌&&◌, Option, Some, None, List, [], ◌∷◌, length, sym, refl, ap, ◌∙◌}
-use Rattle.std.proofs.Common.{arith, ◌⊎◌, inl, inr, ◌≢◌}
+use Rattle.std.proofs.Common.{arith, ◌⊎◌, inl, inr}
 use Rattle.std.specs.Option.{option_or, option_map, option_map_or, option_and_then}
 use Rattle.std.specs.Bool.{then_some}
 use Rattle.std.proofs.lemmas.Bool.{ne_eqb, eq-eqb, eqb-true, cases_eq, or_cases, and_cases, and_parts, or_left, or_right, true≢false, false≢true}
 use Rattle.std.proofs.lemmas.Option.{same_Some, none-some}
+use Rattle.std.proofs.Common.{eqb}
+use Rattle.std.proofs.lemmas.Bool.{false_from_ne_true}
 use Rattle.ada_events.specs.declared.event.Event.{Event}
 use Rattle.ada_events.specs.Search.{is_number, any_event, first_given, first_below, all_below, event_at}
+use Rattle.ada_events.proofs.Positions.{event_at-other}
 
 pub three_parts : (a b c : Bool) → (a && not b && not c) ≡ true → (a ≡ true) × (b ≡ false) × (c ≡ false)
 three_parts true false false all = (refl, refl, refl)
 three_parts true false true all = absurd (false≢true all)
 three_parts true true c all = absurd (false≢true all)
 three_parts false b c all = absurd (false≢true all)
+
+pub eqb_swap : (a b : ℕ) → eqb a b ≡ eqb b a
+eqb_swap a b = elim (cases_eq a b) [
+  | inl same ↦ rw (eq-eqb a b same, eq-eqb b a (sym same)) refl
+  | inr other ↦ rw (ne_eqb a b other, ne_eqb b a (λ same. other (sym same))) refl
+]
 
 -- the first of two that there is
 pub option_or-some : {A : Type 0} (a b : Option A) (x : A) → option_or a b ≡ Some x → (a ≡ Some x) ⊎ (b ≡ Some x)
@@ -56,6 +65,9 @@ pub is_number-from : (n : ℕ) (o : Option ℕ) → o ≡ Some n → is_number n
 is_number-from n None same = absurd (none-some n same)
 is_number-from n (Some m) same = eq-eqb n m (sym (same_Some m n same))
 
+pub is_number-not : (n : ℕ) (o : Option ℕ) → (o ≡ Some n → ⊥) → is_number n o ≡ false
+is_number-not n o never = false_from_ne_true (is_number n o) (λ is. never (is_number-some n o is))
+
 -- what stands at a position stands within the journal
 pub event_at-within : (journal : List Event) (p : ℕ) (e : Event) → event_at journal p ≡ Some e → p ≤ length journal
 unfolding event_at
@@ -71,11 +83,6 @@ event_at-within (event ∷ before) p e at =
 pub event_at-newest : (event : Event) (before : List Event) → event_at (event ∷ before) (suc (length before)) ≡ Some event
 unfolding event_at
 event_at-newest event before = rw (eq-eqb (suc (length before)) (suc (length before)) refl) refl
-
--- a newer event changes nothing at an older position
-pub event_at-other : (event : Event) (before : List Event) (p : ℕ) → p ≢ suc (length before) → event_at (event ∷ before) p ≡ event_at before p
-unfolding event_at
-event_at-other event before p other = rw (ne_eqb p (suc (length before)) other) refl
 
 pub event_at-older : (event : Event) (before : List Event) (p : ℕ) (e : Event) → event_at before p ≡ Some e → event_at (event ∷ before) p ≡ Some e
 event_at-older event before p e at =

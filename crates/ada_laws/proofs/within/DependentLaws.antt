@@ -66,12 +66,12 @@ terminated_before event before task c says (together m quit depends) = absurd (n
 terminated_before event before task c says (earlier was) = was
 
 -- a task goes only by the row on tasks that terminate by themselves
-row_going : (journal : List Event) (event : Event) (task : ℕ) → IsRow journal event → gone_in event ≡ Some task → is_to_go journal task ≡ true
+pub row_going : (journal : List Event) (event : Event) (task : ℕ) → IsRow journal event → gone_in event ≡ Some task → is_to_go journal task ≡ true
 unfolding gone_in
 row_going journal event task (goes u below go) says = subst (λ (n : ℕ). is_to_go journal n ≡ true) (same_Some u task says) go
 row_going journal event task _ says = absurd (none-some task says)
 
-gone_in-asked : (journal : List Event) (r : Request) → gone_in (asked_event journal r) ≡ None
+pub gone_in-asked : (journal : List Event) (r : Request) → gone_in (asked_event journal r) ≡ None
 unfolding gone_in asked_event
 gone_in-asked journal (request.Open by) = refl
 gone_in-asked journal _ = refl

@@ -32,7 +32,7 @@ block_later event before task p block = record {
   by = block.by;
 }
 
-innermost_block-is : (outer : Master) (members : List Member) → (innermost_block outer members ≡ outer)
+pub innermost_block-is : (outer : Master) (members : List Member) → (innermost_block outer members ≡ outer)
     ⊎ ((p : ℕ) × Contains members (Block p) × (innermost_block outer members ≡ BlockMaster p))
 unfolding innermost_block
 innermost_block-is outer [] = inl refl

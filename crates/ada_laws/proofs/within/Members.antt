@@ -127,3 +127,29 @@ ended_within event before by call raised (inl forces) is =
     absurd (none-some (by.0, call) (sym (row_ends_none before event (forced-row before event forces)) ∙ ap ending is))
 ended_within event before by call raised (inr asked) is =
     asked_within before asked.request by.0 call asked.accepted (ap ending (sym asked.becomes) ∙ ap ending is)
+
+-- a block stands where it was opened
+pub block_place : (journal : List Event) (task p b : ℕ) (e : Event) → member_at journal task p e ≡ Some (Block b) → p ≡ b
+unfolding member_at
+block_place journal task p b e gives =
+    elim (option_or-some
+    (option_map_or (λ (o : Opening). then_some (eqb o.by task && not (is_left journal p)) (Block p)) (opening_in e) None)
+    (option_map_or (λ (m : Meeting). then_some (is_wait_of journal task m.wait && is_open_call journal m.call) (Rendezvous m.call)) (meeting_in e) None)
+    (Block b) gives) [
+      | inl opened ↦ by_opening (opening_in e) opened
+      | inr met ↦ absurd (by_meeting (meeting_in e) met)
+    ]
+  where
+    by_opening : (o : Option Opening) → option_map_or (λ (o : Opening). then_some (eqb o.by task && not (is_left journal p)) (Block p)) o None
+        ≡ Some (Block b) → p ≡ b
+    by_opening None gives = absurd (none-some (Block b) gives)
+    by_opening (Some o) gives =
+        let found = then_some-some (eqb o.by task && not (is_left journal p)) (Block p) (Block b) gives in
+        cc (found.1)
+
+    by_meeting : (m : Option Meeting) → option_map_or
+        (λ (m : Meeting). then_some (is_wait_of journal task m.wait && is_open_call journal m.call) (Rendezvous m.call)) m None ≡ Some (Block b) → ⊥
+    by_meeting None gives = none-some (Block b) gives
+    by_meeting (Some m) gives =
+        let found = then_some-some (is_wait_of journal task m.wait && is_open_call journal m.call) (Rendezvous m.call) (Block b) gives in
+        cc (found.1)

@@ -20,9 +20,10 @@ use Rattle.ada_laws.specs.Masters.{parent_of, IsKnown, MastersReachByParents, Ta
 use Rattle.ada_laws.specs.Unlimited.{IsLawfulUnlimited}
 use Rattle.ada_laws.proofs.asking.Limitless.{lawful_unlimited}
 use Rattle.ada_laws.proofs.within.Depending.{depends_exists}
-use Rattle.ada_laws.proofs.searching.Searching.{option_or-some, if_some, event_at-cases, event_at-newest, event_at-other, event_at-within}
+use Rattle.ada_laws.proofs.searching.Searching.{option_or-some, if_some, event_at-cases, event_at-newest, event_at-within}
 use Rattle.ada_laws.proofs.within.Reaching.{reaches-same, known_later, parent_in-known, parent_in-created, parent_in-opened, reaches_up, reaches_down}
 use Rattle.ada_laws.proofs.within.Reaching.{frame_known, creation_asked-unlimited, opening_asked-unlimited, reaches_known-unlimited}
+use Rattle.ada_events.proofs.Positions.{event_at-other}
 
 pub same_truth : (a b : Bool) → (a ≡ true → b ≡ true) → (b ≡ true → a ≡ true) → a ≡ b
 same_truth true b forth back = sym (forth refl)
@@ -59,7 +60,7 @@ reaches_later event before x y known =
     same_truth (reaches (event ∷ before) x y) (reaches before x y) (reaches_down event before x y known) (reaches_up event before x y known)
 
 -- the parent of a master that was known before stays the same
-parent_of-later : (event : Event) (before : List Event) (x : Master) → IsKnown before x → parent_of (event ∷ before) x ≡ parent_of before x
+pub parent_of-later : (event : Event) (before : List Event) (x : Master) → IsKnown before x → parent_of (event ∷ before) x ≡ parent_of before x
 unfolding creation_of
 parent_of-later event before (Body t) known =
     rw (ne_eqb t.0 (task_count before) (λ same. omega (arith, same, known))) refl
@@ -67,16 +68,16 @@ parent_of-later event before (Block p) known =
     let within : p ≤ length before = event_at-within before p known.event known.stands in
     rw (event_at-other event before p (omega arith)) refl
 
-parent_of-body : (event : Event) (before : List Event) (t : TaskNo) (c : Creation) → creation_in event ≡ Some c → t.0 ≡ task_count before
+pub parent_of-body : (event : Event) (before : List Event) (t : TaskNo) (c : Creation) → creation_in event ≡ Some c → t.0 ≡ task_count before
     → parent_of (event ∷ before) (Body t) ≡ Some c.master
 unfolding creation_of
 parent_of-body event before t c says same = rw (eq-eqb t.0 (task_count before) same, says) refl
 
-parent_of-block : (event : Event) (before : List Event) (p : ℕ) (o : Opening) → opening_in event ≡ Some o → p ≡ suc (length before)
+pub parent_of-block : (event : Event) (before : List Event) (p : ℕ) (o : Opening) → opening_in event ≡ Some o → p ≡ suc (length before)
     → parent_of (event ∷ before) (Block p) ≡ Some o.under
 parent_of-block event before p o says same = rw (same, event_at-newest event before, says) refl
 
-creation_known-unlimited : (event : Event) (before : List Event) (c : Creation) → IsLawfulUnlimited (event ∷ before) → creation_in event ≡ Some c
+pub creation_known-unlimited : (event : Event) (before : List Event) (c : Creation) → IsLawfulUnlimited (event ∷ before) → creation_in event ≡ Some c
     → IsKnown before c.master
 creation_known-unlimited event before c lawful says =
     let by = creation_asked-unlimited event before c lawful.1 says in

@@ -14,7 +14,8 @@ use Rattle.ada_events.specs.Nests.{innermost}
 use Rattle.ada_events.specs.Says.{Call, call_at}
 use Rattle.ada_events.specs.Tasks.{task_count}
 use Rattle.ada_laws.specs.Suspension.{IsSuspendedAt}
-use Rattle.ada_tables.specs.Dependents.{Facts, task_at, has_block, IsFresh, IsIdle}
+use Rattle.ada_events.specs.Holders.{has_block}
+use Rattle.ada_tables.specs.Dependents.{Facts, task_at, IsFresh, IsIdle}
 use Rattle.ada_tables.specs.Queues.{waits}
 use Rattle.ada_tables.specs.Standing.{StandFor}
 use Rattle.ada_tables.specs.Tables.{TableState, HasEntry}

@@ -11,13 +11,13 @@ use Rattle.ada_events.specs.Tasks.{task_count}
 use Rattle.ada_events.specs.Nests.{nest}
 use Rattle.ada_events.specs.Lawful.{IsLawful}
 use Rattle.ada_laws.proofs.searching.Growing.{task_count-same}
+use Rattle.ada_laws.proofs.entries.SlotLaws.{slot_count-same}
 use Rattle.ada_tables.specs.Dependents.{Facts}
 use Rattle.ada_tables.specs.Queues.{QueuedCall, queue_at}
 use Rattle.ada_tables.specs.Tables.{TableState, slot_at, HasEntry}
 use Rattle.ada_tables.specs.Standing.{phase_of, AreQueued, StandFor}
 use Rattle.ada_records.specs.Facing.{HoldFacts, HoldQueues}
 use Rattle.ada_records.proofs.following.TableChanges.{tables_follow, same_facts}
-use Rattle.ada_records.proofs.following.SlotsApart.{same_slots}
 
 module _ (event : Event) (before : List Event) (old queued nested new : TableState) (makes : creation_in event ≡ None) (stand : StandFor old before)
     (once : queued ≡ record old { queues = queued.queues; spare = queued.spare }) (twice : nested ≡ record queued { tasks = nested.tasks })
@@ -43,7 +43,7 @@ module _ (event : Event) (before : List Event) (old queued nested new : TableSta
 
   pub slots_followed : length queued.queues ≡ length old.queues → length old.queues ≡ slot_count before → length new.queues ≡ slot_count (event ∷ before)
   slots_followed kept was =
-      ap (λ (qs : List (List QueuedCall)). length qs) same_queues ∙ kept ∙ was ∙ sym (same_slots event before makes)
+      ap (λ (qs : List (List QueuedCall)). length qs) same_queues ∙ kept ∙ was ∙ sym (slot_count-same event before makes)
 
 -- an event of another kind than a creation makes no task
 pub makes_none : (e : Event) → ((by : TaskNo) (under master : Master) (families : List Family) → e ≡ Created by under master families → ⊥)

@@ -46,7 +46,8 @@ use Rattle.ada_step_laws.proofs.changing.NestKinds.{IsMember, nest_member, other
 use Rattle.ada_step_laws.proofs.changing.NestKinds.IsMember.{of_block, of_rendezvous}
 use Rattle.ada_records.proofs.recording.Unmade.{unmade}
 use Rattle.ada_tables.specs.declared.phase.Phase.TheVariants.{Unstarted}
-use Rattle.ada_tables.specs.Dependents.{Facts, nobody, task_at, holds, is_terminated as ends, made_facts, IsOpen}
+use Rattle.ada_events.specs.Holders.{holds}
+use Rattle.ada_tables.specs.Dependents.{Facts, nobody, task_at, is_terminated as ends, made_facts, IsOpen}
 use Rattle.ada_tables.specs.Queues.{QueuedCall, queue_at}
 use Rattle.ada_tables.specs.Tables.{TableState, declared, slots_before, slot_at, HasEntry}
 use Rattle.ada_tables.specs.Standing.{phase_of, facts_in, caller_of, AreQueued, StandFor}
@@ -55,7 +56,7 @@ use Rattle.ada_records.specs.TableEvents.{MakesTask}
 use Rattle.ada_records.proofs.following.Agreeing.{ends_phase}
 use Rattle.ada_records.proofs.recording.Creations.{older_creation, new_creation}
 use Rattle.ada_records.proofs.following.Entries.{call_names_entry, declarer_exists, families_stay}
-use Rattle.ada_records.proofs.holding.LiveHolders.{masters_are_held}
+use Rattle.ada_step_laws.proofs.holding.LiveHolders.{masters_are_held}
 use Rattle.ada_records.proofs.turning.NestTurns.{accepted_by_callee}
 use Rattle.ada_records.proofs.phase_changes.OnePhase.{queued_later}
 use Rattle.ada_records.proofs.following.SlotsApart.{before_later, before_first, slot_later, slot_within, slots_held, new_families, one_more_task, more_slots}

@@ -13,6 +13,7 @@ use Rattle.ada_events.specs.Lawful.{IsLawful}
 use Rattle.ada_events.specs.declared.event.Event.TheVariants.{Started}
 use Rattle.ada_events.specs.Nests.{nest}
 use Rattle.ada_laws.proofs.searching.Growing.{task_count-same, is_terminated-more}
+use Rattle.ada_laws.proofs.searching.Searching.{eqb_swap}
 use Rattle.ada_records.specs.declared.record.Record.{Record}
 use Rattle.ada_records.specs.Records.{IsRecordOf, AreRecords, record_at}
 use Rattle.ada_tables.specs.declared.phase.Phase.{Phase}
@@ -156,13 +157,6 @@ pub right_behind : (event : Event) (before : List Event) (records : List Record)
 right_behind event before records task makes stand known =
     let within : task < length records = omega (arith, known, stand.many, task_count-same event before makes) in
     (within, stand.each task within)
-
-pub eqb_swap : (a b : ℕ) → eqb a b ≡ eqb b a
-eqb_swap a b =
-    elim (cases_eq a b) [
-      | inl same ↦ eq-eqb a b same ∙ sym (eq-eqb b a (sym same))
-      | inr other ↦ ne_eqb a b other ∙ sym (ne_eqb b a (λ back. other (sym back)))
-    ]
 
 or_swap : (a b : Bool) → (a || b) ≡ (b || a)
 or_swap true true = refl

@@ -20,6 +20,7 @@ use Rattle.ada_events.specs.Calls.{queue}
 use Rattle.ada_laws.proofs.searching.Gathering.{Contains-first, Contains-later}
 use Rattle.ada_laws.proofs.queues.Queueing.{same_entry-same}
 use Rattle.ada_laws.proofs.held.Suspending.{is_suspended-from}
+use Rattle.ada_laws.proofs.searching.Searching.{eqb_swap}
 use Rattle.ada_tables.specs.Dependents.{Facts}
 use Rattle.ada_tables.specs.Queues.{QueuedCall, queue_at, is_by, waits_in, waits, with_last, without}
 use Rattle.ada_tables.specs.Tables.{TableState, slot_at, HasEntry}
@@ -29,7 +30,6 @@ use Rattle.ada_records.specs.Facing.{HoldFacts, HoldQueues}
 use Rattle.ada_records.proofs.turning.Requeuing.{without_caller, ComesLast, LeavesQueue}
 use Rattle.ada_records.proofs.phase_changes.OnePhase.{caller_later}
 use Rattle.ada_records.proofs.turning.QueueTurns.{queued_by}
-use Rattle.ada_records.proofs.following.Refreshing.{eqb_swap}
 use Rattle.ada_records.proofs.following.SlotsApart.{slot_within, slots_apart, slot_found, slots_held, same_entry-true}
 
 -- who doesn't wait is in no queue

@@ -14,8 +14,9 @@ use Rattle.ada_events.specs.Limits.{slot_count}
 use Rattle.ada_events.specs.Says.{Creation, creation_in}
 use Rattle.ada_events.specs.Slots.{number_within}
 use Rattle.ada_events.specs.Tasks.{task_count, creation_of, families_of}
-use Rattle.ada_laws.proofs.entries.SlotLaws.{number_within-below}
-use Rattle.ada_laws.proofs.entries.SlotPlaces.{number_is}
+use Rattle.ada_laws.proofs.entries.SlotLaws.{number_within-below, slot_count-same}
+use Rattle.ada_laws.proofs.entries.SlotPlaces.{number_is, none_in}
+use Rattle.ada_laws.proofs.searching.Growing.{task_count-same}
 use Rattle.ada_tables.specs.Dependents.{Facts, task_at}
 use Rattle.ada_tables.specs.Tables.{declared, slots_before, slot_at, HasEntry}
 use Rattle.ada_records.specs.Facing.{HoldFacts}
@@ -119,10 +120,6 @@ before_more (x ∷ rest) zero below = omega (arith, before_later x rest 0, befor
 before_more (x ∷ rest) (suc n) below =
     omega (arith, before_later x rest (suc n), before_later x rest n, before_more rest n (omega (arith, below)))
 
-no_entries : entries_in [] ≡ 0
-unfolding entries_in
-no_entries = refl
-
 pub main_families : families_of [] 0 ≡ []
 unfolding families_of creation_of
 main_families = refl
@@ -141,14 +138,6 @@ pub more_slots : (event : Event) (before : List Event) (c : Creation) → creati
 unfolding slot_count
 more_slots event before c makes = rw makes refl
 
-pub same_slots : (event : Event) (before : List Event) → creation_in event ≡ None → slot_count (event ∷ before) ≡ slot_count before
-unfolding slot_count
-same_slots event before makes = rw makes (omega arith)
-
-pub same_tasks : (event : Event) (before : List Event) → creation_in event ≡ None → task_count (event ∷ before) ≡ task_count before
-unfolding task_count
-same_tasks event before makes = rw makes (omega arith)
-
 abbrev pub HaveFamilies : List Facts → List Event → Type 0
 HaveFamilies tasks journal = (t : ℕ) → t < task_count journal → (t < length tasks) × ((task_at tasks t).families ≡ families_of journal t)
 
@@ -157,7 +146,7 @@ pub slots_counted : (tasks : List Facts) (journal : List Event) → HaveFamilies
 unfolding slot_count task_count
 slots_counted tasks [] have =
     let main = have 0 (omega arith) in
-    omega (arith, before_more tasks 0 main.0, before_first tasks, ap entries_in (main.1 ∙ main_families), no_entries)
+    omega (arith, before_more tasks 0 main.0, before_first tasks, ap entries_in (main.1 ∙ main_families), none_in)
 slots_counted tasks (event ∷ before) have = by_creation (creation_in event) refl (slots_counted tasks before older)
   where
     older : HaveFamilies tasks before
@@ -167,7 +156,7 @@ slots_counted tasks (event ∷ before) have = by_creation (creation_in event) re
 
     by_creation : (o : Option Creation) → creation_in event ≡ o → slots_before (declared tasks) (task_count before) ≡ slot_count before
         → slots_before (declared tasks) (task_count (event ∷ before)) ≡ slot_count (event ∷ before)
-    by_creation None makes was = ap (slots_before (declared tasks)) (same_tasks event before makes) ∙ was ∙ sym (same_slots event before makes)
+    by_creation None makes was = ap (slots_before (declared tasks)) (task_count-same event before makes) ∙ was ∙ sym (slot_count-same event before makes)
     by_creation (Some c) makes was =
         let now = have (task_count before) (omega (arith, one_more_task event before c makes)) in
         ap (slots_before (declared tasks)) (one_more_task event before c makes)

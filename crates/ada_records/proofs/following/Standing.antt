@@ -10,7 +10,7 @@ use Rattle.ada_records.specs.Facing.{HoldFacts, HoldQueues}
 use Rattle.ada_records.specs.internal.Facing.{SameDependents}
 use Rattle.ada_records.proofs.following.Agreeing.{live_alike, unready_alike}
 use Rattle.ada_records.proofs.following.Empty.{empty_alike}
-use Rattle.ada_records.specs.Holders.{HeldTablesStand}
+use Rattle.ada_records.specs.Facing.{HeldTablesStand}
 use Rattle.ada_records.proofs.holding.Walking.{same_dependents}
 
 -- the counts follow from the facts, the queues and dependence

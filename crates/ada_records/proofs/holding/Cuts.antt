@@ -9,7 +9,7 @@ use Rattle.ada_laws.proofs.searching.Gathering.{Contains-first, Contains-later}
 use Rattle.ada_step_laws.specs.Changes.{is_apart_from, AreDistinct}
 use Rattle.ada_step_laws.proofs.changing.Distinct.{nests_are_distinct}
 use Rattle.ada_tables.specs.Dependents.{cut}
-use Rattle.ada_records.specs.Holders.{CutsKeepTheRest}
+use Rattle.ada_records.specs.TableChanges.{CutsKeepTheRest}
 
 pub all_apart : (call : ℕ) (members : List Member) → (Contains members (Rendezvous call) → ⊥) → filter (is_apart_from call) members ≡ members
 all_apart call [] absent = refl

@@ -1,5 +1,5 @@
 -- Of a live task the tables find the same dependence as the journal, where the way outwards goes by holders.
-use Rattle.ada_records.specs.Holders.{IsHeld}
+use Rattle.ada_step_laws.specs.Holders.{IsHeld}
 use Rattle.ada_laws.proofs.within.Parents.{tasks_depend_by_parents}
 use Rattle.std.proofs.Common.{◌≡◌, ℕ, zero, suc, ◌<◌, Bool, true, false, ◌||◌, Option, Some, None, List, refl, sym, ap, ◌∙◌, subst, arith, inl, inr}
 use Rattle.std.specs.Option.{option_map, option_map_or}
@@ -12,11 +12,12 @@ use Rattle.ada_events.specs.Masters.{reaches as reaches_by, depends_on as depend
 use Rattle.ada_events.specs.Phases.{is_terminated}
 use Rattle.ada_events.specs.Nests.{nest}
 use Rattle.ada_events.specs.Lawful.{IsLawful}
-use Rattle.ada_tables.specs.Dependents.{Facts, holds, encloses, reaches}
+use Rattle.ada_events.specs.Holders.{holds, encloses}
+use Rattle.ada_tables.specs.Dependents.{Facts, reaches}
 use Rattle.ada_records.specs.Facing.{HoldFacts}
 use Rattle.ada_records.specs.internal.Facing.{SameDependents}
-use Rattle.ada_records.proofs.holding.Enclosing.{reaches_held}
-use Rattle.ada_records.proofs.holding.LiveHolders.{masters_are_held}
+use Rattle.ada_step_laws.proofs.holding.Enclosing.{reaches_held}
+use Rattle.ada_step_laws.proofs.holding.LiveHolders.{masters_are_held}
 
 module _ (tasks : List Facts) (journal : List Event) (lawful : IsLawful journal) (hold : HoldFacts tasks journal) where
   none_reached : (n : ℕ) (y : Master) → reaches tasks n None y ≡ false

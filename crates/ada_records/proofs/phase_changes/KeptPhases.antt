@@ -1,7 +1,7 @@
 -- A task that an event doesn't touch keeps its phase.
-use Rattle.std.proofs.Common.{◌≡◌, ℕ, zero, suc, ◌<◌, Bool, true, false, cond, ◌||◌, Option, Some, List, ◌∷◌, sym, refl, ◌∙◌, arith, inl, inr}
+use Rattle.std.proofs.Common.{◌≡◌, ℕ, zero, suc, ◌<◌, Bool, true, false, cond, ◌||◌, Some, List, ◌∷◌, sym, refl, ◌∙◌, arith, inl, inr}
 use Rattle.std.specs.Option.{option_map_or}
-use Rattle.std.proofs.lemmas.Bool.{or_parts, cases_Bool, false_from_ne_true}
+use Rattle.std.proofs.lemmas.Bool.{or_parts, cases_Bool}
 use Rattle.ada_events.specs.declared.event.Event.{Event}
 use Rattle.ada_events.specs.Search.{is_number}
 use Rattle.ada_events.specs.Says.{held_in, started_in, released_in, completed_in, gone_in, quit_in}
@@ -10,7 +10,7 @@ use Rattle.ada_events.specs.Phases.{lists_task, is_completed, is_terminated, has
 use Rattle.ada_events.specs.Calls.{is_met}
 use Rattle.ada_events.specs.Lawful.{IsLawful}
 use Rattle.ada_laws.specs.Suspension.{IsSuspendedAt}
-use Rattle.ada_laws.proofs.searching.Searching.{is_number-some}
+use Rattle.ada_laws.proofs.searching.Searching.{is_number-not}
 use Rattle.ada_records.specs.declared.record.Record.{Record}
 use Rattle.ada_step_laws.specs.Latest.{latest_outcome}
 use Rattle.ada_records.specs.Records.{IsRecordOf}
@@ -26,14 +26,11 @@ use Rattle.ada_tables.specs.Standing.{phase_of}
 use Rattle.ada_records.specs.RecordedPhases.{phase_by, OthersKeepPhases}
 use Rattle.ada_records.proofs.phase_changes.RecordedPhases.{records_tell_phases}
 
-never : (n : ℕ) (o : Option ℕ) → (o ≡ Some n → ⊥) → is_number n o ≡ false
-never n o none = false_from_ne_true (is_number n o) (λ is. none (is_number-some n o is))
-
 unreleased_at : (event : Event) (before : List Event) (task at : ℕ)
     → ((position : ℕ) → released_in event ≡ Some position → IsSuspendedAt before task position → ⊥) → (0 < at → IsSuspendedAt before task at)
     → (released_in event ≡ Some 0 → ⊥) → is_number at (released_in event) ≡ false
-unreleased_at event before task zero apart held none = never 0 (released_in event) none
-unreleased_at event before task (suc n) apart held none = never (suc n) (released_in event) (λ frees. apart (suc n) frees (held (omega arith)))
+unreleased_at event before task zero apart held none = is_number-not 0 (released_in event) none
+unreleased_at event before task (suc n) apart held none = is_number-not (suc n) (released_in event) (λ frees. apart (suc n) frees (held (omega arith)))
 
 releases_some : (event : Event) (before : List Event) → IsLawful (event ∷ before) → released_in event ≡ Some 0 → ⊥
 releases_some event before lawful frees =
@@ -56,7 +53,7 @@ live_phase event before task lawful holds listed apart lives =
     let right : IsRecordOf (event ∷ before) task now = record {
       suspension = suspension_later event before task r.suspension (is_met (event ∷ before) r.suspension.at) (latest_outcome
           (event ∷ before) task) lawful is.suspension
-          (never task (held_in event) holds)
+          (is_number-not task (held_in event) holds)
           (unreleased_at event before task r.suspension.at apart is.suspension.at.held (releases_some event before lawful))
           lives (λ some. refl) refl;
       stage = stage_more event before task r.stage is.stage;

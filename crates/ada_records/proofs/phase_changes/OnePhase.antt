@@ -5,16 +5,17 @@ use Rattle.std.proofs.lemmas.Bool.{ne_eqb}
 use Rattle.std.proofs.lemmas.List.Elements.{All-weaker}
 use Rattle.std.proofs.lemmas.Option.{none-some, same_Some}
 use Rattle.ada_events.specs.declared.event.Event.{Event}
-use Rattle.ada_events.specs.declared.event.Event.TheVariants.{Called, Waiting, Paused, Started, Closed, Gone}
+use Rattle.ada_events.specs.declared.event.Event.TheVariants.{Gone}
 use Rattle.ada_events.specs.declared.names.Entry.{Entry}
 use Rattle.ada_events.specs.declared.names.TaskNo.{TaskNo}
 use Rattle.ada_events.specs.Search.{event_at}
 use Rattle.ada_events.specs.Says.{Call, creation_in, call_in, held_in, opening_in, released_in, meeting_in, completed_in, gone_in, quit_in, started_in}
-use Rattle.ada_events.specs.Phases.{is_completed, is_terminated}
+use Rattle.ada_events.specs.Phases.{is_terminated}
 use Rattle.ada_events.specs.Calls.{queue}
 use Rattle.ada_laws.proofs.searching.Searching.{event_at-older}
+use Rattle.ada_laws.proofs.searching.Growing.{is_completed-same}
 use Rattle.ada_step_laws.proofs.changing.Calling.{same_completed, same_terminated}
-use Rattle.ada_step_laws.proofs.changing.Holding.{hold_only}
+use Rattle.ada_step_laws.proofs.changing.Holding.{hold_only, held_opens_none}
 use Rattle.ada_step_laws.proofs.changing.KeptQueues.{others_keep_queues}
 use Rattle.ada_step_laws.proofs.changing.NestKinds.{others_keep_nests}
 use Rattle.ada_tables.specs.Queues.{QueuedCall}
@@ -40,15 +41,6 @@ queued_later event before task entry calls same old = record {
       (λ c made. caller_later event before c.call c.caller made) calls old.callers;
 }
 
-pub held_opens_none : (e : Event) (task : ℕ) → held_in e ≡ Some task → opening_in e ≡ None
-unfolding held_in opening_in
-held_opens_none (Called by callee entry patience due) task holds = refl
-held_opens_none (Waiting by pick choices tail) task holds = refl
-held_opens_none (Paused by due) task holds = refl
-held_opens_none (Started by tasks) task holds = refl
-held_opens_none (Closed by block) task holds = refl
-held_opens_none _ task holds = absurd (none-some task holds)
-
 pub holds_change_one_phase : HoldsChangeOnePhase
 holds_change_one_phase event before task lawful hold calls =
     let only = hold_only event task hold.holds in
@@ -68,10 +60,6 @@ unfolding creation_in opening_in meeting_in released_in call_in completed_in hel
 gone_says e task is =
     (ap creation_in is, ap opening_in is, ap meeting_in is, ap released_in is, ap call_in is, ap completed_in is, ap held_in is, ap started_in is)
 
-gone_completes : (event : Event) (before : List Event) (other : ℕ) → completed_in event ≡ None → is_completed (event ∷ before) other ≡ is_completed before other
-unfolding is_completed
-gone_completes event before other none = rw none refl
-
 gone_terminates : (before : List Event) (task : TaskNo) (other : ℕ) → other ≢ task.0 → is_terminated (Gone task ∷ before) other ≡ is_terminated before other
 unfolding is_terminated gone_in quit_in
 gone_terminates before task other differs = rw (ne_eqb other task.0 differs) refl
@@ -86,6 +74,6 @@ going_changes_one_phase event before task lawful is =
       phases = λ other differs.
           others_keep_phases event before other lawful (λ holds. none-some other (sym says.6 ∙ holds)) (rw says.7 refl)
           (λ p frees held. none-some p (sym says.3 ∙ frees))
-          (gone_completes event before other says.5)
+          (is_completed-same event before other says.5)
           (ap (λ (e : Event). is_terminated (e ∷ before) other) is ∙ gone_terminates before task other differs);
     }

@@ -6,10 +6,11 @@ use Rattle.ada_events.specs.declared.event.Event.TheVariants.{Elaborated, Gone, 
 use Rattle.ada_events.specs.declared.names.TaskNo.{TaskNo}
 use Rattle.ada_events.specs.Says.{held_in, started_in, released_in, completed_in, gone_in, quit_in}
 use Rattle.ada_events.specs.Tasks.{task_count}
-use Rattle.ada_events.specs.Phases.{lists_task, is_completed, is_terminated}
+use Rattle.ada_events.specs.Phases.{lists_task, is_terminated}
 use Rattle.ada_events.specs.Lawful.{IsLawful}
 use Rattle.ada_laws.specs.Suspension.{IsSuspendedAt}
 use Rattle.ada_laws.proofs.held.Suspending.{suspended_exists}
+use Rattle.ada_laws.proofs.searching.Growing.{is_completed-same}
 use Rattle.ada_step_laws.proofs.changing.Calling.{same_completed, same_terminated}
 use Rattle.ada_step_laws.proofs.changing.Holding.{hold_only, holder_ran}
 use Rattle.ada_step_laws.proofs.changing.Saying.{release_only, held_apart}
@@ -70,10 +71,6 @@ pub gone_touches : (event : Event) (before : List Event) (task : TaskNo) → eve
 gone_touches event before task is lawful =
     (goer_exists event before task lawful is, (going_changes_one_phase event before task lawful is).phases)
 
-nobody_completed : (event : Event) (before : List Event) (task : ℕ) → completed_in event ≡ None → is_completed (event ∷ before) task ≡ is_completed before task
-unfolding is_completed
-nobody_completed event before task completes = rw completes refl
-
 pub nobody_terminated : (event : Event) (before : List Event) (task : ℕ) → gone_in event ≡ None → quit_in event ≡ None
     → is_terminated (event ∷ before) task ≡ is_terminated before task
 unfolding is_terminated
@@ -86,7 +83,7 @@ nobody_touched event f before is holds starts frees completes goes quits lawful 
     others_keep_phases event before task lawful (λ held. none-some task (sym (ap held_in is ∙ holds) ∙ held))
     (none_listed event task (ap started_in is ∙ starts))
     (λ p released held. none-some p (sym (ap released_in is ∙ frees) ∙ released))
-    (nobody_completed event before task (ap completed_in is ∙ completes)) (nobody_terminated event before task (ap gone_in is ∙ goes) (ap quit_in is ∙ quits))
+    (is_completed-same event before task (ap completed_in is ∙ completes)) (nobody_terminated event before task (ap gone_in is ∙ goes) (ap quit_in is ∙ quits))
 
 -- the end of an activation completes its task where that failed, and else changes no phase
 pub elaborated_touches : (event : Event) (before : List Event) (by : TaskNo) (ok : Bool) → event ≡ Elaborated by ok → IsLawful (event ∷ before)

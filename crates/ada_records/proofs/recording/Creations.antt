@@ -1,26 +1,23 @@
 -- The creation of a task, and where it stands, after one more event.
-use Rattle.std.proofs.Common.{◌≡◌, ◌≢◌, ℕ, suc, ◌+◌, ◌<◌, ◌≤◌, Bool, true, false, eqb, Option, Some, None, List, [], ◌∷◌, length, sym, refl, ap, ◌∙◌}
+use Rattle.std.proofs.Common.{◌≡◌, ◌≢◌, ℕ, suc, ◌+◌, ◌<◌, ◌≤◌, eqb, Option, Some, None, List, [], ◌∷◌, length, sym, refl, ap, ◌∙◌}
 use Rattle.std.proofs.Common.{subst, arith, inl, inr}
-use Rattle.std.specs.Prelude.{if◌then◌else◌}
-use Rattle.std.specs.Option.{option_and_then, option_or}
+use Rattle.std.specs.Option.{option_and_then}
 use Rattle.std.proofs.lemmas.Bool.{cases_eq, eq-eqb, ne_eqb}
 use Rattle.ada_events.specs.declared.event.Event.{Event}
 use Rattle.ada_events.specs.Search.{event_at}
 use Rattle.ada_events.specs.Says.{Creation, creation_in}
 use Rattle.ada_events.specs.Tasks.{task_count, creation_of}
 use Rattle.ada_laws.proofs.searching.Growing.{task_count-more}
-use Rattle.ada_laws.proofs.searching.Searching.{event_at-other, event_at-newest}
+use Rattle.ada_laws.proofs.searching.Searching.{event_at-newest}
 use Rattle.ada_records.specs.Records.{IsCreatedAt}
 use Rattle.ada_records.proofs.following.Entries.{creation_exists}
-
-none_if : (b : Bool) (o : Option Creation) → option_or (if b then (let none : Option Creation = None in none) else None) o ≡ o
-none_if true o = refl
-none_if false o = refl
+use Rattle.ada_events.proofs.Positions.{event_at-other}
+use Rattle.ada_step_laws.proofs.changing.Calling.{no_creation}
 
 -- an event that makes no task changes no creation
 pub same_creation : (event : Event) (before : List Event) (task : ℕ) → creation_in event ≡ None → creation_of (event ∷ before) task ≡ creation_of before task
 unfolding creation_of
-same_creation event before task makes = rw makes (none_if (eqb task (task_count before)) (creation_of before task))
+same_creation event before task makes = rw makes (no_creation (eqb task (task_count before)) (creation_of before task))
 
 -- an event changes no creation but that of the next task
 others_creation : (event : Event) (before : List Event) (task : ℕ) → task ≢ task_count before → creation_of (event ∷ before) task ≡ creation_of before task

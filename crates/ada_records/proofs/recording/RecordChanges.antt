@@ -14,7 +14,7 @@ use Rattle.ada_events.specs.Says.{Meeting, held_in, released_in, meeting_in, cre
 use Rattle.ada_events.specs.Tasks.{creation_of}
 use Rattle.ada_events.specs.Outcomes.{raised_in, released_to, choice_met}
 use Rattle.ada_events.specs.Lawful.{IsLawful}
-use Rattle.ada_laws.specs.Suspension.{IsSuspendedAt}
+use Rattle.ada_laws.specs.Suspension.{IsSuspendedAt, HoldsSomebody}
 use Rattle.ada_laws.proofs.searching.Growing.{task_count-same}
 use Rattle.ada_laws.proofs.queues.Meeting.{met_taking, taken_queued}
 use Rattle.ada_laws.proofs.queues.Queueing.{open_call_suspends}
@@ -24,7 +24,7 @@ use Rattle.ada_laws.proofs.held.OutcomeLaws.{raises_none, unraised}
 use Rattle.ada_records.specs.declared.record.Suspension.{Suspension}
 use Rattle.ada_records.specs.declared.record.Record.{Record}
 use Rattle.ada_records.specs.declared.record.Stage.{Stage}
-use Rattle.ada_records.specs.Records.{no_record, record_at, IsSuspensionOf, IsStageOf, IsRecordOf, AreRecords, HoldsSomebody, IsPlainHold, IsPlainRelease}
+use Rattle.ada_records.specs.Records.{no_record, record_at, IsSuspensionOf, IsStageOf, IsRecordOf, AreRecords, IsPlainHold, IsPlainRelease}
 use Rattle.ada_records.specs.Records.{freed}
 use Rattle.ada_records.specs.Noted.{waits_at_open_terminate}
 use Rattle.ada_records.specs.internal.Records.{held}

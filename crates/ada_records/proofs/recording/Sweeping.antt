@@ -1,6 +1,7 @@
 -- What one more event changes in the records where it may change those of all tasks.
 use Rattle.std.proofs.Common.{◌≡◌, ℕ, ◌≤◌, ◌<◌, Bool, true, false, not, ◌&&◌, ◌||◌, List, ◌∷◌, length, sym, refl, ap, subst, ◌∙◌, arith}
 use Rattle.std.proofs.lemmas.Bool.{lt-ltb, true≢false}
+use Rattle.std.proofs.Math.Bool.{and-false}
 use Rattle.ada_events.specs.declared.event.Event.{Event}
 use Rattle.ada_events.specs.declared.event.Event.TheVariants as event
 use Rattle.ada_events.specs.declared.names.TaskNo.{TaskNo}
@@ -36,10 +37,6 @@ quit_record_of before m task was false lawful says old =
     untouched (event.Quit m) before task was lawful old (record { holds = refl; raises = refl; frees = refl; meets = refl; ends = says }) (rw says refl)
     (same_creation (event.Quit m) before task refl)
 
-no_more : (b : Bool) → (b && false) ≡ false
-no_more true = refl
-no_more false = refl
-
 -- a terminated task's record stays right, whatever the master
 kept_terminated : (before : List Event) (m : Master) (task : ℕ) (was : Record) (depends : Bool) → is_terminated before task ≡ true → IsRecordOf before task was
     → IsRecordOf (event.Quit m ∷ before) task (quit_record depends was) → IsRecordOf (event.Quit m ∷ before) task was
@@ -56,7 +53,7 @@ kept_terminated before m task was true ended old new = record { suspension = sus
     suspension = record {
       at = record { free = λ _. new.suspension.at.free refl; held = λ held. absurd (free held) };
       joined = λ held. absurd (free held);
-      quittable = old.suspension.quittable ∙ ap (λ b. is_at_open_terminate before task && not b) over ∙ no_more (is_at_open_terminate before task)
+      quittable = old.suspension.quittable ∙ ap (λ b. is_at_open_terminate before task && not b) over ∙ and-false (is_at_open_terminate before task)
           ∙ new.suspension.quittable;
       outcome = new.suspension.outcome;
     }
@@ -124,7 +121,7 @@ abort_record_of before by tasks task was lawful exists old = record {
 hit_or_not : (was : Record) (flag hit : Bool) → was.stage.terminated ≡ true → abort_record flag was ≡ abort_record hit was
 hit_or_not was flag hit ended =
     ap (λ (b : Bool). record was { stage = record was.stage { abnormal = b || was.stage.abnormal } })
-    (ap (λ t. flag && not t) ended ∙ no_more flag ∙ sym (no_more hit) ∙ sym (ap (λ t. hit && not t) ended))
+    (ap (λ t. flag && not t) ended ∙ and-false flag ∙ sym (and-false hit) ∙ sym (ap (λ t. hit && not t) ended))
 
 -- one record after an abort, by a flag that is right unless the task is terminated
 abort_flagged : (before : List Event) (tasks : List TaskNo) (task : ℕ) (was : Record) (flag ended : Bool) → was.stage.terminated ≡ ended

@@ -16,7 +16,7 @@ use Rattle.ada_events.specs.Masters.{depends_on}
 use Rattle.ada_events.specs.Phases.{lists_task, has_start, is_started, is_elaborated, has_failed, is_completed, is_abnormal, is_terminated, is_suspended}
 use Rattle.ada_events.specs.Outcomes.{raised_in, last_given}
 use Rattle.ada_events.specs.Lawful.{IsLawful, MayFollow}
-use Rattle.ada_laws.proofs.searching.Searching.{is_number-some, option_map_or-true}
+use Rattle.ada_laws.proofs.searching.Searching.{option_map_or-true, is_number-not}
 use Rattle.ada_laws.proofs.searching.Growing.{task_count-more}
 use Rattle.ada_laws.proofs.queues.Meeting.{met_taking, taken_queued}
 use Rattle.ada_records.specs.declared.record.Record.{Record}
@@ -33,9 +33,6 @@ use Rattle.ada_step_laws.proofs.changing.QueueChanges.{ends}
 use Rattle.ada_step_laws.proofs.changing.Saying.{number_none, no_meeting}
 use Rattle.ada_records.proofs.recording.Stages.{stage_after, stage_more}
 
-never : (u : ℕ) (o : Option ℕ) → (o ≡ Some u → ⊥) → is_number u o ≡ false
-never u o none = false_from_ne_true (is_number u o) (λ is. none (is_number-some u o is))
-
 fails_elaborates : (e : Event) (u : ℕ) → failed_in e ≡ Some u → elaborated_in e ≡ Some u
 unfolding failed_in elaborated_in
 fails_elaborates (Elaborated by false) u says = says
@@ -45,10 +42,10 @@ fails_elaborates _ u says = absurd (none-some u says)
 -- an event doesn't touch a task that isn't made
 unmade_untouched : (event : Event) (before : List Event) (u : ℕ) → IsLawful (event ∷ before) → task_count before ≤ u → IsUntouched event before u 0
 unmade_untouched event before u lawful beyond = record {
-  holds = never u (held_in event) (λ holds. omega (arith, beyond, (holder_ran event before u lawful holds).0));
-  raises = never u (raised_in event) (λ raises. omega (arith, beyond, raiser_exists event before u lawful.1 raises));
+  holds = is_number-not u (held_in event) (λ holds. omega (arith, beyond, (holder_ran event before u lawful holds).0));
+  raises = is_number-not u (raised_in event) (λ raises. omega (arith, beyond, raiser_exists event before u lawful.1 raises));
   frees =
-      never 0 (released_in event) (λ frees.
+      is_number-not 0 (released_in event) (λ frees.
       let (t, held) = what_is_released_held event before 0 lawful frees in
       positive before held.event held.stands);
   meets =
@@ -66,8 +63,8 @@ unmade_stage event before u follows beyond lives =
     let listed : lists_task u (started_in event) ≡ false = false_from_ne_true (lists_task u (started_in event))
     (λ lists. omega (arith, beyond, started_exists event before u follows lists)) in
     let elaborated : is_number u (elaborated_in event)
-    ≡ false = never u (elaborated_in event) (λ says. omega (arith, beyond, elaborated_exists event before u follows says)) in
-    let failed : is_number u (failed_in event) ≡ false = never u (failed_in event)
+    ≡ false = is_number-not u (elaborated_in event) (λ says. omega (arith, beyond, elaborated_exists event before u follows says)) in
+    let failed : is_number u (failed_in event) ≡ false = is_number-not u (failed_in event)
     (λ says. omega (arith, beyond, elaborated_exists event before u follows (fails_elaborates event u says))) in
     let parts = or_parts (is_number u (completed_in event)) (is_number u (gone_in event) || option_map_or (depends_on before u) (quit_in event) false) lives in
     rw (listed, elaborated, failed, parts.0, parts.1, le-ltb u (task_count before) beyond)

@@ -49,7 +49,8 @@ use Rattle.ada_step_laws.proofs.changing.NestKinds.{IsMember, nest_member, other
 use Rattle.ada_step_laws.proofs.changing.NestKinds.IsMember.{of_block, of_rendezvous}
 use Rattle.ada_step_laws.proofs.changing.Saying.{met_says}
 use Rattle.ada_step_laws.proofs.changing.Unnesting.{nest_released}
-use Rattle.ada_tables.specs.Dependents.{has_block, count_below}
+use Rattle.ada_events.specs.Holders.{has_block}
+use Rattle.ada_tables.specs.Dependents.{count_below}
 use Rattle.ada_tables.specs.Standing.{live_count}
 use Rattle.ada_records.specs.TableEvents.{passing_in}
 use Rattle.ada_records.proofs.turning.Renesting.{IsIdleIn, ChangesNests}
@@ -57,8 +58,8 @@ use Rattle.ada_records.proofs.turning.Renesting.NestChange.{Nothing, Enters, Lea
 use Rattle.ada_records.proofs.holding.Cuts.{all_apart, cuts_keep_the_rest}
 use Rattle.ada_records.proofs.following.Entries.{call_names_entry, declarer_exists}
 use Rattle.ada_records.proofs.phase_changes.OnePhaseKinds.{not_in_nest}
-use Rattle.ada_records.proofs.holding.Owners.{block_in_nest, one_holder}
-use Rattle.ada_records.proofs.holding.PendingNests.{EndsWith, has_innermost, closed_last, waiting_shallow}
+use Rattle.ada_laws.proofs.within.Owners.{block_in_nest, one_holder}
+use Rattle.ada_step_laws.proofs.holding.PendingNests.{EndsWith, has_innermost, closed_last, waiting_shallow}
 use Rattle.ada_records.proofs.turning.ReleasedKinds.{HasOpenCall, plainly_uncalled, cancelled_unmet, failed_open, ended_open, IsLeaving, is_leaving}
 use Rattle.ada_records.proofs.turning.ReleasedKinds.{closing_is}
 

@@ -9,7 +9,8 @@ use Rattle.ada_events.specs.declared.names.Member.TheVariants.{Block, Rendezvous
 use Rattle.ada_events.specs.declared.names.TaskNo.{TaskNo}
 use Rattle.ada_events.specs.Tasks.{task_count}
 use Rattle.ada_events.specs.Nests.{nest, innermost}
-use Rattle.ada_tables.specs.Dependents.{has_block, cut}
+use Rattle.ada_events.specs.Holders.{has_block}
+use Rattle.ada_tables.specs.Dependents.{cut}
 use Rattle.ada_tables.specs.Standing.{live_count}
 
 -- what an event changes in what tasks are within

@@ -12,6 +12,7 @@ use Rattle.ada_laws.specs.Suspension.{IsSuspendedAt}
 use Rattle.ada_laws.proofs.searching.Searching.{option_map_or-true}
 use Rattle.ada_laws.proofs.searching.Saying.{held_in-call, held_in-wait}
 use Rattle.ada_laws.proofs.queues.Queueing.{is_open_at-call, open_call_suspends}
+use Rattle.ada_laws.proofs.forced.Parts.{waits_open}
 use Rattle.ada_standing.specs.Renaming.{Renaming}
 use Rattle.ada_standing.specs.StandsIn.{StandsIn}
 use Rattle.ada_standing.proofs.alike.Orderly.{IsOrderly}
@@ -132,11 +133,7 @@ empty_alike old new names u v stands orderly also named =
     (λ q e at passes. queued_held new q e at (and_parts _ (is_queued_at new q e) passes).1)
     (λ p q pair. rw (of_alike old new names p q u v pair stands named, queued_at_alike old new names p q pair) refl))
 
--- the event is a wait of the task with an open terminate alternative, which isn't released
-abbrev terminates : List Event → ℕ → ℕ → Event → Bool
-terminates journal task p e = is_some_and (wait_in e) (λ (w : Wait). eqb w.by task && is_open_terminate w.tail) && not (is_released journal p)
-
-terminates_held : (journal : List Event) (u p : ℕ) (e : Event) → has_ended journal u ≡ false → event_at journal p ≡ Some e → terminates journal u p e ≡ true
+terminates_held : (journal : List Event) (u p : ℕ) (e : Event) → has_ended journal u ≡ false → event_at journal p ≡ Some e → waits_open journal u p e ≡ true
     → (t : ℕ) × IsSuspendedAt journal t p
 terminates_held journal u p e active at passes =
     let both = and_parts _ (not (is_released journal p)) passes in
@@ -153,7 +150,7 @@ terminates_held journal u p e active at passes =
     )
 
 terminates_alike : (old new : List Event) (names : Renaming) (p q u v : ℕ) (pair : IsPair old new names p q) → StandsIn old new names → names.task u ≡ Some v
-    → terminates old u p pair.held.event ≡ terminates new v q pair.holds.event
+    → waits_open old u p pair.held.event ≡ waits_open new v q pair.holds.event
 terminates_alike old new names p q u v pair stands named =
     elim (waits_alike old new names p q pair.held.event pair.holds.event pair.alike) [
       | AreBoth.both w x is has same ↦
@@ -181,7 +178,7 @@ ready_alike old new names u v stands orderly also named =
       | inr active ↦
           let there : has_ended new v ≡ false = ended_alike old new names u v stands named ∙ active in
           rw (
-            any_alike old new names (terminates old u) (terminates new v) stands orderly also
+            any_alike old new names (waits_open old u) (waits_open new v) stands orderly also
                 (λ p e at passes. terminates_held old u p e active at passes) (λ q e at passes. terminates_held new v q e there at passes)
                 (λ p q pair. terminates_alike old new names p q u v pair stands named),
             there,

@@ -23,7 +23,8 @@ use Rattle.ada_laws.proofs.searching.Searching.{all_below-fails, all_below-holds
 use Rattle.ada_laws.proofs.within.Reaching.{reaches-same}
 use Rattle.ada_laws.proofs.within.Parents.{same_truth}
 use Rattle.ada_standing.specs.Renaming.{Renaming, renamed_master, renamed_member, renamed_parent}
-use Rattle.ada_standing.specs.StandsIn.{StandsIn, KeepsTasks, is_live, is_block}
+use Rattle.ada_events.specs.Holders.{is_block}
+use Rattle.ada_standing.specs.StandsIn.{StandsIn, KeepsTasks, is_live}
 use Rattle.ada_standing.proofs.alike.Orderly.{IsOrderly, IsLivedIn, IsClimb}
 use Rattle.ada_standing.proofs.lawful.Nesting.{nested_own}
 use Rattle.ada_standing.proofs.alike.Pairs.{live_from, live_parts, live_alike, live_back}

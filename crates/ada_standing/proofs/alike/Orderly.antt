@@ -13,7 +13,8 @@ use Rattle.ada_events.specs.Phases.{lists_task}
 use Rattle.ada_events.specs.Nests.{nest}
 use Rattle.ada_laws.specs.Masters.{parent_of, IsKnown}
 use Rattle.ada_laws.specs.Suspension.{IsSuspendedAt}
-use Rattle.ada_standing.specs.StandsIn.{is_live, is_block}
+use Rattle.ada_events.specs.Holders.{is_block}
+use Rattle.ada_standing.specs.StandsIn.{is_live}
 
 -- the master is the body of a live task, or a block in the nest of one
 pub data IsLivedIn (journal : List Event) : Master → Type 0 where

@@ -6,7 +6,8 @@ use Rattle.std.proofs.lemmas.Bool.{cases_eq, cases_lt, lt-ltb, le-ltb, ltb-true}
 use Rattle.std.proofs.lemmas.Option.{same_Some, none-some}
 use Rattle.ada_events.specs.declared.event.Event.{Event}
 use Rattle.ada_events.specs.Search.{first_given, first_below, event_at}
-use Rattle.ada_laws.proofs.searching.Searching.{event_at-within, event_at-newest, event_at-other, option_and_then-some, if_some}
+use Rattle.ada_laws.proofs.searching.Searching.{event_at-within, event_at-newest, option_and_then-some, if_some}
+use Rattle.ada_events.proofs.Positions.{event_at-other}
 
 -- a search gives what the least key gives that gives something
 pub data IsFirst {A : Type 0} (at : ℕ → Option A) (o : Option A) : Type 0 where

@@ -19,7 +19,8 @@ use Rattle.ada_events.specs.Termination.{all_terminated, is_complete, is_abandon
 use Rattle.ada_events.specs.Forced.{task_no, is_to_halt, halted, is_to_go, gone, is_to_quit, quit_body, quit_block}
 use Rattle.ada_laws.proofs.searching.Searching.{all_below-fails, option_and_then-some, option_map-some, then_some-some, three_parts}
 use Rattle.ada_standing.specs.Renaming.{Renaming, renamed_task, renamed_master, renamed_event}
-use Rattle.ada_standing.specs.StandsIn.{StandsIn, is_live, is_block}
+use Rattle.ada_events.specs.Holders.{is_block}
+use Rattle.ada_standing.specs.StandsIn.{StandsIn, is_live}
 use Rattle.ada_standing.proofs.alike.Orderly.{IsOrderly, IsLivedIn}
 use Rattle.ada_standing.proofs.alike.Searches.{given_at, given_below, below_bound, below_from, first_given-is, first_below-is, search_alike}
 use Rattle.ada_standing.proofs.alike.Pairs.{live_from, live_parts, live_alike, live_back, ended_alike, active_parts}

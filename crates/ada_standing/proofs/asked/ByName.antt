@@ -16,7 +16,7 @@ use Rattle.ada_events.specs.Nests.{frame}
 use Rattle.ada_events.specs.Asks.{asker, body_task, named_tasks}
 use Rattle.ada_events.specs.Refusals.{is_during_activation, is_not_activating, is_not_your_master, has_empty_list}
 use Rattle.ada_laws.specs.Masters.{parent_of}
-use Rattle.ada_laws.proofs.searching.Searching.{option_map_or-true, event_at-other}
+use Rattle.ada_laws.proofs.searching.Searching.{option_map_or-true}
 use Rattle.ada_laws.proofs.within.Reaching.{same_master-true}
 use Rattle.ada_standing.specs.Renaming.{Renaming, renamed_master}
 use Rattle.ada_standing.specs.StandsIn.{StandsIn, is_live}
@@ -26,6 +26,7 @@ use Rattle.ada_standing.proofs.alike.Pairs.{live_alike, live_parts}
 use Rattle.ada_standing.proofs.alike.Mastering.{lived_forth, lived_known, parent_lived, reaches_alike}
 use Rattle.ada_standing.proofs.asked.Naming.{asked_for, HaveNames, IsAsker, asker_live, IsAsking}
 use Rattle.ada_standing.proofs.asked.Nested.{frame_alike, frame_lived}
+use Rattle.ada_events.proofs.Positions.{event_at-other}
 
 elaborated_alike : (old new : List Event) (names : Renaming) (u : ℕ) → StandsIn old new names → IsAsker old names u
     → is_elaborated new (asked_for names u) ≡ is_elaborated old u

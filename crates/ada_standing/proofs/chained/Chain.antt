@@ -17,7 +17,8 @@ use Rattle.ada_laws.proofs.searching.Searching.{option_and_then-some}
 use Rattle.ada_standing.specs.Renaming.{Renaming, chained, renamed_master, renamed_outcome}
 use Rattle.ada_standing.specs.Holds.{is_same_kind}
 use Rattle.ada_standing.specs.StandsIn.{StandsIn, KeepsTasks, KeepsPositions, IsSameTask, IsSameDependent, IsSameNest, IsSameBlock, IsSameActive, IsHeldAlike}
-use Rattle.ada_standing.specs.StandsIn.{is_live, is_block, activator_of, made_within}
+use Rattle.ada_events.specs.Holders.{is_block}
+use Rattle.ada_standing.specs.StandsIn.{is_live, activator_of, made_within}
 use Rattle.ada_standing.specs.Laws.{StandInsChain}
 use Rattle.ada_standing.proofs.alike.Orderly.{IsOrderly, IsLivedIn}
 use Rattle.ada_standing.proofs.alike.Pairs.{live_from, live_alike, live_back, ended_alike, active_parts}

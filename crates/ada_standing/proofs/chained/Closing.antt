@@ -24,18 +24,20 @@ use Rattle.ada_laws.specs.Unlimited.{IsLawfulUnlimited, MayFollowUnlimited, refu
 use Rattle.ada_laws.proofs.asking.Limitless.{is_accepted-unlimited}
 use Rattle.ada_laws.proofs.searching.Searching.{event_at-cases, is_number-from}
 use Rattle.ada_laws.proofs.forced.Stepping.{forced-step, pending_parts}
-use Rattle.ada_laws.proofs.searching.Saying.{held_in-closing}
+use Rattle.ada_laws.proofs.searching.Saying.{held_in-closing, left_frees}
 use Rattle.ada_laws.proofs.searching.Growing.{is_released-before, has_ended-before}
 use Rattle.ada_laws.proofs.within.Framing.{IsBlockOf}
 use Rattle.ada_laws.proofs.held.Suspending.{suspended_once-unlimited}
-use Rattle.ada_standing.proofs.lawful.Nesting.{IsOwnBlock, own_member, contained, own_later, one_opener}
+use Rattle.ada_laws.proofs.queues.Meeting.{contained_at}
+use Rattle.ada_laws.proofs.within.Owners.{IsOwnBlock, own_member}
+use Rattle.ada_standing.proofs.lawful.Nesting.{own_later, one_opener}
 
 innermost_own : (journal : List Event) (task : ℕ) (o : Option Member) → innermost (nest journal task) ≡ o → option_map_or is_rendezvous o true ≡ false
     → IsOwnBlock journal task (member_position o)
 innermost_own journal task None is block = absurd (true≢false block)
 innermost_own journal task (Some (Rendezvous call)) is block = absurd (true≢false block)
 innermost_own journal task (Some (Block b)) is block =
-    own_member journal task b (contained (nest journal task) (length (nest journal task) - 1) (Block b) is)
+    own_member journal task b (contained_at (nest journal task) (length (nest journal task) - 1) (Block b) is)
 
 asked_close : (journal : List Event) (r : Request) (k : Closing) → refusal_but_limits journal r ≡ None → closing_in (asked_event journal r) ≡ Some k
     → IsOwnBlock journal k.by k.block
@@ -56,15 +58,10 @@ unfolding closing_in left_in
 close_leaves_none (event.Closed by block) k says = refl
 close_leaves_none _ k says = absurd (none-some k says)
 
-left_released : (e : Event) (close : ℕ) → left_in e ≡ Some close → released_in e ≡ Some close
-unfolding left_in released_in
-left_released (event.Left c) close says = says
-left_released _ close says = absurd (none-some close says)
-
 released_now : (event : Event) (before : List Event) (c : ℕ) → left_in event ≡ Some c → is_released (event ∷ before) c ≡ true
 unfolding is_released
 released_now event before c says =
-    or_left (is_number c (released_in event)) (is_released before c) (is_number-from c (released_in event) (left_released event c says))
+    or_left (is_number c (released_in event)) (is_released before c) (is_number-from c (released_in event) (left_frees event c says))
 
 -- a block whose close is pending hasn't been left
 pub closed_own : (journal : List Event) (c : ℕ) (e : Event) (k : Closing) → IsLawfulUnlimited journal → event_at journal c ≡ Some e

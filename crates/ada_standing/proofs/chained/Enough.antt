@@ -21,7 +21,8 @@ use Rattle.ada_events.specs.Forced.{task_no}
 use Rattle.ada_laws.specs.Masters.{parent_of}
 use Rattle.ada_laws.proofs.searching.Searching.{option_and_then-some, then_some-some}
 use Rattle.ada_standing.specs.Renaming.{Renaming, renamed_master, renamed_member, renamed_outcome, renamed_parent}
-use Rattle.ada_standing.specs.StandsIn.{StandsIn, is_live, is_block, activator_of}
+use Rattle.ada_events.specs.Holders.{is_block}
+use Rattle.ada_standing.specs.StandsIn.{StandsIn, is_live, activator_of}
 use Rattle.ada_standing.specs.Fewer.{AreEnough, is_member_at}
 use Rattle.ada_standing.proofs.alike.Orderly.{IsOrderly, IsLivedIn}
 use Rattle.ada_standing.proofs.alike.Mastering.{parent_lived}

@@ -12,7 +12,8 @@ use Rattle.ada_laws.specs.Suspension.{IsSuspendedAt}
 use Rattle.ada_standing.specs.Renaming.{Renaming}
 use Rattle.ada_standing.specs.Holds.{IsSameHold}
 use Rattle.ada_standing.specs.StandsIn.{StandsIn, KeepsTasks, KeepsPositions, IsSameTask, IsSameDependent, IsSameNest, IsSameActive}
-use Rattle.ada_standing.specs.StandsIn.{is_live, is_block, made_within}
+use Rattle.ada_events.specs.Holders.{is_block}
+use Rattle.ada_standing.specs.StandsIn.{is_live, made_within}
 use Rattle.ada_standing.specs.Fewer.{AreEnough}
 use Rattle.ada_standing.proofs.alike.Orderly.{IsOrderly, IsLivedIn}
 use Rattle.ada_standing.proofs.alike.Pairs.{live_back}

@@ -1,10 +1,10 @@
 -- Settled journals are quiet, so that others stand in for them with fewer names.
-use Rattle.std.proofs.Common.{◌≡◌, ℕ, zero, suc, ◌<◌, Bool, true, false, not, ◌&&◌, ◌||◌, eqb, Option, Some, None, List, refl, sym, ap, ◌∙◌, subst}
+use Rattle.std.proofs.Common.{◌≡◌, ℕ, zero, suc, ◌<◌, true, false, not, ◌&&◌, ◌||◌, eqb, Option, Some, None, List, sym, ap, ◌∙◌, subst}
 use Rattle.std.proofs.Common.{arith, inl, inr}
 use Rattle.std.specs.Bool.{then_some}
 use Rattle.std.specs.List.{list_any}
 use Rattle.std.proofs.lemmas.Bool.{cases_eq, and_cases, and_parts, or_parts, not_from_false, false_from_ne_true, true≢false}
-use Rattle.std.proofs.lemmas.Option.{none-some, same_Some}
+use Rattle.std.proofs.lemmas.Option.{same_Some}
 use Rattle.ada_events.specs.declared.event.Event.{Event}
 use Rattle.ada_events.specs.declared.event.Event.TheVariants.{Gone}
 use Rattle.ada_events.specs.declared.names.Master.{Master}
@@ -22,8 +22,9 @@ use Rattle.ada_laws.specs.Unlimited.{IsLawfulUnlimited}
 use Rattle.ada_laws.proofs.searching.Searching.{option_map-some, option_map_or-false, option_or-none, any_event-found}
 use Rattle.ada_laws.proofs.searching.Saying.{held_in-call, held_in-closing}
 use Rattle.ada_laws.proofs.forced.Rows.{settled_at_rest}
-use Rattle.ada_laws.proofs.queues.CallLaws.{no_open_call_to_a_finished_task}
-use Rattle.ada_standing.specs.StandsIn.{is_live, is_block, made_within}
+use Rattle.ada_laws.proofs.queues.CallLaws.{no_open_call_to_a_finished_task, then_none}
+use Rattle.ada_events.specs.Holders.{is_block}
+use Rattle.ada_standing.specs.StandsIn.{is_live, made_within}
 use Rattle.ada_standing.specs.Laws.{FewerNamesStandIn}
 use Rattle.ada_standing.proofs.alike.Orderly.{IsLivedIn}
 use Rattle.ada_standing.proofs.alike.Pairs.{live_from, live_parts, active_parts}
@@ -34,10 +35,6 @@ use Rattle.ada_standing.proofs.lawful.Nesting.{own_nested}
 use Rattle.ada_standing.proofs.lawful.Orderly.{lawful_orderly}
 use Rattle.ada_standing.proofs.chained.Closing.{closed_own}
 use Rattle.ada_standing.proofs.chained.Fewer.{IsQuiet, fewer_stand_in}
-
-not_given : {A : Type 0} (b : Bool) (x : A) → then_some b x ≡ None → b ≡ false
-not_given true x none = absurd (none-some x (sym none))
-not_given false x none = refl
 
 below_none : {A : Type 0} (give : ℕ → Option A) (n u : ℕ) → first_below give n ≡ None → u < n → give u ≡ None
 unfolding first_below
@@ -56,7 +53,7 @@ unabandoned journal u settled live =
     let parts = live_parts journal u live in
     let none = below_none (λ u. then_some (is_to_go journal u) (Gone (task_no u))) (task_count journal) u (settled_at_rest journal settled).no_gone parts.0 in
     let ends = is_completed journal u && all_terminated journal (Body (task_no u)) in
-    elim (and_cases (not (is_terminated journal u)) (ends || is_abandoned journal u) (not_given (is_to_go journal u) (Gone (task_no u)) none)) [
+    elim (and_cases (not (is_terminated journal u)) (ends || is_abandoned journal u) (then_none (is_to_go journal u) (Gone (task_no u)) none)) [
       | inl ended ↦ absurd (true≢false (sym (not_from_false (is_terminated journal u) parts.1) ∙ ended))
       | inr stays ↦ (or_parts ends (is_abandoned journal u) stays).1
     ]

@@ -17,22 +17,26 @@ use Rattle.ada_events.specs.Phases.{is_terminated, has_ended}
 use Rattle.ada_events.specs.Nests.{nest}
 use Rattle.ada_events.specs.Termination.{is_complete, is_complete_block}
 use Rattle.ada_laws.specs.Masters.{parent_of}
-use Rattle.ada_laws.proofs.searching.Searching.{event_at-newest, event_at-older, event_at-other, event_at-within}
+use Rattle.ada_laws.proofs.searching.Searching.{event_at-newest, event_at-older, event_at-within}
 use Rattle.ada_laws.proofs.searching.Growing.{is_terminated-more, has_ended-more}
 use Rattle.ada_laws.proofs.within.Leaving.{unleft_before}
+use Rattle.ada_laws.proofs.within.Owners.{IsOwnBlock}
+use Rattle.ada_laws.proofs.forced.Parts.{closes_block}
 use Rattle.ada_standing.specs.Renaming.{Renaming, renamed_master, renamed_member}
 use Rattle.ada_standing.specs.internal.Next.{next_names}
-use Rattle.ada_standing.specs.StandsIn.{IsSameBlock, IsSameNest, KeepsPositions, is_live, is_block}
+use Rattle.ada_events.specs.Holders.{is_block}
+use Rattle.ada_standing.specs.StandsIn.{IsSameBlock, IsSameNest, KeepsPositions, is_live}
 use Rattle.ada_standing.proofs.alike.Kinds.{AreBoth}
 use Rattle.ada_standing.proofs.alike.Pairs.{ended_alike, live_from, live_parts}
-use Rattle.ada_standing.proofs.lawful.Nesting.{IsOwnBlock, nested_own, own_nested}
+use Rattle.ada_standing.proofs.lawful.Nesting.{nested_own, own_nested}
 use Rattle.ada_standing.proofs.held.Saying.{openings_both, closings_both}
-use Rattle.ada_standing.proofs.held.Fitting.{FitsHeld, closes_block}
+use Rattle.ada_standing.proofs.held.Fitting.{FitsHeld}
 use Rattle.ada_standing.proofs.held.Setting.{AreNext, TerminatedKept, CompletedKept, is_like, task_later, task_cases, position_existed, position_cases}
 use Rattle.ada_standing.proofs.held.Setting.{master_later}
 use Rattle.ada_standing.proofs.held.Positions.{order_kept, within_kept, one_kept, holds_kept}
 use Rattle.ada_standing.proofs.held.Phases.{positions_alike, ended_kept}
 use Rattle.ada_standing.proofs.held.Nests.{members_kept}
+use Rattle.ada_events.proofs.Positions.{event_at-other}
 
 -- the parent of a block, and whether it is complete, by what opened it
 

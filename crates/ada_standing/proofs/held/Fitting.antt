@@ -1,20 +1,17 @@
 -- What is used of an event that follows a journal, where it comes to what holds tasks up and what they are within.
-use Rattle.std.proofs.Common.{◌≡◌, ℕ, suc, ◌≤◌, Bool, true, false, eqb, Some, List, [], ◌∷◌, length}
+use Rattle.std.proofs.Common.{◌≡◌, ℕ, suc, ◌≤◌, true, false, Some, List, [], ◌∷◌, length}
 use Rattle.std.specs.List.{list_any}
 use Rattle.ada_events.specs.declared.event.Event.{Event}
-use Rattle.ada_events.specs.Search.{is_some_and, event_at}
-use Rattle.ada_events.specs.Says.{Start, Closing, Meeting, start_in, closing_in, meeting_in, failed_in, left_in}
+use Rattle.ada_events.specs.Search.{event_at}
+use Rattle.ada_events.specs.Says.{Start, Meeting, start_in, meeting_in, failed_in, left_in}
 use Rattle.ada_events.specs.Tasks.{task_count}
 use Rattle.ada_events.specs.Phases.{lists_task, has_failed, is_released}
 use Rattle.ada_events.specs.Calls.{is_met}
 use Rattle.ada_events.specs.Nests.{is_left_close, nest}
 use Rattle.ada_events.specs.Forced.{is_done_activating, task_no}
 use Rattle.ada_laws.proofs.queues.Meeting.{IsTaking}
+use Rattle.ada_laws.proofs.forced.Parts.{closes_block}
 use Rattle.ada_standing.proofs.lawful.Leaving.{IsLeaving}
-
--- the event closes the block
-abbrev pub closes_block : ℕ → Event → Bool
-closes_block block event = is_some_and (closing_in event) (λ (k : Closing). eqb k.block block)
 
 -- nothing speaks of the event's own position yet; rendezvous are between what came before them; who doesn't exist is
 -- within nothing; a block is left after a pending close, a wait takes a queued call, a task fails while it is being

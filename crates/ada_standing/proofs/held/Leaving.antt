@@ -16,12 +16,13 @@ use Rattle.ada_laws.proofs.searching.Searching.{option_map_or-true}
 use Rattle.ada_laws.proofs.searching.Saying.{held_in-closing}
 use Rattle.ada_laws.proofs.forced.Stepping.{pending_parts}
 use Rattle.ada_laws.proofs.within.Parents.{same_truth}
+use Rattle.ada_laws.proofs.forced.Parts.{closes_block}
 use Rattle.ada_standing.specs.Renaming.{Renaming}
 use Rattle.ada_standing.proofs.alike.Kinds.{AreBoth, closes_alike}
 use Rattle.ada_standing.proofs.alike.Pairs.{pair_forth}
 use Rattle.ada_standing.proofs.lawful.Leaving.{IsLeaving, Leaves}
 use Rattle.ada_standing.proofs.held.Saying.{left_both}
-use Rattle.ada_standing.proofs.held.Fitting.{FitsHeld, closes_block}
+use Rattle.ada_standing.proofs.held.Fitting.{FitsHeld}
 use Rattle.ada_standing.proofs.held.Setting.{AreNext, is_like}
 
 -- a close that is followed by leaving its block holds its task up

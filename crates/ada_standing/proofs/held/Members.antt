@@ -21,14 +21,15 @@ use Rattle.ada_laws.proofs.queues.Queueing.{is_open_at-from}
 use Rattle.ada_laws.proofs.queues.Meeting.{IsTaking, taken_queued}
 use Rattle.ada_laws.proofs.within.Members.{nest_open}
 use Rattle.ada_laws.proofs.within.Parents.{same_truth}
+use Rattle.ada_laws.proofs.within.Owners.{own_member}
+use Rattle.ada_laws.proofs.forced.Parts.{closes_block}
 use Rattle.ada_standing.specs.Renaming.{Renaming, renamed_member}
 use Rattle.ada_standing.specs.internal.Next.{next_names}
 use Rattle.ada_standing.proofs.alike.Kinds.{AreBoth, calls_alike}
 use Rattle.ada_standing.proofs.alike.Pairs.{IsPair, pair_forth}
 use Rattle.ada_standing.proofs.alike.Calling.{open_held, call_by, wait_by}
-use Rattle.ada_standing.proofs.lawful.Nesting.{own_member}
 use Rattle.ada_standing.proofs.held.Saying.{openings_both, meetings_both}
-use Rattle.ada_standing.proofs.held.Fitting.{FitsHeld, closes_block}
+use Rattle.ada_standing.proofs.held.Fitting.{FitsHeld}
 use Rattle.ada_standing.proofs.held.Setting.{AreNext, TerminatedKept, CompletedKept, is_like, task_later, position_later, position_newest}
 use Rattle.ada_standing.proofs.held.Phases.{released_kept, ended_kept}
 use Rattle.ada_standing.proofs.held.Suspending.{kept_one}

@@ -2,12 +2,13 @@
 use Rattle.std.proofs.Common.{◌≡◌, ℕ, suc, ◌<◌, ◌≤◌, true, Some, List, ◌∷◌, length, refl, sym, ◌∙◌, arith, inl, inr}
 use Rattle.ada_events.specs.declared.event.Event.{Event}
 use Rattle.ada_laws.specs.Suspension.{IsSuspendedAt}
-use Rattle.ada_laws.proofs.searching.Searching.{event_at-within, event_at-other}
+use Rattle.ada_laws.proofs.searching.Searching.{event_at-within}
 use Rattle.ada_laws.proofs.searching.Growing.{is_released-before, has_ended-before}
 use Rattle.ada_standing.specs.Renaming.{Renaming}
 use Rattle.ada_standing.specs.internal.Next.{next_names}
 use Rattle.ada_standing.specs.Holds.{is_same_kind}
 use Rattle.ada_standing.proofs.held.Setting.{AreNext, position_cases, position_existed, position_exists}
+use Rattle.ada_events.proofs.Positions.{event_at-other}
 
 -- what a task is suspended at, where that isn't the newest event, it was suspended at before
 pub suspended_earlier : (event : Event) (before : List Event) (task p : ℕ) → p ≤ length before → (held : IsSuspendedAt (event ∷ before) task p)

@@ -15,11 +15,12 @@ use Rattle.ada_events.specs.Says.{Opening, Meeting, Wait, opening_in, meeting_in
 use Rattle.ada_events.specs.Calls.{is_open_at, is_open_call}
 use Rattle.ada_events.specs.Nests.{is_left, is_wait_of, member_at, nest}
 use Rattle.ada_laws.specs.Calls.{IsOpenCallAt}
-use Rattle.ada_laws.proofs.searching.Searching.{event_at-older, event_at-newest, event_at-other, option_map_or-true}
+use Rattle.ada_laws.proofs.searching.Searching.{event_at-older, event_at-newest, option_map_or-true}
 use Rattle.ada_laws.proofs.searching.Growing.{is_released-before, has_ended-before}
 use Rattle.ada_laws.proofs.queues.Queueing.{is_open_at-call, is_open_at-from}
 use Rattle.ada_laws.proofs.within.Leaving.{unleft_before}
 use Rattle.ada_standing.proofs.held.Fitting.{FitsHeld}
+use Rattle.ada_events.proofs.Positions.{event_at-other}
 
 -- the member is still there
 abbrev pub remains : List Event → Member → Bool

@@ -1,12 +1,13 @@
 -- What an event says, and what the one that stands for it says: of the tasks, masters and positions that stand for those of the first.
 use Rattle.std.proofs.Common.{◌≡◌, ℕ, true, false, Some, refl}
 use Rattle.ada_events.specs.declared.event.Event.{Event}
-use Rattle.ada_events.specs.Says.{Opening, Start, Call, Closing, Meeting, opening_in, start_in, call_in, wait_in}
+use Rattle.ada_events.specs.Says.{Opening, Start, Call, Meeting, opening_in, start_in, call_in, wait_in}
 use Rattle.ada_events.specs.Says.{delay_in, closing_in, meeting_in, failed_in, held_in, released_in, left_in}
 use Rattle.ada_standing.specs.Renaming.{Renaming, renamed_master, renamed_tasks}
 use Rattle.ada_standing.specs.Holds.{IsSameWait}
 use Rattle.ada_standing.proofs.alike.Kinds.{AreBoth, AreDueAlike}
 use Rattle.ada_standing.proofs.held.Renamed.{IsRenamed}
+use Rattle.ada_standing.proofs.kept.Saying.{IsSameClosing}
 
 abbrev pub AreTasks : Renaming → ℕ → ℕ → Type 0
 AreTasks names t u = names.task t ≡ Some u
@@ -21,10 +22,6 @@ pub record AreOpenings (names : Renaming) (o p : Opening) : Type 0 where
 pub record AreMeetings (names : Renaming) (m n : Meeting) : Type 0 where
   pub call : names.position m.call ≡ Some n.call
   pub wait : names.position m.wait ≡ Some n.wait
-
-pub record AreClosings (names : Renaming) (k l : Closing) : Type 0 where
-  pub by : names.task k.by ≡ Some l.by
-  pub block : names.position k.block ≡ Some l.block
 
 pub record AreCalls (names : Renaming) (c d : Call) : Type 0 where
   pub callee : names.task c.callee ≡ Some d.callee
@@ -62,7 +59,7 @@ module _ (names : Renaming) where
   delays_both d e (IsRenamed.pauses b c due is) = AreBoth.both _ _ refl refl refl
   delays_both d e _ = AreBoth.neither refl refl
 
-  pub closings_both : (d e : Event) → IsRenamed names d e → AreBoth (AreClosings names) (closing_in d) (closing_in e)
+  pub closings_both : (d e : Event) → IsRenamed names d e → AreBoth (IsSameClosing names) (closing_in d) (closing_in e)
   unfolding closing_in
   closings_both d e (IsRenamed.closes b c p q is has) = AreBoth.both _ _ refl refl (record { by = is; block = has })
   closings_both d e _ = AreBoth.neither refl refl

@@ -1,5 +1,5 @@
 -- What a task depends on, what it was made within, and whether it is abandoned, alike after one more event.
-use Rattle.std.proofs.Common.{◌≡◌, ℕ, Bool, true, false, ◌||◌, eqb, Option, Some, None, List, ◌∷◌, refl, sym, ap, ◌∙◌, subst, inl, inr}
+use Rattle.std.proofs.Common.{◌≡◌, ℕ, true, false, eqb, Option, Some, None, List, ◌∷◌, refl, sym, ap, ◌∙◌, subst, inl, inr}
 use Rattle.std.specs.Option.{option_map, option_and_then}
 use Rattle.std.proofs.lemmas.Bool.{cases_Bool, or_cases, or_left, or_right, or_parts}
 use Rattle.std.proofs.lemmas.Option.{same_Some}
@@ -16,6 +16,7 @@ use Rattle.ada_laws.specs.Masters.{parent_of}
 use Rattle.ada_laws.proofs.searching.Searching.{option_map-some}
 use Rattle.ada_laws.proofs.searching.Growing.{is_terminated-more}
 use Rattle.ada_laws.proofs.within.Framing.{IsBlockOf, block_later}
+use Rattle.ada_laws.proofs.forced.Parts.{is_over}
 use Rattle.ada_standing.specs.Renaming.{Renaming, renamed_master, renamed_parent}
 use Rattle.ada_standing.specs.internal.Next.{next_names}
 use Rattle.ada_standing.specs.StandsIn.{IsSameDependent, made_within}
@@ -30,10 +31,6 @@ use Rattle.ada_standing.proofs.kept.Terminating.{unterminated_before, made_fresh
 use Rattle.ada_standing.proofs.kept.Phases.{unnamed_before, completed_old, completed_kept, ended_old, named_kept}
 use Rattle.ada_standing.proofs.kept.Making.{is_closed, block_complete, complete_more, abandoned_is, never_abandoned, no_abandoned, waiting_from}
 use Rattle.ada_standing.proofs.kept.Making.{making_keeps_complete, creations_forth, creations_none, makers_named}
-
--- what a task was made within is complete, or its maker is terminated
-abbrev is_over : List Event → Creation → Bool
-is_over journal c = is_complete journal c.under || is_terminated journal c.by
 
 over_more : (event : Event) (before : List Event) (c : Creation) → IsMaker before c → is_over before c ≡ true → is_over (event ∷ before) c ≡ true
 over_more event before c maker over =

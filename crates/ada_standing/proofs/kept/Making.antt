@@ -15,7 +15,7 @@ use Rattle.ada_events.specs.Says.{Creation, Opening, Closing, creation_in, openi
 use Rattle.ada_events.specs.Tasks.{creation_of}
 use Rattle.ada_events.specs.Phases.{has_start, is_completed, is_terminated, has_ended}
 use Rattle.ada_events.specs.Termination.{is_complete_block, is_complete, is_abandoned}
-use Rattle.ada_laws.proofs.searching.Searching.{event_at-other, event_at-within, then_some-some}
+use Rattle.ada_laws.proofs.searching.Searching.{event_at-within, then_some-some}
 use Rattle.ada_laws.proofs.searching.Growing.{is_completed-more, has_ended-more}
 use Rattle.ada_laws.proofs.within.Framing.{IsBlockOf, block_later}
 use Rattle.ada_laws.proofs.within.Depending.{created_positive}
@@ -32,6 +32,7 @@ use Rattle.ada_standing.proofs.kept.Newness.{making_only}
 use Rattle.ada_standing.proofs.kept.Tasks.{main_or_made}
 use Rattle.ada_standing.proofs.kept.Terminating.{unterminated_before, made_fresh, terminated_old}
 use Rattle.ada_standing.proofs.kept.Phases.{unnamed_before, starts_now}
+use Rattle.ada_events.proofs.Positions.{event_at-other}
 
 -- the activator of a task, where its creation is known
 

@@ -15,7 +15,7 @@ use Rattle.ada_events.specs.Outcomes.{raised_in, released_to, became, last_given
 use Rattle.ada_laws.specs.Suspension.{IsSuspendedAt}
 use Rattle.ada_laws.proofs.searching.Searching.{is_number-some, event_at-newest, event_at-older, event_at-within, event_at-cases}
 use Rattle.ada_laws.proofs.searching.Growing.{has_ended-before}
-use Rattle.ada_laws.proofs.held.OutcomeLaws.{became-held}
+use Rattle.ada_laws.proofs.held.OutcomeLaws.{became-held, same_fate}
 use Rattle.ada_standing.proofs.alike.Pairs.{active_parts}
 use Rattle.ada_standing.proofs.kept.Fitting.{Fits}
 use Rattle.ada_standing.proofs.kept.Newness.{making_only, fresh, fresh_made}
@@ -95,11 +95,6 @@ unfolding became
 outcome_released event before u p fits active unraised unheld held releases =
     older_doings event before u active unraised unheld ∙ rw (fits.latest (event ∷ before) u p held, releases) refl
 
--- what the event doesn't release stays what it became
-became_older : (event : Event) (before : List Event) (p : ℕ) → is_number p (released_in event) ≡ false → became (event ∷ before) p ≡ became before p
-unfolding became
-became_older event before p unreleased = rw unreleased refl
-
 held_same : (b c : Bool) (x y : Outcome) → (c ≡ true → x ≡ y) → cond b (Some Raised) (cond c (Some x) None) ≡ cond b (Some Raised) (cond c (Some y) None)
 held_same true c x y same = refl
 held_same false true x y same = ap Some (same refl)
@@ -114,7 +109,7 @@ outcome_same event before u fits active unraised unheld unreleased =
     ∙ (ap (λ (o : Option Outcome). unwrap_or o Nothing)
     (last_same (outcome_at (event ∷ before) u) (outcome_at before u) before (λ p e at.
     held_same (is_number u (raised_in e)) (is_number u (held_in e)) (became (event ∷ before) p) (became before p) (λ holds.
-    became_older event before p (false_from_ne_true (is_number p (released_in event)) (λ now.
+    same_fate event before p (false_from_ne_true (is_number p (released_in event)) (λ now.
     let (t, held) = fits.releases p (is_number-some p (released_in event) now) in
     let one : held.event ≡ e = same_Some held.event e (sym held.stands ∙ at) in
     let by : t ≡ u = same_Some t u (sym held.holds ∙ (ap held_in one ∙ is_number-some u (held_in e) holds)) in

@@ -15,9 +15,10 @@ use Rattle.ada_standing.specs.Renaming.{Renaming, renamed_master, renamed_task, 
 use Rattle.ada_standing.specs.internal.Next.{next_names}
 use Rattle.ada_standing.proofs.alike.Pairs.{live_from, active_parts, ended_alike}
 use Rattle.ada_standing.proofs.alike.Mastering.{depends_alike, eqb_alike}
-use Rattle.ada_standing.proofs.kept.Saying.{from_both-some, task-some, started_said, aborted_said, elaborated_said, completed_said, number_alike}
+use Rattle.ada_standing.proofs.kept.Saying.{from_both-some, started_said, aborted_said, elaborated_said, completed_said, number_alike}
 use Rattle.ada_standing.proofs.kept.Naming.{AreNext, AreOld, like, one_task, next_cases}
 use Rattle.ada_standing.proofs.kept.Terminating.{unterminated_before, made_fresh, terminated_old}
+use Rattle.ada_standing.proofs.held.Renamed.{renamed_task-is}
 
 -- some task of a list passes as some task of the renamed list does
 pub any_alike : (names : Renaming) (test there : TaskNo → Bool) (ts us : List TaskNo) → renamed_tasks names ts ≡ Some us
@@ -26,7 +27,7 @@ unfolding renamed_tasks
 any_alike names test there [] us is alike = rw (← same_Some _ us is) refl
 any_alike names test there (t ∷ rest) us is alike =
     let (u, them, first, later, made) = from_both-some (λ u us. u ∷ us) (renamed_task names t) (renamed_tasks names rest) us is in
-    rw (← made, alike t u (task-some names t u first), any_alike names test there rest them later alike) refl
+    rw (← made, alike t u (renamed_task-is names t u first), any_alike names test there rest them later alike) refl
 
 -- whom no start names, none named before
 pub unnamed_before : (event : Event) (before : List Event) (u : ℕ) → has_start (event ∷ before) u ≡ false → has_start before u ≡ false

@@ -1,5 +1,5 @@
 -- What the event that stands for another says: the same, of the tasks, masters and positions that stand for the other's.
-use Rattle.std.proofs.Common.{◌≡◌, ℕ, ℤ, Bool, true, false, Option, Some, None, List, refl, sym, ap, ◌∙◌}
+use Rattle.std.proofs.Common.{◌≡◌, ℕ, ℤ, Bool, true, false, Option, Some, None, List, refl, sym, ap}
 use Rattle.std.specs.Option.{option_map}
 use Rattle.std.proofs.lemmas.Option.{none-some, same_Some}
 use Rattle.ada_events.specs.declared.event.Event.{Event}
@@ -16,11 +16,11 @@ use Rattle.ada_events.specs.Search.{is_number}
 use Rattle.ada_events.specs.Says.{Creation, Closing, creation_in, closing_in, moment_in, started_in, aborted_in, elaborated_in}
 use Rattle.ada_events.specs.Says.{completed_in, gone_in, quit_in, held_in, released_in}
 use Rattle.ada_events.specs.Outcomes.{raised_in}
-use Rattle.ada_events.specs.Forced.{task_no}
 use Rattle.ada_laws.proofs.searching.Searching.{option_map-some, option_and_then-some}
 use Rattle.ada_standing.specs.Renaming.{Renaming, renamed_master, renamed_task, renamed_tasks, renamed_event, from_both}
 use Rattle.ada_standing.proofs.alike.Kinds.{AreBoth}
 use Rattle.ada_standing.proofs.alike.Mastering.{eqb_alike}
+use Rattle.ada_standing.proofs.held.Renamed.{renamed_task-is}
 
 -- the second event stands for the first
 pub data IsLike (names : Renaming) : Event → Event → Type 0 where
@@ -60,18 +60,12 @@ from_both-some make (Some x) (Some y) z same = (x, y, refl, refl, same_Some (mak
 from_both-some make None b z same = absurd (none-some z same)
 from_both-some make (Some x) None z same = absurd (none-some z same)
 
-pub task-some : (names : Renaming) (t u : TaskNo) → renamed_task names t ≡ Some u → names.task t.0 ≡ Some u.0
-unfolding renamed_task
-task-some names t u is =
-    let (v, named, same) = option_map-some task_no (names.task t.0) u is in
-    named ∙ ap (λ (x : TaskNo). Some x.0) same
-
 -- an event of a task alone
 by_task : (names : Renaming) (by : TaskNo) (make : TaskNo → Event) (e f : Event) → option_map make (renamed_task names by) ≡ Some f
     → ((to : TaskNo) → names.task by.0 ≡ Some to.0 → IsLike names e (make to)) → IsLike names e f
 by_task names by make e f is like =
     let (to, first, made) = option_map-some make (renamed_task names by) f is in
-    rw (← made) (like to (task-some names by to first))
+    rw (← made) (like to (renamed_task-is names by to first))
 
 -- an event of a position alone
 by_position : (names : Renaming) (p : ℕ) (make : ℕ → Event) (e f : Event) → option_map make (names.position p) ≡ Some f
@@ -86,7 +80,7 @@ by_both : {A : Type 0} (names : Renaming) (by : TaskNo) (o : Option A) (make : T
     → ((to : TaskNo) (x : A) → names.task by.0 ≡ Some to.0 → o ≡ Some x → IsLike names e (make to x)) → IsLike names e f
 by_both names by o make e f is like =
     let (to, x, first, second, made) = from_both-some make (renamed_task names by) o f is in
-    rw (← made) (like to x (task-some names by to first) second)
+    rw (← made) (like to x (renamed_task-is names by to first) second)
 
 pub like_of : (names : Renaming) (e f : Event) → renamed_event names e ≡ Some f → IsLike names e f
 unfolding renamed_event
@@ -96,14 +90,14 @@ like_of names (event.Created by x m families) f is =
     let (to, first, both) = option_and_then-some (λ b. from_both (λ u n. event.Created b u n families) (renamed_master names x) (renamed_master names m))
     (renamed_task names by) f is in
     let (y, n, second, third, made) = from_both-some (λ u n. event.Created to u n families) (renamed_master names x) (renamed_master names m) f both in
-    rw (← made) (IsLike.created by to x y m n families (task-some names by to first) second third)
+    rw (← made) (IsLike.created by to x y m n families (renamed_task-is names by to first) second third)
 like_of names (event.Started by ts) f is =
     by_both names by (renamed_tasks names ts) event.Started (event.Started by ts) f is (λ to us named also. IsLike.started by to ts us named also)
 like_of names (event.Elaborated by ok) f is =
     by_task names by (λ b. event.Elaborated b ok) (event.Elaborated by ok) f is (λ to named. IsLike.elaborated by to ok named)
 like_of names (event.Called by callee entry patience due) f is =
     by_both names by (renamed_task names callee) (λ b c. event.Called b c entry patience due) (event.Called by callee entry patience due) f is
-    (λ to other named also. IsLike.called by to callee other entry patience due named (task-some names callee other also))
+    (λ to other named also. IsLike.called by to callee other entry patience due named (renamed_task-is names callee other also))
 like_of names (event.Waiting by pick choices tail) f is =
     by_task names by (λ b. event.Waiting b pick choices tail) (event.Waiting by pick choices tail) f is
     (λ to named. IsLike.waiting by to pick choices tail named)

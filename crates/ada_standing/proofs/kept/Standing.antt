@@ -1,11 +1,11 @@
 -- Where what holds tasks up, their nests and the positions are kept too, the second journal still stands in for the first.
 use Rattle.std.proofs.Common.{◌≡◌, ℕ, false, Some, List, ◌∷◌}
 use Rattle.ada_events.specs.declared.event.Event.{Event}
-use Rattle.ada_events.specs.Phases.{is_terminated, has_ended, is_suspended}
-use Rattle.ada_laws.specs.Suspension.{IsSuspendedAt}
+use Rattle.ada_events.specs.Phases.{is_terminated, has_ended}
 use Rattle.ada_standing.specs.Renaming.{Renaming}
 use Rattle.ada_standing.specs.internal.Next.{next_names}
-use Rattle.ada_standing.specs.StandsIn.{StandsIn, KeepsPositions, IsSameNest, IsSameActive, IsHeldAlike}
+use Rattle.ada_standing.specs.StandsIn.{StandsIn, KeepsPositions, IsSameNest, IsSameActive}
+use Rattle.ada_standing.specs.internal.Suspending.{IsHeldTheSame}
 use Rattle.ada_standing.proofs.kept.Naming.{AreNext}
 use Rattle.ada_standing.proofs.kept.Moments.{moments_kept}
 use Rattle.ada_standing.proofs.kept.Tasks.{tasks_kept}
@@ -13,14 +13,9 @@ use Rattle.ada_standing.proofs.kept.Phases.{started_kept, elaborated_kept, abnor
 use Rattle.ada_standing.proofs.kept.Depending.{dependents_kept}
 use Rattle.ada_standing.proofs.kept.Becoming.{same_kept}
 
--- the second task is suspended as the first is
-pub record AreSuspendedAlike (old new : List Event) (names : Renaming) (u v : ℕ) : Type 0 where
-  pub suspended : is_suspended new v ≡ is_suspended old u
-  pub held : (p : ℕ) (held : IsSuspendedAt old u p) → IsHeldAlike old new names v p held.event
-
 module _ (old new : List Event) (names : Renaming) (event other : Event) (next : AreNext old new names event other) where
   pub active_kept : (u v : ℕ) → (next_names old new event names).task u ≡ Some v → has_ended (event ∷ old) u ≡ false
-      → AreSuspendedAlike (event ∷ old) (other ∷ new) (next_names old new event names) u v
+      → IsHeldTheSame (event ∷ old) (other ∷ new) (next_names old new event names) u v
       → IsSameActive (event ∷ old) (other ∷ new) (next_names old new event names) u v
   active_kept u v named active alike = record {
     started = started_kept old new names event other next u v named active;
@@ -34,7 +29,7 @@ module _ (old new : List Event) (names : Renaming) (event other : Event) (next :
       → ((u v : ℕ) → (next_names old new event names).task u ≡ Some v → is_terminated (event ∷ old) u ≡ false
       → IsSameNest (event ∷ old) (other ∷ new) (next_names old new event names) u v)
       → ((u v : ℕ) → (next_names old new event names).task u ≡ Some v → has_ended (event ∷ old) u ≡ false
-      → AreSuspendedAlike (event ∷ old) (other ∷ new) (next_names old new event names) u v)
+      → IsHeldTheSame (event ∷ old) (other ∷ new) (next_names old new event names) u v)
       → StandsIn (event ∷ old) (other ∷ new) (next_names old new event names)
   stands_kept positions nests held = record {
     moments = moments_kept old new names event other next;

@@ -1,7 +1,7 @@
 -- In a lawful journal one comes by parents from each master to one that has none.
-use Rattle.std.proofs.Common.{◌≡◌, ℕ, suc, ◌<◌, ◌≤◌, true, Option, Some, None, List, [], ◌∷◌, length, sym, refl, ap, ◌∙◌, subst, arith, inl, inr}
+use Rattle.std.proofs.Common.{◌≡◌, ◌<◌, true, Option, Some, None, List, [], ◌∷◌, sym, refl, ap, ◌∙◌, subst, arith, inl, inr}
 use Rattle.std.specs.Option.{option_len}
-use Rattle.std.proofs.lemmas.Bool.{cases_eq, eq-eqb, ne_eqb, or_right}
+use Rattle.std.proofs.lemmas.Bool.{cases_eq, or_right}
 use Rattle.ada_events.specs.declared.event.Event.{Event}
 use Rattle.ada_events.specs.declared.names.TaskNo.{TaskNo}
 use Rattle.ada_events.specs.declared.names.Master.{Master}
@@ -10,37 +10,12 @@ use Rattle.ada_events.specs.Search.{event_at}
 use Rattle.ada_events.specs.Says.{Creation, Opening, creation_in, opening_in}
 use Rattle.ada_events.specs.Tasks.{task_count, creation_of}
 use Rattle.ada_events.specs.Masters.{same_master, reaches}
-use Rattle.ada_events.specs.Nests.{frame}
 use Rattle.ada_laws.specs.Masters.{parent_of, IsKnown}
 use Rattle.ada_laws.specs.Unlimited.{IsLawfulUnlimited}
-use Rattle.ada_laws.proofs.searching.Searching.{event_at-cases, event_at-newest, event_at-other, event_at-within}
-use Rattle.ada_laws.proofs.within.Reaching.{reaches-same, frame_known, creation_asked-unlimited, opening_asked-unlimited, reaches_known-unlimited}
-use Rattle.ada_laws.proofs.within.Parents.{masters_reach_by_parents-unlimited}
+use Rattle.ada_laws.proofs.searching.Searching.{event_at-cases}
+use Rattle.ada_laws.proofs.within.Reaching.{reaches-same, frame_known, opening_asked-unlimited, reaches_known-unlimited}
+use Rattle.ada_laws.proofs.within.Parents.{masters_reach_by_parents-unlimited, parent_of-later, creation_known-unlimited, parent_of-body, parent_of-block}
 use Rattle.ada_standing.proofs.alike.Orderly.{IsClimb}
-
--- the parent of what was known before stays the same
-parent_later : (event : Event) (before : List Event) (x : Master) → IsKnown before x → parent_of (event ∷ before) x ≡ parent_of before x
-unfolding creation_of
-parent_later event before (Body t) known =
-    rw (ne_eqb t.0 (task_count before) (λ same. omega (arith, same, known))) refl
-parent_later event before (Block p) known =
-    let within : p ≤ length before = event_at-within before p known.event known.stands in
-    rw (event_at-other event before p (omega arith)) refl
-
-parent_created : (event : Event) (before : List Event) (t : TaskNo) (c : Creation) → creation_in event ≡ Some c → t.0 ≡ task_count before
-    → parent_of (event ∷ before) (Body t) ≡ Some c.master
-unfolding creation_of
-parent_created event before t c says same = rw (eq-eqb t.0 (task_count before) same, says) refl
-
-parent_opened : (event : Event) (before : List Event) (p : ℕ) (o : Opening) → opening_in event ≡ Some o → p ≡ suc (length before)
-    → parent_of (event ∷ before) (Block p) ≡ Some o.under
-parent_opened event before p o says same = rw (same, event_at-newest event before, says) refl
-
-creation_known : (event : Event) (before : List Event) (c : Creation) → IsLawfulUnlimited (event ∷ before) → creation_in event ≡ Some c
-    → IsKnown before c.master
-creation_known event before c lawful says =
-    let by = creation_asked-unlimited event before c lawful.1 says in
-    reaches_known-unlimited before lawful.0 (frame before c.by) c.master (frame_known before c.by by.asked.exists) by.reached
 
 opening_known : (event : Event) (before : List Event) (o : Opening) → IsLawfulUnlimited (event ∷ before) → opening_in event ≡ Some o
     → IsKnown before o.under
@@ -61,9 +36,9 @@ parent_known journal x z lawful known is = reaches_known-unlimited journal lawfu
 
 climb_later : (event : Event) (before : List Event) (x : Master) → IsLawfulUnlimited before → IsKnown before x → IsClimb before x
     → IsClimb (event ∷ before) x
-climb_later event before x lawful known (IsClimb.top m none) = IsClimb.top x (parent_later event before x known ∙ none)
+climb_later event before x lawful known (IsClimb.top m none) = IsClimb.top x (parent_of-later event before x known ∙ none)
 climb_later event before x lawful known (IsClimb.up m z is climb) =
-    IsClimb.up x z (parent_later event before x known ∙ is) (climb_later event before z lawful (parent_known before x z lawful known is) climb)
+    IsClimb.up x z (parent_of-later event before x known ∙ is) (climb_later event before z lawful (parent_known before x z lawful known is) climb)
 
 -- a master is known before the newest event, or made by it within one that is
 data IsMade (event : Event) (before : List Event) (x : Master) : Type 0 where
@@ -76,7 +51,7 @@ unfolding task_count
 made_body event before t None lawful none below = earlier (omega (arith, ap option_len none))
 made_body event before t (Some c) lawful says below =
     elim (cases_eq t.0 (task_count before)) [
-      | inl same ↦ newly c.master (parent_created event before t c says same) (creation_known event before c lawful says)
+      | inl same ↦ newly c.master (parent_of-body event before t c says same) (creation_known-unlimited event before c lawful says)
       | inr differs ↦ earlier (omega (arith, ap option_len says))
     ]
 
@@ -87,7 +62,7 @@ made_cases event before (Block p) lawful known =
     elim (event_at-cases event before p known.event known.stands) [
       | inl newest ↦
           let says : opening_in event ≡ Some known.opening = ap opening_in newest.1 ∙ known.says in
-          newly known.opening.under (parent_opened event before p known.opening says newest.0) (opening_known event before known.opening lawful says)
+          newly known.opening.under (parent_of-block event before p known.opening says newest.0) (opening_known event before known.opening lawful says)
       | inr older ↦ earlier (record { event = known.event; opening = known.opening; stands = older; says = known.says })
     ]
 

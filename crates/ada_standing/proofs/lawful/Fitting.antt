@@ -19,16 +19,16 @@ use Rattle.ada_events.specs.Nests.{frame}
 use Rattle.ada_events.specs.Asks.{asker, asked_event}
 use Rattle.ada_events.specs.Outcomes.{raised_in}
 use Rattle.ada_events.specs.Forced.{task_no, is_to_fail, is_to_cancel, is_to_wake, is_to_leave}
-use Rattle.ada_laws.specs.Suspension.{IsSuspendedAt}
+use Rattle.ada_laws.specs.Suspension.{IsSuspendedAt, HoldsSomebody}
 use Rattle.ada_laws.specs.Unlimited.{IsLawfulUnlimited, MayFollowUnlimited, refusal_but_limits}
 use Rattle.ada_laws.proofs.searching.Searching.{option_or-some, if_some, is_number-some, option_map_or-true, event_at-older, event_at-within, event_at-cases}
 use Rattle.ada_laws.proofs.searching.Growing.{task_count-more}
 use Rattle.ada_laws.proofs.asking.Accepting.{running_live, asker_exists-unlimited}
-use Rattle.ada_laws.proofs.searching.Saying.{held_in-wait, held_in-delay, held_in-start, held_in-closing, held_in-asked}
+use Rattle.ada_laws.proofs.searching.Saying.{held_in-wait, held_in-delay, held_in-start, held_in-closing, held_in-asked, asked_completes, asked_elaborates}
 use Rattle.ada_laws.proofs.within.Framing.{IsBlockOf, frame_is}
 use Rattle.ada_laws.proofs.queues.Queueing.{is_open_at-call, open_call_suspends}
 use Rattle.ada_laws.proofs.within.Members.{nest_open, end_within-unlimited}
-use Rattle.ada_laws.proofs.forced.Stepping.{forced-step, pending_parts, queued_open}
+use Rattle.ada_laws.proofs.forced.Stepping.{forced-step, pending_parts, queued_open, row_elaborates, row_fails}
 use Rattle.ada_laws.proofs.held.OutcomeLaws.{row-raises_none, raised_in-asked, suspended_given-unlimited}
 use Rattle.ada_laws.proofs.forced.Rows.{IsRow, forced-row}
 use Rattle.ada_laws.proofs.forced.Rows.IsRow.{halts, fails, meets, cancels, passes, wakes, activates, goes, leaves}
@@ -50,38 +50,16 @@ unfolding started_in start_in
 started_start (event.Started by tasks) u among = (_, refl, among)
 started_start _ u among = absurd (false≢true among)
 
-elaborated_asked : (journal : List Event) (r : Request) (u : ℕ) → elaborated_in (asked_event journal r) ≡ Some u → asker r ≡ Some u
-unfolding elaborated_in asked_event asker
-elaborated_asked journal (request.Elaborated by ok) u says = says
-elaborated_asked journal _ u says = absurd (none-some u says)
-
 failed_asked : (journal : List Event) (r : Request) (u : ℕ) → failed_in (asked_event journal r) ≡ Some u → asker r ≡ Some u
 unfolding failed_in asked_event asker
 failed_asked journal (request.Elaborated by false) u says = says
 failed_asked journal (request.Elaborated by true) u says = absurd (none-some u says)
 failed_asked journal _ u says = absurd (none-some u says)
 
-completed_asked : (journal : List Event) (r : Request) (u : ℕ) → completed_in (asked_event journal r) ≡ Some u → asker r ≡ Some u
-unfolding completed_in asked_event asker
-completed_asked journal (request.Complete by) u says = says
-completed_asked journal (request.Elaborated by false) u says = says
-completed_asked journal (request.Elaborated by true) u says = absurd (none-some u says)
-completed_asked journal _ u says = absurd (none-some u says)
-
 gone_asked : (journal : List Event) (r : Request) (u : ℕ) → gone_in (asked_event journal r) ≡ Some u → asker r ≡ Some u
 unfolding gone_in asked_event asker
 gone_asked journal (request.Open by) u says = absurd (none-some u says)
 gone_asked journal _ u says = absurd (none-some u says)
-
-row_elaborates_none : (journal : List Event) (e : Event) → IsRow journal e → elaborated_in e ≡ None
-unfolding elaborated_in
-row_elaborates_none journal e (halts u below halt) = refl
-row_elaborates_none journal e _ = refl
-
-row_fails_none : (journal : List Event) (e : Event) → IsRow journal e → failed_in e ≡ None
-unfolding failed_in
-row_fails_none journal e (halts u below halt) = refl
-row_fails_none journal e _ = refl
 
 row_completes : (journal : List Event) (e : Event) (u : ℕ) → IsRow journal e → completed_in e ≡ Some u → u < task_count journal
 unfolding completed_in
@@ -104,8 +82,8 @@ tells event before (inl forces) =
       starts = λ u among.
           let (s, says, listed) = started_start event u among in
           start_exist event before s u (inl forces) says listed;
-      elaborates = λ u says. absurd (none-some u (sym (row_elaborates_none before event row) ∙ says));
-      fails = λ u says. absurd (none-some u (sym (row_fails_none before event row) ∙ says));
+      elaborates = λ u says. absurd (none-some u (sym (row_elaborates before event row) ∙ says));
+      fails = λ u says. absurd (none-some u (sym (row_fails before event row) ∙ says));
       completes = λ u says. row_completes before event u row says;
       ends = λ u says. row_ends before event u row says;
       holds = λ u says. absurd (none-some u (sym (forced-step before event forces).holds_none ∙ says));
@@ -118,9 +96,9 @@ tells event before (inr asked) =
       starts = λ u among.
           let (s, says, listed) = started_start event u among in
           start_exist event before s u (inr asked) says listed;
-      elaborates = λ u says. exists u (elaborated_asked before r u (ap elaborated_in (sym asked.becomes) ∙ says));
+      elaborates = λ u says. exists u (asked_elaborates before r u (ap elaborated_in (sym asked.becomes) ∙ says));
       fails = λ u says. exists u (failed_asked before r u (ap failed_in (sym asked.becomes) ∙ says));
-      completes = λ u says. exists u (completed_asked before r u (ap completed_in (sym asked.becomes) ∙ says));
+      completes = λ u says. exists u (asked_completes before r u (ap completed_in (sym asked.becomes) ∙ says));
       ends = λ u says. exists u (gone_asked before r u (ap gone_in (sym asked.becomes) ∙ says));
       holds = λ u says. exists u (held_in-asked before r u (ap held_in (sym asked.becomes) ∙ says));
       raises = λ u says. exists u (raised_in-asked before r u (ap raised_in (sym asked.becomes) ∙ says));
@@ -208,55 +186,50 @@ pending_suspends journal p task e at holds pending =
     let parts = pending_parts journal p task pending in
     record { event = e; stands = at; holds = holds; unreleased = parts.0; live = parts.1 }
 
--- a task is suspended there
-record IsHeldUp (journal : List Event) (p : ℕ) : Type 0 where
-  task : ℕ
-  held : IsSuspendedAt journal task p
-
 pending_held : (journal : List Event) (p task : ℕ) (e : Event) → event_at journal p ≡ Some e → held_in e ≡ Some task → is_pending journal p task ≡ true
-    → IsHeldUp journal p
+    → HoldsSomebody journal p
 pending_held journal p task e at holds pending = record { task = task; held = pending_suspends journal p task e at holds pending }
 
-open_held : (journal : List Event) (p : ℕ) (e : Event) → event_at journal p ≡ Some e → is_open_at journal p e ≡ true → IsHeldUp journal p
+open_held : (journal : List Event) (p : ℕ) (e : Event) → event_at journal p ≡ Some e → is_open_at journal p e ≡ true → HoldsSomebody journal p
 open_held journal p e at opened =
     let (call, says, is) = is_open_at-call journal p e at opened in
     record { task = call.by; held = open_call_suspends journal call p is }
 
-row_releases : (journal : List Event) (e : Event) (x : ℕ) → IsRow journal e → released_in e ≡ Some x → IsHeldUp journal x
+row_releases : (journal : List Event) (e : Event) (x : ℕ) → IsRow journal e → released_in e ≡ Some x → HoldsSomebody journal x
 unfolding released_in is_to_fail is_to_cancel is_to_wake is_to_leave
 row_releases journal e x (fails p d at fail) frees =
-    subst (IsHeldUp journal) (same_Some p x frees) (open_held journal p d at (and_parts _ (is_open_at journal p d) fail).1)
+    subst (HoldsSomebody journal) (same_Some p x frees) (open_held journal p d at (and_parts _ (is_open_at journal p d) fail).1)
 row_releases journal e x (meets p d wait call at says pending taken) frees =
-    subst (IsHeldUp journal) (same_Some p x frees) (pending_held journal p wait.by d at (held_in-wait d wait says) pending)
+    subst (HoldsSomebody journal) (same_Some p x frees) (pending_held journal p wait.by d at (held_in-wait d wait says) pending)
 row_releases journal e x (cancels p d at cancel) frees =
-    subst (IsHeldUp journal) (same_Some p x frees)
+    subst (HoldsSomebody journal) (same_Some p x frees)
     (open_held journal p d at (queued_open journal p d (and_parts _ (is_queued_at journal p d) cancel).1))
 row_releases journal e x (passes p d wait way at says pending taken) frees =
-    subst (IsHeldUp journal) (same_Some p x frees) (pending_held journal p wait.by d at (held_in-wait d wait says) pending)
+    subst (HoldsSomebody journal) (same_Some p x frees) (pending_held journal p wait.by d at (held_in-wait d wait says) pending)
 row_releases journal e x (wakes p d delay at says wake) frees =
-    subst (IsHeldUp journal) (same_Some p x frees)
+    subst (HoldsSomebody journal) (same_Some p x frees)
     (pending_held journal p delay.by d at (held_in-delay d delay says) (and_parts _ (is_pending journal p delay.by) wake).1)
 row_releases journal e x (activates p d start ok at says pending done is) frees =
-    subst (IsHeldUp journal) (same_Some p x frees) (pending_held journal p start.by d at (held_in-start d start says) pending)
+    subst (HoldsSomebody journal) (same_Some p x frees) (pending_held journal p start.by d at (held_in-start d start says) pending)
 row_releases journal e x (leaves p d closing at says leave) frees =
-    subst (IsHeldUp journal) (same_Some p x frees)
+    subst (HoldsSomebody journal) (same_Some p x frees)
     (pending_held journal p closing.by d at (held_in-closing d closing says) (and_parts (is_pending journal p closing.by) _ leave).0)
 row_releases journal e x _ frees = absurd (none-some x frees)
 
-call_held : (journal : List Event) (call : ℕ) → is_open_call journal call ≡ true → IsHeldUp journal call
+call_held : (journal : List Event) (call : ℕ) → is_open_call journal call ≡ true → HoldsSomebody journal call
 unfolding is_open_call
 call_held journal call opened =
     let (e, at, here) = option_map_or-true (is_open_at journal call) (event_at journal call) opened in
     open_held journal call e at here
 
 asked_releases : (journal : List Event) (r : Request) (x : ℕ) → refusal_but_limits journal r ≡ None → released_in (asked_event journal r) ≡ Some x
-    → IsHeldUp journal x
+    → HoldsSomebody journal x
 unfolding asked_event released_in
 asked_releases journal (request.End by raised) x accepted frees =
-    subst (IsHeldUp journal) (same_Some _ x frees) (call_held journal _ (nest_open journal by.0 _ (end_within-unlimited journal by raised accepted)))
+    subst (HoldsSomebody journal) (same_Some _ x frees) (call_held journal _ (nest_open journal by.0 _ (end_within-unlimited journal by raised accepted)))
 asked_releases journal _ x accepted frees = absurd (none-some x frees)
 
-releases_held : (event : Event) (before : List Event) (x : ℕ) → MayFollowUnlimited before event → released_in event ≡ Some x → IsHeldUp before x
+releases_held : (event : Event) (before : List Event) (x : ℕ) → MayFollowUnlimited before event → released_in event ≡ Some x → HoldsSomebody before x
 releases_held event before x (inl forces) frees = row_releases before event x (forced-row before event forces) frees
 releases_held event before x (inr asked) frees = asked_releases before asked.request x asked.accepted (ap released_in (sym asked.becomes) ∙ frees)
 

@@ -17,7 +17,7 @@ use Rattle.ada_events.specs.Says.{Creation, Opening, Start, Closing, Meeting, Wa
 use Rattle.ada_events.specs.Says.{failed_in, started_in, held_in, released_in, left_in}
 use Rattle.ada_events.specs.Tasks.{task_count, creation_of}
 use Rattle.ada_events.specs.Phases.{lists_task, has_start, is_elaborated, is_started, has_failed, has_ended, is_released}
-use Rattle.ada_events.specs.Calls.{is_open_at, is_open_call, is_met}
+use Rattle.ada_events.specs.Calls.{is_met}
 use Rattle.ada_events.specs.Nests.{is_left_close, is_wait_of, nest, innermost}
 use Rattle.ada_events.specs.Forced.{is_done_activating, task_no}
 use Rattle.ada_events.specs.Asks.{asker, asked_event, member_position}
@@ -28,21 +28,23 @@ use Rattle.ada_laws.proofs.asking.Accepting.{running_live, running_started, aske
 use Rattle.ada_laws.proofs.searching.Searching.{event_at-cases, event_at-within, is_number-some, option_map_or-true, option_and_then-some}
 use Rattle.ada_laws.proofs.searching.Saying.{held_in-asked, held_in-closing, held_in-start, held_in-wait}
 use Rattle.ada_laws.proofs.searching.Growing.{task_count-more}
-use Rattle.ada_laws.proofs.forced.Stepping.{forced-step}
+use Rattle.ada_laws.proofs.forced.Stepping.{forced-step, row_fails}
 use Rattle.ada_laws.proofs.within.Depending.{started_named}
 use Rattle.ada_laws.proofs.queues.Meeting.{taken_queued, meeting_in-met, meeting_at-unlimited, met_taking-unlimited}
 use Rattle.ada_laws.proofs.within.Members.{IsMember, nest_member, nest_open, end_within-unlimited}
 use Rattle.ada_laws.proofs.within.Members.IsMember.{block_in, rendezvous_in}
 use Rattle.ada_laws.proofs.searching.Gathering.{Contains-first}
 use Rattle.ada_laws.proofs.forced.Rows.{IsRow, forced-row}
-use Rattle.ada_laws.proofs.forced.Rows.IsRow.{halts, fails, meets, cancels, passes, wakes, activates, leaves}
+use Rattle.ada_laws.proofs.forced.Rows.IsRow.{fails, meets, cancels, passes, wakes, activates, leaves}
 use Rattle.ada_laws.proofs.within.Reaching.{opening_asked-unlimited}
+use Rattle.ada_laws.proofs.queues.Queueing.{open_within}
+use Rattle.ada_laws.proofs.within.Owners.{own_member}
+use Rattle.ada_laws.proofs.forced.Parts.{closes_block}
 use Rattle.ada_standing.proofs.lawful.Leaving.{leaving}
-use Rattle.ada_standing.proofs.lawful.Nesting.{own_member}
 use Rattle.ada_standing.specs.Renaming.{Renaming, renamed_event}
 use Rattle.ada_standing.specs.StandsIn.{StandsIn}
 use Rattle.ada_standing.proofs.lawful.Orderly.{lawful_orderly}
-use Rattle.ada_standing.proofs.held.Fitting.{FitsHeld, closes_block}
+use Rattle.ada_standing.proofs.held.Fitting.{FitsHeld}
 use Rattle.ada_standing.proofs.held.Setting.{AreNext}
 
 -- of events that speak only of positions before their own, none of a lawful journal, nor what may follow it, speaks of the next position
@@ -95,12 +97,6 @@ row_releases journal event x (activates p e start ok at says pending done is) fr
 row_releases journal event x (leaves p e closing at says leave) frees =
     subst (λ (n : ℕ). n ≤ length journal) (same_Some p x frees) (event_at-within journal p e at)
 row_releases journal event x _ frees = absurd (none-some x frees)
-
-open_within : (journal : List Event) (call : ℕ) → is_open_call journal call ≡ true → call ≤ length journal
-unfolding is_open_call
-open_within journal call opened =
-    let (e, at, here) = option_map_or-true (is_open_at journal call) (event_at journal call) opened in
-    event_at-within journal call e at
 
 asked_releases : (journal : List Event) (r : Request) (x : ℕ) → refusal_but_limits journal r ≡ None → released_in (asked_event journal r) ≡ Some x
     → x ≤ length journal
@@ -232,11 +228,6 @@ nest_empty journal lawful = by_first (nest journal (task_count journal)) refl
 
 -- who fails in its activation is being activated
 
-row_fails_none : (journal : List Event) (event : Event) → IsRow journal event → failed_in event ≡ None
-unfolding failed_in
-row_fails_none journal event (halts u below halt) = refl
-row_fails_none journal event _ = refl
-
 -- a task that ends its activation runs, and isn't elaborated yet
 record IsActivating (journal : List Event) (t : ℕ) : Type 0 where
   pub unelaborated : is_elaborated journal t ≡ false
@@ -257,7 +248,7 @@ asked_fails journal (request.Elaborated by true) t accepted says = absurd (none-
 asked_fails journal _ t accepted says = absurd (none-some t says)
 
 fails_activating : (event : Event) (before : List Event) (t : ℕ) → MayFollowUnlimited before event → failed_in event ≡ Some t → IsActivating before t
-fails_activating event before t (inl forces) says = absurd (none-some t (sym (row_fails_none before event (forced-row before event forces)) ∙ says))
+fails_activating event before t (inl forces) says = absurd (none-some t (sym (row_fails before event (forced-row before event forces)) ∙ says))
 fails_activating event before t (inr asked) says = asked_fails before asked.request t asked.accepted (ap failed_in (sym asked.becomes) ∙ says)
 
 failing_undone : (event : Event) (before : List Event) (t : ℕ) → MayFollowUnlimited before event → failed_in event ≡ Some t

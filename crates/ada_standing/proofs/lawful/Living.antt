@@ -30,11 +30,12 @@ use Rattle.ada_laws.proofs.within.Depending.{reaches_from_body}
 use Rattle.ada_laws.proofs.within.DependentLaws.{all_terminated_at, a_terminated_body_has_no_live_dependent-unlimited}
 use Rattle.ada_laws.proofs.within.Parents.{masters_reach_by_parents-unlimited}
 use Rattle.ada_laws.proofs.within.Leaving.{leaving_makes_none}
+use Rattle.ada_laws.proofs.within.Owners.{IsOwnBlock}
 use Rattle.ada_standing.specs.StandsIn.{is_live}
 use Rattle.ada_standing.proofs.alike.Orderly.{IsClimb, IsLivedIn}
 use Rattle.ada_standing.proofs.alike.Pairs.{live_from, live_parts}
 use Rattle.ada_standing.proofs.lawful.Leaving.{Leaves, left_cases}
-use Rattle.ada_standing.proofs.lawful.Nesting.{IsOwnBlock, IsOwn, IsOuter, frame_own, outer_own, own_nested, nested_own}
+use Rattle.ada_standing.proofs.lawful.Nesting.{IsOwn, IsOuter, frame_own, outer_own, own_nested, nested_own}
 use Rattle.ada_standing.proofs.lawful.Climbing.{climb_of}
 
 -- a task's block reaches the task's own body

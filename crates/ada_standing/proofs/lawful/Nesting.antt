@@ -1,11 +1,10 @@
 -- Blocks nest: what a block that isn't left was opened in isn't left either.
-use Rattle.std.proofs.Common.{◌≡◌, ℕ, zero, suc, ◌-◌, ◌<◌, ◌≤◌, true, false, not, ◌&&◌, eqb, Option, Some, None, List, [], ◌∷◌, length, get_or, refl}
-use Rattle.std.proofs.Common.{sym, ap, ◌∙◌, subst, arith, ◌⊎◌, inl, inr}
+use Rattle.std.proofs.Common.{◌≡◌, ℕ, suc, ◌-◌, ◌<◌, ◌≤◌, true, false, Option, Some, None, List, [], ◌∷◌, length, refl}
+use Rattle.std.proofs.Common.{sym, ap, ◌∙◌, subst, arith, inl, inr}
 use Rattle.std.specs.Option.{option_map_or}
-use Rattle.std.specs.Bool.{then_some}
-use Rattle.std.specs.List.{Contains, slice_get, list_any}
-use Rattle.std.proofs.lemmas.Bool.{and_parts, or_cases, or_left, or_right, eq-eqb, eqb-true, false_from_ne_true, true≢false, false≢true}
-use Rattle.std.proofs.lemmas.Option.{none-some, same_Some, slice_get_within, get_or_from_slice_get}
+use Rattle.std.specs.List.{list_any}
+use Rattle.std.proofs.lemmas.Bool.{and_parts, eq-eqb, false_from_ne_true, true≢false}
+use Rattle.std.proofs.lemmas.Option.{none-some, same_Some}
 use Rattle.ada_events.specs.declared.event.Event.{Event}
 use Rattle.ada_events.specs.declared.event.Event.TheVariants as event
 use Rattle.ada_events.specs.declared.request.Request.{Request}
@@ -15,10 +14,10 @@ use Rattle.ada_events.specs.declared.names.Master.TheVariants.{Body, Block as Bl
 use Rattle.ada_events.specs.declared.names.Member.{Member}
 use Rattle.ada_events.specs.declared.names.Member.TheVariants.{Block, Rendezvous}
 use Rattle.ada_events.specs.Search.{event_at}
-use Rattle.ada_events.specs.Says.{Opening, Closing, Meeting, opening_in, closing_in, meeting_in, left_in}
+use Rattle.ada_events.specs.Says.{Opening, Closing, opening_in, closing_in, left_in}
 use Rattle.ada_events.specs.Phases.{is_released, has_ended, is_suspended}
-use Rattle.ada_events.specs.Calls.{is_open_call, is_pending}
-use Rattle.ada_events.specs.Nests.{is_left, is_wait_of, member_at, nest, innermost, innermost_block, frame}
+use Rattle.ada_events.specs.Calls.{is_pending}
+use Rattle.ada_events.specs.Nests.{is_left, member_at, nest, innermost, frame}
 use Rattle.ada_events.specs.Asks.{asked_event, member_position}
 use Rattle.ada_events.specs.Refusals.{has_no_block, is_rendezvous}
 use Rattle.ada_events.specs.Termination.{all_terminated}
@@ -27,82 +26,35 @@ use Rattle.ada_laws.specs.Masters.{parent_of}
 use Rattle.ada_laws.specs.Unlimited.{IsLawfulUnlimited, MayFollowUnlimited, refusal_but_limits}
 use Rattle.ada_laws.proofs.asking.Limitless.{is_accepted-unlimited}
 use Rattle.ada_laws.proofs.asking.Accepting.{running_free}
-use Rattle.ada_laws.proofs.searching.Searching.{event_at-newest, event_at-other, event_at-within, event_at-cases, then_some-some, option_or-some}
+use Rattle.ada_laws.proofs.searching.Searching.{event_at-newest, event_at-within, event_at-cases}
 use Rattle.ada_laws.proofs.forced.Stepping.{forced-step, pending_parts}
 use Rattle.ada_laws.proofs.searching.Saying.{held_in-closing}
 use Rattle.ada_laws.proofs.held.Suspending.{is_suspended-from}
 use Rattle.ada_laws.proofs.searching.Growing.{is_released-before, has_ended-before}
-use Rattle.ada_laws.proofs.searching.Gathering.{Contains-first, Contains-later, gathered-from}
-use Rattle.ada_laws.proofs.within.Members.{IsMember, nest_member}
-use Rattle.ada_laws.proofs.within.Members.IsMember.{block_in}
-use Rattle.ada_laws.proofs.within.Framing.{IsBlockOf, block_later}
+use Rattle.ada_laws.proofs.within.Members.{block_place}
+use Rattle.ada_laws.proofs.within.Owners.{contains_block, nest_has_block, IsOwnBlock, own_member}
+use Rattle.ada_laws.proofs.within.Framing.{IsBlockOf, block_later, innermost_block-is}
 use Rattle.ada_laws.proofs.within.Reaching.{opening_asked-unlimited}
 use Rattle.ada_laws.proofs.within.Innermost.{latest}
 use Rattle.ada_laws.proofs.within.Leaving.{unleft_before}
-use Rattle.ada_standing.specs.StandsIn.{is_block}
+use Rattle.ada_laws.proofs.queues.Meeting.{contained_at}
+use Rattle.ada_events.specs.Holders.{is_block}
 use Rattle.ada_standing.proofs.lawful.Leaving.{Leaves, left_cases}
-
--- a block that a task opened and hasn't left
-pub record IsOwnBlock (journal : List Event) (task p : ℕ) : Type 0 where
-  pub block : IsBlockOf journal task p
-  pub unleft : is_left journal p ≡ false
-
-pub contained : {A : Type 0} (xs : List A) (k : ℕ) (x : A) → slice_get xs k ≡ Some x → Contains xs x
-contained xs k x found = (k, slice_get_within xs k x found, get_or_from_slice_get xs k x x found)
+use Rattle.ada_events.proofs.Positions.{event_at-other}
 
 -- such blocks are those of the task's nest
-
-pub own_member : (journal : List Event) (task p : ℕ) → Contains (nest journal task) (Block p) → IsOwnBlock journal task p
-own_member journal task p contains = of_member (nest_member journal task (Block p) contains)
-  where
-    of_member : IsMember journal task (Block p) → IsOwnBlock journal task p
-    of_member (block_in q e o at says by unleft) =
-        record { block = record { event = e; opening = o; stands = at; says = says; by = by }; unleft = unleft }
 
 member_given : (journal : List Event) (task p : ℕ) (own : IsOwnBlock journal task p) → member_at journal task p own.block.event ≡ Some (Block p)
 unfolding member_at
 member_given journal task p own = rw (own.block.says, eq-eqb own.block.opening.by task own.block.by, own.unleft) refl
 
-has_contained : (members : List Member) (b k : ℕ) → k < length members → get_or members k (Block b) ≡ Block b → list_any (is_block b) members ≡ true
-has_contained [] b k below is = absurd (omega (arith, below))
-has_contained (member ∷ rest) b zero below is =
-    or_left (is_block b member) (list_any (is_block b) rest) (ap (is_block b) is ∙ eq-eqb b b refl)
-has_contained (member ∷ rest) b (suc k) below is =
-    or_right (is_block b member) (list_any (is_block b) rest) (has_contained rest b k (omega (arith, below)) is)
-
 pub own_nested : (journal : List Event) (task p : ℕ) → IsOwnBlock journal task p → list_any (is_block p) (nest journal task) ≡ true
-unfolding nest
-own_nested journal task p own =
-    let (k, below, is) = gathered-from (member_at journal task) journal p own.block.event (Block p) own.block.stands (member_given journal task p own) in
-    has_contained (nest journal task) p k below is
-
-contains_block : (p : ℕ) (members : List Member) → list_any (is_block p) members ≡ true → Contains members (Block p)
-contains_block p [] has = absurd (false≢true has)
-contains_block p (Block q ∷ rest) has = elim (or_cases (eqb q p) (list_any (is_block p) rest) has) [
-  | inl same ↦ subst (λ (n : ℕ). Contains (Block n ∷ rest) (Block p)) (sym (eqb-true q p same)) (Contains-first (Block p) rest)
-  | inr later ↦ Contains-later (Block q) (Block p) rest (contains_block p rest later)
-]
-contains_block p (Rendezvous call ∷ rest) has = Contains-later (Rendezvous call) (Block p) rest (contains_block p rest has)
+own_nested journal task p own = nest_has_block journal task p own.block own.unleft
 
 pub nested_own : (journal : List Event) (task p : ℕ) → list_any (is_block p) (nest journal task) ≡ true → IsOwnBlock journal task p
-nested_own journal task p has = own_member journal task p (contains_block p (nest journal task) has)
+nested_own journal task p has = own_member journal task p (contains_block (nest journal task) p has)
 
 -- the frame of a task is its body, or such a block
-
-innermost_is : (outer : Master) (members : List Member) → (innermost_block outer members ≡ outer)
-    ⊎ ((p : ℕ) × Contains members (Block p) × (innermost_block outer members ≡ BlockMaster p))
-unfolding innermost_block
-innermost_is outer [] = inl refl
-innermost_is outer (Block p ∷ rest) =
-    elim (innermost_is (BlockMaster p) rest) [
-      | inl same ↦ inr (p, Contains-first (Block p) rest, same)
-      | inr block ↦ inr (block.0, Contains-later (Block p) (Block block.0) rest block.1, block.2)
-    ]
-innermost_is outer (Rendezvous call ∷ rest) =
-    elim (innermost_is outer rest) [
-      | inl same ↦ inl same
-      | inr block ↦ inr (block.0, Contains-later (Rendezvous call) (Block block.0) rest block.1, block.2)
-    ]
 
 -- the master is the task's body, or a block that it opened and hasn't left
 pub data IsOwn (journal : List Event) (task : ℕ) : Master → Type 0 where
@@ -112,34 +64,10 @@ pub data IsOwn (journal : List Event) (task : ℕ) : Master → Type 0 where
 pub frame_own : (journal : List Event) (task : ℕ) → IsOwn journal task (frame journal task)
 unfolding frame
 frame_own journal task =
-    elim (innermost_is (Body (record { 0 = task })) (nest journal task)) [
+    elim (innermost_block-is (Body (record { 0 = task })) (nest journal task)) [
       | inl same ↦ subst (IsOwn journal task) (sym same) IsOwn.own_body
       | inr block ↦ subst (IsOwn journal task) (sym block.2) (IsOwn.own_block block.0 (own_member journal task block.0 block.1))
     ]
-
-placed_member : (journal : List Event) (task q r : ℕ) (e : Event) → member_at journal task q e ≡ Some (Block r) → q ≡ r
-unfolding member_at
-placed_member journal task q r e gives =
-    elim (option_or-some (option_map_or (λ (o : Opening). then_some (eqb o.by task && not (is_left journal q)) (Block q)) (opening_in e) None)
-    (option_map_or (λ (m : Meeting). then_some (is_wait_of journal task m.wait && is_open_call journal m.call) (Rendezvous m.call)) (meeting_in e) None)
-    (Block r) gives) [
-      | inl opened ↦ by_opening (opening_in e) opened
-      | inr met ↦ absurd (no_block (meeting_in e) met)
-    ]
-  where
-    by_opening : (o : Option Opening) → option_map_or (λ (o : Opening). then_some (eqb o.by task && not (is_left journal q)) (Block q)) o None ≡ Some (Block r)
-        → q ≡ r
-    by_opening None gives = absurd (none-some (Block r) gives)
-    by_opening (Some o) gives =
-        let found = then_some-some (eqb o.by task && not (is_left journal q)) (Block q) (Block r) gives in
-        cc (found.1)
-
-    no_block : (o : Option Meeting) → option_map_or
-        (λ (m : Meeting). then_some (is_wait_of journal task m.wait && is_open_call journal m.call) (Rendezvous m.call)) o None ≡ Some (Block r) → ⊥
-    no_block None gives = none-some (Block r) gives
-    no_block (Some m) gives =
-        let found = then_some-some (is_wait_of journal task m.wait && is_open_call journal m.call) (Rendezvous m.call) (Block r) gives in
-        cc (found.1)
 
 -- the block is the task's own, and none of the task's own was opened later
 pub record IsInnermost (journal : List Event) (task b : ℕ) : Type 0 where
@@ -152,9 +80,9 @@ unfolding nest
 innermost_found journal task None is block = absurd (true≢false block)
 innermost_found journal task (Some (Rendezvous call)) is block = absurd (true≢false block)
 innermost_found journal task (Some (Block b)) is block = record {
-  own = (own_member journal task b (contained (nest journal task) (length (nest journal task) - 1) (Block b) is)).block;
+  own = (own_member journal task b (contained_at (nest journal task) (length (nest journal task) - 1) (Block b) is)).block;
   last = λ p own.
-      latest (member_at journal task) journal p b own.block.event (placed_member journal task) own.block.stands (member_given journal task p own) is;
+      latest (member_at journal task) journal p b own.block.event (block_place journal task) own.block.stands (member_given journal task p own) is;
 }
 
 asked_close : (journal : List Event) (r : Request) (k : Closing) → refusal_but_limits journal r ≡ None → closing_in (asked_event journal r) ≡ Some k

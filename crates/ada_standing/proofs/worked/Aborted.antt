@@ -9,8 +9,8 @@ use Rattle.ada_events.specs.declared.refusal.Refusal.TheVariants.{NotRunning}
 use Rattle.ada_standing.specs.Names.{Names, renaming_of}
 use Rattle.ada_standing.specs.StandsIn.{StandsIn}
 use Rattle.ada_standing.proofs.Decided.{stands_in}
-use Rattle.ada_standing.proofs.worked.Turns.{Turn, accepted, refused, after, IsPlayed, everything, asks_end, ended, main, task, body, single, entry}
-use Rattle.ada_standing.proofs.worked.Turns.{open_choice, place}
+use Rattle.ada_events.proofs.worked.Turns.{Turn, accepted, refused, after, IsPlayed, asks_end, ended, main, task, body, single, entry, open_choice}
+use Rattle.ada_standing.proofs.worked.Pairs.{everything, place}
 
 -- task 2 makes task 3 and completes; task 3 is in a rendezvous with task 1 when task 2 is aborted, and so abnormal
 abbrev old_turns : List Turn

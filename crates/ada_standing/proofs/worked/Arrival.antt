@@ -9,7 +9,8 @@ use Rattle.ada_standing.specs.Names.{Names, renaming_of}
 use Rattle.ada_standing.specs.StandsIn.{StandsIn}
 use Rattle.ada_standing.proofs.Deciding.{stands}
 use Rattle.ada_standing.proofs.Decided.{stands_in}
-use Rattle.ada_standing.proofs.worked.Turns.{Turn, accepted, after, IsPlayed, everything, asks_end, ended, main, task, body, single, entry, place}
+use Rattle.ada_events.proofs.worked.Turns.{Turn, accepted, after, IsPlayed, asks_end, ended, main, task, body, single, entry}
+use Rattle.ada_standing.proofs.worked.Pairs.{everything, place}
 
 -- a server and two clients
 abbrev clients_turns : List Turn

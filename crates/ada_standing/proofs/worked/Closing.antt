@@ -12,8 +12,8 @@ use Rattle.ada_standing.specs.StandsIn.{StandsIn}
 use Rattle.ada_standing.proofs.Deciding.{stands}
 use Rattle.ada_standing.proofs.Decided.{stands_in}
 use Rattle.ada_standing.proofs.Unmatched.{unmatched}
-use Rattle.ada_standing.proofs.worked.Turns.{Turn, accepted, after, IsPlayed, everything, asks_end, ended, main, task, body, block, single, entry}
-use Rattle.ada_standing.proofs.worked.Turns.{closed_choice, place}
+use Rattle.ada_events.proofs.worked.Turns.{Turn, accepted, after, IsPlayed, asks_end, ended, main, task, body, block, single, entry, closed_choice}
+use Rattle.ada_standing.proofs.worked.Pairs.{everything, place}
 
 -- the main program closes its block. Task 2 there waits at a terminate alternative, but task 3 still runs; so nobody
 -- quits. Then a task of the outside calls task 2, and only now task 3 completes: the call goes on holding up the quit.

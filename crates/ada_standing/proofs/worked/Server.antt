@@ -8,7 +8,8 @@ use Rattle.ada_events.specs.declared.names.Patience.TheVariants.{Simple}
 use Rattle.ada_standing.specs.Names.{Names, renaming_of}
 use Rattle.ada_standing.specs.StandsIn.{StandsIn}
 use Rattle.ada_standing.proofs.Decided.{stands_in}
-use Rattle.ada_standing.proofs.worked.Turns.{Turn, accepted, after, IsPlayed, everything, asks_end, ended, main, task, body, single, entry, open_choice, place}
+use Rattle.ada_events.proofs.worked.Turns.{Turn, accepted, after, IsPlayed, asks_end, ended, main, task, body, single, entry, open_choice}
+use Rattle.ada_standing.proofs.worked.Pairs.{everything, place}
 
 -- a rendezvous is served, its caller completes, and the server waits again
 abbrev old_turns : List Turn

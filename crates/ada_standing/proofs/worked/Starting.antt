@@ -8,7 +8,8 @@ use Rattle.ada_standing.specs.StandsIn.{StandsIn}
 use Rattle.ada_standing.proofs.Deciding.{stands}
 use Rattle.ada_standing.proofs.Decided.{stands_in}
 use Rattle.ada_standing.proofs.Unmatched.{failure_forgotten}
-use Rattle.ada_standing.proofs.worked.Turns.{Turn, accepted, after, IsPlayed, everything, asks_end, ended, main, task, body, place}
+use Rattle.ada_events.proofs.worked.Turns.{Turn, accepted, after, IsPlayed, asks_end, ended, main, task, body}
+use Rattle.ada_standing.proofs.worked.Pairs.{everything, place}
 
 -- a task comes and goes; of two more, activated together, the first fails, and the second is still in its activation
 abbrev old_turns : List Turn

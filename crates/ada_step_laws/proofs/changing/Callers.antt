@@ -16,14 +16,14 @@ use Rattle.ada_events.specs.Masters.{depends_on}
 use Rattle.ada_events.specs.Phases.{is_completed, is_terminated, has_ended, is_abnormal, is_released, is_started}
 use Rattle.ada_events.specs.Calls.{is_open_at, is_met, is_joined_at, is_caller_in_rendezvous}
 use Rattle.ada_events.specs.Termination.{all_terminated, is_complete, is_abandoned, is_open_terminate, is_at_open_terminate, has_empty_queues, is_ready_to_quit}
-use Rattle.ada_events.specs.Asks.{asker, asked_event}
+use Rattle.ada_events.specs.Asks.{asked_event}
 use Rattle.ada_events.specs.Forced.{is_to_halt, is_to_go, is_to_quit, task_no}
 use Rattle.ada_events.specs.Lawful.{IsLawful, MayFollow}
 use Rattle.ada_laws.specs.Calls.{IsWaitAt, IsOpenCallAt}
 use Rattle.ada_laws.specs.Suspension.{IsSuspendedAt}
 use Rattle.ada_laws.proofs.searching.Searching.{three_parts, any_event-found, any_event-from, is_number-some, option_map_or-true, event_at-cases}
 use Rattle.ada_laws.proofs.searching.Searching.{all_below-holds}
-use Rattle.ada_laws.proofs.searching.Saying.{held_in-call, held_in-wait, held_in-asked}
+use Rattle.ada_laws.proofs.searching.Saying.{held_in-call, held_in-wait, held_in-asked, asked_completes}
 use Rattle.ada_laws.proofs.searching.Growing.{has_ended-completed, has_ended-terminated}
 use Rattle.ada_laws.proofs.asking.Accepting.{asker_runs, running_started, running_free}
 use Rattle.ada_laws.proofs.forced.Stepping.{forced-step}
@@ -68,13 +68,6 @@ row_completes : (journal : List Event) (event : Event) (u : ℕ) → IsRow journ
 unfolding completed_in
 row_completes journal event u (halts v below halt) says = subst (λ (n : ℕ). is_to_halt journal n ≡ true) (same_Some v u says) halt
 row_completes journal event u _ says = absurd (none-some u says)
-
-pub asked_completes : (journal : List Event) (r : Request) (u : ℕ) → completed_in (asked_event journal r) ≡ Some u → asker r ≡ Some u
-unfolding completed_in asked_event asker
-asked_completes journal (request.Complete by) u says = says
-asked_completes journal (request.Elaborated by false) u says = says
-asked_completes journal (request.Elaborated by true) u says = absurd (none-some u says)
-asked_completes journal _ u says = absurd (none-some u says)
 
 -- who is completed while a call of the task is open isn't within its rendezvous
 completed_unmet : (event : Event) (before : List Event) (c : Call) (p : ℕ) → MayFollow before event → IsOpenCallAt before c p → completed_in event ≡ Some c.by
@@ -139,7 +132,7 @@ at_terminate journal task at live =
       terminates = parts.1;
     }
 
-row_quits : (journal : List Event) (event : Event) (m : Master) → IsRow journal event → quit_in event ≡ Some m → is_to_quit journal m ≡ true
+pub row_quits : (journal : List Event) (event : Event) (m : Master) → IsRow journal event → quit_in event ≡ Some m → is_to_quit journal m ≡ true
 unfolding quit_in
 row_quits journal event m (quits x quit) says = subst (λ (y : Master). is_to_quit journal y ≡ true) (same_Some x m says) quit
 row_quits journal event m _ says = absurd (none-some m says)

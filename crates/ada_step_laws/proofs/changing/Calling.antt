@@ -19,6 +19,7 @@ use Rattle.ada_events.specs.Forced.{is_done_activating}
 use Rattle.ada_events.specs.Termination.{is_complete_block, is_complete, is_abandoned, is_open_terminate, has_empty_queues, is_ready_to_quit}
 use Rattle.ada_laws.specs.Calls.{IsWaitAt}
 use Rattle.ada_laws.proofs.searching.Searching.{event_at-newest}
+use Rattle.ada_laws.proofs.forced.Parts.{calls_it}
 use Rattle.ada_step_laws.specs.Rows.{goes_by_task, at_event, step_at}
 use Rattle.ada_step_laws.specs.declared.row.Row.{Row}
 use Rattle.ada_step_laws.specs.declared.row.Row.TheVariants.{Halting, Failing, Meeting, Cancelling, Passing, Waking, Activating, Terminating, QuittingBody}
@@ -81,7 +82,7 @@ same_complete e before (Block p) quiet closes opens =
     of_opening None = refl
     of_opening (Some o) = quiet_ended e before o.by quiet
 
-no_creation : (b : Bool) (o : Option Creation) → option_or (if b then (let none : Option Creation = None in none) else None) o ≡ o
+pub no_creation : (b : Bool) (o : Option Creation) → option_or (if b then (let none : Option Creation = None in none) else None) o ≡ o
 no_creation true o = refl
 no_creation false o = refl
 
@@ -105,9 +106,6 @@ quiet_caller e before (Some c) quiet = quiet_ends e before c.by quiet
 
 abbrev waits_ready : List Event → ℕ → ℕ → Event → Bool
 waits_ready journal v p f = option_map_or (λ (w : Wait). eqb w.by v && is_open_terminate w.tail) (wait_in f) false && not (is_released journal p)
-
-abbrev calls_it : List Event → ℕ → ℕ → Event → Bool
-calls_it journal v p f = is_some_and (call_in f) (λ (c : Call). eqb c.callee v) && is_queued_at journal p f
 
 same_waits : (e : Event) (before : List Event) (v : ℕ) → OnlyHolds e → wait_in e ≡ None
     → any_event (waits_ready (e ∷ before) v) (e ∷ before) ≡ any_event (waits_ready before v) before

@@ -19,6 +19,7 @@ use Rattle.ada_events.specs.Lawful.{IsLawful}
 use Rattle.ada_laws.proofs.searching.Searching.{event_at-older, event_at-newest, event_at-within, option_or-some, then_some-some}
 use Rattle.ada_laws.proofs.searching.Gathering.{gathered-found, Contains-first, Contains-later, Contains-one}
 use Rattle.ada_laws.proofs.queues.Meeting.{meeting_in-met, met_once}
+use Rattle.ada_laws.proofs.within.Members.{block_place}
 use Rattle.ada_step_laws.specs.Changes.{AreDistinct, NestsAreDistinct}
 
 distinct_push : {A : Type 0} (xs : List A) (x : A) → AreDistinct xs → (Contains xs x → ⊥) → AreDistinct (xs ++ x ∷ [])
@@ -54,32 +55,6 @@ gathered_distinct {A = A} give (event ∷ before) once =
         let same : p ≡ suc (length before) = once p (suc (length before)) e event x (event_at-older event before p e at) (event_at-newest event before)
         gives is in
         omega (arith, within, same))
-
--- a block stands where it was opened
-pub block_place : (journal : List Event) (task p b : ℕ) (e : Event) → member_at journal task p e ≡ Some (Block b) → p ≡ b
-unfolding member_at
-block_place journal task p b e gives =
-    elim (option_or-some
-    (option_map_or (λ (o : Opening). then_some (eqb o.by task && not (is_left journal p)) (Block p)) (opening_in e) None)
-    (option_map_or (λ (m : Meeting). then_some (is_wait_of journal task m.wait && is_open_call journal m.call) (Rendezvous m.call)) (meeting_in e) None)
-    (Block b) gives) [
-      | inl opened ↦ by_opening (opening_in e) opened
-      | inr met ↦ absurd (by_meeting (meeting_in e) met)
-    ]
-  where
-    by_opening : (o : Option Opening) → option_map_or (λ (o : Opening). then_some (eqb o.by task && not (is_left journal p)) (Block p)) o None
-        ≡ Some (Block b) → p ≡ b
-    by_opening None gives = absurd (none-some (Block b) gives)
-    by_opening (Some o) gives =
-        let found = then_some-some (eqb o.by task && not (is_left journal p)) (Block p) (Block b) gives in
-        cc (found.1)
-
-    by_meeting : (m : Option Meeting) → option_map_or
-        (λ (m : Meeting). then_some (is_wait_of journal task m.wait && is_open_call journal m.call) (Rendezvous m.call)) m None ≡ Some (Block b) → ⊥
-    by_meeting None gives = none-some (Block b) gives
-    by_meeting (Some m) gives =
-        let found = then_some-some (is_wait_of journal task m.wait && is_open_call journal m.call) (Rendezvous m.call) (Block b) gives in
-        cc (found.1)
 
 -- a rendezvous in a nest began there, with its call, by a wait of the task
 pub record IsEntered (journal : List Event) (task call : ℕ) (e : Event) : Type 0 where

@@ -20,14 +20,17 @@ use Rattle.ada_events.specs.Outcomes.{raised_in}
 use Rattle.ada_events.specs.Asks.{asker, named_tasks, asked_event}
 use Rattle.ada_events.specs.Refusals.{refusal, names_unknown_task}
 use Rattle.ada_events.specs.Lawful.{MayFollow}
-use Rattle.ada_laws.proofs.searching.Searching.{is_number-some, option_map_or-true, event_at-other}
+use Rattle.ada_laws.proofs.searching.Searching.{is_number-some, option_map_or-true}
 use Rattle.ada_laws.proofs.asking.Accepting.{is_accepted, asker_exists}
 use Rattle.ada_laws.proofs.forced.Rows.{IsRow, forced-row}
 use Rattle.ada_laws.proofs.forced.Rows.IsRow.{halts, goes}
 use Rattle.ada_laws.proofs.within.Depending.{depends_exists}
 use Rattle.ada_laws.proofs.held.OutcomeLaws.{row-raises_none, raised_in-asked}
-use Rattle.ada_step_laws.proofs.changing.Callers.{asked_completes}
+use Rattle.ada_laws.proofs.within.DependentLaws.{gone_in-asked}
+use Rattle.ada_laws.proofs.searching.Saying.{asked_completes, asked_elaborates}
+use Rattle.ada_laws.proofs.forced.Stepping.{row_elaborates}
 use Rattle.ada_step_laws.proofs.changing.QueueChanges.{ends}
+use Rattle.ada_events.proofs.Positions.{event_at-other}
 
 row_completed : (journal : List Event) (event : Event) (u : ℕ) → IsRow journal event → completed_in event ≡ Some u → u < task_count journal
 unfolding completed_in
@@ -44,24 +47,9 @@ unfolding gone_in
 row_gone journal event u (goes v below go) says = subst (λ (n : ℕ). n < task_count journal) (same_Some v u says) below
 row_gone journal event u _ says = absurd (none-some u says)
 
-asked_gone : (journal : List Event) (r : Request) → gone_in (asked_event journal r) ≡ None
-unfolding gone_in asked_event
-asked_gone journal (request.Open by) = refl
-asked_gone journal _ = refl
-
 pub gone_exists : (event : Event) (before : List Event) (u : ℕ) → MayFollow before event → gone_in event ≡ Some u → u < task_count before
 gone_exists event before u (inl forces) says = row_gone before event u (forced-row before event forces) says
-gone_exists event before u (inr asked) says = absurd (none-some u (sym (ap gone_in asked.becomes ∙ asked_gone before asked.request) ∙ says))
-
-row_elaborates : (journal : List Event) (event : Event) → IsRow journal event → elaborated_in event ≡ None
-unfolding elaborated_in
-row_elaborates journal event (halts v below halt) = refl
-row_elaborates journal event _ = refl
-
-asked_elaborates : (journal : List Event) (r : Request) (u : ℕ) → elaborated_in (asked_event journal r) ≡ Some u → asker r ≡ Some u
-unfolding elaborated_in asked_event asker
-asked_elaborates journal (request.Elaborated by ok) u says = says
-asked_elaborates journal _ u says = absurd (none-some u says)
+gone_exists event before u (inr asked) says = absurd (none-some u (sym (ap gone_in asked.becomes ∙ gone_in-asked before asked.request) ∙ says))
 
 pub elaborated_exists : (event : Event) (before : List Event) (u : ℕ) → MayFollow before event → elaborated_in event ≡ Some u → u < task_count before
 elaborated_exists event before u (inl forces) says = absurd (none-some u (sym (row_elaborates before event (forced-row before event forces)) ∙ says))

@@ -6,6 +6,7 @@ use Rattle.ada_events.specs.declared.event.Event.{Event}
 use Rattle.ada_events.specs.declared.event.Event.TheVariants as event
 use Rattle.ada_events.specs.Search.{is_number}
 use Rattle.ada_events.specs.Says.{held_in, released_in, completed_in, gone_in, quit_in, aborted_in, elaborated_in, failed_in, meeting_in, creation_in}
+use Rattle.ada_events.specs.Says.{opening_in}
 use Rattle.ada_events.specs.Tasks.{task_count}
 use Rattle.ada_events.specs.Phases.{is_released, has_ended, is_suspended}
 use Rattle.ada_events.specs.Lawful.{IsLawful}
@@ -52,6 +53,15 @@ hold_only (event.Paused by due) task holds = only_holds _ (quiet_from _ refl ref
 hold_only (event.Started by tasks) task holds = only_holds _ (quiet_from _ refl refl refl refl refl refl refl) refl refl
 hold_only (event.Closed by block) task holds = only_holds _ (quiet_from _ refl refl refl refl refl refl refl) refl refl
 hold_only _ task holds = absurd (none-some task holds)
+
+pub held_opens_none : (e : Event) (task : ℕ) → held_in e ≡ Some task → opening_in e ≡ None
+unfolding held_in opening_in
+held_opens_none (event.Called by callee entry patience due) task holds = refl
+held_opens_none (event.Waiting by pick choices tail) task holds = refl
+held_opens_none (event.Paused by due) task holds = refl
+held_opens_none (event.Started by tasks) task holds = refl
+held_opens_none (event.Closed by block) task holds = refl
+held_opens_none _ task holds = absurd (none-some task holds)
 
 -- a quiet event ends nobody
 pub quiet_ends : (event : Event) (before : List Event) (task : ℕ) → IsQuiet event → ends event before task ≡ false

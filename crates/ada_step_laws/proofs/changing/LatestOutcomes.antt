@@ -1,7 +1,7 @@
 -- What becomes of a task's latest suspension by one more event.
 use Rattle.std.proofs.Common.{◌≡◌, ℕ, suc, Bool, true, false, cond, Option, Some, None, List, [], ◌∷◌, length, sym, refl, ap, ◌∙◌, subst, inl, inr}
 use Rattle.std.specs.Option.{unwrap_or}
-use Rattle.std.proofs.lemmas.Bool.{false_from_ne_true, both_ways}
+use Rattle.std.proofs.lemmas.Bool.{both_ways}
 use Rattle.std.proofs.lemmas.Option.{none-some, same_Some}
 use Rattle.ada_events.specs.declared.event.Event.{Event}
 use Rattle.ada_events.specs.declared.outcome.Outcome.{Outcome}
@@ -17,11 +17,11 @@ use Rattle.ada_events.specs.Outcomes.{raised_in, released_to, became, last_given
 use Rattle.ada_events.specs.Refusals.{refusal}
 use Rattle.ada_events.specs.Lawful.{IsLawful}
 use Rattle.ada_laws.specs.Suspension.{IsSuspendedAt}
-use Rattle.ada_laws.proofs.searching.Searching.{event_at-older, event_at-newest, is_number-some, is_number-from, option_map_or-true}
+use Rattle.ada_laws.proofs.searching.Searching.{event_at-older, event_at-newest, is_number-some, is_number-from, option_map_or-true, is_number-not}
 use Rattle.ada_laws.proofs.forced.Stepping.{Progress, forced-step}
 use Rattle.ada_laws.proofs.forced.Stepping.Progress.{completes, releases, terminates}
 use Rattle.ada_laws.proofs.queues.Queueing.{is_open_at-call, open_call_suspends}
-use Rattle.ada_laws.proofs.held.OutcomeLaws.{became-held, raises_none, unraised, unheld, suspended_given}
+use Rattle.ada_laws.proofs.held.OutcomeLaws.{became-held, raises_none, unraised, unheld, suspended_given, same_fate}
 use Rattle.ada_step_laws.specs.Latest.{WhatIsReleasedHeld, HoldsAreHeld, ReleasesDecide, RaisersHaveRaised, OthersKeepOutcomes}
 use Rattle.ada_step_laws.proofs.changing.Calling.{same_terminated}
 use Rattle.ada_step_laws.proofs.changing.Saying.{release_only}
@@ -88,10 +88,6 @@ decided : (event : Event) (before : List Event) (position : ℕ) → released_in
 unfolding became
 decided event before position frees = rw (is_number-from position (released_in event) frees) refl
 
-same_fate : (event : Event) (before : List Event) (p : ℕ) → is_number p (released_in event) ≡ false → became (event ∷ before) p ≡ became before p
-unfolding became
-same_fate event before p unfreed = rw unfreed refl
-
 pub releases_decide : ReleasesDecide
 unfolding last_given
 releases_decide event before task position lawful frees held =
@@ -106,19 +102,16 @@ pub raisers_have_raised : RaisersHaveRaised
 unfolding last_given outcome_at
 raisers_have_raised event before task raises = rw (is_number-from task (raised_in event) raises) refl
 
-not_number : (n : ℕ) (o : Option ℕ) → (o ≡ Some n → ⊥) → is_number n o ≡ false
-not_number n o never = false_from_ne_true (is_number n o) (λ is. never (is_number-some n o is))
-
 pub others_keep_outcomes : OthersKeepOutcomes
 unfolding last_given outcome_at
 others_keep_outcomes event before task lawful holds raises unheld_there =
-    rw (not_number task (raised_in event) raises, not_number task (held_in event) holds)
+    rw (is_number-not task (raised_in event) raises, is_number-not task (held_in event) holds)
     (ap (λ (o : Option Outcome). unwrap_or o Nothing)
     (last_given-agree (outcome_at before task) (outcome_at (event ∷ before) task) before (λ p e at. by_holder p e at (is_number task (held_in e)) refl)))
   where
     unfreed : (p : ℕ) (e : Event) → event_at before p ≡ Some e → held_in e ≡ Some task → is_number p (released_in event) ≡ false
     unfreed p e at holds_e =
-        not_number p (released_in event) (λ frees.
+        is_number-not p (released_in event) (λ frees.
         let (u, held) = what_is_released_held event before p lawful frees in
         let one : held.event ≡ e = same_Some held.event e (sym held.stands ∙ at) in
         let same : u ≡ task = same_Some u task (sym held.holds ∙ ap held_in one ∙ holds_e) in

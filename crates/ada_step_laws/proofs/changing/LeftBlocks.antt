@@ -1,21 +1,15 @@
 -- Blocks that are left.
 use Rattle.std.proofs.Common.{◌≡◌, ℕ, suc, true, ◌&&◌, eqb, Some, List, [], ◌∷◌, length, sym, ◌∙◌, subst, ◌⊎◌, inl, inr}
 use Rattle.std.proofs.lemmas.Bool.{and_parts, and_from, or_cases, or_left, or_right, eqb-true, true≢false, false≢true}
-use Rattle.std.proofs.lemmas.Option.{none-some}
 use Rattle.ada_events.specs.declared.event.Event.{Event}
-use Rattle.ada_events.specs.declared.event.Event.TheVariants as event
 use Rattle.ada_events.specs.Search.{is_number, event_at, is_some_and}
 use Rattle.ada_events.specs.Says.{Closing, closing_in, left_in, released_in}
 use Rattle.ada_events.specs.Phases.{is_released}
 use Rattle.ada_events.specs.Nests.{is_left_close, is_left}
 use Rattle.ada_events.specs.Lawful.{IsLawful}
 use Rattle.ada_laws.proofs.searching.Searching.{event_at-cases, any_event-found, any_event-from, is_number-some, is_number-from, option_map_or-true}
+use Rattle.ada_laws.proofs.searching.Saying.{left_frees}
 use Rattle.ada_step_laws.proofs.changing.Within.{next_unreleased}
-
-pub left_frees : (e : Event) (c : ℕ) → left_in e ≡ Some c → released_in e ≡ Some c
-unfolding left_in released_in
-left_frees (event.Left close) c says = says
-left_frees _ c says = absurd (none-some c says)
 
 -- a close that was followed by leaving is released
 close_released : (journal : List Event) (c : ℕ) → is_left_close journal c ≡ true → is_released journal c ≡ true

@@ -22,7 +22,7 @@ use Rattle.ada_events.specs.Asks.{asked_event, member_position}
 use Rattle.ada_events.specs.Refusals.{refusal, has_no_block, is_rendezvous}
 use Rattle.ada_events.specs.Lawful.{IsLawful}
 use Rattle.ada_laws.specs.Calls.{IsOpenCallAt}
-use Rattle.ada_laws.proofs.searching.Searching.{event_at-older, event_at-other, event_at-within, event_at-cases, any_event-found, any_event-from}
+use Rattle.ada_laws.proofs.searching.Searching.{event_at-older, event_at-within, event_at-cases, any_event-found, any_event-from}
 use Rattle.ada_laws.proofs.searching.Searching.{option_map_or-true, is_number-some, is_number-from}
 use Rattle.ada_laws.proofs.within.Members.{IsMember as Stands, nest_member as stands_there, nest_met}
 use Rattle.ada_laws.proofs.within.Members.IsMember.{block_in, rendezvous_in}
@@ -32,15 +32,16 @@ use Rattle.ada_laws.proofs.asking.Accepting.{is_accepted}
 use Rattle.ada_laws.proofs.within.Framing.{nest_block}
 use Rattle.ada_laws.proofs.queues.Meeting.{meeting_in-met, meeting_at}
 use Rattle.ada_laws.proofs.queues.Queueing.{is_open_at-from, is_open_at-call}
-use Rattle.ada_laws.proofs.searching.Saying.{held_in-closing}
+use Rattle.ada_laws.proofs.searching.Saying.{held_in-closing, left_frees}
 use Rattle.ada_laws.proofs.forced.Stepping.{forced-step}
 use Rattle.ada_laws.proofs.within.Leaving.{left_more}
 use Rattle.ada_step_laws.specs.Changes.{is_beside_block, BlocksAreEntered, BlocksAreLeft, OthersKeepNests}
 use Rattle.ada_step_laws.proofs.changing.Callers.{joined_caller_stays}
-use Rattle.ada_step_laws.proofs.changing.LeftBlocks.{left_frees, left_cases}
+use Rattle.ada_step_laws.proofs.changing.LeftBlocks.{left_cases}
 use Rattle.ada_step_laws.proofs.changing.QueueChanges.{has_ended-more}
 use Rattle.ada_step_laws.proofs.changing.Unnesting.{kept, gathered-filtered}
 use Rattle.ada_step_laws.proofs.changing.Nesting.{and_true}
+use Rattle.ada_events.proofs.Positions.{event_at-other}
 
 -- the member stays in its nest
 abbrev pub stays : Event → List Event → Member → Bool
@@ -308,7 +309,7 @@ unfolding left_in opening_in meeting_in
 leaving_only (Left at) close says = (refl, refl)
 leaving_only _ close says = absurd (none-some close says)
 
-closed_says : (by : TaskNo) (block : ℕ) → closing_in (Closed by block) ≡ Some (record { by = by.0; block = block })
+pub closed_says : (by : TaskNo) (block : ℕ) → closing_in (Closed by block) ≡ Some (record { by = by.0; block = block })
 unfolding closing_in
 closed_says by block = refl
 

@@ -14,11 +14,12 @@ use Rattle.ada_events.specs.Phases.{is_released}
 use Rattle.ada_events.specs.Calls.{is_open_at, is_open_call, is_pending}
 use Rattle.ada_events.specs.Nests.{is_left_close, is_left, is_wait_of, member_at, nest}
 use Rattle.ada_events.specs.Lawful.{IsLawful}
-use Rattle.ada_laws.proofs.searching.Searching.{event_at-older, event_at-newest, event_at-within, event_at-other}
+use Rattle.ada_laws.proofs.searching.Searching.{event_at-older, event_at-newest, event_at-within}
 use Rattle.ada_laws.proofs.queues.Meeting.{met_taking, taken_queued}
 use Rattle.ada_laws.proofs.queues.Queueing.{is_open_at-from}
 use Rattle.ada_step_laws.proofs.changing.Holding.{IsQuiet, quiet_ended}
 use Rattle.ada_step_laws.proofs.changing.Saying.{release_only, not_both, met_says, met_frees}
+use Rattle.ada_events.proofs.Positions.{event_at-other}
 
 -- searches that test or give the same at each event find the same
 pub any_event-agree : (f g : ℕ → Event → Bool) (journal : List Event) → ((p : ℕ) (e : Event) → event_at journal p ≡ Some e → f p e ≡ g p e)
@@ -42,10 +43,6 @@ gathered-agree give more (event ∷ before) same =
       same (suc (length before)) event
           (event_at-newest event before),
     ) refl
-
-pub and_false : (b : Bool) → (b && false) ≡ false
-and_false true = refl
-and_false false = refl
 
 pub and_true : (b : Bool) → (b && true) ≡ b
 and_true true = refl

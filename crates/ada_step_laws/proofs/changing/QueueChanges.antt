@@ -4,6 +4,7 @@ use Rattle.std.specs.Option.{option_map_or, option_to_list}
 use Rattle.std.specs.Bool.{then_some}
 use Rattle.std.specs.List.{list_any, filter}
 use Rattle.std.proofs.lemmas.List.Elements.{filter-append}
+use Rattle.std.proofs.Math.Bool.{and-false}
 use Rattle.ada_events.specs.declared.event.Event.{Event}
 use Rattle.ada_events.specs.declared.names.Entry.{Entry}
 use Rattle.ada_events.specs.Search.{is_number, gathered, event_at, is_some_and}
@@ -71,13 +72,9 @@ pub filter_all : (xs : List ℕ) → filter (λ _. true) xs ≡ xs
 filter_all [] = refl
 filter_all (x ∷ xs) = ap (λ rest. x ∷ rest) (filter_all xs)
 
-and_false : (x : Bool) → (x && false) ≡ false
-and_false true = refl
-and_false false = refl
-
 -- what stays of a call: neither is it released, nor a rendezvous begun with it, nor has its caller ended
 both_kept : (r h m a b c : Bool) → ((not (a || r) && not (b || h)) && not (c || m)) ≡ (((not r && not h) && not m) && (not a && not b && not c))
-both_kept r h m true b c = sym (and_false ((not r && not h) && not m))
+both_kept r h m true b c = sym (and-false ((not r && not h) && not m))
 both_kept true h m false b c = refl
 both_kept false true m false true c = refl
 both_kept false true m false false c = refl
@@ -93,16 +90,16 @@ abbrev pub ends : Event → List Event → ℕ → Bool
 ends event before task =
     is_number task (completed_in event) || (is_number task (gone_in event) || option_map_or (depends_on before task) (quit_in event) false)
 
-swap_ended : (a b c d : Bool) → ((a || b) || (c || d)) ≡ ((a || c) || (b || d))
-swap_ended true b c d = refl
-swap_ended false true true d = refl
-swap_ended false true false d = refl
-swap_ended false false c d = refl
+pub or_swap : (a b c d : Bool) → ((a || b) || (c || d)) ≡ ((a || c) || (b || d))
+or_swap true b c d = refl
+or_swap false true true d = refl
+or_swap false true false d = refl
+or_swap false false c d = refl
 
 pub has_ended-more : (event : Event) (before : List Event) (task : ℕ) → has_ended (event ∷ before) task ≡ (ends event before task || has_ended before task)
 unfolding has_ended is_completed is_terminated
 has_ended-more event before task =
-    swap_ended (is_number task (completed_in event)) (list_any (λ (e : Event). is_number task (completed_in e)) before)
+    or_swap (is_number task (completed_in event)) (list_any (λ (e : Event). is_number task (completed_in e)) before)
     (is_number task (gone_in event) || option_map_or (depends_on before task) (quit_in event) false) (is_terminated before task)
 
 abbrev pub meets : Event → ℕ → Bool

@@ -21,6 +21,7 @@ use Rattle.ada_laws.proofs.held.Suspending.{suspended_once}
 use Rattle.ada_laws.proofs.queues.Queueing.{is_open_at-call, open_call_suspends}
 use Rattle.ada_laws.proofs.queues.Meeting.{met_taking}
 use Rattle.ada_laws.proofs.forced.Stepping.{queued_open}
+use Rattle.ada_laws.proofs.searching.Searching.{eqb_swap}
 use Rattle.ada_step_laws.proofs.changing.QueueChanges.{queue_more, queued-more, newest_call, ends, ends_caller, filter_all}
 use Rattle.ada_step_laws.proofs.changing.Within.{next_unreleased}
 use Rattle.ada_step_laws.proofs.changing.Holding.{IsQuiet, hold_only, quiet_ends, quiet_ended, holder_ran}
@@ -96,12 +97,6 @@ drop_wait q false b none = rw (none refl) refl
 met_calls_none : (e : Event) (call wait : ℕ) → e ≡ event.Met call wait → call_in e ≡ None
 unfolding call_in
 met_calls_none e call wait is = ap call_in is
-
-eqb_swap : (a b : ℕ) → eqb a b ≡ eqb b a
-eqb_swap a b = elim (cases_eq a b) [
-  | inl same ↦ rw (eq-eqb a b same, eq-eqb b a (sym same)) refl
-  | inr other ↦ rw (ne_eqb a b other, ne_eqb b a (λ same. other (sym same))) refl
-]
 
 -- a queue after a rendezvous began: its call leaves it
 pub queue_met : (e : Event) (before : List Event) (task : ℕ) (entry : Entry) (call wait : ℕ) → IsLawful (e ∷ before) → e ≡ event.Met call wait

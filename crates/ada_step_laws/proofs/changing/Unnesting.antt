@@ -15,12 +15,13 @@ use Rattle.ada_events.specs.Says.{Call, Opening, Meeting, call_in, opening_in, m
 use Rattle.ada_events.specs.Phases.{is_released, has_ended}
 use Rattle.ada_events.specs.Calls.{is_open_at, is_open_call, is_pending}
 use Rattle.ada_events.specs.Nests.{is_left, is_wait_of, member_at, nest}
-use Rattle.ada_laws.proofs.searching.Searching.{event_at-older, event_at-newest, event_at-other}
+use Rattle.ada_laws.proofs.searching.Searching.{event_at-older, event_at-newest}
 use Rattle.ada_step_laws.proofs.changing.Holding.{IsQuiet, quiet_ended}
 use Rattle.ada_step_laws.proofs.changing.Saying.{release_only}
 use Rattle.ada_step_laws.proofs.changing.Calling.{SaysCall}
 use Rattle.ada_step_laws.proofs.changing.Releasing.{says_release}
 use Rattle.ada_step_laws.proofs.changing.Nesting.{left_same, wait_same, no_open, nothing_beyond}
+use Rattle.ada_events.proofs.Positions.{event_at-other}
 
 abbrev pub kept : {A : Type 0} → (A → Bool) → Option A → Option A
 kept keep None = None

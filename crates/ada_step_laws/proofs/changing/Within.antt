@@ -6,24 +6,19 @@ use Rattle.std.proofs.lemmas.Option.{same_Some, none-some}
 use Rattle.ada_events.specs.declared.event.Event.{Event}
 use Rattle.ada_events.specs.declared.request.Request.{Request}
 use Rattle.ada_events.specs.declared.request.Request.TheVariants as request
-use Rattle.ada_events.specs.Search.{is_number, event_at}
+use Rattle.ada_events.specs.Search.{is_number}
 use Rattle.ada_events.specs.Says.{released_in}
 use Rattle.ada_events.specs.Asks.{asked_event}
 use Rattle.ada_events.specs.Phases.{is_released}
-use Rattle.ada_events.specs.Calls.{is_met, is_open_at, is_open_call}
+use Rattle.ada_events.specs.Calls.{is_met}
 use Rattle.ada_events.specs.Refusals.{refusal}
 use Rattle.ada_events.specs.Lawful.{IsLawful, MayFollow}
-use Rattle.ada_laws.proofs.searching.Searching.{is_number-some, event_at-within, option_map_or-true}
+use Rattle.ada_laws.proofs.searching.Searching.{is_number-some, event_at-within}
 use Rattle.ada_laws.proofs.within.Members.{nest_open, end_within}
 use Rattle.ada_laws.proofs.forced.Rows.{IsRow, forced-row}
 use Rattle.ada_laws.proofs.forced.Rows.IsRow.{fails, meets, cancels, passes, wakes, activates, leaves}
 use Rattle.ada_laws.proofs.queues.Meeting.{is_met-found, meeting_at}
-
-open_within : (journal : List Event) (call : ℕ) → is_open_call journal call ≡ true → call ≤ length journal
-unfolding is_open_call
-open_within journal call opened =
-    let (e, at, found) = option_map_or-true (is_open_at journal call) (event_at journal call) opened in
-    event_at-within journal call e at
+use Rattle.ada_laws.proofs.queues.Queueing.{open_within}
 
 asked_within : (journal : List Event) (r : Request) (p : ℕ) → refusal journal r ≡ None → released_in (asked_event journal r) ≡ Some p → p ≤ length journal
 unfolding asked_event released_in

@@ -35,15 +35,11 @@ use Rattle.ada_step_laws.specs.Kinds.{OfEnd, OfCancellation}
 use Rattle.ada_step_laws.specs.Kinds.OfEnd.{halts as halts_caller}
 use Rattle.ada_step_laws.specs.Kinds.OfCancellation.{quits as quits_with}
 use Rattle.ada_laws.proofs.within.Members.{nest_met, ended_within}
-use Rattle.ada_step_laws.proofs.newly.Readying.{IsUnqueued}
 use Rattle.ada_step_laws.proofs.newly.Refining.{Key}
-use Rattle.ada_step_laws.proofs.newly.Releases.{ReleaseKey, release_key, left_position, only_calls, same_event}
+use Rattle.ada_step_laws.proofs.newly.Releases.{ReleaseKey, release_key, left_position, only_calls, same_event, left_call}
 use Rattle.ada_step_laws.proofs.newly.Releases.ReleaseKey.{frees, empties}
 use Rattle.ada_step_laws.proofs.newly.Unhalted.{unhalted, halts_free, free_elsewhere}
 use Rattle.ada_step_laws.proofs.newly.Waiting.{suspended_at, at_wait, ready_parts}
-
-call_stands : (e : Event) (before : List Event) (v : ℕ) (left : IsUnqueued e before v) → IsCallAt before left.call left.position
-call_stands e before v left = record { event = left.called; stands = left.stands; says = left.says }
 
 same_call : (journal : List Event) (p : ℕ) (c d : Call) → IsCallAt journal c p → IsCallAt journal d p → c ≡ d
 same_call journal p c d one other =
@@ -91,14 +87,14 @@ met_key before call wait row key lawful (empties m v left ready depends) =
       | inl released ↦
           let same : left.position ≡ wait = (meeting_is call wait left.position).0 released in
           call_or_wait before wait left.call taking.wait (subst (λ (n : ℕ). IsCallAt before left.call n) same
-          (call_stands (begins call wait) before v left)) taking.stands
+          (left_call (begins call wait) before v left)) taking.stands
       | inr other ↦
           elim other [
             | inl ended ↦ false≢true (sym (quiet_ends (begins call wait) before left.call.by (release_only (begins call wait) wait refl).plain.quiet) ∙ ended)
             | inr met ↦
                 let same : left.position ≡ call = (meeting_is call wait left.position).1 met in
                 let one =
-                same_call before call left.call queued.call (subst (λ (n : ℕ). IsCallAt before left.call n) same (call_stands (begins call wait) before v left))
+                same_call before call left.call queued.call (subst (λ (n : ℕ). IsCallAt before left.call n) same (left_call (begins call wait) before v left))
                 queued.opened.stands in
                 let by : taking.wait.by ≡ v = sym queued.of_task ∙ (ap (λ (c : Call). c.callee) (sym one) ∙ left.to) in
                 let suspended =
@@ -191,7 +187,7 @@ fail_key call before row key lawful (empties m v left ready depends) =
     let same : left.position ≡ call = left_position (event.Failed call) before call v refl refl left in
     let one =
     same_call before call failed.call left.call failed.stands
-    (subst (λ (n : ℕ). IsCallAt before left.call n) same (call_stands (event.Failed call) before v left)) in
+    (subst (λ (n : ℕ). IsCallAt before left.call n) same (left_call (event.Failed call) before v left)) in
     let callee : failed.call.callee ≡ v = ap (λ (c : Call). c.callee) one ∙ left.to in
     let live = has_ended-before (event.Failed call) before v (ready_parts (event.Failed call ∷ before) v ready).live in
     absurd (uncallable_unready before call v lawful.0 forces (ap (is_uncallable before) (sym callee) ∙ failed.is) left.waits live)
@@ -230,7 +226,7 @@ cancel_key call before row key lawful (frees c at abnormal) =
     absurd (caller_normal before call c d lawful.0 forces at stands queued abnormal)
 cancel_key call before row key lawful (empties m v left ready depends) =
     let same : left.position ≡ call = left_position (event.Cancelled call) before call v refl refl left in
-    quits_with left.call m (subst (λ (n : ℕ). IsCallAt before left.call n) same (call_stands (event.Cancelled call) before v left))
+    quits_with left.call m (subst (λ (n : ℕ). IsCallAt before left.call n) same (left_call (event.Cancelled call) before v left))
     (ap (is_ready_to_quit (event.Cancelled call ∷ before)) left.to ∙ ready)
     (ap (λ (n : ℕ). depends_on before n m) left.to ∙ depends)
 

@@ -1,5 +1,5 @@
 -- What is newly complete or abandoned after one more event.
-use Rattle.std.proofs.Common.{◌≡◌, ℕ, Bool, true, false, not, ◌&&◌, ◌||◌, Some, None, List, [], ◌∷◌, sym, refl, ap, ◌∙◌, ◌⊎◌, inl, inr, eqb, if◌then◌else◌}
+use Rattle.std.proofs.Common.{◌≡◌, ℕ, Bool, true, false, not, ◌&&◌, Some, None, List, [], ◌∷◌, sym, refl, ap, ◌∙◌, ◌⊎◌, inl, inr, eqb, if◌then◌else◌}
 use Rattle.std.specs.List.{Contains, list_any}
 use Rattle.std.proofs.lemmas.Bool.{and_parts, or_cases, or_parts, or_left, or_right, not-true, both_ways, cases_Bool, eqb-true, eq-eqb}
 use Rattle.std.proofs.lemmas.Option.{none-some}
@@ -22,6 +22,7 @@ use Rattle.ada_laws.proofs.searching.Gathering.{gathered-from}
 use Rattle.ada_laws.proofs.asking.Accepting.{running_live}
 use Rattle.ada_laws.proofs.within.Framing.{IsBlockOf}
 use Rattle.ada_laws.proofs.within.Reaching.{opening_asked}
+use Rattle.ada_laws.proofs.forced.Parts.{is_over, closes_block}
 use Rattle.ada_step_laws.proofs.changing.Holding.{IsQuiet, quiet_ended}
 
 -- a body is newly complete where the event completes its task
@@ -44,19 +45,17 @@ any_at test (event ∷ before) p e at passes =
       | inr older ↦ or_right (test event) (list_any test before) (any_at test before p e older passes)
     ]
 
-abbrev pub closes : ℕ → Event → Bool
-closes p e = is_some_and (closing_in e) (λ (c : Closing). eqb c.block p)
-
 -- a block that isn't closed isn't left
-pub unclosed_unleft : (journal : List Event) (p : ℕ) → list_any (closes p) journal ≡ false → is_left journal p ≡ false
+pub unclosed_unleft : (journal : List Event) (p : ℕ) → list_any (closes_block p) journal ≡ false → is_left journal p ≡ false
 unfolding is_left
 unclosed_unleft journal p unclosed =
-    elim (cases_Bool (any_event (λ q e. closes p e && is_left_close journal q) journal)) [
+    elim (cases_Bool (any_event (λ q e. closes_block p e && is_left_close journal q) journal)) [
       | inr unleft ↦ unleft
       | inl left ↦
-          let (q, e, at, found) = any_event-found (λ q e. closes p e && is_left_close journal q) journal left in
+          let (q, e, at, found) = any_event-found (λ q e. closes_block p e && is_left_close journal q) journal left in
           absurd
-          (both_ways (list_any (closes p) journal) unclosed (any_at (closes p) journal q e at (and_parts (closes p e) (is_left_close journal q) found).0))
+          (both_ways (list_any (closes_block p) journal) unclosed
+          (any_at (closes_block p) journal q e at (and_parts (closes_block p e) (is_left_close journal q) found).0))
     ]
 
 -- a block that a task opened and hasn't left is in its nest
@@ -91,15 +90,15 @@ pub block_newly : (event : Event) (before : List Event) (p : ℕ) → IsLawful (
     → is_complete (event ∷ before) (Block p) ≡ true → IsClosed event p ⊎ IsBlockEnded event before p
 unfolding is_complete is_complete_block
 block_newly event before p lawful was now =
-    let parts = or_parts (list_any (closes p) before) (is_some_and (opening_at before p) (λ (o : Opening). has_ended before o.by)) was in
-    elim (or_cases (list_any (closes p) (event ∷ before))
+    let parts = or_parts (list_any (closes_block p) before) (is_some_and (opening_at before p) (λ (o : Opening). has_ended before o.by)) was in
+    elim (or_cases (list_any (closes_block p) (event ∷ before))
     (is_some_and (opening_at (event ∷ before) p) (λ (o : Opening). has_ended (event ∷ before) o.by)) now) [
       | inl closed ↦
-          elim (or_cases (closes p event) (list_any (closes p) before) closed) [
+          elim (or_cases (closes_block p event) (list_any (closes_block p) before) closed) [
             | inl here ↦
                 let (c, says, same) = option_map_or-true (λ (c : Closing). eqb c.block p) (closing_in event) here in
                 inl (record { closing = c; says = says; of = eqb-true c.block p same })
-            | inr there ↦ absurd (both_ways (list_any (closes p) before) parts.0 there)
+            | inr there ↦ absurd (both_ways (list_any (closes_block p) before) parts.0 there)
           ]
       | inr over ↦
           let (o, opened, ended) = option_map_or-true (λ (o : Opening). has_ended (event ∷ before) o.by) (opening_at (event ∷ before) p) over in
@@ -131,9 +130,6 @@ pub record IsJustMade (event : Event) (before : List Event) (task : ℕ) : Type 
   pub creation : Creation
   pub says : creation_in event ≡ Some creation
   pub is : task ≡ task_count before
-
-abbrev is_over : List Event → Creation → Bool
-is_over journal c = is_complete journal c.under || is_terminated journal c.by
 
 and_true : (b : Bool) → (b && true) ≡ false → b ≡ false
 and_true true fails = fails

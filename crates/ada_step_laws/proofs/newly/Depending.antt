@@ -1,5 +1,5 @@
 -- What a row asks of dependents, and which masters have any.
-use Rattle.std.proofs.Common.{◌≡◌, ℕ, ◌<◌, ◌≤◌, Bool, true, false, not, ◌&&◌, ◌||◌, List, [], ◌∷◌, sym, refl, ◌∙◌, arith, inl, inr, eqb}
+use Rattle.std.proofs.Common.{◌≡◌, ℕ, ◌<◌, ◌≤◌, Bool, true, false, not, ◌&&◌, ◌||◌, List, [], ◌∷◌, sym, ◌∙◌, arith, inl, inr, eqb}
 use Rattle.std.specs.List.{list_any}
 use Rattle.std.proofs.lemmas.Bool.{and_parts, or_cases, or_parts, not-true, not-false, both_ways, true≢false, false≢true, ltb-true}
 use Rattle.ada_events.specs.declared.event.Event.{Event}
@@ -20,17 +20,13 @@ use Rattle.ada_laws.proofs.searching.Searching.{all_below-fails, all_below-holds
 use Rattle.ada_laws.proofs.searching.Growing.{task_count-more}
 use Rattle.ada_laws.proofs.within.Reaching.{creation_asked, frame_known, reaches_known}
 use Rattle.ada_laws.proofs.within.Depending.{depends_on-cases, depends_reaches, depends_exists}
+use Rattle.ada_laws.proofs.forced.Stepping.{middle_false}
 
 -- a live dependent of a master
 pub record IsLiveDependent (journal : List Event) (m : Master) : Type 0 where
   pub task : ℕ
   pub depends : depends_on journal task m ≡ true
   pub live : is_terminated journal task ≡ false
-
-middle : (a b c : Bool) → (a && not b && c) ≡ true → b ≡ false
-middle true false c all = refl
-middle true true c all = absurd (false≢true all)
-middle false b c all = absurd (false≢true all)
 
 last_part : (a b c : Bool) → (a && not b && c) ≡ true → c ≡ true
 last_part true false c all = all
@@ -49,7 +45,7 @@ pub quits_live : (journal : List Event) (m : Master) → is_to_quit journal m �
 unfolding is_to_quit
 quits_live journal m quits =
     let ready = all_below (λ u. not (depends_on journal u m) || is_terminated journal u || is_ready_to_quit journal u) (task_count journal) in
-    some_live journal m (middle (is_complete journal m) (all_terminated journal m) ready quits)
+    some_live journal m (middle_false (is_complete journal m) (all_terminated journal m) ready quits)
 
 pub quits_ready : (journal : List Event) (m : Master) (u : ℕ) → is_to_quit journal m ≡ true → depends_on journal u m ≡ true → is_terminated journal u ≡ false
     → is_ready_to_quit journal u ≡ true

@@ -31,14 +31,14 @@ use Rattle.ada_laws.proofs.searching.Growing.{is_released-now, is_released-befor
 use Rattle.ada_laws.proofs.searching.Saying.{held_in-closing}
 use Rattle.ada_laws.proofs.asking.Accepting.{is_accepted}
 use Rattle.ada_laws.proofs.queues.CallLaws.{open_calls_are_joined_or_queued, one_meeting_for_a_joined_call}
-use Rattle.ada_laws.proofs.within.Members.{IsMember, nest_member}
-use Rattle.ada_laws.proofs.within.Members.IsMember.{block_in}
 use Rattle.ada_laws.proofs.within.Framing.{IsBlockOf}
 use Rattle.ada_laws.proofs.queues.Queueing.{is_open_at-from}
 use Rattle.ada_laws.proofs.forced.Rows.{IsRow, forced-row}
 use Rattle.ada_laws.proofs.forced.Rows.IsRow.{leaves}
 use Rattle.ada_laws.proofs.forced.Stepping.{forced-step}
 use Rattle.ada_laws.proofs.held.Suspending.{suspended_once}
+use Rattle.ada_laws.proofs.within.Leaving.{left_in-asked}
+use Rattle.ada_laws.proofs.within.Owners.{IsOwnBlock, own_member}
 use Rattle.ada_step_laws.proofs.changing.Within.{next_unreleased}
 use Rattle.ada_step_laws.specs.Kinds.{IsCloseAt}
 use Rattle.ada_step_laws.proofs.newly.Completing.{block_within}
@@ -67,18 +67,6 @@ open_place journal call p lawful opened =
           (rw opened.stands.stands (is_open_at-from journal call p opened)))
     ]
 
--- a block of a nest was opened by its task, and isn't left
-pub record IsOpenBlock (journal : List Event) (task p : ℕ) : Type 0 where
-  pub block : IsBlockOf journal task p
-  pub unleft : is_left journal p ≡ false
-
-within_open : (journal : List Event) (task p : ℕ) → Contains (nest journal task) (Block p) → IsOpenBlock journal task p
-within_open journal task p contains = of_member (nest_member journal task (Block p) contains)
-  where
-    of_member : IsMember journal task (Block p) → IsOpenBlock journal task p
-    of_member (block_in q e o at says by unleft) =
-        record { block = record { event = e; opening = o; stands = at; says = says; by = by }; unleft = unleft }
-
 -- who closes a block is within it
 innermost_within : (journal : List Event) (task : ℕ) (member : Option Member) → innermost (nest journal task) ≡ member
     → option_map_or is_rendezvous member true ≡ false → Contains (nest journal task) (Block (member_position member))
@@ -89,15 +77,15 @@ innermost_within journal task (Some (Block p)) last blockless =
     (place, slice_get_within (nest journal task) place (Block p) last, get_or_from_slice_get (nest journal task) place (Block p) (Block p) last)
 
 asked_closing : (journal : List Event) (r : Request) (c : Closing) → refusal journal r ≡ None → closing_in (asked_event journal r) ≡ Some c
-    → IsOpenBlock journal c.by c.block
+    → IsOwnBlock journal c.by c.block
 unfolding asked_event closing_in has_no_block
 asked_closing journal (request.Close by) c accepted says =
-    subst (λ (x : Closing). IsOpenBlock journal x.by x.block) (same_Some _ c says)
-    (within_open journal by.0 (member_position (innermost (nest journal by.0)))
+    subst (λ (x : Closing). IsOwnBlock journal x.by x.block) (same_Some _ c says)
+    (own_member journal by.0 (member_position (innermost (nest journal by.0)))
     (innermost_within journal by.0 (innermost (nest journal by.0)) refl (is_accepted journal (request.Close by) accepted).in_block))
 asked_closing journal _ c accepted says = absurd (none-some c says)
 
-pub closing_open : (e : Event) (before : List Event) (c : Closing) → MayFollow before e → closing_in e ≡ Some c → IsOpenBlock before c.by c.block
+pub closing_open : (e : Event) (before : List Event) (c : Closing) → MayFollow before e → closing_in e ≡ Some c → IsOwnBlock before c.by c.block
 closing_open e before c (inl forces) says = absurd (none-some c.by (sym (forced-step before e forces).holds_none ∙ held_in-closing e c says))
 closing_open e before c (inr asked) says = asked_closing before asked.request c asked.accepted (ap closing_in (sym asked.becomes) ∙ says)
 
@@ -142,16 +130,11 @@ row_pending journal e q (leaves p d k at says leave) left =
     )
 row_pending journal e q _ left = absurd (none-some q left)
 
-asked_stays : (journal : List Event) (r : Request) → left_in (asked_event journal r) ≡ None
-unfolding left_in asked_event
-asked_stays journal (request.Open by) = refl
-asked_stays journal _ = refl
-
 leaving_suspended : (e : Event) (before : List Event) (q : ℕ) → MayFollow before e → left_in e ≡ Some q
     → (d : Event) × (k : Closing) × (event_at before q ≡ Some d) × (closing_in d ≡ Some k) × (is_pending before q k.by ≡ true)
 leaving_suspended e before q (inl forces) left = row_pending before e q (forced-row before e forces) left
 leaving_suspended e before q (inr asked) left =
-    absurd (none-some q (sym (asked_stays before asked.request) ∙ (ap left_in (sym asked.becomes) ∙ left)))
+    absurd (none-some q (sym (left_in-asked before asked.request) ∙ (ap left_in (sym asked.becomes) ∙ left)))
 
 unleft_close : (journal : List Event) (c : ℕ) → is_left_close journal c ≡ true → is_released journal c ≡ true
 unfolding is_left_close is_released

@@ -66,9 +66,9 @@ quits_depends : (m : Master) (before : List Event) (u : ℕ) → ends (quits_all
 unfolding completed_in gone_in quit_in
 quits_depends m before u ended = ended
 
-live_before : (before : List Event) (u : ℕ) → has_ended before u ≡ false → is_terminated before u ≡ false
+pub unended_live : (before : List Event) (u : ℕ) → has_ended before u ≡ false → is_terminated before u ≡ false
 unfolding has_ended
-live_before before u live = (or_parts (is_completed before u) (is_terminated before u) live).1
+unended_live before u live = (or_parts (is_completed before u) (is_terminated before u) live).1
 
 quits_ended_by : (m : Master) (before : List Event) (u : ℕ) → is_terminated before u ≡ false → IsEnd (quits_all m) before u → depends_on before u m ≡ true
 unfolding gone_in quit_in
@@ -79,7 +79,7 @@ quits_ended_by m before u was (earlier now) = absurd (both_ways (is_terminated b
 quits_of : (m : Master) (before : List Event) → IsEndOf (quits_all m) before (IsQuitter before m)
 quits_of m before = record {
   only = quits_only m;
-  over = λ u over. record { depends = quits_depends m before u (newly_over (quits_all m) before u over); live = live_before before u over.was };
+  over = λ u over. record { depends = quits_depends m before u (newly_over (quits_all m) before u over); live = unended_live before u over.was };
   ended = λ u end. record { depends = quits_ended_by m before u end.was (is_terminated-cases (quits_all m) before u end.now); live = end.was };
 }
 

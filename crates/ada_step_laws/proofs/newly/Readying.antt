@@ -9,13 +9,8 @@ use Rattle.ada_events.specs.Calls.{is_queued_at}
 use Rattle.ada_events.specs.Termination.{is_open_terminate, has_empty_queues, is_at_open_terminate, is_ready_to_quit}
 use Rattle.ada_laws.proofs.searching.Searching.{option_map_or-true, any_event-found, any_event-from, event_at-older}
 use Rattle.ada_laws.proofs.searching.Growing.{has_ended-before, is_released-before}
+use Rattle.ada_laws.proofs.forced.Parts.{waits_open, calls_it}
 use Rattle.ada_step_laws.proofs.changing.QueueChanges.{ends, ends_caller, meets, queued-more}
-
-abbrev waits_open : List Event → ℕ → ℕ → Event → Bool
-waits_open journal task p e = is_some_and (wait_in e) (λ (w : Wait). eqb w.by task && is_open_terminate w.tail) && not (is_released journal p)
-
-abbrev calls_it : List Event → ℕ → ℕ → Event → Bool
-calls_it journal task p e = is_some_and (call_in e) (λ (c : Call). eqb c.callee task) && is_queued_at journal p e
 
 -- the event lets the task wait at an open terminate alternative
 pub record IsOpenWait (event : Event) (task : ℕ) : Type 0 where

@@ -144,7 +144,7 @@ no_call e before x call (inr asked) releases other called =
     true≢false (sym (asked_frees before asked.request x (ap released_in (sym asked.becomes) ∙ releases)) ∙ (ap frees_call (sym asked.becomes) ∙ other))
 
 -- a release of a wait, a delay, a start or a close adds nothing
-abbrev left_call : (e : Event) (before : List Event) (v : ℕ) (left : IsUnqueued e before v) → IsCallAt before left.call left.position
+abbrev pub left_call : (e : Event) (before : List Event) (v : ℕ) (left : IsUnqueued e before v) → IsCallAt before left.call left.position
 left_call e before v left = record { event = left.called; stands = left.stands; says = left.says }
 
 freed_key : (e : Event) (before : List Event) (p : ℕ) (row : Row) (key : ℕ) → IsLawful (e ∷ before) → released_in e ≡ Some p → meeting_in e ≡ None

@@ -43,7 +43,7 @@ unhalted_by journal e (Some h) is forces other =
 pub unhalted : (journal : List Event) (e : Event) → forced journal ≡ Some e → is_halt e ≡ false → halted journal ≡ None
 unhalted journal e forces other = unhalted_by journal e (halted journal) refl forces other
 
-nothing_below : (give : ℕ → Option Event) (n u : ℕ) → first_below give n ≡ None → u < n → give u ≡ None
+pub nothing_below : (give : ℕ → Option Event) (n u : ℕ) → first_below give n ≡ None → u < n → give u ≡ None
 unfolding first_below
 nothing_below give zero u none below = absurd (omega arith)
 nothing_below give (suc n) u none below =

@@ -1,7 +1,7 @@
 -- Tasks that terminate by themselves: completed before, or abandoned and never started.
-use Rattle.std.proofs.Common.{◌≡◌, ℕ, ◌<◌, true, false, not, ◌&&◌, ◌||◌, Some, None, List, sym, refl, ap, ◌∙◌, subst, arith, ◌⊎◌, inl, inr}
+use Rattle.std.proofs.Common.{◌≡◌, ℕ, ◌<◌, true, false, not, ◌&&◌, ◌||◌, Some, None, List, sym, refl, ap, ◌∙◌, arith, ◌⊎◌, inl, inr}
 use Rattle.std.proofs.lemmas.Bool.{and_parts, or_cases, not-true, both_ways, true≢false}
-use Rattle.std.proofs.lemmas.Option.{none-some, same_Some}
+use Rattle.std.proofs.lemmas.Option.{none-some}
 use Rattle.ada_events.specs.declared.event.Event.{Event}
 use Rattle.ada_events.specs.declared.request.Request.{Request}
 use Rattle.ada_events.specs.declared.request.Request.TheVariants as request
@@ -17,20 +17,11 @@ use Rattle.ada_events.specs.Termination.{all_terminated, is_complete, is_abandon
 use Rattle.ada_events.specs.Lawful.{MayFollow}
 use Rattle.ada_laws.proofs.searching.Searching.{option_map_or-true}
 use Rattle.ada_laws.proofs.searching.Growing.{has_ended-completed}
-use Rattle.ada_laws.proofs.forced.Rows.{IsRow, forced-row}
-use Rattle.ada_laws.proofs.forced.Rows.IsRow.{goes, quits}
+use Rattle.ada_laws.proofs.forced.Rows.{forced-row}
 use Rattle.ada_laws.proofs.within.Depending.{created_positive}
+use Rattle.ada_laws.proofs.within.DependentLaws.{row_going}
 use Rattle.ada_step_laws.proofs.newly.StartedTasks.{IsNamed}
-
-row_goes : (journal : List Event) (e : Event) (task : ℕ) → IsRow journal e → gone_in e ≡ Some task → is_to_go journal task ≡ true
-unfolding gone_in
-row_goes journal e task (goes u below go) says = subst (λ (n : ℕ). is_to_go journal n ≡ true) (same_Some u task says) go
-row_goes journal e task _ says = absurd (none-some task says)
-
-row_quits : (journal : List Event) (e : Event) (m : Master) → IsRow journal e → quit_in e ≡ Some m → is_to_quit journal m ≡ true
-unfolding quit_in
-row_quits journal e m (quits n quit) says = subst (λ (x : Master). is_to_quit journal x ≡ true) (same_Some n m says) quit
-row_quits journal e m _ says = absurd (none-some m says)
+use Rattle.ada_step_laws.proofs.changing.Callers.{row_quits}
 
 asked_neither : (journal : List Event) (r : Request) → (gone_in (asked_event journal r) ≡ None) × (quit_in (asked_event journal r) ≡ None)
 unfolding gone_in quit_in asked_event
@@ -38,7 +29,7 @@ asked_neither journal (request.Open by) = (refl, refl)
 asked_neither journal _ = (refl, refl)
 
 pub gone_goes : (e : Event) (before : List Event) (task : ℕ) → MayFollow before e → gone_in e ≡ Some task → is_to_go before task ≡ true
-gone_goes e before task (inl forces) says = row_goes before e task (forced-row before e forces) says
+gone_goes e before task (inl forces) says = row_going before e task (forced-row before e forces) says
 gone_goes e before task (inr asked) says =
     absurd (none-some task (sym (asked_neither before asked.request).0 ∙ (ap gone_in (sym asked.becomes) ∙ says)))
 

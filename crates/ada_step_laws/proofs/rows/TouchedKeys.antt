@@ -274,7 +274,7 @@ or_assoc : (a b c : Bool) → ((a || b) || c) ≡ (a || (b || c))
 or_assoc true b c = refl
 or_assoc false b c = refl
 
-all_below-same : (f g : ℕ → Bool) (n : ℕ) → ((u : ℕ) → f u ≡ g u) → all_below f n ≡ all_below g n
+pub all_below-same : (f g : ℕ → Bool) (n : ℕ) → ((u : ℕ) → f u ≡ g u) → all_below f n ≡ all_below g n
 unfolding all_below
 all_below-same f g zero same = refl
 all_below-same f g (suc n) same = rw (all_below-same f g n same, same n) refl

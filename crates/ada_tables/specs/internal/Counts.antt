@@ -10,7 +10,8 @@ use Rattle.ada_tables.specs.declared.phase.Phase.TheVariants.{Unstarted}
 use Rattle.ada_tables.specs.declared.change.Change.{Change}
 use Rattle.ada_tables.specs.internal.Layers.{live_at, moved_to}
 use Rattle.ada_tables.specs.internal.Changes.{changed}
-use Rattle.ada_tables.specs.Dependents.{Facts, task_at, has_block, holds, live_dependents, is_terminated}
+use Rattle.ada_events.specs.Holders.{has_block, holds}
+use Rattle.ada_tables.specs.Dependents.{Facts, task_at, live_dependents, is_terminated}
 use Rattle.ada_tables.specs.Counts.{facts, first_slots}
 
 -- no task

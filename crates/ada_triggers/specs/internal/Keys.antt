@@ -21,7 +21,7 @@ use Rattle.ada_laws.specs.Suspension.{IsSuspendedAt}
 use Rattle.ada_step_laws.specs.TouchedKeys.{is_uncallable}
 use Rattle.ada_step_laws.specs.declared.row.Row.{Row}
 use Rattle.ada_step_laws.specs.declared.row.Row.TheVariants.{Halting, Failing, Activating, Terminating, QuittingBody, QuittingBlock, Leaving}
-use Rattle.ada_tables.specs.Dependents.{holds}
+use Rattle.ada_events.specs.Holders.{holds}
 use Rattle.ada_agenda.specs.Keeping.{When, AsKey}
 use Rattle.ada_agenda.specs.internal.Keeping.{Both}
 use Rattle.ada_step_laws.specs.Kinds.{quitting_row, quitting_key, due_in, due_row, IsActivationOf, IsOpenCallTo}

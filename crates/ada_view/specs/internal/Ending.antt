@@ -6,7 +6,7 @@ use Rattle.ada_events.specs.Nests.{nest}
 use Rattle.ada_events.specs.Says.{Opening, Closing, opening_in, closing_in}
 use Rattle.ada_records.specs.declared.record.Record.{Record}
 use Rattle.ada_records.specs.Records.{IsRecordOf}
-use Rattle.ada_tables.specs.Dependents.{has_block}
+use Rattle.ada_events.specs.Holders.{has_block}
 
 -- the event is a close of the block
 abbrev pub closes : ℕ → Event → Bool

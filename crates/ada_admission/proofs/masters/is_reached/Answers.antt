@@ -1,9 +1,9 @@
 use Rattle.std.proofs.Common.{◌<◌, ◌∙◌, ap, sym, subst}
 use Rattle.ada_records.proofs.following.Agreeing.{ends_phase}
-use Rattle.ada_records.proofs.holding.Enclosing.{frame_reaches_held}
+use Rattle.ada_step_laws.proofs.holding.Enclosing.{frame_reaches_held}
 use Rattle.ada_records.proofs.holding.Walking.{same_dependents}
 use Rattle.ada_tables.specs.Dependents.{Facts, is_terminated as ends}
-use Rattle.ada_view.proofs.Blocks.{ended_or, else_closed}
+use Rattle.ada_view.proofs.Orphans.{alone_or, else_or}
 use Rattle.ada_admission.proofs.masters.is_reached.Goals as goal
 
 pub depends_on-requires-clause-known : goal.depends_on-requires-clause-known
@@ -16,7 +16,7 @@ depends_on-requires-clause-live c =
 
 pub returns-then-holds : goal.returns-then-holds
 returns-then-holds c =
-    c.holds.ensures ∙ ended_or _ _ (sym c.holds.ensures ∙ c.if-holds.true)
+    c.holds.ensures ∙ alone_or _ _ (sym c.holds.ensures ∙ c.if-holds.true)
     ∙ sym (frame_reaches_held c.args.view.now c.args.by.0 c.args.master c.tables-tables.ensures.lawful c.requires.known)
 
 pub returns-else-holds : goal.returns-else-holds
@@ -25,5 +25,5 @@ returns-else-holds c =
     ∙ same_dependents _ c.args.view.now c.tables-tables.ensures.lawful
     (record { many = c.tables-tables.ensures.stand.many; facts = c.tables-tables.ensures.stand.tasks })
     c.args.master c.args.by.0 c.requires.known c.requires.live
-    ∙ else_closed _ _ (sym c.holds.ensures ∙ c.if-holds.false)
+    ∙ else_or _ _ (sym c.holds.ensures ∙ c.if-holds.false)
     ∙ sym (frame_reaches_held c.args.view.now c.args.by.0 c.args.master c.tables-tables.ensures.lawful c.requires.known)

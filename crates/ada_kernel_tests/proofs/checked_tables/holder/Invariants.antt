@@ -1,5 +1,6 @@
 use Rattle.std.proofs.Common.{◌≡◌, ℕ, ◌<◌, false}
-use Rattle.ada_tables.specs.Dependents.{task_at, holds}
+use Rattle.ada_events.specs.Holders.{holds}
+use Rattle.ada_tables.specs.Dependents.{task_at}
 use Rattle.ada_kernel_tests.proofs.checked_tables.holder.Given as goal
 
 abbrev pub invariant-loop-number : goal.invariant-loop-number

@@ -1,6 +1,6 @@
 use Rattle.std.proofs.Common.{◌≡◌, drop}
 use Rattle.ada_tables.specs.Layers.{members}
-use Rattle.ada_tables.specs.Dependents.{has_block, up_to}
+use Rattle.ada_events.specs.Holders.{has_block, up_to}
 use Rattle.ada_tables.proofs.layers.encloses.Given as goal
 
 abbrev pub invariant-loop-layer : goal.invariant-loop-layer

@@ -5,7 +5,7 @@ use Rattle.std.proofs.lemmas.Option.{none-some, same_Some}
 use Rattle.ada_events.specs.declared.names.Master.{Master}
 use Rattle.ada_events.specs.declared.names.TaskNo.{TaskNo}
 use Rattle.ada_events.specs.Nests.{nest}
-use Rattle.ada_tables.specs.Dependents.{holds}
+use Rattle.ada_events.specs.Holders.{holds}
 use Rattle.ada_view.proofs.Hitting.{opened_by}
 use Rattle.ada_view.proofs.touched.flag_of_holder.Goals as goal
 

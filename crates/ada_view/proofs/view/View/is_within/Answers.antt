@@ -1,5 +1,6 @@
 use Rattle.std.proofs.Common.{◌∙◌, ◌<◌, ap, sym, subst}
-use Rattle.ada_tables.specs.Dependents.{Facts, has_block}
+use Rattle.ada_events.specs.Holders.{has_block}
+use Rattle.ada_tables.specs.Dependents.{Facts}
 use Rattle.ada_view.proofs.view.View.is_within.Goals as goal
 
 pub nest-requires : goal.nest-requires

@@ -1,6 +1,5 @@
--- Who holds a master, and how blocks nest; and that tables which hold what a journal says of each task and each
--- queue stand for it. Laws.
-use Rattle.std.specs.Prelude.{◌≡◌, ℕ, ◌<◌, true, false, Some, List, [], ◌∷◌, filter}
+-- Who holds a master, and how blocks nest. Laws.
+use Rattle.std.specs.Prelude.{◌≡◌, ℕ, ◌<◌, true, false, Some, List, [], ◌∷◌}
 use Rattle.ada_events.specs.declared.event.Event.{Event}
 use Rattle.ada_events.specs.declared.names.Master.{Master}
 use Rattle.ada_events.specs.declared.names.Master.TheVariants.{Body, Block as BlockMaster}
@@ -11,13 +10,9 @@ use Rattle.ada_events.specs.Says.{Opening, Creation, opening_in}
 use Rattle.ada_events.specs.Tasks.{creation_of}
 use Rattle.ada_events.specs.Masters.{depends_on}
 use Rattle.ada_events.specs.Nests.{is_left, nest}
+use Rattle.ada_events.specs.Holders.{holds}
 use Rattle.ada_events.specs.Phases.{is_terminated}
 use Rattle.ada_events.specs.Lawful.{IsLawful}
-use Rattle.ada_tables.specs.Dependents.{holds, cut}
-use Rattle.ada_tables.specs.Tables.{TableState}
-use Rattle.ada_tables.specs.Standing.{StandFor}
-use Rattle.ada_step_laws.specs.Changes.{is_apart_from}
-use Rattle.ada_records.specs.Facing.{HoldFacts, HoldQueues}
 
 -- the block was opened within the master
 pub record IsUnder (journal : List Event) (p : ℕ) (outer : Master) : Type 0 where
@@ -61,16 +56,3 @@ abbrev pub ALeftBlockHasNoLiveDependent : Type 0
 ALeftBlockHasNoLiveDependent =
     (journal : List Event) (block dependent : ℕ) → IsLawful journal → is_left journal block ≡ true
     → depends_on journal dependent (BlockMaster block) ≡ true → is_terminated journal dependent ≡ true
-
--- tables that hold what a lawful journal says of each task and each queue stand for it: all counts of dependents
--- follow
-abbrev pub HeldTablesStand : Type 0
-HeldTablesStand =
-    (tables : TableState) (journal : List Event) → IsLawful journal
-    → HoldFacts tables.tasks journal → HoldQueues tables journal → StandFor tables journal
-
--- to take the rendezvous with a call out of a nest is to keep all else
-abbrev pub CutsKeepTheRest : Type 0
-CutsKeepTheRest =
-    (journal : List Event) (task call : ℕ) → IsLawful journal
-    → filter (is_apart_from call) (nest journal task) ≡ cut call (nest journal task)

@@ -1,5 +1,6 @@
 -- Within a task's nest the tables find the parents that the journal says.
 use Rattle.ada_laws.proofs.within.Parents.{masters_reach_by_parents, tasks_depend_by_parents}
+use Rattle.ada_laws.proofs.searching.Searching.{eqb_swap}
 use Rattle.ada_laws.specs.Masters.{parent_of}
 use Rattle.std.proofs.Common.{◌≡◌, ℕ, ◌<◌, Bool, true, false, ◌||◌, eqb, Option, Some, List, [], ◌∷◌, refl, sym, ap, ◌∙◌, subst, inl, inr}
 use Rattle.std.specs.Option.{option_map_or}
@@ -14,9 +15,9 @@ use Rattle.ada_events.specs.Tasks.{task_count}
 use Rattle.ada_events.specs.Masters.{same_master, reaches, depends_on}
 use Rattle.ada_events.specs.Nests.{nest, innermost_block, frame}
 use Rattle.ada_events.specs.Lawful.{IsLawful}
-use Rattle.ada_tables.specs.Dependents.{has_block, up_to, holds, encloses}
-use Rattle.ada_records.specs.Holders.{IsUnder, AreNested}
-use Rattle.ada_records.proofs.holding.NestedBlocks.{nest_properly}
+use Rattle.ada_events.specs.Holders.{has_block, up_to, holds, encloses}
+use Rattle.ada_step_laws.specs.Holders.{IsUnder, AreNested}
+use Rattle.ada_step_laws.proofs.holding.NestedBlocks.{nest_properly}
 
 parent_under : (journal : List Event) (p : ℕ) (outer : Master) → IsUnder journal p outer → parent_of journal (BlockMaster p) ≡ Some outer
 parent_under journal p outer is = rw (is.stands, is.says) (ap Some is.under)
@@ -78,20 +79,13 @@ from_body journal t y lawful below =
     masters_reach_by_parents journal (Body t) y lawful below
     ∙ ap (λ (b : Bool). same_master (Body t) y || b) (sym (tasks_depend_by_parents journal t y lawful))
 
-same_body : (t u : ℕ) → eqb t u ≡ eqb u t
-same_body t u =
-    elim (cases_eq t u) [
-      | inl same ↦ eq-eqb t u same ∙ sym (eq-eqb u t (sym same))
-      | inr other ↦ ne_eqb t u other ∙ sym (ne_eqb u t (λ back. other (sym back)))
-    ]
-
 -- from a master that a task holds, the way goes on by what it encloses there, and then by what the task depends on
 pub reaches_held : (journal : List Event) (task : ℕ) (x y : Master) → IsLawful journal → task < task_count journal → holds task (nest journal task) x ≡ true
     → reaches journal x y ≡ (encloses task (nest journal task) x y || depends_on journal task y)
 reaches_held journal task (Body t) (Body u) lawful below held =
     let same : t.0 ≡ task = eqb-true t.0 task held in
     from_body journal t (Body u) lawful (subst (λ (n : ℕ). n < task_count journal) (sym same) below)
-    ∙ rw same (ap (λ (b : Bool). b || depends_on journal task (Body u)) (same_body task u.0))
+    ∙ rw same (ap (λ (b : Bool). b || depends_on journal task (Body u)) (eqb_swap task u.0))
 reaches_held journal task (Body t) (BlockMaster b) lawful below held =
     let same : t.0 ≡ task = eqb-true t.0 task held in
     from_body journal t (BlockMaster b) lawful (subst (λ (n : ℕ). n < task_count journal) (sym same) below)
@@ -99,7 +93,7 @@ reaches_held journal task (Body t) (BlockMaster b) lawful below held =
 reaches_held journal task (BlockMaster inner) (Body u) lawful below held =
     from_inner journal inner (Body (record { 0 = task })) (Body u) (nest journal task) lawful (nest_properly journal task lawful) held
     ∙ from_body journal (record { 0 = task }) (Body u) lawful below
-    ∙ ap (λ (b : Bool). b || depends_on journal task (Body u)) (same_body task u.0)
+    ∙ ap (λ (b : Bool). b || depends_on journal task (Body u)) (eqb_swap task u.0)
 reaches_held journal task (BlockMaster inner) (BlockMaster b) lawful below held =
     from_inner journal inner (Body (record { 0 = task })) (BlockMaster b) (nest journal task) lawful (nest_properly journal task lawful) held
     ∙ ap (λ (c : Bool). has_block b (up_to inner (nest journal task)) || c) (from_body journal (record { 0 = task }) (BlockMaster b) lawful below)
@@ -124,7 +118,7 @@ unfolding frame
 frame_reaches_held journal task (Body u) lawful below =
     from_innermost journal (Body (record { 0 = task })) (Body u) (nest journal task) lawful (nest_properly journal task lawful)
     ∙ from_body journal (record { 0 = task }) (Body u) lawful below
-    ∙ ap (λ (b : Bool). b || depends_on journal task (Body u)) (same_body task u.0)
+    ∙ ap (λ (b : Bool). b || depends_on journal task (Body u)) (eqb_swap task u.0)
 frame_reaches_held journal task (BlockMaster b) lawful below =
     from_innermost journal (Body (record { 0 = task })) (BlockMaster b) (nest journal task) lawful (nest_properly journal task lawful)
     ∙ ap (λ (c : Bool). has_block b (nest journal task) || c) (from_body journal (record { 0 = task }) (BlockMaster b) lawful below)

@@ -31,21 +31,20 @@ use Rattle.ada_laws.proofs.asking.Accepting.{is_accepted, running_free}
 use Rattle.ada_laws.proofs.searching.Growing.{is_released-before, is_released-now, has_ended-before}
 use Rattle.ada_laws.proofs.queues.Meeting.{met_taking, meeting_in-met}
 use Rattle.ada_laws.proofs.within.Reaching.{opening_asked}
-use Rattle.ada_laws.proofs.searching.Saying.{held_in-closing, held_in-wait}
+use Rattle.ada_laws.proofs.searching.Saying.{held_in-closing, held_in-wait, left_frees}
 use Rattle.ada_laws.proofs.searching.Searching.{event_at-cases, option_map_or-true}
 use Rattle.ada_laws.proofs.forced.Stepping.{forced-step, pending_parts}
 use Rattle.ada_laws.proofs.held.Suspending.{is_suspended-from, suspended_once}
 use Rattle.ada_laws.proofs.within.Innermost.{innermost_last}
-use Rattle.ada_step_laws.proofs.changing.Holding.{hold_only}
-use Rattle.ada_step_laws.proofs.changing.LeftBlocks.{left_cases, left_frees}
+use Rattle.ada_step_laws.proofs.changing.Holding.{hold_only, held_opens_none}
+use Rattle.ada_step_laws.proofs.changing.LeftBlocks.{left_cases}
 use Rattle.ada_step_laws.proofs.changing.Nesting.{wait_same}
 use Rattle.ada_step_laws.proofs.changing.NestKinds.{nest_more, others_keep_nests, stays}
 use Rattle.ada_step_laws.proofs.changing.Saying.{met_frees}
-use Rattle.ada_tables.specs.Dependents.{has_block, is_block}
-use Rattle.ada_records.specs.Pending.{ClosedBlocksAreInnermost, WaitsHaveRoom, OpenTerminatesAreInNoRendezvous}
-use Rattle.ada_records.proofs.holding.NestedBlocks.{leaves_ready}
-use Rattle.ada_records.proofs.phase_changes.OnePhase.{held_opens_none}
-use Rattle.ada_records.proofs.holding.Owners.{block_in_nest, one_holder}
+use Rattle.ada_events.specs.Holders.{has_block, is_block}
+use Rattle.ada_step_laws.specs.Pending.{ClosedBlocksAreInnermost, WaitsHaveRoom, OpenTerminatesAreInNoRendezvous}
+use Rattle.ada_step_laws.proofs.holding.NestedBlocks.{leaves_ready}
+use Rattle.ada_laws.proofs.within.Owners.{block_in_nest, one_holder}
 
 -- the member is the innermost
 abbrev pub EndsWith : Member → List Member → Type 0

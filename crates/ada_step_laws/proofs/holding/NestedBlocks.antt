@@ -1,6 +1,6 @@
 -- Blocks nest properly: in a lawful journal a block that isn't left was opened within the block before it in its
 -- task's nest, or else within the task's body.
-use Rattle.ada_records.specs.Holders.{IsUnder, AreNested}
+use Rattle.ada_step_laws.specs.Holders.{IsUnder, AreNested}
 use Rattle.std.proofs.Common.{◌≡◌, ℕ, suc, ◌-◌, ◌<◌, ◌≤◌, Bool, true, false, cond, not, ◌&&◌, eqb, Option, Some, None, List, [], ◌∷◌, ◌++◌, length, refl, sym}
 use Rattle.std.proofs.Common.{ap, ◌∙◌, subst, arith, inl, inr, append-nil}
 use Rattle.std.specs.Option.{option_map_or, option_or, option_to_list}

@@ -1,4 +1,4 @@
--- A master is held by one task at most.
+-- The blocks of a task's nest are those that it opened and hasn't left; and a master is held by one task at most.
 use Rattle.std.proofs.Common.{◌≡◌, ℕ, zero, suc, ◌<◌, true, false, eqb, List, [], ◌∷◌, length, get_or, refl, sym, ap, ◌∙◌, subst}
 use Rattle.std.proofs.Common.{arith, inl, inr}
 use Rattle.std.specs.List.{Contains}
@@ -13,7 +13,7 @@ use Rattle.ada_events.specs.Says.{Opening, opening_in}
 use Rattle.ada_events.specs.Nests.{is_left, member_at, nest}
 use Rattle.ada_laws.proofs.searching.Gathering.{gathered-from, Contains-first, Contains-later}
 use Rattle.ada_laws.proofs.within.Framing.{IsBlockOf}
-use Rattle.ada_tables.specs.Dependents.{is_block, has_block, holds}
+use Rattle.ada_events.specs.Holders.{is_block, has_block, holds}
 use Rattle.ada_laws.proofs.within.Members.{IsMember, nest_member}
 use Rattle.ada_laws.proofs.within.Members.IsMember.{block_in}
 
@@ -55,3 +55,15 @@ one_holder journal t u (BlockMaster b) one other =
     let event : mine.event ≡ yours.event = same_Some mine.event yours.event (sym mine.stands ∙ yours.stands) in
     let opening : mine.opening ≡ yours.opening = same_Some mine.opening yours.opening (sym mine.says ∙ ap opening_in event ∙ yours.says) in
     sym mine.by ∙ ap (λ (o : Opening). o.by) opening ∙ yours.by
+
+-- a block that a task opened and hasn't left
+pub record IsOwnBlock (journal : List Event) (task p : ℕ) : Type 0 where
+  pub block : IsBlockOf journal task p
+  pub unleft : is_left journal p ≡ false
+
+pub own_member : (journal : List Event) (task p : ℕ) → Contains (nest journal task) (Block p) → IsOwnBlock journal task p
+own_member journal task p contains = of_member (nest_member journal task (Block p) contains)
+  where
+    of_member : IsMember journal task (Block p) → IsOwnBlock journal task p
+    of_member (block_in q e o at says by unleft) =
+        record { block = record { event = e; opening = o; stands = at; says = says; by = by }; unleft = unleft }

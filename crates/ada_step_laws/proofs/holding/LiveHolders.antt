@@ -28,12 +28,12 @@ use Rattle.ada_laws.proofs.within.Depending.{IsMadeUnder, depends_on-cases, depe
 use Rattle.ada_laws.proofs.within.DependentLaws.{all_terminated_at, a_terminated_body_has_no_live_dependent}
 use Rattle.ada_laws.proofs.within.Parents.{master_known, tasks_depend_by_parents}
 use Rattle.ada_laws.proofs.within.Leaving.{leaving_makes_none}
-use Rattle.ada_tables.specs.Dependents.{is_block, has_block, up_to, holds, encloses}
-use Rattle.ada_records.specs.Holders.{IsHeld, ALeftBlockHasNoLiveDependent, MastersAreHeld}
+use Rattle.ada_events.specs.Holders.{is_block, has_block, up_to, holds, encloses}
+use Rattle.ada_step_laws.specs.Holders.{IsHeld, ALeftBlockHasNoLiveDependent, MastersAreHeld}
 use Rattle.ada_step_laws.proofs.changing.LeftBlocks.{Leaves, left_cases}
-use Rattle.ada_records.proofs.holding.NestedBlocks.{leaves_ready}
-use Rattle.ada_records.proofs.holding.Owners.{block_in_nest, nest_has_block, one_holder}
-use Rattle.ada_records.proofs.holding.Enclosing.{reaches_held}
+use Rattle.ada_step_laws.proofs.holding.NestedBlocks.{leaves_ready}
+use Rattle.ada_laws.proofs.within.Owners.{block_in_nest, nest_has_block, one_holder}
+use Rattle.ada_step_laws.proofs.holding.Enclosing.{reaches_held}
 
 -- a task's block reaches the task's own body
 own_frame : (journal : List Event) (task : ℕ) → ((p : ℕ) → IsBlockOf journal task p → reaches journal (BlockMaster p) (Body (record { 0 = task })) ≡ true)

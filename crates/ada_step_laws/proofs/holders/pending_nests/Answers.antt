@@ -1,5 +1,5 @@
-use Rattle.ada_records.proofs.holding.PendingNests.{closed_blocks_are_innermost, waits_have_room, open_terminates_are_in_no_rendezvous}
-use Rattle.ada_records.proofs.table_laws.pending_nests.Goals as goal
+use Rattle.ada_step_laws.proofs.holding.PendingNests.{closed_blocks_are_innermost, waits_have_room, open_terminates_are_in_no_rendezvous}
+use Rattle.ada_step_laws.proofs.holders.pending_nests.Goals as goal
 
 pub returns-clause-blocks : goal.returns-clause-blocks
 returns-clause-blocks c = closed_blocks_are_innermost
