@@ -15,7 +15,8 @@ use Rattle.ada_events.specs.declared.refusal.Refusal.TheVariants.{NotYourTask, N
 use Rattle.ada_events.specs.declared.refusal.Refusal.TheVariants.{NotInAccept, NoBlock, StillNested, MainTask, MomentBack}
 use Rattle.ada_events.specs.declared.refusal.Refusal.TheVariants.{MomentTooLarge, TooManyTasks, TooManySlots, TooDeep, JournalFull, OutOfMemory}
 use Rattle.ada_events.specs.declared.outcome.Outcome.TheVariants as became
-use Rattle.ada_border.specs.Codes.{AreNumbered}
+use Rattle.ada_events.specs.Refusals.{causes}
+use Rattle.ada_border.specs.Codes.{AreChecked, AreNumbered}
 use Rattle.ada_border.specs.Outcomes.{AreOutcomesReadBack, plain_outcome, outcome_at}
 use Rattle.ada_border.specs.Events.{AreReadBack, plain_of, event_at, master_at, master_kind, master_number, patience_at, patience_kind, patience_duration}
 use Rattle.ada_border.specs.Events.{way_at, way_kind, way_number, flag, is_set}
@@ -93,6 +94,10 @@ numbered TooManySlots = (19, refl, refl)
 numbered TooDeep = (20, refl, refl)
 numbered JournalFull = (21, refl, refl)
 numbered OutOfMemory = (22, refl, refl)
+
+pub checked : AreChecked
+unfolding causes
+checked journal request = refl
 
 pub outcomes : AreOutcomesReadBack
 unfolding plain_outcome outcome_at

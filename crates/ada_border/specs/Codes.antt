@@ -1,5 +1,8 @@
 -- The codes of answers. A code never changes, since hosts are compiled with it: a new cause takes the next one.
-use Rattle.std.specs.Prelude.{◌≡◌, ℕ, ◌+◌, ℤ, pos, Some, List, [], ◌∷◌, slice_get}
+use Rattle.std.specs.Prelude.{◌≡◌, ℕ, ◌+◌, ℤ, pos, Some, List, [], ◌∷◌, map, slice_get, take}
+use Rattle.ada_events.specs.declared.event.Event.{Event}
+use Rattle.ada_events.specs.declared.request.Request.{Request}
+use Rattle.ada_events.specs.Refusals as checks
 use Rattle.ada_events.specs.declared.refusal.Refusal.{Refusal}
 use Rattle.ada_events.specs.declared.refusal.Refusal.TheVariants.{UnknownTask, NotRunning, DuringActivation, NotActivating, NotYourMaster, EmptyList}
 use Rattle.ada_events.specs.declared.refusal.Refusal.TheVariants.{NotYourTask, NoAccept, NoSuchFamily, ConstraintError, SameFamilyNested, TerminateInAccept}
@@ -53,3 +56,11 @@ bad_code NoSuchEntry = pos 106
 -- the codes are 1, 2, .. in the order of that list: so each cause has its own, and none is left out
 abbrev pub AreNumbered : Type 0
 AreNumbered = (cause : Refusal) → (place : ℕ) × (refusal_code cause ≡ pos (place + 1)) × (slice_get causes place ≡ Some cause)
+
+-- the causes in the order in which they are checked: that of their codes; want of memory isn't among them
+abbrev pub checked : List Refusal
+checked = take 22 causes
+
+-- of each request these are the causes that are checked, in this order
+abbrev pub AreChecked : Type 0
+AreChecked = (journal : List Event) (request : Request) → map (λ (c : checks.Cause). c.name) (checks.causes journal request) ≡ checked

@@ -4,7 +4,7 @@
 //! wrong with the numbers. It writes only where it answers 0.
 #![tactic(auto)]
 
-ghost use Rattle.std.specs.Prelude.{◌≡◌, length};
+ghost use Rattle.std.specs.Prelude.{◌≡◌, ◌⊎◌, pos, length};
 ghost use Rattle.ada_events.specs.Attributes.{is_finished};
 ghost use Rattle.ada_events.specs.Lawful.{IsLawful, IsSettled};
 ghost use Rattle.ada_events.specs.Tasks.{task_count};
@@ -14,6 +14,7 @@ ghost use Rattle.ada_border.specs.Answers.{IsAnswered, IsCounted, IsTold};
 ghost use Rattle.ada_border.specs.Events as events;
 ghost use Rattle.ada_border.specs.Events.{flag as flag_of};
 ghost use Rattle.ada_border.specs.Boards as boards;
+ghost use Rattle.ada_border.specs.Codes.{refusal_code as code_of_refusal};
 ghost use Rattle.ada_events.specs.Boards.{board_of};
 ghost use Rattle.ada_border.specs.Requests as spec;
 ghost use Rattle.ada_embed.specs.Questions as asked;
@@ -43,9 +44,12 @@ fn give(kernel: Box<Kernel>, out: &mut *mut u8) {
     *out = Box::into_raw(kernel) as *mut u8;
 }
 
-/// Makes a kernel. C keeps the pointer that is written, and passes it as a `Handle`.
+/// Makes a kernel, or finds no memory. C keeps the pointer that is written, and passes it as a `Handle`.
 #[unsafe(no_mangle)]
-pub extern "C" fn adatask_kernel_new(alloc: Global, out: &mut *mut u8) -> i32 {
+pub extern "C" fn adatask_kernel_new(alloc: Global, out: &mut *mut u8) -> i32
+    ensures { (result ≡ pos 0)
+        ⊎ ((result ≡ code_of_refusal Refusal.OutOfMemory) × (out.new ≡ out.old)) }
+{
     match Kernel::new(alloc) {
         Ok(kernel) => match Box::new(alloc, kernel) {
             Ok(kernel) => {

@@ -1,5 +1,5 @@
 //! Running a script: one thread for each of its tasks, from the bytes that are read to those that are written.
-ghost use Rattle.std.specs.Prelude.{◌≡◌, ◌⊎◌, ◌<◌, ◌≤◌, IfOk, IfErr, OnOk, length};
+ghost use Rattle.std.specs.Prelude.{◌≡◌, ◌⊎◌, ◌<◌, ◌≤◌, IfOk, IfErr, OnOk, false, length};
 ghost use Rattle.ada_replay.specs.Input.{most_bytes, TakesAtMost};
 ghost use Rattle.ada_hall.specs.Speakers.{created};
 ghost use Rattle.ada_run.specs.Opening.{IsOpeningFault};
@@ -26,11 +26,12 @@ use std::thread::Threads;
 /// program.
 pub const MOST_CREATIONS: usize = 255;
 
-// Looks whether each line has its answer, and whether no event lies between the answers. Where memory is refused
-// the hall is stopped, and a line has none.
+// Looks whether the hall wasn't stopped, each line has its answer, and no event lies between the answers. Where
+// memory is refused the hall is stopped: then a line has no answer, or the board of the last one isn't shown.
 fn look_through<J: Session>(hall: &Hall<'_, J>) -> Result<(), RunFault>
     ensures ok { OnOk result
         (AreWhole J.script hall.now.answers (length hall.now.showing.journal)) }
+    ensures going { OnOk result (hall.now.turns.stopped ≡ false) }
     ensures err { IfErr result IsOpeningFault }
 {
     if hall.turns().is_stopped() || !hall.is_answered() {
@@ -42,7 +43,8 @@ fn look_through<J: Session>(hall: &Hall<'_, J>) -> Result<(), RunFault>
     Ok(())
 }
 
-// Writes what the answers of a hall print, if each line has its answer and no event lies between the answers.
+// Writes what the answers of a hall print, if it wasn't stopped, each line has its answer, and no event lies between
+// the answers.
 fn tell<J: Session, W: Write>(
     alloc: Global,
     script: &Script,
@@ -53,6 +55,7 @@ fn tell<J: Session, W: Write>(
     requires few { length (created J.script) ≤ 255 }
     ensures ok { IfOk result (λ ending.
         IsScriptRun ending J.script (W.contents writer.old) (W.contents writer.new)) }
+    ensures going { OnOk result (hall.now.turns.stopped ≡ false) }
     ensures err { IfErr result (λ fault.
         BreaksRun fault J.script (W.contents writer.old) (W.contents writer.new)) }
 {
