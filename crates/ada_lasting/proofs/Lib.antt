@@ -15,4 +15,6 @@ mod WithoutTask
 mod Gone
 mod Remembering
 mod GivingUp
+mod Waited
+mod Dividing
 mod waits

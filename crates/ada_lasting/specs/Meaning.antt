@@ -5,6 +5,10 @@ use Rattle.ada_events.specs.declared.request.Request.TheVariants as request
 use Rattle.ada_events.specs.declared.names.Master.{Master}
 use Rattle.ada_events.specs.declared.names.Master.TheVariants as master
 use Rattle.ada_events.specs.Forced.{task_no}
+use Rattle.ada_waiting.specs.declared.reasons.Reason.{Reason}
+use Rattle.ada_waiting.specs.declared.reasons.Reason.TheVariants as reason
+use Rattle.ada_lasting.specs.declared.reasons.LastingReason.{LastingReason}
+use Rattle.ada_lasting.specs.declared.reasons.LastingReason.TheVariants as lasting
 use Rattle.ada_lasting.specs.declared.requests.LastingMaster.{LastingMaster}
 use Rattle.ada_lasting.specs.declared.requests.LastingMaster.TheVariants.{Body, Block}
 use Rattle.ada_lasting.specs.declared.requests.LastingRequest.{LastingRequest}
@@ -29,3 +33,14 @@ meant (Close by) = request.Close (task_no by)
 meant (Complete by) = request.Complete (task_no by)
 meant (Abort by tasks) = request.Abort (task_no by) (map task_no tasks)
 meant (Tick now) = request.Tick now
+
+-- what a reason tells of a journal without an end, in which positions have their lasting names
+unfoldable pub meant_reason : LastingReason → Reason
+meant_reason lasting.NotStarted = reason.NotStarted
+meant_reason (lasting.Activating start) = reason.Activating start
+meant_reason (lasting.Queued call) = reason.Queued call
+meant_reason (lasting.InRendezvous call) = reason.InRendezvous call
+meant_reason (lasting.Waiting wait) = reason.Waiting wait
+meant_reason (lasting.Delayed pause) = reason.Delayed pause
+meant_reason (lasting.Leaving close) = reason.Leaving close
+meant_reason lasting.Completed = reason.Completed

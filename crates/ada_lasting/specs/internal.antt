@@ -5,3 +5,5 @@ pub mod Keeping
 pub mod Causes
 pub mod Moving
 pub mod Mastering
+pub mod Reasons
+pub mod Awaiting

@@ -179,7 +179,7 @@ impl LongKernel {
     }
 
     // Calls what tells of the present journal and of the names: so the prover knows it where this is called.
-    fn known(&self)
+    pub(crate) fn known(&self)
         ensures { IsPresent self.now }
     {
         let _ = self.kernel.journal();

@@ -4,14 +4,17 @@
 #![tactic(auto)]
 
 pub mod asking;
+pub mod awaited;
 pub mod failure;
 pub mod forgetting;
 pub mod kernel;
 pub mod masters;
 pub mod moving;
 pub mod names;
+pub mod reasons;
 pub mod requests;
 pub mod rows;
+pub mod standstill;
 pub mod waiting;
 
 pub use failure::NotDone;
@@ -19,5 +22,6 @@ pub use kernel::LongKernel;
 pub use masters::Dependent;
 pub use moving::NotMoved;
 pub use names::Names;
+pub use reasons::LastingReason;
 pub use requests::{LastingMaster, LastingRequest, LastingTasks};
 pub use rows::Row;

@@ -2,6 +2,7 @@
 
 ghost use Rattle.std.specs.Prelude.{◌≡◌, ◌^◌, true};
 ghost use Rattle.ada_lasting.specs.Naming.{found, named_by, rises_between};
+ghost use Rattle.ada_lasting.specs.internal.Awaiting.{first_name};
 
 /// A lasting name, and the number in the present journal of what has it.
 #[derive(Clone, Copy, Debug, Default, PartialEq, Eq)]
@@ -40,6 +41,19 @@ pub(crate) fn name_of(rows: &[Row], present: u32) -> Option<u64>
 {
     for row in rows {
         if row.present == present {
+            return Some(row.lasting);
+        }
+    }
+    None
+}
+
+/// The first lasting name that is a number or more. The lasting names of the rows rise.
+#[tactic(auto, unfolding(crate::specs::internal::Awaiting::first_name))]
+pub(crate) fn first_name(rows: &[Row], from: u64) -> Option<u64>
+    ensures { result ≡ first_name rows.now from }
+{
+    for row in rows {
+        if row.lasting >= from {
             return Some(row.lasting);
         }
     }

@@ -28,4 +28,6 @@ mod playing;
 #[cfg(test)]
 mod states;
 #[cfg(test)]
+mod waiting;
+#[cfg(test)]
 mod wrong;
