@@ -42,7 +42,7 @@ pub struct LongKernel {
     // The number of events that its maker chose, and the one from which on the present journal is made shorter next.
     threshold: u32,
     due: u32,
-    // How many events it had when that was tried last; 0 if a task was released since.
+    // How many events it had when that was tried last, memory aside; 0 if a task was released since.
     tried: u32,
     // How many events the present journal had before the last request.
     group: u32,
@@ -233,12 +233,22 @@ impl LongKernel {
     {
         match self.compact() {
             Err(cause) if self.is_full() => Err(cause),
-            Err(_) => {
-                self.tried = self.kernel.journal().len();
-                self.due = self.tried.saturating_add(self.tried.max(self.threshold));
+            Err(cause) => {
+                self.put_off(cause);
                 Ok(())
             }
             Ok(()) => Ok(()),
+        }
+    }
+
+    // The present journal is made shorter later, and for a new task once there is memory or something has happened.
+    fn put_off(&mut self, cause: NotDone)
+        ensures { self.new ≡ self.old }
+    {
+        let length = self.kernel.journal().len();
+        self.due = length.saturating_add(length.max(self.threshold));
+        if cause != NotDone::NotCompacted(NotCompacted::OutOfMemory) {
+            self.tried = length;
         }
     }
 
