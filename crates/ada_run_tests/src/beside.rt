@@ -4,7 +4,7 @@ ghost use Rattle.std.specs.Prelude.{◌≡◌};
 use crate::all_at_once::LOOKS;
 use crate::readers::{QUEUED, prepare};
 use ada_board::{BoardReader, History};
-use ada_hall::{Asked, Hall, Session};
+use ada_hall::{Asked, Session};
 use ada_run::working::{AtOnce, Look, show_line};
 use ada_run::{Answer, Shared, open_hall};
 use ada_script::{Script, Value, read};
@@ -70,13 +70,6 @@ fn hold<J: Session>(shared: &Shared<'_, J>, beside: &Beside) -> bool {
     is_held && is_read
 }
 
-/// What is kept for the line at place 6.
-fn answered<J: Session, R: Wait>(rt: &R, shared: &Shared<'_, J>) -> Option<Answer> {
-    let guard = shared.hall.lock(rt);
-    let hall: &Hall<'_, J> = &guard;
-    hall.answer(6)
-}
-
 /// What the line at place 6 is answered, if the lock was held while its attribute was read.
 fn answer_beside<J: Session + Send + Sync, R: Threads + Wait + Sync>(
     rt: &R,
@@ -91,11 +84,10 @@ fn answer_beside<J: Session + Send + Sync, R: Threads + Wait + Sync>(
         || show_line(rt, shared, 6, &mut reader, &beside),
         || hold(shared, &beside),
     );
-    if is_shown && is_held {
-        answered(rt, shared)
-    } else {
-        None
-    }
+    let guard = shared.hall.lock(rt);
+    let answer = guard.answer(6);
+    drop(guard);
+    if is_shown && is_held { answer } else { None }
 }
 
 fn shown_beside<J: Session + Send + Sync, R: Threads + Wait + Sync + AllocGlobal>(
