@@ -84,34 +84,19 @@ fn note_line<J: Session, R: Wait>(
     !hall.turns().is_stopped()
 }
 
-/// How the attribute that a line shows is read. It is given no runtime, so it can't wait for a lock.
-pub trait Look {
-    /// The value of what was asked for; none where the board has no such task or entry.
-    fn look<J: Session>(&self, reader: &mut BoardReader<J>, asked: Asked<J>) -> Option<Value>;
-}
-
-/// Looks at once.
-pub struct AtOnce;
-
-impl Look for AtOnce {
-    fn look<J: Session>(&self, reader: &mut BoardReader<J>, asked: Asked<J>) -> Option<Value> {
-        let Asked { what, mark } = asked;
-        reader.learn(mark);
-        value_of(reader, what)
-    }
-}
-
-/// Shows the attribute of the line at a place: it is asked for under the lock, read without it, and kept under
-/// it again. Answers whether to go on.
-pub fn show_line<J: Session, R: Wait, L: Look>(
+// Shows the attribute of the line at a place: it is asked for under the lock, read without it, and kept under
+// it again. Answers whether to go on.
+fn show_line<J: Session, R: Wait>(
     rt: &R,
     shared: &Shared<'_, J>,
     place: u32,
     reader: &mut BoardReader<J>,
-    how: &L,
 ) -> bool {
     let value = match ask_line(rt, shared, place) {
-        Ok(asked) => Ok(how.look(reader, asked)),
+        Ok(Asked { what, mark }) => {
+            reader.learn(mark);
+            Ok(value_of(reader, what))
+        }
         Err(cause) => Err(cause),
     };
     note_line(rt, shared, place, value)
@@ -131,7 +116,7 @@ fn play_line<J: Session, R: Wait>(
         ≤ report.old.accepted + report.old.refused + cond (is_show line.now.statement) 0 1 }
 {
     if line.statement.is_show() {
-        show_line(rt, shared, place, reader, &AtOnce)
+        show_line(rt, shared, place, reader)
     } else {
         say_line(rt, shared, place, report)
     }

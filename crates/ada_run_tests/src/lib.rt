@@ -5,8 +5,6 @@
 #[cfg(test)]
 mod all_at_once;
 #[cfg(test)]
-mod beside;
-#[cfg(test)]
 mod command_lines;
 #[cfg(test)]
 mod crew;

@@ -14,7 +14,7 @@ use std::thread;
 use std::thread::{JoinHandle, Scope, Threads};
 
 /// A client waits in the queue of a server.
-pub const QUEUED: &[u8] = b"main: create S under main E
+const QUEUED: &[u8] = b"main: create S under main E
 main: create C under main
 main: activate S C
 S: up
@@ -62,7 +62,7 @@ fn look_beside<J: Session + Send + Sync, R: Threads + Wait + Sync>(
 }
 
 /// Plays the requests, and asks for the attribute: a reader, and the mark that it is to learn.
-pub fn prepare<J: Session, R: Wait>(
+fn prepare<J: Session, R: Wait>(
     rt: &R,
     hall: &mut Hall<'_, J>,
     mut seats: Vec<Seat<J>>,
