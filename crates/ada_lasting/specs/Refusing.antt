@@ -65,7 +65,7 @@ pub record IsMadeShorter (before kernel : Long) : Type 0 where
   pub shown : kernel.group ≡ []
 
 -- the request was refused: the kernel follows the journal that it followed, the cause is right, and nothing is changed,
--- or the present journal was made shorter, and nothing else is changed
+-- or the present journal was made shorter
 pub record IsRefused (journal : List Event) (request : Request) (cause : NotDone) (before kernel : Long) : Type 0 where
   pub follows : Follows journal kernel
   pub named : IsCause journal request kernel cause
