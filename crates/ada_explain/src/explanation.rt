@@ -1,10 +1,10 @@
 //! A journal beside its script, with the reason under each refused line.
 
+use crate::Scene;
 use crate::rows::{Rows, write_margin};
 use crate::sentences::Sentences;
 use crate::standstill::{Standstill, write_standstill};
-use crate::{Account, account_before};
-use ada_replay::{Answer, RunFault};
+use ada_replay::{Account, Answer, RunFault, account_before};
 use ada_script::Script;
 use std::alloc::{AllocError, Global};
 
@@ -49,7 +49,7 @@ fn explanation_of(
             refused = refused.saturating_add(1);
         }
     }
-    let standstill = write_standstill(&mut text, account.scene())?;
+    let standstill = write_standstill(&mut text, Scene::at_end(account))?;
     Ok(Explanation {
         text,
         refused,

@@ -3,7 +3,6 @@
 //! end, and what would let it go on.
 #![tactic(auto)]
 
-pub mod account;
 pub mod causes;
 pub mod circles;
 pub mod end;
@@ -17,10 +16,7 @@ pub mod scene;
 pub mod sentences;
 pub mod source;
 pub mod standstill;
-pub mod witness;
 
-pub use account::{Account, account_before, account_of};
 pub use explanation::{Explanation, explain};
 pub use scene::Scene;
 pub use source::Source;
-pub use witness::{Refused, Witness};

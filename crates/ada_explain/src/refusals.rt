@@ -1,19 +1,22 @@
 //! Why a line was refused, in a sentence with the facts.
 
+use crate::Scene;
 use crate::causes::{write_cause, write_not_running, write_outside};
-use crate::{Refused, Scene};
 use ada_events::Refusal;
+use ada_replay::Refused;
 use ada_script::{Line, Name, Statement, request};
 use std::alloc::AllocError;
 
 /// Appends why a line was refused.
 pub fn write_refused(text: &mut String, refused: Refused<'_>) -> Result<(), AllocError> {
     let Refused {
-        scene,
+        kernel,
+        names,
         lines,
         statement,
         cause,
     } = refused;
+    let scene = Scene::of(kernel, names);
     if cause == Refusal::UnknownTask {
         return write_unknown_task(text, scene, lines, statement);
     }

@@ -1,7 +1,7 @@
 //! The rows of a play: one for each printed line, beside the line of the script that led to it.
 
-use crate::{Account, Source};
-use ada_replay::Answer;
+use crate::Source;
+use ada_replay::{Account, Answer};
 use ada_script::cursor::Lines;
 use std::alloc::{AllocError, Global};
 use std::str;

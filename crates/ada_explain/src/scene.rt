@@ -3,6 +3,7 @@ ghost use Rattle.std.specs.Prelude.{◌<◌, ◌^◌, length};
 
 use ada_events::{Entry, Event, Family, Master, TaskNo};
 use ada_kernel::Kernel;
+use ada_replay::Account;
 use ada_statements::{Bound, Names};
 use std::alloc::AllocError;
 use std::fmt;
@@ -24,6 +25,11 @@ impl<'a> Scene<'a> {
             events: kernel.journal().as_slice(),
             names,
         }
+    }
+
+    /// The journal at the end of a play.
+    pub fn at_end(account: &'a Account) -> Self {
+        Scene::of(&account.kernel, &account.names)
     }
 
     /// The name of a task.

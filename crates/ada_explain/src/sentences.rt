@@ -1,7 +1,7 @@
 //! The sentences of the refused lines of a play, of which each is made when its line is refused.
 
 use crate::refusals::write_refused;
-use crate::{Refused, Witness};
+use ada_replay::{Refused, Witness};
 use std::alloc::{AllocError, Global};
 
 /// Why each refused line of a play was refused, in their order.

@@ -4,4 +4,7 @@ pub mod Play
 pub mod Answers
 pub mod Ends
 pub mod Replay
+pub mod Accounts
+pub mod Lines
+pub mod Courses
 pub mod internal

@@ -1,2 +1,3 @@
 -- What only private contracts and invariants cite: no caller meets it.
 pub mod Asking
+pub mod Stopping

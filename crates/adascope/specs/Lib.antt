@@ -1,5 +1,2 @@
-pub mod Lines
-pub mod Courses
-pub mod internal
 pub mod Findings
 pub mod Statuses

@@ -1,13 +1,11 @@
 //! How a log is checked.
 
-use crate::course::{Course, follow};
 use crate::fault::{Finding, ScopeFault};
 use crate::input::{Log, read_log};
-use crate::judgement::Judgement;
 use crate::obeying::{STANDARD_INPUT, check};
 use crate::report::{report_of, write_before};
-use ada_replay::RunFault;
 use ada_replay::output::write_output;
+use ada_replay::{Course, Judgement, RunFault, follow};
 use ada_script::ScriptFault;
 use std::alloc::Global;
 use std::io::{Input, Print};

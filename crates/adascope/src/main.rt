@@ -2,15 +2,12 @@
 #![tactic(auto)]
 
 pub mod conforming;
-pub mod course;
 pub mod fault;
 pub mod input;
-pub mod judgement;
 pub mod obeying;
 pub mod order;
 pub mod painting;
 pub mod report;
-pub mod step;
 
 use ada_replay::RunFault;
 use clap::Error;

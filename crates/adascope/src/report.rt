@@ -1,12 +1,11 @@
 //! What is told of a log.
 
-use crate::course::Course;
 use crate::input::Log;
-use crate::judgement::Judgement;
 use ada_events::Refusal;
+use ada_explain::Scene;
 use ada_explain::refusals::write_refused;
 use ada_explain::standstill::write_standstill;
-use ada_explain::{Refused, Scene};
+use ada_replay::{Course, Judgement, Refused};
 use ada_script::cursor::Lines;
 use ada_script::{ScriptFault, Statement};
 use std::alloc::{AllocError, Global};
@@ -108,7 +107,8 @@ fn write_why(
     cause: Refusal,
 ) -> Result<(), AllocError> {
     let refused = Refused {
-        scene: Scene::of(&course.kernel, &course.names),
+        kernel: &course.kernel,
+        names: &course.names,
         lines: &[],
         statement,
         cause,

@@ -3,8 +3,9 @@
 use crate::compare::alignment::{Place, align};
 use crate::compare::ends::write_ends;
 use crate::compare::steps::{Step, partner, steps_of};
+use ada_explain::Scene;
 use ada_explain::rows::Rows;
-use ada_explain::{Account, Scene};
+use ada_replay::Account;
 use std::alloc::{AllocError, Global};
 
 /// A script, how it is called, and its play.
@@ -60,7 +61,7 @@ impl<'a> Side<'a> {
         let steps = steps_of(alloc, played.account, &rows)?;
         Ok(Side {
             name: played.name,
-            scene: played.account.scene(),
+            scene: Scene::at_end(played.account),
             rows,
             steps,
         })

@@ -1,10 +1,10 @@
 //! What differs at the ends of two plays.
 
 use ada_events::TaskNo;
-use ada_explain::Account;
+use ada_explain::Scene;
 use ada_explain::end::End;
 use ada_explain::reasons::write_reason;
-use ada_replay::Answer;
+use ada_replay::{Account, Answer};
 use ada_waiting::{Verdict, verdict_in};
 use std::alloc::{AllocError, Global};
 
@@ -13,10 +13,10 @@ use std::alloc::{AllocError, Global};
 pub fn write_ends(text: &mut String, first: &Account, second: &Account) -> Result<(), AllocError> {
     let alloc = *text.allocator();
     let one = End {
-        scene: first.scene(),
+        scene: Scene::at_end(first),
     };
     let other = End {
-        scene: second.scene(),
+        scene: Scene::at_end(second),
     };
     write!(text, "\nAt the end:\n")?;
     let before = text.len();

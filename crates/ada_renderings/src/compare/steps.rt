@@ -2,9 +2,10 @@
 
 use ada_events::Event;
 use ada_events::journal::event_in;
+use ada_explain::Scene;
 use ada_explain::lives::holder;
 use ada_explain::rows::{Row, Rows, Shows};
-use ada_explain::{Account, Scene};
+use ada_replay::Account;
 use std::alloc::{AllocError, Global};
 
 /// A line of a script, and what it did: the first of its rows, and how many there are.
@@ -25,7 +26,7 @@ pub fn steps_of(
     account: &Account,
     rows: &Rows<'_>,
 ) -> Result<Vec<Step>, AllocError> {
-    let scene = account.scene();
+    let scene = Scene::at_end(account);
     let mut steps: Vec<Step> = Vec::new(alloc);
     for (place, row) in rows.rows.iter().enumerate() {
         if row.is_first() {

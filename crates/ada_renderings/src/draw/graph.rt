@@ -1,14 +1,15 @@
 //! Who waits for whom at the end of a play, as a graph of Graphviz.
 
 use ada_events::TaskNo;
+use ada_explain::Scene;
 use ada_explain::reasons::{awaited, write_reason};
-use ada_explain::{Account, Scene};
+use ada_replay::Account;
 use ada_waiting::reason_in;
 use std::alloc::{AllocError, Global};
 
 /// A graph with a node for each task that waits or is waited for, and an edge from each to those for which it waits.
 pub fn write_graph(alloc: Global, account: &Account) -> Result<String, AllocError> {
-    let scene = account.scene();
+    let scene = Scene::at_end(account);
     let mut out = String::new(alloc);
     write!(out, "digraph waits {{\n")?;
     for task in 0..account.kernel.tasks() {

@@ -4,9 +4,10 @@ use crate::draw::markup::write_escaped;
 use ada_events::journal::event_in;
 use ada_events::limits::MOST_MEMBERS;
 use ada_events::{Event, Master, TaskNo};
+use ada_explain::Scene;
 use ada_explain::lives::{Lives, Span, Stage, holder};
 use ada_explain::rows::{Row, Rows, Shows};
-use ada_explain::{Account, Scene};
+use ada_replay::Account;
 use std::alloc::{AllocError, Global};
 
 /// The height of a row, the width of a column, and what stands left of the columns and above the rows.
@@ -119,7 +120,7 @@ pub fn write_picture<'a>(
     source: &'a [u8],
     account: &'a Account,
 ) -> Result<String, AllocError> {
-    let scene = account.scene();
+    let scene = Scene::at_end(account);
     let page = Page {
         scene,
         rows: Rows::of(alloc, source, account)?,

@@ -1,13 +1,14 @@
 //! The calls of a play as a sequence diagram of Mermaid.
 
 use ada_events::{Event, TaskNo};
+use ada_explain::Scene;
 use ada_explain::lives::holder;
-use ada_explain::{Account, Scene};
+use ada_replay::Account;
 use std::alloc::{AllocError, Global};
 
 /// A sequence diagram: each call, its rendezvous, and what became of it.
 pub fn write_sequence(alloc: Global, account: &Account) -> Result<String, AllocError> {
-    let scene = account.scene();
+    let scene = Scene::at_end(account);
     let mut out = String::new(alloc);
     write!(out, "sequenceDiagram\n")?;
     write_participants(&mut out, scene, account.kernel.tasks())?;

@@ -7,8 +7,8 @@ use crate::json::telling::{kind_of, put_told};
 use ada_events::journal::event_in;
 use ada_events::{Event, Refusal, TaskNo};
 use ada_explain::lives::Lives;
-use ada_explain::{Account, Scene, Source};
-use ada_replay::Answer;
+use ada_explain::{Scene, Source};
+use ada_replay::{Account, Answer};
 use ada_script::{EntryName, Name, Statement, Value};
 use std::alloc::{AllocError, Global};
 
@@ -18,7 +18,7 @@ pub fn write_events(alloc: Global, source: &[u8], account: &Account) -> Result<S
     let source = Source::of(alloc, source)?;
     let mut writer = Writer {
         alloc,
-        scene: account.scene(),
+        scene: Scene::at_end(account),
         lives: Lives::new(alloc)?,
         out: String::new(alloc),
     };

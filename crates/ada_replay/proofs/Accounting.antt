@@ -5,8 +5,8 @@ use Rattle.ada_script.specs.declared.script.Line.{Line}
 use Rattle.ada_replay.specs.declared.answer.Answer.{Answer}
 use Rattle.ada_replay.specs.Answers.{answer_to}
 use Rattle.ada_replay.specs.Play.{PlayState, SaysLine}
-use Rattle.ada_explain.specs.Accounts.{Accounts}
-use Rattle.ada_explain.specs.Accounts.Accounts.{no_more, one_more}
+use Rattle.ada_replay.specs.Accounts.{Accounts}
+use Rattle.ada_replay.specs.Accounts.Accounts.{no_more, one_more}
 
 -- one more line at the end
 pub accounts-push : (lines : List Line) (line : Line) (old mid new : PlayState) (answers : List Answer) (text said : List ℕ)

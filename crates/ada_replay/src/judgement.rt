@@ -1,6 +1,6 @@
 //! How a log is judged.
 ghost use Rattle.std.specs.Prelude.{◌≡◌};
-ghost use Rattle.adascope.specs.declared.judgement.Stop.TheVariants as stops;
+ghost use Rattle.ada_replay.specs.declared.judgement.Stop.TheVariants as stops;
 
 use ada_events::Refusal;
 use ada_script::{Cause, ScriptFault, Statement};

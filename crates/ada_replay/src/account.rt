@@ -2,13 +2,12 @@
 ghost use Rattle.std.specs.Prelude.{◌≡◌, IfOk, IfErr};
 ghost use Rattle.ada_replay.specs.Ends.{state};
 ghost use Rattle.ada_replay.specs.Replay.{beginning};
-ghost use Rattle.ada_explain.specs.Accounts.{Accounts};
+ghost use Rattle.ada_replay.specs.Accounts.{Accounts};
 
-use crate::Scene;
+use crate::play::say;
 use crate::witness::{Nobody, Refused, Witness};
+use crate::{Answer, RunFault};
 use ada_kernel::Kernel;
-use ada_replay::play::say;
-use ada_replay::{Answer, RunFault};
 use ada_script::{Line, Names, Script};
 use std::alloc::Global;
 
@@ -27,17 +26,11 @@ pub struct Account {
     pub names: Names,
 }
 
-impl Account {
-    /// The journal at the end, as the kernel keeps it.
-    pub fn scene(&self) -> Scene<'_> {
-        Scene::of(&self.kernel, &self.names)
-    }
-}
-
 // Tells a witness of a line if it was refused.
 fn tell<W: Witness>(
     witness: &mut W,
-    scene: Scene<'_>,
+    kernel: &Kernel,
+    names: &Names,
     lines: &[Line],
     line: &Line,
     answer: Answer,
@@ -48,7 +41,8 @@ fn tell<W: Witness>(
         return Ok(());
     };
     let refused = Refused {
-        scene,
+        kernel,
+        names,
         lines,
         statement: &line.statement,
         cause,
@@ -73,7 +67,7 @@ fn answers_to<W: Witness>(
     let mut text = Vec::new(alloc);
     for line in lines {
         let answer = say(kernel, names, line, &mut text)?;
-        tell(witness, Scene::of(kernel, names), lines, line, answer)?;
+        tell(witness, kernel, names, lines, line, answer)?;
         answers.push(answer).map_err(|_| RunFault::Memory)?;
     }
     Ok((answers, text))

@@ -1,7 +1,7 @@
 use Rattle.std.proofs.Common.{take}
 use Rattle.ada_replay.specs.Ends.{state}
-use Rattle.ada_explain.specs.Accounts.{Accounts}
-use Rattle.ada_explain.proofs.account.answers_to.Given as goal
+use Rattle.ada_replay.specs.Accounts.{Accounts}
+use Rattle.ada_replay.proofs.account.answers_to.Given as goal
 
 abbrev pub invariant-loop-line : goal.invariant-loop-line
 invariant-loop-line g l =

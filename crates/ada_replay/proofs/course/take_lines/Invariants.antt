@@ -2,9 +2,9 @@ use Rattle.std.proofs.Common.{◌≤◌, ◌+◌, length}
 use Rattle.ada_statements.specs.Text.{lines_of}
 use Rattle.ada_replay.specs.Ends.{state}
 use Rattle.ada_replay.specs.Play.{PlayState}
-use Rattle.adascope.specs.declared.judgement.Judgement.{Judgement}
-use Rattle.adascope.specs.Courses.{IsCourse}
-use Rattle.adascope.proofs.course.take_lines.Given as goal
+use Rattle.ada_replay.specs.declared.judgement.Judgement.{Judgement}
+use Rattle.ada_replay.specs.Courses.{IsCourse}
+use Rattle.ada_replay.proofs.course.take_lines.Given as goal
 
 abbrev pub invariant-loop-line : goal.invariant-loop-line
 invariant-loop-line l = record {

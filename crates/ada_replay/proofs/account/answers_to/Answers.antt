@@ -1,8 +1,8 @@
 use Rattle.std.proofs.Common.{rules}
 use Rattle.ada_replay.specs.Ends.{state}
-use Rattle.ada_explain.specs.Accounts.Accounts.{no_more}
-use Rattle.ada_explain.proofs.Playing.{answers_grow}
-use Rattle.ada_explain.proofs.account.answers_to.Goals as goal
+use Rattle.ada_replay.specs.Accounts.Accounts.{no_more}
+use Rattle.ada_replay.proofs.Accounting.{answers_grow}
+use Rattle.ada_replay.proofs.account.answers_to.Goals as goal
 
 pub loop-line-init : goal.loop-line-init
 loop-line-init g c = rw (c.new-answers.ensures.items, c.new-text.ensures.items) no_more

@@ -1,15 +1,14 @@
 //! One line of a log.
 ghost use Rattle.std.specs.Prelude.{◌≡◌, ◌⊎◌, OnOk, OnErr, IfErr};
 ghost use Rattle.ada_replay.specs.Ends.{state};
-ghost use Rattle.adascope.specs.Lines.{declared, Accepts, Refuses, Passes};
-ghost use Rattle.adascope.specs.Courses.{IsStop};
-ghost use Rattle.adascope.specs.internal.Stopping.{IsTurnedDown};
+ghost use Rattle.ada_replay.specs.Lines.{declared, Accepts, Refuses, Passes};
+ghost use Rattle.ada_replay.specs.internal.Stopping.{IsStop, IsTurnedDown};
 
 use crate::judgement::Stop;
+use crate::play::next_task;
+use crate::shows::shown;
 use ada_events::Refusal;
 use ada_kernel::Kernel;
-use ada_replay::play::next_task;
-use ada_replay::shows::shown;
 use ada_script::cursor::Words;
 use ada_script::{Cause, Names, Statement, check_line, is_skipped, read_words, request};
 use std::alloc::Global;

@@ -1,15 +1,17 @@
 //! Who is told of the refused lines of a play.
 
-use crate::Scene;
 use ada_events::Refusal;
-use ada_script::{Line, Statement};
+use ada_kernel::Kernel;
+use ada_script::{Line, Names, Statement};
 use std::alloc::AllocError;
 
 /// A line that was refused, when it was.
 #[derive(Clone, Copy)]
 pub struct Refused<'a> {
-    /// The journal that refused it, as its kernel keeps it then.
-    pub scene: Scene<'a>,
+    /// The kernel that refused it, as it stands then.
+    pub kernel: &'a Kernel,
+    /// The names of its script, with what they are bound to then.
+    pub names: &'a Names,
     /// The lines of its script; none where it stands in no script.
     pub lines: &'a [Line],
     pub statement: &'a Statement,

@@ -7,12 +7,12 @@ use Rattle.ada_statements.specs.Text.{words_in, lines_of, parts_of, with_first}
 use Rattle.ada_script.specs.Script.{is_skipped}
 use Rattle.ada_script.specs.Spelling.{words_of}
 use Rattle.ada_replay.specs.Play.{PlayState}
-use Rattle.adascope.specs.declared.judgement.Judgement.{Judgement}
-use Rattle.adascope.specs.declared.judgement.Stop.{Stop}
-use Rattle.adascope.specs.declared.judgement.Stop.TheVariants as stops
-use Rattle.adascope.specs.Lines.{IsInRange, Says, Passes, Refuses, declared}
-use Rattle.adascope.specs.Courses.{IsStop, IsCourse}
-use Rattle.adascope.specs.internal.Stopping.{IsTurnedDown, judged}
+use Rattle.ada_replay.specs.declared.judgement.Judgement.{Judgement}
+use Rattle.ada_replay.specs.declared.judgement.Stop.{Stop}
+use Rattle.ada_replay.specs.declared.judgement.Stop.TheVariants as stops
+use Rattle.ada_replay.specs.Lines.{IsInRange, Says, Passes, Refuses, declared}
+use Rattle.ada_replay.specs.Courses.{IsCourse}
+use Rattle.ada_replay.specs.internal.Stopping.{IsStop, IsTurnedDown, judged}
 
 -- what was read is what a line says
 pub says_it : (line : List ℕ) (old : PlayState) (statement : Statement) → IsInRange line → is_skipped (words_in line) ≡ false

@@ -1,22 +1,14 @@
 -- The course of a log: its lines pass, one after another, up to the first that stops it.
 use Rattle.std.specs.Prelude.{◌≡◌, ◌⊎◌, ℕ, ◌+◌, List, [], ◌∷◌}
-use Rattle.ada_statements.specs.declared.fault.Cause.TheVariants as causes
 use Rattle.ada_statements.specs.Scope.{main_alone}
 use Rattle.ada_replay.specs.Play.{PlayState}
-use Rattle.adascope.specs.declared.judgement.Judgement.{Judgement}
-use Rattle.adascope.specs.declared.judgement.Judgement.TheVariants.{Conforms, Refused, Faulty}
-use Rattle.adascope.specs.declared.judgement.Stop.{Stop}
-use Rattle.adascope.specs.declared.judgement.Stop.TheVariants as stops
-use Rattle.adascope.specs.Lines.{Passes, IsRefusedLine, IsFaultyLine}
+use Rattle.ada_replay.specs.declared.judgement.Judgement.{Judgement}
+use Rattle.ada_replay.specs.declared.judgement.Judgement.TheVariants.{Conforms, Refused, Faulty}
+use Rattle.ada_replay.specs.Lines.{Passes, IsRefusedLine, IsFaultyLine}
 
 -- before the first line: an empty journal, and the main program alone
 abbrev pub beginning : PlayState
 beginning = record { journal = []; names = main_alone }
-
--- why a line stops a log; or memory was refused
-abbrev pub IsStop : List ℕ → PlayState → Stop → PlayState → Type 0
-IsStop line old (stops.Refused statement cause) new = IsRefusedLine line statement cause old new
-IsStop line old (stops.Faulty cause) new = (cause ≡ causes.OutOfMemory) ⊎ (IsFaultyLine old.names line cause × (new ≡ old))
 
 -- the line of this number stops a log
 abbrev pub Stops : ℕ → List ℕ → PlayState → Judgement → PlayState → Type 0

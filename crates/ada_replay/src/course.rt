@@ -2,14 +2,14 @@
 ghost use Rattle.std.specs.Prelude.{◌≡◌, ◌<◌, ◌^◌, length, IfOk, IfErr, OnOk};
 ghost use Rattle.ada_statements.specs.Text.{lines_of};
 ghost use Rattle.ada_replay.specs.Ends.{state};
-ghost use Rattle.adascope.specs.Courses.{beginning, IsCourse};
-ghost use Rattle.adascope.specs.internal.Stopping.{judged as judged_so};
-ghost use Rattle.adascope.specs.declared.judgement.Stop.TheVariants as stops;
+ghost use Rattle.ada_replay.specs.Courses.{beginning, IsCourse};
+ghost use Rattle.ada_replay.specs.internal.Stopping.{judged as judged_so};
+ghost use Rattle.ada_replay.specs.declared.judgement.Stop.TheVariants as stops;
 
+use crate::RunFault;
 use crate::judgement::{Judgement, Stop};
-use crate::step::take_line;
+use crate::log_line::take_line;
 use ada_kernel::Kernel;
-use ada_replay::RunFault;
 use ada_script::cursor::Lines;
 use ada_script::{Cause, Names, ScriptFault};
 use std::alloc::Global;

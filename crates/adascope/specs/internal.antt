@@ -1,2 +1,0 @@
--- What only private contracts and invariants cite: no caller meets it.
-pub mod Stopping
