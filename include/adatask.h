@@ -79,8 +79,8 @@ enum {
   /* Memory was refused, and no other cause applies. */
   ADA_OUT_OF_MEMORY = 23,
   /* End of what tools/write_tables wrote */
-  ADA_TOO_LONG = 100,            /* a list is longer than the kernel takes */
-  ADA_NO_SUCH_KIND = 101,        /* a kind that is none */
+  ADA_TOO_LONG = 100,            /* a list is longer than the kernel takes; or delays beside another last part */
+  ADA_NO_SUCH_KIND = 101,        /* a kind that is none, or a flag that is neither 0 nor 1 */
   ADA_OUT_OF_RANGE = 102,        /* a number that is too large for a task, a position or a family */
   ADA_NO_SUCH_EVENT = 103,       /* there is no event at this position */
   ADA_NO_SUCH_ITEM = 104,        /* the list of the event has no such item */
@@ -161,22 +161,23 @@ enum {
 
 /* What became of a task's latest call, wait, delay, activation or close. */
 enum {
-  ADA_DID_NOTHING = 0,
-  ADA_IS_DEAD = 1,
-  ADA_IS_DONE = 2,
-  ADA_IS_HELD = 3,
-  ADA_WAS_SERVED = 4,
-  ADA_GOT_TASKING_ERROR = 5,
-  ADA_WAS_CANCELLED = 6,
-  ADA_HAS_ACCEPTED = 7,
-  ADA_TOOK_ELSE = 8,
-  ADA_TOOK_DELAY = 9,
-  ADA_GOT_PROGRAM_ERROR = 10,
-  ADA_IS_AWAKE = 11,
-  ADA_ACTIVATION_OK = 12,
-  ADA_ACTIVATION_FAILED = 13,
-  ADA_LEFT_BLOCK = 14,
-  ADA_GOT_EXCEPTION = 15
+  ADA_DID_NOTHING = 0,       /* it has made none */
+  ADA_IS_DEAD = 1,           /* the task is terminated */
+  ADA_IS_DONE = 2,           /* the task is completed, by itself or by an abort (9.4, 9.10) */
+  ADA_IS_HELD = 3,           /* it isn't over: the task is still held up by it */
+  ADA_WAS_SERVED = 4,        /* the rendezvous of its call ended (9.5) */
+  ADA_GOT_TASKING_ERROR = 5, /* its call raised TASKING_ERROR (9.5, 9.10) */
+  ADA_WAS_CANCELLED = 6,     /* its conditional or timed call left the queue (9.7.2, 9.7.3) */
+  ADA_HAS_ACCEPTED = 7,      /* its wait took a call by an accept alternative: number and call say which (9.5, 9.7.1) */
+  ADA_TOOK_ELSE = 8,         /* its wait took the else part (9.7.1) */
+  ADA_TOOK_DELAY = 9,        /* its wait took a delay alternative: number says which (9.7.1) */
+  ADA_GOT_PROGRAM_ERROR = 10, /* its wait had nothing to take, and raised PROGRAM_ERROR (9.7.1) */
+  ADA_IS_AWAKE = 11,          /* its delay is over (9.6) */
+  ADA_ACTIVATION_OK = 12,     /* the tasks that it activated are activated (9.3) */
+  ADA_ACTIVATION_FAILED = 13, /* one of them failed in its activation: TASKING_ERROR is raised in this one (9.3) */
+  ADA_LEFT_BLOCK = 14,        /* it left the block (9.4) */
+  ADA_GOT_EXCEPTION = 15      /* an exception ended the rendezvous of its call, and is raised in it too; or the one that
+                                 it served, and is its own (11.5) */
 };
 
 /* Why a task doesn't go on by itself. */
@@ -191,6 +192,119 @@ enum {
   ADA_LEAVING = 7,          /* it is at the end of a block, of which a dependent isn't terminated (9.4) */
   ADA_AWAITS_DEPENDENTS = 8 /* it is completed, and a dependent isn't terminated (9.4) */
 };
+
+/* ---- Names; a null pointer for a number that is none ---- */
+
+/* That of a code: of a cause, as a journal prints it, or of what is wrong with the numbers. */
+static inline const char *ada_code_name(int32_t code) {
+  switch (code) {
+    case ADA_ACCEPTED: return "Accepted";
+    /* Written by tools/write_tables from docs/tables/causes.ini */
+    case ADA_UNKNOWN_TASK: return "UnknownTask";
+    case ADA_NOT_RUNNING: return "NotRunning";
+    case ADA_DURING_ACTIVATION: return "DuringActivation";
+    case ADA_NOT_ACTIVATING: return "NotActivating";
+    case ADA_NOT_YOUR_MASTER: return "NotYourMaster";
+    case ADA_EMPTY_LIST: return "EmptyList";
+    case ADA_NOT_YOUR_TASK: return "NotYourTask";
+    case ADA_NO_ACCEPT: return "NoAccept";
+    case ADA_NO_SUCH_FAMILY: return "NoSuchFamily";
+    case ADA_CONSTRAINT_ERROR: return "ConstraintError";
+    case ADA_SAME_FAMILY_NESTED: return "SameFamilyNested";
+    case ADA_TERMINATE_IN_ACCEPT: return "TerminateInAccept";
+    case ADA_NOT_IN_ACCEPT: return "NotInAccept";
+    case ADA_NO_BLOCK: return "NoBlock";
+    case ADA_STILL_NESTED: return "StillNested";
+    case ADA_MAIN_TASK: return "MainTask";
+    case ADA_MOMENT_BACK: return "MomentBack";
+    case ADA_MOMENT_TOO_LARGE: return "MomentTooLarge";
+    case ADA_TOO_MANY_TASKS: return "TooManyTasks";
+    case ADA_TOO_MANY_SLOTS: return "TooManySlots";
+    case ADA_TOO_DEEP: return "TooDeep";
+    case ADA_JOURNAL_FULL: return "JournalFull";
+    case ADA_OUT_OF_MEMORY: return "OutOfMemory";
+    /* End of what tools/write_tables wrote */
+    case ADA_TOO_LONG: return "TooLong";
+    case ADA_NO_SUCH_KIND: return "NoSuchKind";
+    case ADA_OUT_OF_RANGE: return "OutOfRange";
+    case ADA_NO_SUCH_EVENT: return "NoSuchEvent";
+    case ADA_NO_SUCH_ITEM: return "NoSuchItem";
+    case ADA_NO_SUCH_TASK: return "NoSuchTask";
+    case ADA_NO_SUCH_ENTRY: return "NoSuchEntry";
+    case ADA_NULL: return "Null";
+    default: return NULL;
+  }
+}
+
+/* That of a kind of events. */
+static inline const char *ada_kind_name(uint32_t kind) {
+  switch (kind) {
+    /* Written by tools/write_tables from docs/tables/events.ini */
+    case ADA_OPENED: return "Opened";
+    case ADA_CREATED: return "Created";
+    case ADA_STARTED: return "Started";
+    case ADA_ELABORATED: return "Elaborated";
+    case ADA_CALLED: return "Called";
+    case ADA_WAITING: return "Waiting";
+    case ADA_PAUSED: return "Paused";
+    case ADA_ENDED: return "Ended";
+    case ADA_CLOSED: return "Closed";
+    case ADA_COMPLETED: return "Completed";
+    case ADA_ABORTED: return "Aborted";
+    case ADA_TICKED: return "Ticked";
+    case ADA_HALTED: return "Halted";
+    case ADA_FAILED: return "Failed";
+    case ADA_MET: return "Met";
+    case ADA_CANCELLED: return "Cancelled";
+    case ADA_PASSED: return "Passed";
+    case ADA_WOKEN: return "Woken";
+    case ADA_ACTIVATED: return "Activated";
+    case ADA_GONE: return "Gone";
+    case ADA_QUIT: return "Quit";
+    case ADA_LEFT: return "Left";
+    /* End of what tools/write_tables wrote */
+    default: return NULL;
+  }
+}
+
+/* That of an outcome. */
+static inline const char *ada_outcome_name(uint32_t kind) {
+  switch (kind) {
+    case ADA_DID_NOTHING: return "Nothing";
+    case ADA_IS_DEAD: return "Dead";
+    case ADA_IS_DONE: return "Done";
+    case ADA_IS_HELD: return "Held";
+    case ADA_WAS_SERVED: return "Served";
+    case ADA_GOT_TASKING_ERROR: return "TaskingError";
+    case ADA_WAS_CANCELLED: return "Cancelled";
+    case ADA_HAS_ACCEPTED: return "Accepted";
+    case ADA_TOOK_ELSE: return "TookElse";
+    case ADA_TOOK_DELAY: return "TookDelay";
+    case ADA_GOT_PROGRAM_ERROR: return "ProgramError";
+    case ADA_IS_AWAKE: return "Awake";
+    case ADA_ACTIVATION_OK: return "ActivationOk";
+    case ADA_ACTIVATION_FAILED: return "ActivationFailed";
+    case ADA_LEFT_BLOCK: return "BlockLeft";
+    case ADA_GOT_EXCEPTION: return "Raised";
+    default: return NULL;
+  }
+}
+
+/* That of a reason why a task doesn't go on. */
+static inline const char *ada_reason_name(uint32_t kind) {
+  switch (kind) {
+    case ADA_GOES_ON: return "GoesOn";
+    case ADA_NOT_STARTED: return "NotStarted";
+    case ADA_ACTIVATING: return "Activating";
+    case ADA_QUEUED: return "Queued";
+    case ADA_IN_RENDEZVOUS: return "InRendezvous";
+    case ADA_IN_WAIT: return "Waiting";
+    case ADA_DELAYED: return "Delayed";
+    case ADA_LEAVING: return "Leaving";
+    case ADA_AWAITS_DEPENDENTS: return "Completed";
+    default: return NULL;
+  }
+}
 
 /* ---- Values ---- */
 
@@ -314,6 +428,39 @@ int32_t adatask_event_family(ada_kernel *k, uint64_t position, uint64_t place, a
 int32_t adatask_event_choice(ada_kernel *k, uint64_t position, uint64_t place, ada_choice *out);
 int32_t adatask_event_delay(ada_kernel *k, uint64_t position, uint64_t place, ada_due *out);
 
+/*
+ * ---- What the library asks for ----
+ *
+ * Memory, by three functions. The archive libadatask_memory.a has them over malloc, realloc and free; a program that
+ * links the other archive alone defines them itself. A kernel asks for memory as it grows, where a request may be
+ * answered ADA_OUT_OF_MEMORY and in no question, and gives all of it back when it is dropped. Functions that threads call
+ * at once have to allow that, if several kernels are used at once.
+ */
+
+#ifdef __cplusplus
+typedef bool ada_given;
+#else
+typedef _Bool ada_given;
+#endif
+
+/* Whether there is memory, and where; `where` isn't read if there is none. */
+typedef struct {
+  ada_given is_there;
+  void *where;
+} ada_memory;
+
+/* Memory of a size that may be 0, for what is aligned by `align`, 16 at most. */
+ada_memory rattle_alloc(size_t size, size_t align);
+
+/*
+ * Makes memory that was given larger or smaller, perhaps elsewhere; its first `kept` bytes stay as they are. If that
+ * can't be done, the memory stays as it is.
+ */
+ada_memory rattle_realloc(void *where, size_t kept, size_t size, size_t align);
+
+/* Takes back memory that was given. */
+void rattle_dealloc(void *where);
+
 /* ---- A kernel ---- */
 
 /* Makes a kernel, whose journal is empty and in which the main program, task 0, runs. */
@@ -332,14 +479,19 @@ static inline void ada_kernel_drop(ada_kernel *k) {
 /* Whether there is a kernel, and something to write to. */
 static inline int ada_has(const ada_kernel *k, const void *out) { return k && k->kernel && out; }
 
-/* ---- Requests: `by` is the task that asks, and `at` is written the position of its event ---- */
+/*
+ * ---- Requests: `by` is the task that asks, and `at` is written the position of its event ----
+ *
+ * What is wrong with the numbers is answered before any cause, for the first number from the left that is. A duration
+ * counts from the kernel's moment, that of the last tick; a negative one counts as 0.
+ */
 
 /* Opens a block within what the task is in (5.6, 9.4). */
 static inline int32_t ada_open(ada_kernel *k, uint64_t by, uint64_t *at) {
   return ada_has(k, at) ? adatask_open(k, by, at) : ADA_NULL;
 }
 
-/* Makes a task that depends on a master (9.1, 9.4), with families of entries. Its number is ada_tasks() - 1 then. */
+/* Makes a task that depends on a master (9.1, 9.4), with at most 16 families. Its number is ada_tasks() - 1 then. */
 static inline int32_t ada_create(ada_kernel *k, uint64_t by, uint32_t master_kind, uint64_t master,
                                  const ada_family *families, size_t count, uint64_t *at) {
   ada_family none = {0, 0};
@@ -359,13 +511,16 @@ static inline int32_t ada_elaborated(ada_kernel *k, uint64_t by, uint32_t ok, ui
   return ada_has(k, at) ? adatask_elaborated(k, by, ok, at) : ADA_NULL;
 }
 
-/* Calls an entry (9.5, 9.7.2, 9.7.3). The duration, in milliseconds, is that of a timed call. */
+/* Calls an entry (9.5, 9.7.2, 9.7.3). The duration, in milliseconds, is that of a timed call; others have none. */
 static inline int32_t ada_call(ada_kernel *k, uint64_t by, uint64_t callee, uint32_t family, int32_t index,
                                uint32_t patience, int64_t duration, uint64_t *at) {
   return ada_has(k, at) ? adatask_call(k, by, callee, family, index, patience, duration, at) : ADA_NULL;
 }
 
-/* Waits selectively (9.7.1). Of k alternatives that may be taken number `pick` modulo k is. */
+/*
+ * Waits selectively (9.7.1), with at most 16 accept and 8 delay alternatives; there are delays with ADA_DELAYS alone. Of
+ * k alternatives that may be taken number `pick` modulo k is.
+ */
 static inline int32_t ada_wait(ada_kernel *k, uint64_t by, const ada_choice *choices, size_t count, uint32_t tail,
                                const ada_pause *delays, size_t delay_count, uint32_t pick, uint64_t *at) {
   ada_choice no_choice = {0, 0, 0};
@@ -384,7 +539,7 @@ static inline int32_t ada_accept(ada_kernel *k, uint64_t by, uint32_t family, in
   return ada_wait(k, by, &choice, 1, ADA_NOTHING, NULL, 0, 0, at);
 }
 
-/* Delays the task by a duration in milliseconds; a negative one counts as 0 (9.6). */
+/* Delays the task by a duration in milliseconds (9.6). */
 static inline int32_t ada_delay(ada_kernel *k, uint64_t by, int64_t duration, uint64_t *at) {
   return ada_has(k, at) ? adatask_delay(k, by, duration, at) : ADA_NULL;
 }

@@ -7,6 +7,7 @@
 #include "adatask.h"
 #include <stdio.h>
 #include <stdlib.h>
+#include <string.h>
 
 #define KEEPS(name, number) typedef char name##_is_##number[(name) == (number) ? 1 : -1]
 
@@ -137,7 +138,40 @@ static void try_limits(void) {
   ANSWERS(22, ada_tick(&k, 10, &at));
 }
 
+/* A number has this name, or none. */
+static void is_named(const char *got, const char *name) {
+  if (name && got ? !strcmp(got, name) : got == name) {
+    passed++;
+  } else {
+    failed++;
+    printf("FAILED: the name %s is %s\n", name ? name : "(none)", got ? got : "(none)");
+  }
+}
+
+static void try_texts(void) {
+  is_named(ada_code_name(-1), NULL);
+  is_named(ada_code_name(ADA_ACCEPTED), "Accepted");
+  is_named(ada_code_name(1), "UnknownTask");
+  is_named(ada_code_name(23), "OutOfMemory");
+  is_named(ada_code_name(24), NULL);
+  is_named(ada_code_name(100), "TooLong");
+  is_named(ada_code_name(107), "Null");
+  is_named(ada_code_name(108), NULL);
+  is_named(ada_kind_name(0), NULL);
+  is_named(ada_kind_name(1), "Opened");
+  is_named(ada_kind_name(22), "Left");
+  is_named(ada_kind_name(23), NULL);
+  is_named(ada_outcome_name(0), "Nothing");
+  is_named(ada_outcome_name(7), "Accepted");
+  is_named(ada_outcome_name(15), "Raised");
+  is_named(ada_outcome_name(16), NULL);
+  is_named(ada_reason_name(0), "GoesOn");
+  is_named(ada_reason_name(8), "Completed");
+  is_named(ada_reason_name(9), NULL);
+}
+
 int main(void) {
+  try_texts();
   ANSWERS(0, ada_kernel_new(&k));
   try_names();
   try_nests();

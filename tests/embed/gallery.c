@@ -209,32 +209,9 @@ static void print_events(uint64_t from) {
 }
 
 static void print_refusal(uint32_t line, int32_t code) {
-  static const char *const causes[ADA_TOO_LONG] = {
-    [ADA_UNKNOWN_TASK] = "UnknownTask",
-    [ADA_NOT_RUNNING] = "NotRunning",
-    [ADA_DURING_ACTIVATION] = "DuringActivation",
-    [ADA_NOT_ACTIVATING] = "NotActivating",
-    [ADA_NOT_YOUR_MASTER] = "NotYourMaster",
-    [ADA_EMPTY_LIST] = "EmptyList",
-    [ADA_NOT_YOUR_TASK] = "NotYourTask",
-    [ADA_NO_ACCEPT] = "NoAccept",
-    [ADA_NO_SUCH_FAMILY] = "NoSuchFamily",
-    [ADA_CONSTRAINT_ERROR] = "ConstraintError",
-    [ADA_SAME_FAMILY_NESTED] = "SameFamilyNested",
-    [ADA_TERMINATE_IN_ACCEPT] = "TerminateInAccept",
-    [ADA_NOT_IN_ACCEPT] = "NotInAccept",
-    [ADA_NO_BLOCK] = "NoBlock",
-    [ADA_STILL_NESTED] = "StillNested",
-    [ADA_MAIN_TASK] = "MainTask",
-    [ADA_MOMENT_BACK] = "MomentBack",
-    [ADA_MOMENT_TOO_LARGE] = "MomentTooLarge",
-    [ADA_TOO_MANY_TASKS] = "TooManyTasks",
-    [ADA_TOO_MANY_SLOTS] = "TooManySlots",
-    [ADA_TOO_DEEP] = "TooDeep",
-    [ADA_JOURNAL_FULL] = "JournalFull",
-  };
-  if (code <= ADA_ACCEPTED || code >= ADA_TOO_LONG || !causes[code]) fail("a request", code);
-  printf("refused line %lu: %s\n", (unsigned long)line, causes[code]);
+  const char *cause = ada_code_name(code);
+  if (code <= ADA_ACCEPTED || code >= ADA_OUT_OF_MEMORY || !cause) fail("a request", code);
+  printf("refused line %lu: %s\n", (unsigned long)line, cause);
 }
 
 /* ---- Playing ---- */

@@ -7,16 +7,6 @@
 #include <stdio.h>
 #include <stdlib.h>
 
-/* What the library asks of its memory: whether there is some, and where. */
-typedef struct {
-  _Bool is_there;
-  void *where;
-} given;
-
-given rattle_alloc(size_t size, size_t align);
-given rattle_realloc(void *where, size_t kept, size_t size, size_t align);
-void rattle_dealloc(void *where);
-
 static long left = -1; /* how many growths are given before one is refused; none is if this is negative */
 static long asked;     /* how many growths were asked for */
 static unsigned char nowhere[16];
@@ -29,19 +19,19 @@ static int is_refused(void) {
   return 0;
 }
 
-static given give(void *where) {
-  given some;
+static ada_memory give(void *where) {
+  ada_memory some;
   some.is_there = where != NULL;
   some.where = where ? where : nowhere;
   return some;
 }
 
-given rattle_alloc(size_t size, size_t align) {
+ada_memory rattle_alloc(size_t size, size_t align) {
   (void)align;
   return give(is_refused() ? NULL : malloc(size ? size : 1));
 }
 
-given rattle_realloc(void *where, size_t kept, size_t size, size_t align) {
+ada_memory rattle_realloc(void *where, size_t kept, size_t size, size_t align) {
   (void)align;
   (void)kept;
   return give(is_refused() ? NULL : realloc(where, size ? size : 1));
