@@ -1,9 +1,9 @@
 //! How a log is checked.
 
-use crate::fault::{Finding, ScopeFault};
 use crate::input::{Log, read_log};
-use crate::obeying::{STANDARD_INPUT, check};
+use crate::obeying::STANDARD_INPUT;
 use crate::report::{report_of, write_before};
+use ada_findings::{Finding, ScopeFault, check};
 use ada_replay::output::write_output;
 use ada_replay::{Course, Judgement, RunFault, follow};
 use ada_script::ScriptFault;

@@ -2,17 +2,16 @@
 #![tactic(auto)]
 
 pub mod conforming;
-pub mod fault;
 pub mod input;
 pub mod obeying;
 pub mod order;
 pub mod painting;
 pub mod report;
 
+use ada_findings::{Failure, Finding, ScopeFault, status_of};
 use ada_replay::RunFault;
 use clap::Error;
 use clap::error::ErrorKind;
-use fault::{Failure, Finding, ScopeFault, status_of};
 use obeying::obey;
 use order::order_of;
 use std::env::VarError;

@@ -1,13 +1,10 @@
 //! How an order is obeyed.
-ghost use Rattle.std.specs.Prelude.{IfOk};
-ghost use Rattle.adascope.specs.Findings.{IsFoundIn};
 
 use crate::conforming::tell_conformance;
-use crate::fault::{Failure, Finding, ScopeFault};
 use crate::order::{Job, What};
 use crate::painting::{Kind, painted};
 use ada_explain::{Explanation, explain};
-use ada_lint::{print_review, review_of};
+use ada_findings::{Failure, Finding, ScopeFault, check};
 use ada_renderings::compare::compare;
 use ada_renderings::compare::comparison::Played;
 use ada_renderings::draw::{write_graph, write_picture, write_sequence};
@@ -139,19 +136,6 @@ fn draw<R: Print + AllocGlobal>(rt: &R, text: &[u8], what: What) -> Result<Findi
     let drawn = drawn(rt.alloc(), text, what)?;
     write_output(&mut io::writer(rt), drawn.as_bytes())?;
     Ok(Finding::Nothing)
-}
-
-/// Checks a text: what is printed of the file that has it, and what was found. An `Err` is `Memory`.
-pub fn check(alloc: Global, file: &str, text: &[u8]) -> Result<(String, Finding), RunFault>
-    ensures { IfOk result (λ checked. IsFoundIn text.now checked.1) }
-{
-    let review = review_of(alloc, text).map_err(|_| RunFault::Memory)?;
-    let printed = print_review(alloc, file, text, &review).map_err(|_| RunFault::Memory)?;
-    let finding = match review.fault {
-        None => Finding::Nothing,
-        Some(_) => Finding::Faulty,
-    };
-    Ok((printed, finding))
 }
 
 fn tell_faults<R: Print + AllocGlobal>(

@@ -1,6 +1,6 @@
-//! How the program ends.
+//! How the second program ends.
 ghost use Rattle.std.specs.Prelude.{◌≡◌};
-ghost use Rattle.adascope.specs.Statuses.{fault_status as status_in, status};
+ghost use Rattle.ada_findings.specs.Statuses.{fault_status as status_in, status};
 
 use ada_replay::RunFault;
 use thiserror::Error;

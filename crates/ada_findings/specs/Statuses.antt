@@ -1,11 +1,11 @@
 -- The exit status of the second program.
 use Rattle.std.specs.Prelude.{ℕ, Result, Ok, Err}
 use Rattle.ada_replay.specs.declared.fault.RunFault.TheVariants.{Script}
-use Rattle.adascope.specs.declared.fault.Failure.{Failure}
-use Rattle.adascope.specs.declared.fault.Finding.{Finding}
-use Rattle.adascope.specs.declared.fault.Finding.TheVariants.{Nothing, Faulty, Difference, Refused, NoLog, Standstill}
-use Rattle.adascope.specs.declared.fault.ScopeFault.{ScopeFault}
-use Rattle.adascope.specs.declared.fault.ScopeFault.TheVariants.{Run, Compared, TooLong}
+use Rattle.ada_findings.specs.declared.fault.Failure.{Failure}
+use Rattle.ada_findings.specs.declared.fault.Finding.{Finding}
+use Rattle.ada_findings.specs.declared.fault.Finding.TheVariants.{Nothing, Faulty, Difference, Refused, NoLog, Standstill}
+use Rattle.ada_findings.specs.declared.fault.ScopeFault.{ScopeFault}
+use Rattle.ada_findings.specs.declared.fault.ScopeFault.TheVariants.{Run, Compared, TooLong}
 
 -- 4 where a file, memory, the input or the output was refused
 abbrev pub fault_status : ScopeFault → ℕ

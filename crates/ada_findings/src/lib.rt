@@ -1,0 +1,8 @@
+//! What a command of the second program found, and how it ends then.
+#![tactic(auto)]
+
+pub mod checking;
+pub mod fault;
+
+pub use checking::check;
+pub use fault::{Failure, Finding, ScopeFault, status_of};
