@@ -1,9 +1,10 @@
 -- What a selective wait may take (9.7.1): a queued call at an open choice, its else part, or a delay
--- alternative that is due.
+-- alternative that is due; and the moment for which a task waits.
 use Rattle.std.specs.Prelude.{ℕ, suc, ℤ, Bool, true, false, ◌&&◌, ◌%◌, if◌then◌else◌, Option, Some, None, List, [], ◌∷◌, length, slice_get, int_le, int_lt}
 use Rattle.std.specs.Option.{option_map, option_and_then, is_some}
 use Rattle.std.specs.List.{list_any}
 use Rattle.ada_events.specs.declared.event.Event.{Event}
+use Rattle.ada_events.specs.declared.event.Event.TheVariants.{Called, Waiting, Paused}
 use Rattle.ada_events.specs.declared.event.EventTail.{EventTail}
 use Rattle.ada_events.specs.declared.event.EventTail.TheVariants.{Nothing, Otherwise, Delays, Terminate}
 use Rattle.ada_events.specs.declared.event.Way.{Way}
@@ -68,6 +69,19 @@ earlier (Some m) (Some n) = Some (if int_lt n m then n else m)
 unfoldable pub least_due : List (Option ℤ) → Option ℤ
 least_due [] = None
 least_due (due ∷ rest) = earlier due (least_due rest)
+
+-- the least due moment of a wait's delay alternatives, which are the last part of it (9.7.1)
+abbrev pub tail_due : EventTail → Option ℤ
+tail_due (Delays dues) = least_due dues
+tail_due _ = None
+
+-- the moment at which an event lets go on the task that it holds up: a queued timed call (9.7.3), so not one with which a
+-- rendezvous began, a delay (9.6), or the first of a wait's delay alternatives (9.7.1)
+unfoldable pub due_by : Bool → Event → Option ℤ
+due_by met (Called by callee entry patience due) = if met then None else due
+due_by met (Waiting by pick choices tail) = tail_due tail
+due_by met (Paused by due) = Some due
+due_by met _ = None
 
 -- the delay alternative that a wait takes, counted over all from 0, once the least due moment has come: of
 -- the k that are due at that very moment number `pick % k`

@@ -94,6 +94,16 @@ pub fn least_due(dues: &[Option<i64>]) -> Option<i64>
     least
 }
 
+/// The least due moment of a wait's delay alternatives, if it has one.
+pub fn tail_due(tail: &EventTail) -> Option<i64>
+    ensures { result ≡ waits.tail_due tail.now }
+{
+    match tail {
+        EventTail::Delays(dues) => least_due(dues.get().as_slice()),
+        _ => None,
+    }
+}
+
 /// The numbers of the delay alternatives that are due at that very moment, counted over all from 0.
 #[tactic(auto, unfolding(crate::specs::Waits::numbers_from))]
 pub fn due_exactly(moment: Option<i64>, dues: &[Option<i64>]) -> DelayNumbers

@@ -11,6 +11,7 @@ ghost use Rattle.ada_steps.specs.Beginning.{HasBegun};
 
 use crate::index::Index;
 use ada_admission::waits::refusal_of_wait;
+use ada_events::waits::tail_due;
 use ada_events::{
     ChoiceList, Choices, Event, EventTail, Journal, Refusal, Tail, TaskNo, Way, asked_tail,
 };
@@ -18,7 +19,6 @@ use ada_records::records::{holder_at, is_open_terminate, record_hold, record_rel
 use ada_records::suspension::{follow_hold, follow_release};
 use ada_steps::make_room;
 use ada_triggers::calls::after_wait;
-use ada_triggers::moments::tail_due;
 
 impl Index {
     // Notes a selective wait.

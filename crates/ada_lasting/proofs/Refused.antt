@@ -12,7 +12,7 @@ use Rattle.ada_events.specs.declared.request.Request.TheVariants.{Create}
 use Rattle.ada_events.specs.declared.refusal.Refusal.{Refusal}
 use Rattle.ada_events.specs.declared.refusal.Refusal.TheVariants.{TooManyTasks, TooManySlots, JournalFull, OutOfMemory}
 use Rattle.ada_events.specs.Limits.{makes_too_many_tasks, makes_too_many_slots, is_full}
-use Rattle.ada_events.specs.Refusals.{Cause, refusal, first_cause}
+use Rattle.ada_events.specs.Refusals.{Cause, causes, refusal, first_cause}
 use Rattle.ada_laws.specs.Unlimited.{refusal_but_limits, causes_but_limits, limit_refusal}
 use Rattle.ada_laws.proofs.asking.Limitless.{limits_refuse_at_last}
 use Rattle.ada_standing.specs.Renaming.{Renaming}
@@ -45,7 +45,7 @@ abbrev pub IsReachedBy : List Event → Request → Refusal → Type 0
 IsReachedBy journal request = IsReached (makes_too_many_tasks journal request) (makes_too_many_slots journal request) (is_full journal)
 
 limit_named : (journal : List Event) (request : Request) (cause : Refusal) → limit_refusal journal request ≡ Some cause → IsReachedBy journal request cause
-unfolding limit_refusal
+unfolding limit_refusal causes
 limit_named journal request cause is = of_limits (makes_too_many_tasks journal request) (makes_too_many_slots journal request) (is_full journal) cause is
 
 -- what a kernel answers when it refuses, told by the causes that have to do with no limit
@@ -83,7 +83,7 @@ is_journal_full JournalFull = true
 is_journal_full _ = false
 
 never_full : (journal : List Event) (request : Request) → refusal_but_limits journal request ≡ Some JournalFull → ⊥
-unfolding refusal_but_limits causes_but_limits
+unfolding refusal_but_limits causes_but_limits causes
 never_full journal request is =
     let named : list_any (λ (c : Cause). is_journal_full c.name) (causes_but_limits journal request) ≡ true =
     found_by_name is_journal_full (causes_but_limits journal request) JournalFull is refl in

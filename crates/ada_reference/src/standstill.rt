@@ -1,7 +1,6 @@
 //! When nothing but a tick, or nothing at all, can let a journal go on.
 ghost use Rattle.std.specs.Prelude.{◌≡◌, ◌<◌, ◌^◌, length, reverse};
 ghost use Rattle.ada_events.specs.Lawful.{IsLawful};
-ghost use Rattle.ada_step_laws.specs.Kinds as kinds;
 ghost use Rattle.ada_waiting.specs.Standstill as standstill;
 
 use crate::boards::tasks_in;
@@ -9,21 +8,11 @@ use crate::calls::is_met;
 use crate::phases::{is_running, is_terminated};
 use crate::reasons::suspended_at;
 use ada_events::journal::event_in;
-use ada_events::waits::{earlier, least_due};
-use ada_events::{Event, EventTail, TaskNo};
+use ada_events::waits::{earlier, tail_due};
+use ada_events::{Event, TaskNo};
 use ada_waiting::Verdict;
 
-// The least moment of a wait's delay alternatives.
-fn tail_due(tail: &EventTail) -> Option<i64>
-    ensures { result ≡ kinds.tail_due tail.now }
-{
-    match tail {
-        EventTail::Delays(dues) => least_due(dues.get().as_slice()),
-        _ => None,
-    }
-}
-
-#[tactic(auto, unfolding(ada_waiting::specs::Standstill::due_by))]
+#[tactic(auto, unfolding(ada_events::specs::Waits::due_by))]
 fn due_at(events: &[Event], position: u32, event: &Event) -> Option<i64>
     ensures { result ≡ standstill.due_at (reverse events.now) position event.now }
 {

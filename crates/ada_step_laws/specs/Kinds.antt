@@ -6,7 +6,6 @@ use Rattle.ada_events.specs.declared.event.Event.{Event}
 use Rattle.ada_events.specs.declared.event.Event.TheVariants.{Opened, Created, Started, Elaborated, Called, Waiting, Paused, Ended, Closed, Completed, Aborted}
 use Rattle.ada_events.specs.declared.event.Event.TheVariants.{Ticked, Halted, Failed, Met, Cancelled, Passed, Woken, Activated, Gone, Quit, Left}
 use Rattle.ada_events.specs.declared.event.EventTail.{EventTail}
-use Rattle.ada_events.specs.declared.event.EventTail.TheVariants.{Delays}
 use Rattle.ada_events.specs.declared.names.TaskNo.{TaskNo}
 use Rattle.ada_events.specs.declared.event.Way.{Way}
 use Rattle.ada_events.specs.declared.names.Patience.{Patience}
@@ -20,7 +19,7 @@ use Rattle.ada_events.specs.Masters.{depends_on}
 use Rattle.ada_events.specs.Phases.{has_start, is_terminated, is_abnormal}
 use Rattle.ada_events.specs.Calls.{queue}
 use Rattle.ada_events.specs.Nests.{nest}
-use Rattle.ada_events.specs.Waits.{least_due, is_due, way_of}
+use Rattle.ada_events.specs.Waits.{tail_due, is_due, way_of}
 use Rattle.ada_events.specs.Forced.{is_conditional, is_done_activating}
 use Rattle.ada_events.specs.Termination.{is_open_terminate, is_ready_to_quit}
 use Rattle.ada_laws.specs.Calls.{IsCallAt, IsOpenCallAt}
@@ -94,11 +93,6 @@ pub record IsLeaving (journal : List Event) (block position : ℕ) : Type 0 wher
   pub of : closing.block ≡ block
   pub suspended : IsSuspendedAt journal closing.by position
   pub within : Contains (nest journal closing.by) (BlockMember block)
-
--- the least moment of a wait's delay alternatives (9.7.1)
-abbrev pub tail_due : EventTail → Option ℤ
-tail_due (Delays dues) = least_due dues
-tail_due _ = None
 
 -- the moment that is waited for at an event: by a timed call, a delay, or a wait with delay
 -- alternatives

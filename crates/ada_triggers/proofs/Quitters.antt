@@ -94,7 +94,7 @@ asked_elaborated journal (request.Wait by choices tail pick) w accepted says =
     (not-false (is_elaborated journal by.0) (is_accepted journal (request.Wait by choices tail pick) accepted).activated)
 asked_elaborated journal _ w accepted says = absurd (none-some w says)
 
-new_elaborated : (event : Event) (before : List Event) (w : Wait) → MayFollow before event → wait_in event ≡ Some w → is_elaborated before w.by ≡ true
+new_elaborated : (event : Event) (before : List Event) (w : Wait) → MayFollow refusal before event → wait_in event ≡ Some w → is_elaborated before w.by ≡ true
 new_elaborated event before w (inl forces) says = absurd (none-some w.by (sym (forced-step before event forces).holds_none ∙ held_in-wait event w says))
 new_elaborated event before w (inr asked) says = asked_elaborated before asked.request w asked.accepted (ap wait_in (sym asked.becomes) ∙ says)
 

@@ -13,20 +13,10 @@ ghost use Rattle.ada_triggers.specs.internal.Keys.{OfFirst, AsDue};
 use crate::next_due::NextDue;
 use ada_agenda::Agenda;
 use ada_agenda::keeping::put_if;
-use ada_events::waits::{is_due, least_due};
-use ada_events::{Event, EventTail, TaskNo};
+use ada_events::waits::{is_due, tail_due};
+use ada_events::{Event, TaskNo};
 use ada_step_laws::Row;
 use ada_view::View;
-
-/// The least moment of a wait's delay alternatives, if there is one (9.7.1).
-pub fn tail_due(tail: &EventTail) -> Option<i64>
-    ensures { result ≡ kinds.tail_due tail.now }
-{
-    match tail {
-        EventTail::Delays(dues) => least_due(dues.get().as_slice()),
-        _ => None,
-    }
-}
 
 // The moment that is waited for at an event.
 fn due_in(event: &Event) -> Option<i64>

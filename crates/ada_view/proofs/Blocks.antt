@@ -35,6 +35,7 @@ use Rattle.ada_records.specs.RecordedStates.{has_ended_by}
 use Rattle.ada_records.proofs.recording.Queries.{records_tell}
 use Rattle.ada_step_laws.proofs.newly.Completing.{any_at}
 use Rattle.ada_events.specs.Holders.{has_block}
+use Rattle.ada_events.specs.Refusals.{refusal}
 use Rattle.ada_laws.proofs.within.Owners.{block_in_nest, nest_has_block}
 use Rattle.ada_step_laws.proofs.holding.LiveHolders.{a_left_block_has_no_live_dependent}
 use Rattle.ada_view.specs.internal.Ending.{closes, closes_at}
@@ -47,7 +48,7 @@ unfolding opening_in asked_event asker
 asked_opens journal (request.Open by) o says = ap (λ (x : Opening). Some x.by) (same_Some _ o says)
 asked_opens journal _ o says = absurd (none-some o says)
 
-new_opener : (event : Event) (before : List Event) (o : Opening) → MayFollow before event → opening_in event ≡ Some o → o.by < task_count before
+new_opener : (event : Event) (before : List Event) (o : Opening) → MayFollow refusal before event → opening_in event ≡ Some o → o.by < task_count before
 new_opener event before o (inl forces) says = absurd (none-some o (sym (row-opens_none before event (forced-row before event forces)) ∙ says))
 new_opener event before o (inr asked) says =
     asker_exists before asked.request o.by asked.accepted (asked_opens before asked.request o (ap opening_in (sym asked.becomes) ∙ says))

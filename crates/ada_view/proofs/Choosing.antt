@@ -53,7 +53,8 @@ asked_wait journal (request.Wait by choices tail pick) wait accepted says =
         has_number (families_of journal by.0) choice.entry (slice_get (families_of journal by.0) choice.entry.family) refl known (rw opened at within)
 asked_wait journal _ wait accepted says = absurd (none-some wait says)
 
-new_wait : (event : Event) (before : List Event) (wait : Wait) → MayFollow before event → wait_in event ≡ Some wait → AreOfTask before wait.by wait.choices
+new_wait : (event : Event) (before : List Event) (wait : Wait) → MayFollow refusal before event → wait_in event ≡ Some wait
+    → AreOfTask before wait.by wait.choices
 new_wait event before wait (inl forces) says = absurd (none-some wait.by (sym (forced-step before event forces).holds_none ∙ held_in-wait event wait says))
 new_wait event before wait (inr asked) says = asked_wait before asked.request wait asked.accepted (ap wait_in (sym asked.becomes) ∙ says)
 

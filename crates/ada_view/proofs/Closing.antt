@@ -86,8 +86,8 @@ asked_keeps journal (request.End by raised) x d k accepted frees there closes =
 asked_keeps journal _ x d k accepted frees there closes = none-some x frees
 
 -- what an event releases at a close leaves its block
-pub close_freed : (e : Event) (before : List Event) (x : ℕ) (d : Event) (k : Closing) → MayFollow before e → released_in e ≡ Some x → event_at before x ≡ Some d
-    → closing_in d ≡ Some k → left_in e ≡ Some x
+pub close_freed : (e : Event) (before : List Event) (x : ℕ) (d : Event) (k : Closing) → MayFollow refusal before e → released_in e ≡ Some x
+    → event_at before x ≡ Some d → closing_in d ≡ Some k → left_in e ≡ Some x
 close_freed e before x d k (inl forces) frees there closes = row_leaves before e x d k (forced-row before e forces) frees there closes
 close_freed e before x d k (inr asked) frees there closes =
     absurd (asked_keeps before asked.request x d k asked.accepted (ap released_in (sym asked.becomes) ∙ frees) there closes)

@@ -110,7 +110,7 @@ starting_holds (event.Started by tasks) task lists = (by.0, refl)
 starting_holds _ task lists = absurd (false≢true lists)
 
 -- who is held up by an event that isn't forced asked for it, and ran
-asked_runs : (event : Event) (before : List Event) (task : ℕ) → MayFollow before event → held_in event ≡ Some task → is_running before task ≡ true
+asked_runs : (event : Event) (before : List Event) (task : ℕ) → MayFollow refusal before event → held_in event ≡ Some task → is_running before task ≡ true
 asked_runs event before task (inl forces) holds = absurd (none-some task (sym (forced-step before event forces).holds_none ∙ holds))
 asked_runs event before task (inr asked) holds =
     asker_runs before asked.request task asked.accepted (held_in-asked before asked.request task (ap held_in (sym asked.becomes) ∙ holds))
@@ -147,7 +147,7 @@ activated_idle journal (request.Activate by tasks) task accepted lists =
 activated_idle journal _ task accepted lists = absurd (false≢true lists)
 
 -- a task that an event starts didn't run
-started_idle : (event : Event) (before : List Event) (task : ℕ) → MayFollow before event → lists_task task (started_in event) ≡ true
+started_idle : (event : Event) (before : List Event) (task : ℕ) → MayFollow refusal before event → lists_task task (started_in event) ≡ true
     → is_running before task ≡ false
 started_idle event before task (inl forces) lists =
     let (by, holds) = starting_holds event task lists in
@@ -250,7 +250,7 @@ none_let_go (event ∷ before) task lawful runs none =
     ]
 
 -- what an event releases that stands in an older journal holds its task up there
-freed_idle : (older : List Event) (event : Event) (before : List Event) (task : ℕ) → MayFollow before event
+freed_idle : (older : List Event) (event : Event) (before : List Event) (task : ℕ) → MayFollow refusal before event
     → ((p : ℕ) → is_released older p ≡ true → is_released before p ≡ true)
     → is_number task (option_and_then held_in (option_and_then (event_at older) (released_in event))) ≡ true → is_running older task ≡ false
 freed_idle older event before task follows since frees =

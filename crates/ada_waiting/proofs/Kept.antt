@@ -8,6 +8,7 @@ use Rattle.ada_events.specs.Search.{event_at}
 use Rattle.ada_events.specs.Tasks.{has_task, task_count}
 use Rattle.ada_events.specs.Phases.{is_suspended}
 use Rattle.ada_events.specs.Calls.{is_met}
+use Rattle.ada_events.specs.Waits.{due_by}
 use Rattle.ada_events.specs.Lawful.{IsLawful}
 use Rattle.ada_laws.specs.Suspension.{IsSuspendedAt}
 use Rattle.ada_laws.proofs.held.Suspending.{is_suspended-at, suspended_exists}
@@ -18,7 +19,7 @@ use Rattle.ada_step_laws.proofs.rows.Keys.{none_from}
 use Rattle.ada_waiting.specs.declared.reasons.Reason.{Reason}
 use Rattle.ada_waiting.specs.declared.reasons.Reason.TheVariants as reason
 use Rattle.ada_waiting.specs.Reasons.{reason_by, held_reason, reason_of}
-use Rattle.ada_waiting.specs.Standstill.{due_by, due_of}
+use Rattle.ada_waiting.specs.Standstill.{due_of}
 use Rattle.ada_waiting.specs.internal.Kept.{kept_reason, kept_due}
 use Rattle.ada_waiting.proofs.Holding.{suspended_at_is}
 use Rattle.ada_waiting.proofs.Moments.{due_of_suspended, not_due}

@@ -11,7 +11,7 @@ use Rattle.ada_events.specs.Says.{Call, call_in, meeting_in}
 use Rattle.ada_events.specs.Tasks.{task_count, moment}
 use Rattle.ada_events.specs.Phases.{is_suspended}
 use Rattle.ada_events.specs.Calls.{is_met, is_open_at, is_queued_at}
-use Rattle.ada_events.specs.Waits.{is_due, earlier}
+use Rattle.ada_events.specs.Waits.{is_due, due_by, earlier}
 use Rattle.ada_events.specs.Forced.{is_conditional, is_to_cancel}
 use Rattle.ada_events.specs.Lawful.{IsLawful, IsSettled}
 use Rattle.ada_events.proofs.Earlier.{one_comes}
@@ -26,7 +26,7 @@ use Rattle.ada_step_laws.specs.Kinds.{due_in, due_row, OfTick}
 use Rattle.ada_step_laws.specs.Kinds.OfTick.{comes_due}
 use Rattle.ada_step_laws.proofs.newly.Adding.{agendas_grow}
 use Rattle.ada_waiting.specs.Reasons.{suspended_at}
-use Rattle.ada_waiting.specs.Standstill.{due_at, due_by, due_of, first_due_below, first_due}
+use Rattle.ada_waiting.specs.Standstill.{due_at, due_of, first_due_below, first_due}
 use Rattle.ada_waiting.proofs.Holding.{suspended_at_is, suspended_at_from}
 use Rattle.ada_waiting.proofs.Settling.{settled_agenda}
 

@@ -20,7 +20,7 @@ use Rattle.ada_events.specs.Says.{call_in, wait_in, delay_in, meeting_in, held_i
 use Rattle.ada_events.specs.Tasks.{task_count, moment}
 use Rattle.ada_events.specs.Phases.{is_completed, is_terminated, has_ended, is_released, is_suspended}
 use Rattle.ada_events.specs.Calls.{is_met, is_open_at, is_queued_at, is_pending}
-use Rattle.ada_events.specs.Waits.{is_due, is_due_exactly, earlier, least_due, has_open_delay, numbers_from, picked, taken_delay, way_of}
+use Rattle.ada_events.specs.Waits.{is_due, is_due_exactly, earlier, least_due, tail_due, due_by, has_open_delay, numbers_from, picked, taken_delay, way_of}
 use Rattle.ada_events.specs.Forced.{is_conditional, is_to_cancel, is_to_wake, passed_at}
 use Rattle.ada_events.specs.Lawful.{IsLawful, IsSettled}
 use Rattle.ada_laws.specs.Suspension.{IsSuspendedAt}
@@ -30,8 +30,7 @@ use Rattle.ada_laws.proofs.held.Suspending.{is_suspended-at}
 use Rattle.ada_step_laws.specs.declared.row.Row.{Row}
 use Rattle.ada_step_laws.specs.declared.row.Row.TheVariants.{Cancelling, Passing, Waking}
 use Rattle.ada_step_laws.specs.Rows.{step_at}
-use Rattle.ada_step_laws.specs.Kinds.{tail_due}
-use Rattle.ada_waiting.specs.Standstill.{due_at, due_by, due_of, first_due_below, first_due}
+use Rattle.ada_waiting.specs.Standstill.{due_at, due_of, first_due_below, first_due}
 use Rattle.ada_waiting.specs.Laws.{TicksForceFromTheFirstMoment}
 use Rattle.ada_waiting.proofs.Settling.{settled_gives_nothing}
 use Rattle.ada_waiting.proofs.Moments.{due_of_suspended, not_due, early_ticks_force_nothing}

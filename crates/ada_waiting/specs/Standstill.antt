@@ -2,24 +2,14 @@
 use Rattle.std.specs.Prelude.{ℕ, zero, suc, ℤ, Bool, not, if◌then◌else◌, Option, Some, None, List}
 use Rattle.std.specs.Option.{option_and_then}
 use Rattle.ada_events.specs.declared.event.Event.{Event}
-use Rattle.ada_events.specs.declared.event.Event.TheVariants.{Called, Waiting, Paused}
 use Rattle.ada_events.specs.Search.{event_at, all_below}
 use Rattle.ada_events.specs.Tasks.{task_count}
 use Rattle.ada_events.specs.Phases.{is_running, is_terminated}
 use Rattle.ada_events.specs.Calls.{is_met}
-use Rattle.ada_events.specs.Waits.{earlier}
-use Rattle.ada_step_laws.specs.Kinds.{tail_due}
+use Rattle.ada_events.specs.Waits.{earlier, due_by}
 use Rattle.ada_waiting.specs.declared.standstill.Verdict.{Verdict}
 use Rattle.ada_waiting.specs.declared.standstill.Verdict.TheVariants.{Finished, GoesOn, WaitsForTick, Stuck}
 use Rattle.ada_waiting.specs.Reasons.{suspended_at}
-
--- the moment at which an event lets go on the task that it holds up: a queued timed call (9.7.3), so not one with which a
--- rendezvous began, a delay (9.6), or the first of a wait's delay alternatives (9.7.1)
-unfoldable pub due_by : Bool → Event → Option ℤ
-due_by met (Called by callee entry patience due) = if met then None else due
-due_by met (Waiting by pick choices tail) = tail_due tail
-due_by met (Paused by due) = Some due
-due_by met _ = None
 
 -- the moment at which what stands at a position lets its task go on
 abbrev pub due_at : List Event → ℕ → Event → Option ℤ

@@ -1,11 +1,11 @@
 //! When nothing but a tick, or nothing at all, can let a kernel's journal go on, by what the kernel keeps.
 ghost use Rattle.std.specs.Prelude.{◌≡◌};
-ghost use Rattle.ada_step_laws.specs.Kinds as kinds;
+ghost use Rattle.ada_events.specs.Waits as waits;
 ghost use Rattle.ada_waiting.specs.Standstill as standstill;
 ghost use Rattle.ada_waiting.specs.internal.Kept as kept_of;
 
-use ada_events::waits::{earlier, least_due};
-use ada_events::{Event, EventTail, TaskNo};
+use ada_events::waits::{earlier, tail_due};
+use ada_events::{Event, TaskNo};
 use ada_kernel::Kernel;
 use ada_records::Record;
 
@@ -22,19 +22,9 @@ pub enum Verdict {
     Stuck,
 }
 
-// The least moment of a wait's delay alternatives.
-fn tail_due(tail: &EventTail) -> Option<i64>
-    ensures { result ≡ kinds.tail_due tail.now }
-{
-    match tail {
-        EventTail::Delays(dues) => least_due(dues.get().as_slice()),
-        _ => None,
-    }
-}
-
-#[tactic(auto, unfolding(crate::specs::Standstill::due_by))]
+#[tactic(auto, unfolding(ada_events::specs::Waits::due_by))]
 fn due_by(is_met: bool, event: &Event) -> Option<i64>
-    ensures { result ≡ standstill.due_by is_met event.now }
+    ensures { result ≡ waits.due_by is_met event.now }
 {
     match event {
         Event::Called { due, .. } if !is_met => *due,

@@ -10,16 +10,15 @@ use Rattle.ada_events.specs.Search.{event_at}
 use Rattle.ada_events.specs.Says.{Call, Wait, Delay, Start, Closing, call_in, wait_in, delay_in, start_in, closing_in}
 use Rattle.ada_events.specs.Tasks.{task_count}
 use Rattle.ada_events.specs.Calls.{is_met}
-use Rattle.ada_events.specs.Waits.{is_due}
+use Rattle.ada_events.specs.Waits.{is_due, tail_due, due_by}
 use Rattle.ada_laws.specs.Unlimited.{IsLawfulUnlimited}
 use Rattle.ada_laws.proofs.within.Parents.{same_truth}
 use Rattle.ada_standing.specs.Renaming.{Renaming}
 use Rattle.ada_standing.specs.Holds.{IsSameHold}
 use Rattle.ada_standing.specs.StandsIn.{StandsIn, is_live}
 use Rattle.ada_standing.proofs.alike.Pairs.{live_from, live_parts, live_alike, live_back, active_parts}
-use Rattle.ada_step_laws.specs.Kinds.{tail_due}
 use Rattle.ada_waiting.specs.Reasons.{suspended_at}
-use Rattle.ada_waiting.specs.Standstill.{due_by, due_at, due_of, first_due_below, first_due}
+use Rattle.ada_waiting.specs.Standstill.{due_at, due_of, first_due_below, first_due}
 use Rattle.ada_waiting.proofs.Holding.{suspended_at_from}
 use Rattle.ada_waiting.proofs.Moments.{first_comes}
 use Rattle.ada_waiting.proofs.Ticking.{some_task}

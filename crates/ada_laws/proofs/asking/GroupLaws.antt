@@ -12,6 +12,7 @@ use Rattle.ada_events.specs.Termination.{all_terminated, is_complete, is_abandon
 use Rattle.ada_events.specs.Asks.{asked_event}
 use Rattle.ada_events.specs.Lawful.{IsLawful, IsAsked, Forces}
 use Rattle.ada_events.specs.Lawful.Forces.{nothing, one_more}
+use Rattle.ada_events.specs.Refusals.{refusal}
 use Rattle.ada_laws.specs.Groups.{EndsInGroup, StepsFollowTheirRequest}
 
 pub empty_is_settled : forced [] ≡ None
@@ -21,7 +22,7 @@ unfolding any_event first_given gathered first_below all_below task_count creati
 empty_is_settled = refl
 
 -- a group begins with the event of its request
-begins : (event : Event) (before : List Event) → IsLawful before → (asked : IsAsked before event) → EndsInGroup (event ∷ before) before asked.request
+begins : (event : Event) (before : List Event) → IsLawful before → (asked : IsAsked refusal before event) → EndsInGroup (event ∷ before) before asked.request
 begins event before lawful asked = record {
   lawful = lawful;
   settled = asked.settled;

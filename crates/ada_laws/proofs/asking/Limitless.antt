@@ -1,5 +1,5 @@
 -- What isn't refused isn't refused where tasks, slots and events have no limit, so that lawful journals are lawful there, too.
-use Rattle.std.proofs.Common.{◌≡◌, Bool, true, false, cond, Option, Some, None, List, [], ◌∷◌, ◌++◌, refl, sym, ◌∙◌, inl, inr}
+use Rattle.std.proofs.Common.{◌≡◌, Bool, true, false, not, cond, Option, Some, None, List, [], ◌∷◌, ◌++◌, filter, refl, sym, ◌∙◌, inl, inr}
 use Rattle.std.specs.Option.{option_or}
 use Rattle.ada_events.specs.declared.event.Event.{Event}
 use Rattle.ada_events.specs.declared.request.Request.{Request}
@@ -13,8 +13,8 @@ use Rattle.ada_events.specs.Refusals.{has_empty_list, is_not_your_task, has_no_a
 use Rattle.ada_events.specs.Refusals.{terminates_in_accept, is_not_in_accept, has_no_block, is_still_nested, aborts_main}
 use Rattle.ada_events.specs.Refusals.{Cause, cause, first_cause, causes_by_name, causes_by_entry, causes_by_nest, causes_by_limit, causes, refusal}
 use Rattle.ada_events.specs.Lawful.{MayFollow}
-use Rattle.ada_laws.specs.Unlimited.{causes_at_last, causes_but_limits, refusal_but_limits, limit_refusal}
-use Rattle.ada_laws.specs.Unlimited.{MayFollowUnlimited, LawfulIsUnlimited}
+use Rattle.ada_laws.specs.Unlimited.{is_limit, causes_but_limits, refusal_but_limits, limit_refusal}
+use Rattle.ada_laws.specs.Unlimited.{LawfulIsUnlimited}
 use Rattle.ada_laws.proofs.searching.Searching.{option_or-none}
 use Rattle.ada_laws.proofs.asking.CauseParts.{NoneApplies, none_applies}
 
@@ -56,9 +56,13 @@ few false false true d f = refl
 few false false false true f = refl
 few false false false false f = refl
 
+-- of these, those that aren't limits of tasks, slots or events
+abbrev but_limits : List Cause → List Cause
+but_limits = filter (λ (c : Cause). not (is_limit c.name))
+
 last_causes : (journal : List Event) (request : Request)
-    → first_cause (causes_by_limit journal request) ≡ option_or (first_cause (causes_at_last journal request)) (limit_refusal journal request)
-unfolding limit_refusal makes_too_many_tasks makes_too_many_slots is_too_deep
+    → first_cause (causes_by_limit journal request) ≡ option_or (first_cause (but_limits (causes_by_limit journal request))) (limit_refusal journal request)
+unfolding limit_refusal causes makes_too_many_tasks makes_too_many_slots is_too_deep
 last_causes journal (Create by master families) =
     let request = Create by master families in
     shallow (aborts_main request) (moves_back journal request) (is_too_late journal request) (makes_too_many_tasks journal request)
@@ -72,7 +76,7 @@ pub limits_refuse_at_last : (journal : List Event) (request : Request)
 unfolding refusal causes refusal_but_limits causes_but_limits
 limits_refuse_at_last journal request =
     first_after (causes_by_name journal request ++ causes_by_entry journal request ++ causes_by_nest journal request)
-    (causes_by_limit journal request) (causes_at_last journal request) (limit_refusal journal request) (last_causes journal request)
+    (causes_by_limit journal request) (but_limits (causes_by_limit journal request)) (limit_refusal journal request) (last_causes journal request)
 
 -- what isn't refused isn't refused where tasks, slots and events have no limit
 pub accepted_without_limits : (journal : List Event) (request : Request) → refusal journal request ≡ None → refusal_but_limits journal request ≡ None
@@ -102,7 +106,7 @@ pub record IsAcceptedUnlimited (journal : List Event) (r : Request) : Type 0 whe
   pub not_deep : is_too_deep journal r ≡ false
 
 pub is_accepted-unlimited : (journal : List Event) (r : Request) → refusal_but_limits journal r ≡ None → IsAcceptedUnlimited journal r
-unfolding refusal_but_limits causes_but_limits
+unfolding refusal_but_limits causes_but_limits causes
 is_accepted-unlimited journal r accepted =
     let none : NoneApplies (causes_but_limits journal r) = none_applies (causes_but_limits journal r) accepted in
     record {
@@ -129,7 +133,7 @@ is_accepted-unlimited journal r accepted =
 
 -- what may follow a journal may follow it where tasks, slots and events have no limit, and what is lawful is lawful there
 
-pub may_follow_unlimited : (journal : List Event) (event : Event) → MayFollow journal event → MayFollowUnlimited journal event
+pub may_follow_unlimited : (journal : List Event) (event : Event) → MayFollow refusal journal event → MayFollow refusal_but_limits journal event
 may_follow_unlimited journal event (inl forces) = inl forces
 may_follow_unlimited journal event (inr asked) =
     inr (record {

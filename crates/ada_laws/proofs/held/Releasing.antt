@@ -64,7 +64,8 @@ asked_unreleased journal (request.End by raised) x accepted frees =
 asked_unreleased journal _ x accepted frees = absurd (none-some x frees)
 
 -- an event releases only what isn't released
-pub follows_unreleased : (event : Event) (before : List Event) (x : ℕ) → MayFollow before event → released_in event ≡ Some x → is_released before x ≡ false
+pub follows_unreleased : (event : Event) (before : List Event) (x : ℕ) → MayFollow refusal before event → released_in event ≡ Some x
+    → is_released before x ≡ false
 follows_unreleased event before x (inl forces) frees = row_unreleased before event x (forced-row before event forces) frees
 follows_unreleased event before x (inr asked) frees =
     asked_unreleased before asked.request x asked.accepted (ap released_in (sym asked.becomes) ∙ frees)

@@ -7,9 +7,9 @@ use Rattle.ada_events.specs.Search.{is_number, any_event, event_at}
 use Rattle.ada_events.specs.Says.{held_in}
 use Rattle.ada_events.specs.Tasks.{task_count}
 use Rattle.ada_events.specs.Phases.{has_ended, is_released, is_suspended}
-use Rattle.ada_events.specs.Lawful.{IsLawful}
+use Rattle.ada_events.specs.Lawful.{IsLawful, IsAsked}
 use Rattle.ada_laws.specs.Suspension.{IsSuspendedAt}
-use Rattle.ada_laws.specs.Unlimited.{IsAskedUnlimited, IsLawfulUnlimited}
+use Rattle.ada_laws.specs.Unlimited.{IsLawfulUnlimited, refusal_but_limits}
 use Rattle.ada_laws.proofs.asking.Limitless.{lawful_unlimited}
 use Rattle.ada_laws.proofs.searching.Searching.{is_number-some, is_number-from, event_at-cases, event_at-within, any_event-found, any_event-from}
 use Rattle.ada_laws.proofs.searching.Saying.{held_in-asked}
@@ -67,14 +67,14 @@ suspended_before event before task position none h =
     ]
 
 -- an asked event holds up only the task that asks
-asks-unlimited : (journal : List Event) (event : Event) (task : ℕ) → IsAskedUnlimited journal event → held_in event ≡ Some task
+asks-unlimited : (journal : List Event) (event : Event) (task : ℕ) → IsAsked refusal_but_limits journal event → held_in event ≡ Some task
     → task < task_count journal
 asks-unlimited journal event task asked holds =
     asker_exists-unlimited journal asked.request task asked.accepted
     (held_in-asked journal asked.request task (ap held_in (sym asked.becomes) ∙ holds))
 
 -- and that task wasn't suspended
-asked_unsuspended-unlimited : (journal : List Event) (event : Event) (task position : ℕ) → IsAskedUnlimited journal event → held_in event ≡ Some task
+asked_unsuspended-unlimited : (journal : List Event) (event : Event) (task position : ℕ) → IsAsked refusal_but_limits journal event → held_in event ≡ Some task
     → IsSuspendedAt journal task position → ⊥
 asked_unsuspended-unlimited journal event task position asked holds h =
     let runs = asker_runs-unlimited journal asked.request task asked.accepted

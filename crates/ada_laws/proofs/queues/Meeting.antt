@@ -16,8 +16,9 @@ use Rattle.ada_events.specs.Asks.{asked_event}
 use Rattle.ada_events.specs.Calls.{is_met, queue, is_pending}
 use Rattle.ada_events.specs.Waits.{front_of, taken_choice, taken_call}
 use Rattle.ada_events.specs.Lawful.{IsLawful, MayFollow}
+use Rattle.ada_events.specs.Refusals.{refusal}
 use Rattle.ada_laws.specs.Calls.{IsCallAt, IsWaitAt, IsFrontFor, events_before}
-use Rattle.ada_laws.specs.Unlimited.{IsLawfulUnlimited, MayFollowUnlimited}
+use Rattle.ada_laws.specs.Unlimited.{IsLawfulUnlimited, refusal_but_limits}
 use Rattle.ada_laws.proofs.asking.Limitless.{lawful_unlimited, may_follow_unlimited}
 use Rattle.ada_laws.proofs.searching.Searching.{if_some, option_map_or-true, option_and_then-some, event_at-cases, event_at-newest, event_at-older}
 use Rattle.ada_laws.proofs.searching.Searching.{event_at-within}
@@ -46,13 +47,13 @@ meeting_in-asked journal (request.Open by) = refl
 meeting_in-asked journal _ = refl
 
 -- a rendezvous begins only where a wait takes its call
-pub met_taking-unlimited : (journal : List Event) (event : Event) (m : Meeting) → MayFollowUnlimited journal event → meeting_in event ≡ Some m
+pub met_taking-unlimited : (journal : List Event) (event : Event) (m : Meeting) → MayFollow refusal_but_limits journal event → meeting_in event ≡ Some m
     → IsTaking journal m.call m.wait
 met_taking-unlimited journal event m (inl forces) meeting = row_taking journal event m (forced-row journal event forces) meeting
 met_taking-unlimited journal event m (inr asked) meeting =
     absurd (none-some m (sym (meeting_in-asked journal asked.request) ∙ (ap meeting_in (sym asked.becomes) ∙ meeting)))
 
-pub met_taking : (journal : List Event) (event : Event) (m : Meeting) → MayFollow journal event → meeting_in event ≡ Some m
+pub met_taking : (journal : List Event) (event : Event) (m : Meeting) → MayFollow refusal journal event → meeting_in event ≡ Some m
     → IsTaking journal m.call m.wait
 met_taking journal event m follows meeting = met_taking-unlimited journal event m (may_follow_unlimited journal event follows) meeting
 

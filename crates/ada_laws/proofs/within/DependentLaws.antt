@@ -19,9 +19,10 @@ use Rattle.ada_events.specs.Phases.{has_start, is_completed, is_terminated}
 use Rattle.ada_events.specs.Forced.{is_to_go}
 use Rattle.ada_events.specs.Termination.{all_terminated, is_complete, is_abandoned}
 use Rattle.ada_events.specs.Lawful.{MayFollow}
+use Rattle.ada_events.specs.Refusals.{refusal}
 use Rattle.ada_laws.specs.Laws.{OfLawful}
 use Rattle.ada_laws.specs.Dependents.{ATerminatedBodyHasNoLiveDependent}
-use Rattle.ada_laws.specs.Unlimited.{IsLawfulUnlimited, MayFollowUnlimited}
+use Rattle.ada_laws.specs.Unlimited.{IsLawfulUnlimited, refusal_but_limits}
 use Rattle.ada_laws.proofs.asking.Limitless.{lawful_unlimited, may_follow_unlimited}
 use Rattle.ada_laws.proofs.searching.Searching.{is_number-some, option_map_or-true, all_below-holds}
 use Rattle.ada_laws.proofs.searching.Growing.{is_terminated-more, is_terminated-quit, has_ended-terminated}
@@ -76,13 +77,13 @@ unfolding gone_in asked_event
 gone_in-asked journal (request.Open by) = refl
 gone_in-asked journal _ = refl
 
-pub going-unlimited : (event : Event) (before : List Event) (task : ℕ) → MayFollowUnlimited before event → gone_in event ≡ Some task
+pub going-unlimited : (event : Event) (before : List Event) (task : ℕ) → MayFollow refusal_but_limits before event → gone_in event ≡ Some task
     → is_to_go before task ≡ true
 going-unlimited event before task (inl forces) says = row_going before event task (forced-row before event forces) says
 going-unlimited event before task (inr asked) says =
     absurd (none-some task (sym (gone_in-asked before asked.request) ∙ (ap gone_in (sym asked.becomes) ∙ says)))
 
-pub going : (event : Event) (before : List Event) (task : ℕ) → MayFollow before event → gone_in event ≡ Some task → is_to_go before task ≡ true
+pub going : (event : Event) (before : List Event) (task : ℕ) → MayFollow refusal before event → gone_in event ≡ Some task → is_to_go before task ≡ true
 going event before task follows says = going-unlimited event before task (may_follow_unlimited before event follows) says
 
 pub abandoned_parts : (journal : List Event) (task : ℕ) → is_abandoned journal task ≡ true → (c : Creation) × (creation_of journal task ≡ Some c)

@@ -121,8 +121,8 @@ asked_within journal (request.End by raised) task call accepted ends =
 asked_within journal _ task call accepted ends = absurd (none-some (task, call) ends)
 
 -- a task is within the rendezvous that it ends
-pub ended_within : (event : Event) (before : List Event) (by : TaskNo) (call : ℕ) (raised : Bool) → MayFollow before event → event ≡ Ended by call raised
-    → Contains (nest before by.0) (Rendezvous call)
+pub ended_within : (event : Event) (before : List Event) (by : TaskNo) (call : ℕ) (raised : Bool) → MayFollow refusal before event
+    → event ≡ Ended by call raised → Contains (nest before by.0) (Rendezvous call)
 ended_within event before by call raised (inl forces) is =
     absurd (none-some (by.0, call) (sym (row_ends_none before event (forced-row before event forces)) ∙ ap ending is))
 ended_within event before by call raised (inr asked) is =

@@ -17,10 +17,10 @@ use Rattle.ada_events.specs.Masters.{same_master, parent_in, reaches}
 use Rattle.ada_events.specs.Phases.{is_running}
 use Rattle.ada_events.specs.Nests.{frame}
 use Rattle.ada_events.specs.Asks.{asker, asked_event}
-use Rattle.ada_events.specs.Refusals.{is_not_your_master}
+use Rattle.ada_events.specs.Refusals.{is_not_your_master, refusal}
 use Rattle.ada_events.specs.Lawful.{IsLawful, MayFollow}
 use Rattle.ada_laws.specs.Masters.{IsKnown}
-use Rattle.ada_laws.specs.Unlimited.{IsLawfulUnlimited, MayFollowUnlimited, refusal_but_limits}
+use Rattle.ada_laws.specs.Unlimited.{IsLawfulUnlimited, refusal_but_limits}
 use Rattle.ada_laws.proofs.asking.Limitless.{is_accepted-unlimited, lawful_unlimited, may_follow_unlimited}
 use Rattle.ada_laws.proofs.searching.Searching.{event_at-cases, event_at-older, event_at-within}
 use Rattle.ada_laws.proofs.searching.Growing.{task_count-more}
@@ -129,14 +129,15 @@ asked_opening-unlimited journal (request.Open by) o accepted says =
     })
 asked_opening-unlimited journal _ o accepted says = absurd (none-some o says)
 
-pub opening_asked-unlimited : (event : Event) (before : List Event) (o : Opening) → MayFollowUnlimited before event → opening_in event ≡ Some o
+pub opening_asked-unlimited : (event : Event) (before : List Event) (o : Opening) → MayFollow refusal_but_limits before event → opening_in event ≡ Some o
     → IsAskedBy before o.by o.under
 opening_asked-unlimited event before o (inl forces) says =
     absurd (none-some o (sym (row-opens_none before event (forced-row before event forces)) ∙ says))
 opening_asked-unlimited event before o (inr asked) says =
     asked_opening-unlimited before asked.request o asked.accepted (ap opening_in (sym asked.becomes) ∙ says)
 
-pub opening_asked : (event : Event) (before : List Event) (o : Opening) → MayFollow before event → opening_in event ≡ Some o → IsAskedBy before o.by o.under
+pub opening_asked : (event : Event) (before : List Event) (o : Opening) → MayFollow refusal before event → opening_in event ≡ Some o
+    → IsAskedBy before o.by o.under
 opening_asked event before o follows says = opening_asked-unlimited event before o (may_follow_unlimited before event follows) says
 
 -- a creation's master is reached from the frame of its maker
@@ -160,13 +161,13 @@ asked_creation-unlimited journal (request.Create by master families) c accepted 
     })
 asked_creation-unlimited journal _ c accepted says = absurd (none-some c says)
 
-pub creation_asked-unlimited : (event : Event) (before : List Event) (c : Creation) → MayFollowUnlimited before event → creation_in event ≡ Some c
+pub creation_asked-unlimited : (event : Event) (before : List Event) (c : Creation) → MayFollow refusal_but_limits before event → creation_in event ≡ Some c
     → IsCreationBy before c
 creation_asked-unlimited event before c (inl forces) says = absurd (none-some c (sym (forced-step before event forces).makes_none ∙ says))
 creation_asked-unlimited event before c (inr asked) says =
     asked_creation-unlimited before asked.request c asked.accepted (ap creation_in (sym asked.becomes) ∙ says)
 
-pub creation_asked : (event : Event) (before : List Event) (c : Creation) → MayFollow before event → creation_in event ≡ Some c → IsCreationBy before c
+pub creation_asked : (event : Event) (before : List Event) (c : Creation) → MayFollow refusal before event → creation_in event ≡ Some c → IsCreationBy before c
 creation_asked event before c follows says = creation_asked-unlimited event before c (may_follow_unlimited before event follows) says
 
 -- the frame of a task that exists is known
@@ -204,7 +205,7 @@ parent_known event before (Block p) made opened known =
     ]
 
 -- the parent of what is known was known before the event
-pub parent_was_known-unlimited : (event : Event) (before : List Event) (x : Master) → MayFollowUnlimited before event
+pub parent_was_known-unlimited : (event : Event) (before : List Event) (x : Master) → MayFollow refusal_but_limits before event
     → ((y z : Master) → IsKnown before y → reaches before y z ≡ true → IsKnown before z) → IsKnown (event ∷ before) x
     → IsKnown before (parent_in before event x)
 parent_was_known-unlimited event before x follows known_before known =
@@ -217,7 +218,7 @@ parent_was_known-unlimited event before x follows known_before known =
     subst (IsKnown before) (sym opened.within) (frame_known before o.by opened.exists))
     known
 
-pub parent_was_known : (event : Event) (before : List Event) (x : Master) → MayFollow before event
+pub parent_was_known : (event : Event) (before : List Event) (x : Master) → MayFollow refusal before event
     → ((y z : Master) → IsKnown before y → reaches before y z ≡ true → IsKnown before z) → IsKnown (event ∷ before) x
     → IsKnown before (parent_in before event x)
 parent_was_known event before x follows known_before known =

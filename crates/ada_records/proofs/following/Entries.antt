@@ -106,7 +106,7 @@ asked_number journal (request.Call by callee entry patience) c accepted says =
     is.families_known is.in_range)
 asked_number journal _ c accepted says = absurd (none-some c says)
 
-pub new_number : (event : Event) (before : List Event) (c : Call) → MayFollow before event → call_in event ≡ Some c → HasNumber before c
+pub new_number : (event : Event) (before : List Event) (c : Call) → MayFollow refusal before event → call_in event ≡ Some c → HasNumber before c
 new_number event before c (inl forces) says = absurd (none-some c.by (sym (forced-step before event forces).holds_none ∙ held_in-call event c says))
 new_number event before c (inr asked) says = asked_number before asked.request c asked.accepted (ap call_in (sym asked.becomes) ∙ says)
 

@@ -165,7 +165,7 @@ pub made_few : (event : Event) (before : List Event) (c : Creation) → IsLawful
     × (slot_count before + entries_in c.families ≤ MOST_SLOTS)
 made_few event before c lawful says = by_row lawful.1
   where
-    by_row : MayFollow before event → (task_count before < MOST_TASKS) × (slot_count before + entries_in c.families ≤ MOST_SLOTS)
+    by_row : MayFollow refusal before event → (task_count before < MOST_TASKS) × (slot_count before + entries_in c.families ≤ MOST_SLOTS)
     by_row (inl forces) = absurd (none-some c (sym (forced-step before event forces).makes_none ∙ says))
     by_row (inr asked) = asked_few before asked.request c asked.accepted (ap creation_in (sym asked.becomes) ∙ says)
 

@@ -16,6 +16,7 @@ use Rattle.ada_events.specs.Masters.{depends_on}
 use Rattle.ada_events.specs.Phases.{lists_task, has_start, is_started, is_elaborated, has_failed, is_completed, is_abnormal, is_terminated, is_suspended}
 use Rattle.ada_events.specs.Outcomes.{raised_in, last_given}
 use Rattle.ada_events.specs.Lawful.{IsLawful, MayFollow}
+use Rattle.ada_events.specs.Refusals.{refusal}
 use Rattle.ada_laws.proofs.searching.Searching.{option_map_or-true, is_number-not}
 use Rattle.ada_laws.proofs.searching.Growing.{task_count-more}
 use Rattle.ada_laws.proofs.queues.Meeting.{met_taking, taken_queued}
@@ -57,7 +58,7 @@ unmade_untouched event before u lawful beyond = record {
   ends = false_from_ne_true (ends event before u) (λ ended. omega (arith, beyond, ends_exists event before u lawful.1 ended));
 }
 
-unmade_stage : (event : Event) (before : List Event) (u : ℕ) → MayFollow before event → task_count before ≤ u → ends event before u ≡ false
+unmade_stage : (event : Event) (before : List Event) (u : ℕ) → MayFollow refusal before event → task_count before ≤ u → ends event before u ≡ false
     → stage_after event before u no_stage ≡ no_stage
 unmade_stage event before u follows beyond lives =
     let listed : lists_task u (started_in event) ≡ false = false_from_ne_true (lists_task u (started_in event))

@@ -159,7 +159,7 @@ asked_open journal (request.Open by) o accepted says =
     (leb-false MOST_MEMBERS (length (nest journal by.0)) (is_accepted journal (request.Open by) accepted).not_deep)
 asked_open journal _ o accepted says = absurd (none-some o says)
 
-opening_shallow : (event : Event) (before : List Event) (o : Opening) → MayFollow before event → opening_in event ≡ Some o
+opening_shallow : (event : Event) (before : List Event) (o : Opening) → MayFollow refusal before event → opening_in event ≡ Some o
     → length (nest before o.by) < MOST_MEMBERS
 opening_shallow event before o (inl forces) says = absurd (none-some o (sym (row-opens_none before event (forced-row before event forces)) ∙ says))
 opening_shallow event before o (inr asked) says = asked_open before asked.request o asked.accepted (ap opening_in (sym asked.becomes) ∙ says)

@@ -18,6 +18,7 @@ use Rattle.ada_events.specs.Phases.{is_suspended}
 use Rattle.ada_events.specs.Calls.{is_met, queue}
 use Rattle.ada_events.specs.Asks.{asker, asked_event}
 use Rattle.ada_events.specs.Lawful.{IsLawful, MayFollow}
+use Rattle.ada_events.specs.Refusals.{refusal}
 use Rattle.ada_laws.specs.Suspension.{IsSuspendedAt}
 use Rattle.ada_laws.proofs.asking.Accepting.{asker_runs, running_free}
 use Rattle.ada_laws.proofs.searching.Gathering.{Contains-first, Contains-later}
@@ -91,7 +92,7 @@ row_ends_none journal event _ = refl
 ends_free : (event : Event) (before : List Event) (task : ℕ) → IsLawful (event ∷ before) → ends_itself event ≡ Some task → is_suspended before task ≡ false
 ends_free event before task lawful says = by_row lawful.1
   where
-    by_row : MayFollow before event → is_suspended before task ≡ false
+    by_row : MayFollow refusal before event → is_suspended before task ≡ false
     by_row (inl forces) = absurd (none-some task (sym (row_ends_none before event (forced-row before event forces)) ∙ says))
     by_row (inr asked) =
         running_free before task (asker_runs before asked.request task asked.accepted

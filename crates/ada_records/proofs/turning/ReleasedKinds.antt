@@ -14,6 +14,7 @@ use Rattle.ada_events.specs.Calls.{is_open_at, is_open_call, is_queued_at, is_me
 use Rattle.ada_events.specs.Asks.{asked_event}
 use Rattle.ada_events.specs.Forced.{is_to_fail, is_to_cancel, is_to_leave}
 use Rattle.ada_events.specs.Lawful.{IsLawful, MayFollow}
+use Rattle.ada_events.specs.Refusals.{refusal}
 use Rattle.ada_laws.specs.Calls.{IsOpenCallAt}
 use Rattle.ada_laws.proofs.queues.Queueing.{is_open_at-call}
 use Rattle.ada_laws.proofs.forced.Rows.{IsRow, forced-row}
@@ -60,7 +61,7 @@ row_ends_call journal event p (cancels q e at cancel) ends =
 row_ends_call journal event p _ ends = absurd (none-some p ends)
 
 -- what fails or is cancelled is an open call
-forced_ends_call : (event : Event) (before : List Event) (p : ℕ) → MayFollow before event → forced_call event ≡ Some p → HasOpenCall before p
+forced_ends_call : (event : Event) (before : List Event) (p : ℕ) → MayFollow refusal before event → forced_call event ≡ Some p → HasOpenCall before p
 forced_ends_call event before p (inl forces) ends = row_ends_call before event p (forced-row before event forces) ends
 forced_ends_call event before p (inr asked) ends = absurd (none-some p (sym (ap forced_call asked.becomes ∙ (asked_plainly before asked.request).0) ∙ ends))
 
@@ -88,7 +89,7 @@ row_unmet journal event p _ ends = absurd (none-some p ends)
 pub cancelled_unmet : (event : Event) (before : List Event) (p : ℕ) → IsLawful (event ∷ before) → event ≡ kind.Cancelled p → is_met before p ≡ false
 cancelled_unmet event before p lawful is = by_row lawful.1
   where
-    by_row : MayFollow before event → is_met before p ≡ false
+    by_row : MayFollow refusal before event → is_met before p ≡ false
     by_row (inl forces) = row_unmet before event p (forced-row before event forces) (ap cancelled_call is)
     by_row (inr asked) = absurd (none-some p (sym (ap cancelled_call asked.becomes ∙ asked_cancels_none before asked.request) ∙ ap cancelled_call is))
 
@@ -124,7 +125,7 @@ row_uncalled journal event p _ ends = absurd (none-some p ends)
 pub plainly_uncalled : (event : Event) (before : List Event) (p : ℕ) → IsLawful (event ∷ before) → passing_in event ≡ Some p → call_at before p ≡ None
 plainly_uncalled event before p lawful ends = by_row lawful.1
   where
-    by_row : MayFollow before event → call_at before p ≡ None
+    by_row : MayFollow refusal before event → call_at before p ≡ None
     by_row (inl forces) = row_uncalled before event p (forced-row before event forces) ends
     by_row (inr asked) = absurd (none-some p (sym (ap passing_in asked.becomes ∙ (asked_plainly before asked.request).1) ∙ ends))
 
@@ -151,7 +152,7 @@ row_leaving journal event c (leaves p e closing at closes leave) says =
     subst (IsLeaving journal) (same_Some p c says) (record { event = e; closing = closing; stands = at; says = closes; ready = leave })
 row_leaving journal event c _ says = absurd (none-some c says)
 
-pub is_leaving : (event : Event) (before : List Event) (c : ℕ) → MayFollow before event → left_in event ≡ Some c → IsLeaving before c
+pub is_leaving : (event : Event) (before : List Event) (c : ℕ) → MayFollow refusal before event → left_in event ≡ Some c → IsLeaving before c
 is_leaving event before c (inl forces) says = row_leaving before event c (forced-row before event forces) says
 is_leaving event before c (inr asked) says = absurd (none-some c (sym (ap left_in asked.becomes ∙ (asked_plainly before asked.request).2) ∙ says))
 

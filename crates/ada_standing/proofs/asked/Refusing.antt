@@ -6,7 +6,7 @@ use Rattle.ada_events.specs.declared.request.Request.{Request}
 use Rattle.ada_events.specs.declared.refusal.Refusal.{Refusal}
 use Rattle.ada_events.specs.declared.refusal.Refusal.TheVariants.{UnknownTask, NotRunning}
 use Rattle.ada_events.specs.Tasks.{task_count}
-use Rattle.ada_events.specs.Refusals.{Cause, cause, first_cause}
+use Rattle.ada_events.specs.Refusals.{Cause, cause, causes, first_cause}
 use Rattle.ada_events.specs.Refusals.{names_unknown_task, asker_not_running}
 use Rattle.ada_laws.specs.Unlimited.{causes_but_limits, refusal_but_limits}
 use Rattle.ada_laws.proofs.asking.Limitless.{lawful_unlimited}
@@ -34,7 +34,7 @@ first_same a false name xs ys same others = rw same (others refl)
 others_alike : (old new : List Event) (names : Renaming) (request : Request) → StandsIn old new names → IsOrderly old → IsOrderly new
     → IsAsking old names request → first_cause (drop 2 (causes_but_limits new (renamed_request names request)))
     ≡ first_cause (drop 2 (causes_but_limits old request))
-unfolding causes_but_limits
+unfolding causes_but_limits causes
 others_alike old new names request stands orderly also asking =
     rw (
       during_alike old new names request stands asking,
@@ -60,7 +60,7 @@ others_alike old new names request stands orderly also asking =
 pub causes_alike : (old new : List Event) (names : Renaming) (request : Request) → StandsIn old new names → IsOrderly old → IsOrderly new
     → task_count new ≤ nobody → names_kept names old request ≡ true
     → refusal_but_limits new (renamed_request names request) ≡ refusal_but_limits old request
-unfolding refusal_but_limits causes_but_limits
+unfolding refusal_but_limits causes_but_limits causes
 causes_alike old new names request stands orderly also few kept =
     first_same (names_unknown_task new (renamed_request names request)) (names_unknown_task old request) UnknownTask
     (drop 1 (causes_but_limits new (renamed_request names request))) (drop 1 (causes_but_limits old request))

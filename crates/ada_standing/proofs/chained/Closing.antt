@@ -19,8 +19,9 @@ use Rattle.ada_events.specs.Asks.{asked_event, member_position}
 use Rattle.ada_events.specs.Refusals.{has_no_block, is_rendezvous}
 use Rattle.ada_events.specs.Termination.{all_terminated}
 use Rattle.ada_events.specs.Forced.{is_to_leave}
+use Rattle.ada_events.specs.Lawful.{MayFollow}
 use Rattle.ada_laws.specs.Suspension.{IsSuspendedAt}
-use Rattle.ada_laws.specs.Unlimited.{IsLawfulUnlimited, MayFollowUnlimited, refusal_but_limits}
+use Rattle.ada_laws.specs.Unlimited.{IsLawfulUnlimited, refusal_but_limits}
 use Rattle.ada_laws.proofs.asking.Limitless.{is_accepted-unlimited}
 use Rattle.ada_laws.proofs.searching.Searching.{event_at-cases, is_number-from}
 use Rattle.ada_laws.proofs.forced.Stepping.{forced-step, pending_parts}
@@ -48,7 +49,7 @@ asked_close journal (request.Close by) k accepted says =
     (innermost_own journal by.0 (innermost (nest journal by.0)) refl (is_accepted-unlimited journal (request.Close by) accepted).in_block)
 asked_close journal _ k accepted says = absurd (none-some k says)
 
-new_close : (event : Event) (before : List Event) (k : Closing) → MayFollowUnlimited before event → closing_in event ≡ Some k
+new_close : (event : Event) (before : List Event) (k : Closing) → MayFollow refusal_but_limits before event → closing_in event ≡ Some k
     → IsOwnBlock before k.by k.block
 new_close event before k (inl forces) says = absurd (none-some k.by (sym (forced-step before event forces).holds_none ∙ held_in-closing event k says))
 new_close event before k (inr asked) says = asked_close before asked.request k asked.accepted (ap closing_in (sym asked.becomes) ∙ says)

@@ -19,8 +19,9 @@ use Rattle.ada_events.specs.Nests.{frame}
 use Rattle.ada_events.specs.Asks.{asker, asked_event}
 use Rattle.ada_events.specs.Outcomes.{raised_in}
 use Rattle.ada_events.specs.Forced.{task_no, is_to_fail, is_to_cancel, is_to_wake, is_to_leave}
+use Rattle.ada_events.specs.Lawful.{MayFollow}
 use Rattle.ada_laws.specs.Suspension.{IsSuspendedAt, HoldsSomebody}
-use Rattle.ada_laws.specs.Unlimited.{IsLawfulUnlimited, MayFollowUnlimited, refusal_but_limits}
+use Rattle.ada_laws.specs.Unlimited.{IsLawfulUnlimited, refusal_but_limits}
 use Rattle.ada_laws.proofs.searching.Searching.{option_or-some, if_some, is_number-some, option_map_or-true, event_at-older, event_at-within, event_at-cases}
 use Rattle.ada_laws.proofs.searching.Growing.{task_count-more}
 use Rattle.ada_laws.proofs.asking.Accepting.{running_live, asker_exists-unlimited}
@@ -75,7 +76,7 @@ row_ends journal e u (goes t below go) says =
     omega (arith, same, below)
 row_ends journal e u _ says = absurd (none-some u says)
 
-tells : (event : Event) (before : List Event) → MayFollowUnlimited before event → TellsBelow (task_count before) event
+tells : (event : Event) (before : List Event) → MayFollow refusal_but_limits before event → TellsBelow (task_count before) event
 tells event before (inl forces) =
     let row = forced-row before event forces in
     record {
@@ -146,7 +147,7 @@ maker_more event before c maker = record {
   within = elim maker.within [ inl body ↦ inl body | inr (p, block, is) ↦ inr (p, block_more event before c.by p block, is) ];
 }
 
-maker_now : (event : Event) (before : List Event) (c : Creation) → MayFollowUnlimited before event → creation_in event ≡ Some c → IsMaker before c
+maker_now : (event : Event) (before : List Event) (c : Creation) → MayFollow refusal_but_limits before event → creation_in event ≡ Some c → IsMaker before c
 maker_now event before c follows says =
     let by = (creation_asked-unlimited event before c follows says).asked in
     record {
@@ -168,7 +169,7 @@ own_lived : (journal : List Event) (task : ℕ) (x : Master) → IsLivedIn journ
 own_lived journal task x (IsLivedIn.body t live) (IsOwn.own_body) = IsLivedIn.body t live
 own_lived journal task x (IsLivedIn.body t live) (IsOwn.own_block p own) = IsLivedIn.block task p live (own_nested journal task p own)
 
-making_now : (event : Event) (before : List Event) (c : Creation) → MayFollowUnlimited before event → creation_in event ≡ Some c → IsMaking before c
+making_now : (event : Event) (before : List Event) (c : Creation) → MayFollow refusal_but_limits before event → creation_in event ≡ Some c → IsMaking before c
 making_now event before c follows says =
     let by = (creation_asked-unlimited event before c follows says).asked in
     let live = live_from before c.by by.exists (active_parts before c.by (running_live before c.by by.runs)).1 in
@@ -229,7 +230,7 @@ asked_releases journal (request.End by raised) x accepted frees =
     subst (HoldsSomebody journal) (same_Some _ x frees) (call_held journal _ (nest_open journal by.0 _ (end_within-unlimited journal by raised accepted)))
 asked_releases journal _ x accepted frees = absurd (none-some x frees)
 
-releases_held : (event : Event) (before : List Event) (x : ℕ) → MayFollowUnlimited before event → released_in event ≡ Some x → HoldsSomebody before x
+releases_held : (event : Event) (before : List Event) (x : ℕ) → MayFollow refusal_but_limits before event → released_in event ≡ Some x → HoldsSomebody before x
 releases_held event before x (inl forces) frees = row_releases before event x (forced-row before event forces) frees
 releases_held event before x (inr asked) frees = asked_releases before asked.request x asked.accepted (ap released_in (sym asked.becomes) ∙ frees)
 
@@ -248,7 +249,7 @@ released_within (event ∷ before) x lawful released =
           omega (arith, within)
     ]
 
-pub follows_fits : (event : Event) (before : List Event) → IsLawfulUnlimited before → MayFollowUnlimited before event → Fits before event
+pub follows_fits : (event : Event) (before : List Event) → IsLawfulUnlimited before → MayFollow refusal_but_limits before event → Fits before event
 follows_fits event before lawful follows = record {
   makers = λ u c says. all_makers before u c lawful says;
   told = λ p e at. all_told before p e lawful at;
@@ -264,7 +265,8 @@ follows_fits event before lawful follows = record {
 
 -- two lawful journals, of which the second stands in for the first, and an event that may follow each
 pub next_of : (old new : List Event) (names : Renaming) (event other : Event) → StandsIn old new names → IsLawfulUnlimited old → IsLawfulUnlimited new
-    → MayFollowUnlimited old event → MayFollowUnlimited new other → renamed_event names event ≡ Some other → AreNext old new names event other
+    → MayFollow refusal_but_limits old event → MayFollow refusal_but_limits new other
+    → renamed_event names event ≡ Some other → AreNext old new names event other
 next_of old new names event other stands lawful lawful_too follows follows_too renamed = record {
   stands = stands;
   orderly = lawful_orderly old lawful;

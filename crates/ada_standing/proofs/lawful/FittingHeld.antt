@@ -22,7 +22,8 @@ use Rattle.ada_events.specs.Nests.{is_left_close, is_wait_of, nest, innermost}
 use Rattle.ada_events.specs.Forced.{is_done_activating, task_no}
 use Rattle.ada_events.specs.Asks.{asker, asked_event, member_position}
 use Rattle.ada_events.specs.Refusals.{is_rendezvous, has_no_block, is_not_activating, may_activate, is_not_your_task, has_double_task}
-use Rattle.ada_laws.specs.Unlimited.{IsLawfulUnlimited, MayFollowUnlimited, refusal_but_limits}
+use Rattle.ada_events.specs.Lawful.{MayFollow}
+use Rattle.ada_laws.specs.Unlimited.{IsLawfulUnlimited, refusal_but_limits}
 use Rattle.ada_laws.proofs.asking.Limitless.{is_accepted-unlimited}
 use Rattle.ada_laws.proofs.asking.Accepting.{running_live, running_started, asker_exists-unlimited, asker_runs-unlimited}
 use Rattle.ada_laws.proofs.searching.Searching.{event_at-cases, event_at-within, is_number-some, option_map_or-true, option_and_then-some}
@@ -51,7 +52,7 @@ use Rattle.ada_standing.proofs.held.Setting.{AreNext}
 
 abbrev SpeaksWithin : (ℕ → Event → Bool) → Type 0
 SpeaksWithin speaks =
-    (event : Event) (before : List Event) (x : ℕ) → IsLawfulUnlimited before → MayFollowUnlimited before event → speaks x event ≡ true
+    (event : Event) (before : List Event) (x : ℕ) → IsLawfulUnlimited before → MayFollow refusal_but_limits before event → speaks x event ≡ true
     → x ≤ length before
 
 spoken_within : (speaks : ℕ → Event → Bool) → SpeaksWithin speaks → (journal : List Event) (x : ℕ) → IsLawfulUnlimited journal
@@ -68,7 +69,7 @@ spoken_within speaks within (event ∷ before) x lawful spoken =
     ]
 
 none_speaks : (speaks : ℕ → Event → Bool) → SpeaksWithin speaks → (event : Event) (before : List Event) → IsLawfulUnlimited before
-    → MayFollowUnlimited before event → list_any (speaks (suc (length before))) (event ∷ before) ≡ false
+    → MayFollow refusal_but_limits before event → list_any (speaks (suc (length before))) (event ∷ before) ≡ false
 none_speaks speaks within event before lawful follows =
     or_from (speaks (suc (length before)) event) (list_any (speaks (suc (length before))) before)
     (false_from_ne_true _ (λ now.
@@ -247,11 +248,11 @@ asked_fails journal (request.Elaborated by false) t accepted says =
 asked_fails journal (request.Elaborated by true) t accepted says = absurd (none-some t says)
 asked_fails journal _ t accepted says = absurd (none-some t says)
 
-fails_activating : (event : Event) (before : List Event) (t : ℕ) → MayFollowUnlimited before event → failed_in event ≡ Some t → IsActivating before t
+fails_activating : (event : Event) (before : List Event) (t : ℕ) → MayFollow refusal_but_limits before event → failed_in event ≡ Some t → IsActivating before t
 fails_activating event before t (inl forces) says = absurd (none-some t (sym (row_fails before event (forced-row before event forces)) ∙ says))
 fails_activating event before t (inr asked) says = asked_fails before asked.request t asked.accepted (ap failed_in (sym asked.becomes) ∙ says)
 
-failing_undone : (event : Event) (before : List Event) (t : ℕ) → MayFollowUnlimited before event → failed_in event ≡ Some t
+failing_undone : (event : Event) (before : List Event) (t : ℕ) → MayFollow refusal_but_limits before event → failed_in event ≡ Some t
     → is_done_activating before (task_no t) ≡ false
 unfolding is_done_activating
 failing_undone event before t follows says =
@@ -294,7 +295,7 @@ asked_starts journal (request.Activate by tasks) s t accepted says among =
     not-true (has_start journal t) (and_parts (is_some_and (creation_of journal t) (λ (c : Creation). eqb c.by by.0)) (not (has_start journal t)) may).1
 asked_starts journal _ s t accepted says among = absurd (none-some s says)
 
-starts_unfailed : (event : Event) (before : List Event) (s : Start) (t : ℕ) → IsLawfulUnlimited before → MayFollowUnlimited before event
+starts_unfailed : (event : Event) (before : List Event) (s : Start) (t : ℕ) → IsLawfulUnlimited before → MayFollow refusal_but_limits before event
     → start_in event ≡ Some s → lists_task t s.tasks ≡ true → has_failed before t ≡ false
 starts_unfailed event before s t lawful (inl forces) says among =
     absurd (none-some s.by (sym (forced-step before event forces).holds_none ∙ held_in-start event s says))
@@ -303,7 +304,7 @@ starts_unfailed event before s t lawful (inr asked) says among =
     true≢false (sym (failed_named before t lawful failed)
     ∙ asked_starts before asked.request s t asked.accepted (ap start_in (sym asked.becomes) ∙ says) among))
 
-pub fits_held : (journal : List Event) (event : Event) → IsLawfulUnlimited journal → MayFollowUnlimited journal event → FitsHeld journal event
+pub fits_held : (journal : List Event) (event : Event) → IsLawfulUnlimited journal → MayFollow refusal_but_limits journal event → FitsHeld journal event
 unfolding is_released is_met is_left_close
 fits_held journal event lawful follows = record {
   unreleased = none_speaks (λ x e. is_number x (released_in e)) releases_within event journal lawful follows;
@@ -320,7 +321,7 @@ fits_held journal event lawful follows = record {
 
 -- one more event of two lawful journals
 pub lawful_next : (old new : List Event) (names : Renaming) (event copy : Event) → StandsIn old new names → IsLawfulUnlimited old
-    → IsLawfulUnlimited new → MayFollowUnlimited old event → MayFollowUnlimited new copy → renamed_event names event ≡ Some copy
+    → IsLawfulUnlimited new → MayFollow refusal_but_limits old event → MayFollow refusal_but_limits new copy → renamed_event names event ≡ Some copy
     → AreNext old new names event copy
 lawful_next old new names event copy stands lawful also follows copied renamed = record {
   stands = stands;

@@ -9,7 +9,8 @@ use Rattle.ada_events.specs.Search.{is_number, is_some_and, event_at}
 use Rattle.ada_events.specs.Says.{Closing, closing_in, left_in}
 use Rattle.ada_events.specs.Nests.{is_left_close, is_left}
 use Rattle.ada_events.specs.Forced.{is_to_leave}
-use Rattle.ada_laws.specs.Unlimited.{IsLawfulUnlimited, MayFollowUnlimited}
+use Rattle.ada_events.specs.Lawful.{MayFollow}
+use Rattle.ada_laws.specs.Unlimited.{IsLawfulUnlimited, refusal_but_limits}
 use Rattle.ada_laws.proofs.searching.Searching.{event_at-cases, event_at-within, any_event-found, any_event-from, is_number-some, option_map_or-true}
 use Rattle.ada_laws.proofs.forced.Rows.{IsRow, forced-row}
 use Rattle.ada_laws.proofs.forced.Rows.IsRow.{leaves}
@@ -29,13 +30,13 @@ row_leaving journal event close (leaves p e closing at says leave) is =
     subst (IsLeaving journal) (same_Some p close is) (record { closed = e; closing = closing; stands = at; says = says; leave = leave })
 row_leaving journal event close _ is = absurd (none-some close is)
 
-pub leaving : (event : Event) (before : List Event) (close : ℕ) → MayFollowUnlimited before event → left_in event ≡ Some close
+pub leaving : (event : Event) (before : List Event) (close : ℕ) → MayFollow refusal_but_limits before event → left_in event ≡ Some close
     → IsLeaving before close
 leaving event before close (inl forces) is = row_leaving before event close (forced-row before event forces) is
 leaving event before close (inr asked) is =
     absurd (none-some close (sym (left_in-asked before asked.request) ∙ (ap left_in (sym asked.becomes) ∙ is)))
 
-leaving_within : (event : Event) (before : List Event) (close : ℕ) → MayFollowUnlimited before event → left_in event ≡ Some close
+leaving_within : (event : Event) (before : List Event) (close : ℕ) → MayFollow refusal_but_limits before event → left_in event ≡ Some close
     → close ≤ length before
 leaving_within event before close follows is =
     let gone = leaving event before close follows is in

@@ -23,7 +23,7 @@ use Rattle.ada_events.specs.Refusals.{has_no_block, is_rendezvous}
 use Rattle.ada_events.specs.Termination.{all_terminated}
 use Rattle.ada_events.specs.Forced.{is_to_leave}
 use Rattle.ada_laws.specs.Masters.{parent_of}
-use Rattle.ada_laws.specs.Unlimited.{IsLawfulUnlimited, MayFollowUnlimited, refusal_but_limits}
+use Rattle.ada_laws.specs.Unlimited.{IsLawfulUnlimited, refusal_but_limits}
 use Rattle.ada_laws.proofs.asking.Limitless.{is_accepted-unlimited}
 use Rattle.ada_laws.proofs.asking.Accepting.{running_free}
 use Rattle.ada_laws.proofs.searching.Searching.{event_at-newest, event_at-within, event_at-cases}
@@ -39,6 +39,7 @@ use Rattle.ada_laws.proofs.within.Innermost.{latest}
 use Rattle.ada_laws.proofs.within.Leaving.{unleft_before}
 use Rattle.ada_laws.proofs.queues.Meeting.{contained_at}
 use Rattle.ada_events.specs.Holders.{is_block}
+use Rattle.ada_events.specs.Lawful.{MayFollow}
 use Rattle.ada_standing.proofs.lawful.Leaving.{Leaves, left_cases}
 use Rattle.ada_events.proofs.Positions.{event_at-other}
 
@@ -94,7 +95,7 @@ asked_close journal (request.Close by) k accepted says =
     (innermost_found journal by.0 (innermost (nest journal by.0)) refl (is_accepted-unlimited journal (request.Close by) accepted).in_block)
 asked_close journal _ k accepted says = absurd (none-some k says)
 
-new_close : (event : Event) (before : List Event) (k : Closing) → MayFollowUnlimited before event → closing_in event ≡ Some k
+new_close : (event : Event) (before : List Event) (k : Closing) → MayFollow refusal_but_limits before event → closing_in event ≡ Some k
     → IsInnermost before k.by k.block
 new_close event before k (inl forces) says = absurd (none-some k.by (sym (forced-step before event forces).holds_none ∙ held_in-closing event k says))
 new_close event before k (inr asked) says = asked_close before asked.request k asked.accepted (ap closing_in (sym asked.becomes) ∙ says)

@@ -13,7 +13,8 @@ use Rattle.ada_events.specs.Tasks.{task_count, has_task}
 use Rattle.ada_events.specs.Phases.{lists_task}
 use Rattle.ada_events.specs.Asks.{asker, asked_event, named_tasks}
 use Rattle.ada_events.specs.Refusals.{names_unknown_task}
-use Rattle.ada_laws.specs.Unlimited.{IsLawfulUnlimited, MayFollowUnlimited, refusal_but_limits}
+use Rattle.ada_events.specs.Lawful.{MayFollow}
+use Rattle.ada_laws.specs.Unlimited.{IsLawfulUnlimited, refusal_but_limits}
 use Rattle.ada_laws.proofs.asking.Limitless.{is_accepted-unlimited}
 use Rattle.ada_laws.proofs.searching.Searching.{event_at-cases}
 use Rattle.ada_laws.proofs.searching.Saying.{held_in-start}
@@ -43,7 +44,7 @@ asked_exist journal (request.Activate by tasks) s u accepted says among =
     all_exist journal tasks u both.1 (ap (λ (x : Start). lists_task u x.tasks) (same_Some _ s says) ∙ among)
 asked_exist journal _ s u accepted says among = absurd (none-some s says)
 
-pub start_exist : (event : Event) (before : List Event) (s : Start) (u : ℕ) → MayFollowUnlimited before event → start_in event ≡ Some s
+pub start_exist : (event : Event) (before : List Event) (s : Start) (u : ℕ) → MayFollow refusal_but_limits before event → start_in event ≡ Some s
     → lists_task u s.tasks ≡ true → u < task_count before
 start_exist event before s u (inl forces) says among =
     absurd (none-some s.by (sym (forced-step before event forces).holds_none ∙ held_in-start event s says))

@@ -6,8 +6,8 @@ use Rattle.std.proofs.lemmas.Option.{none-some, same_Some}
 use Rattle.ada_events.specs.declared.event.Event.{Event}
 use Rattle.ada_events.specs.Forced.{forced}
 use Rattle.ada_events.specs.Asks.{asked_event}
-use Rattle.ada_events.specs.Lawful.{IsSettled, Forces}
-use Rattle.ada_laws.specs.Unlimited.{IsLawfulUnlimited, MayFollowUnlimited}
+use Rattle.ada_events.specs.Lawful.{IsSettled, Forces, MayFollow}
+use Rattle.ada_laws.specs.Unlimited.{IsLawfulUnlimited, refusal_but_limits}
 use Rattle.ada_laws.proofs.forced.Forcing.{settled_same, forces_lawful-unlimited}
 use Rattle.ada_standing.specs.Renaming.{Renaming, renamed_event}
 use Rattle.ada_standing.specs.internal.Next.{next_names}
@@ -93,8 +93,8 @@ leads_alike old new names request old_after new_after stands lawful also settled
     let event = asked_event old request in
     let copy = asked_event new asked in
     let settled_too = none_too (forced old) (forced new) (forced_alike old new names stands lawful also).settled settled in
-    let follows : MayFollowUnlimited old event = inr (record { settled = settled; request = request; accepted = accepted; becomes = refl }) in
-    let copied : MayFollowUnlimited new copy = inr (record { settled = settled_too; request = asked; accepted = accepted_too; becomes = refl }) in
+    let follows : MayFollow refusal_but_limits old event = inr (record { settled = settled; request = request; accepted = accepted; becomes = refl }) in
+    let copied : MayFollow refusal_but_limits new copy = inr (record { settled = settled_too; request = asked; accepted = accepted_too; becomes = refl }) in
     let renamed = asked_renamed old new names request stands (lawful_orderly old lawful) kept accepted in
     led_alike old new names (event ∷ old) (copy ∷ new) (next_names old new event names)
     (GrowAlike.one_more old new names event copy GrowAlike.nothing (next_of old new names event copy stands lawful also follows copied renamed))

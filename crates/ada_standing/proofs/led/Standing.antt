@@ -1,7 +1,7 @@
 -- After one more event of both, the second journal still stands in for the first.
 use Rattle.std.proofs.Common.{◌≡◌, Some, List, ◌∷◌}
 use Rattle.ada_events.specs.declared.event.Event.{Event}
-use Rattle.ada_laws.specs.Unlimited.{IsLawfulUnlimited, MayFollowUnlimited}
+use Rattle.ada_laws.specs.Unlimited.{IsLawfulUnlimited, refusal_but_limits}
 use Rattle.ada_standing.specs.Renaming.{Renaming, renamed_event}
 use Rattle.ada_standing.specs.internal.Next.{next_names}
 use Rattle.ada_standing.specs.StandsIn.{StandsIn}
@@ -12,9 +12,10 @@ use Rattle.ada_standing.proofs.kept.Phases.{completed_kept}
 use Rattle.ada_standing.proofs.kept.Standing.{stands_kept}
 use Rattle.ada_standing.proofs.held.Blocks.{positions_kept, nest_kept}
 use Rattle.ada_standing.proofs.held.Suspending.{held_kept, suspended_kept}
+use Rattle.ada_events.specs.Lawful.{MayFollow}
 
 pub standing_kept : (old new : List Event) (names : Renaming) (event copy : Event) → StandsIn old new names → IsLawfulUnlimited old
-    → IsLawfulUnlimited new → MayFollowUnlimited old event → MayFollowUnlimited new copy → renamed_event names event ≡ Some copy
+    → IsLawfulUnlimited new → MayFollow refusal_but_limits old event → MayFollow refusal_but_limits new copy → renamed_event names event ≡ Some copy
     → StandsIn (event ∷ old) (copy ∷ new) (next_names old new event names)
 standing_kept old new names event copy stands lawful also follows copied renamed =
     let next = next_of old new names event copy stands lawful also follows copied renamed in

@@ -19,6 +19,7 @@ use Rattle.ada_events.specs.Termination.{all_terminated, is_complete, is_abandon
 use Rattle.ada_events.specs.Asks.{asked_event}
 use Rattle.ada_events.specs.Forced.{is_to_halt, is_to_go, is_to_quit, task_no}
 use Rattle.ada_events.specs.Lawful.{IsLawful, MayFollow}
+use Rattle.ada_events.specs.Refusals.{refusal}
 use Rattle.ada_laws.specs.Calls.{IsWaitAt, IsOpenCallAt}
 use Rattle.ada_laws.specs.Suspension.{IsSuspendedAt}
 use Rattle.ada_laws.proofs.searching.Searching.{three_parts, any_event-found, any_event-from, is_number-some, option_map_or-true, event_at-cases}
@@ -70,8 +71,8 @@ row_completes journal event u (halts v below halt) says = subst (λ (n : ℕ). i
 row_completes journal event u _ says = absurd (none-some u says)
 
 -- who is completed while a call of the task is open isn't within its rendezvous
-completed_unmet : (event : Event) (before : List Event) (c : Call) (p : ℕ) → MayFollow before event → IsOpenCallAt before c p → completed_in event ≡ Some c.by
-    → is_met before p ≡ false
+completed_unmet : (event : Event) (before : List Event) (c : Call) (p : ℕ) → MayFollow refusal before event → IsOpenCallAt before c p
+    → completed_in event ≡ Some c.by → is_met before p ≡ false
 unfolding is_to_halt
 completed_unmet event before c p (inl forces) opened says =
     let halt = three_parts (is_abnormal before c.by) (has_ended before c.by) (is_caller_in_rendezvous before c.by)
@@ -143,7 +144,7 @@ quit_in-asked journal (request.Open by) = refl
 quit_in-asked journal _ = refl
 
 -- the dependents of a master quit only by the row on it
-pub quitting : (event : Event) (before : List Event) (m : Master) → MayFollow before event → quit_in event ≡ Some m → is_to_quit before m ≡ true
+pub quitting : (event : Event) (before : List Event) (m : Master) → MayFollow refusal before event → quit_in event ≡ Some m → is_to_quit before m ≡ true
 quitting event before m (inl forces) says = row_quits before event m (forced-row before event forces) says
 quitting event before m (inr asked) says = absurd (none-some m (sym (ap quit_in asked.becomes ∙ quit_in-asked before asked.request) ∙ says))
 

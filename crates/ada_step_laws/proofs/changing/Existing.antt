@@ -37,7 +37,7 @@ unfolding completed_in
 row_completed journal event u (halts v below halt) says = subst (λ (n : ℕ). n < task_count journal) (same_Some v u says) below
 row_completed journal event u _ says = absurd (none-some u says)
 
-pub completed_exists : (event : Event) (before : List Event) (u : ℕ) → MayFollow before event → completed_in event ≡ Some u → u < task_count before
+pub completed_exists : (event : Event) (before : List Event) (u : ℕ) → MayFollow refusal before event → completed_in event ≡ Some u → u < task_count before
 completed_exists event before u (inl forces) says = row_completed before event u (forced-row before event forces) says
 completed_exists event before u (inr asked) says =
     asker_exists before asked.request u asked.accepted (asked_completes before asked.request u (ap completed_in (sym asked.becomes) ∙ says))
@@ -47,16 +47,16 @@ unfolding gone_in
 row_gone journal event u (goes v below go) says = subst (λ (n : ℕ). n < task_count journal) (same_Some v u says) below
 row_gone journal event u _ says = absurd (none-some u says)
 
-pub gone_exists : (event : Event) (before : List Event) (u : ℕ) → MayFollow before event → gone_in event ≡ Some u → u < task_count before
+pub gone_exists : (event : Event) (before : List Event) (u : ℕ) → MayFollow refusal before event → gone_in event ≡ Some u → u < task_count before
 gone_exists event before u (inl forces) says = row_gone before event u (forced-row before event forces) says
 gone_exists event before u (inr asked) says = absurd (none-some u (sym (ap gone_in asked.becomes ∙ gone_in-asked before asked.request) ∙ says))
 
-pub elaborated_exists : (event : Event) (before : List Event) (u : ℕ) → MayFollow before event → elaborated_in event ≡ Some u → u < task_count before
+pub elaborated_exists : (event : Event) (before : List Event) (u : ℕ) → MayFollow refusal before event → elaborated_in event ≡ Some u → u < task_count before
 elaborated_exists event before u (inl forces) says = absurd (none-some u (sym (row_elaborates before event (forced-row before event forces)) ∙ says))
 elaborated_exists event before u (inr asked) says =
     asker_exists before asked.request u asked.accepted (asked_elaborates before asked.request u (ap elaborated_in (sym asked.becomes) ∙ says))
 
-pub raiser_exists : (event : Event) (before : List Event) (u : ℕ) → MayFollow before event → raised_in event ≡ Some u → u < task_count before
+pub raiser_exists : (event : Event) (before : List Event) (u : ℕ) → MayFollow refusal before event → raised_in event ≡ Some u → u < task_count before
 raiser_exists event before u (inl forces) says = absurd (none-some u (sym (row-raises_none before event (forced-row before event forces)) ∙ says))
 raiser_exists event before u (inr asked) says =
     asker_exists before asked.request u asked.accepted (raised_in-asked before asked.request u (ap raised_in (sym asked.becomes) ∙ says))
@@ -75,15 +75,15 @@ unfolding asked_event asker
 asked_ends journal (request.End by raised) u says = says
 asked_ends journal _ u says = absurd (none-some u says)
 
-pub ender_exists : (event : Event) (before : List Event) (by : TaskNo) (call : ℕ) (raised : Bool) → MayFollow before event → event ≡ kind.Ended by call raised
-    → by.0 < task_count before
+pub ender_exists : (event : Event) (before : List Event) (by : TaskNo) (call : ℕ) (raised : Bool) → MayFollow refusal before event
+    → event ≡ kind.Ended by call raised → by.0 < task_count before
 ender_exists event before by call raised (inl forces) is =
     absurd (none-some by.0 (sym (row_ends_none before event (forced-row before event forces)) ∙ ap ender_in is))
 ender_exists event before by call raised (inr asked) is =
     asker_exists before asked.request by.0 asked.accepted (asked_ends before asked.request by.0 (ap ender_in (sym asked.becomes) ∙ ap ender_in is))
 
 -- whom an event ends exists
-pub ends_exists : (event : Event) (before : List Event) (u : ℕ) → MayFollow before event → ends event before u ≡ true → u < task_count before
+pub ends_exists : (event : Event) (before : List Event) (u : ℕ) → MayFollow refusal before event → ends event before u ≡ true → u < task_count before
 ends_exists event before u follows ended =
     elim (or_cases (is_number u (completed_in event)) (is_number u (gone_in event) || option_map_or (depends_on before u) (quit_in event) false) ended) [
       | inl completes ↦ completed_exists event before u follows (is_number-some u (completed_in event) completes)
@@ -110,7 +110,8 @@ asked_starts journal (request.Activate by tasks) accepted =
 asked_starts journal _ accepted = refl
 
 -- the tasks that a start names exist
-starts_known : (event : Event) (before : List Event) → MayFollow before event → list_any (λ (t : TaskNo). not (has_task before t.0)) (started_in event) ≡ false
+starts_known : (event : Event) (before : List Event) → MayFollow refusal before event
+    → list_any (λ (t : TaskNo). not (has_task before t.0)) (started_in event) ≡ false
 starts_known event before (inl forces) = rw (row_starts before event (forced-row before event forces)) refl
 starts_known event before (inr asked) =
     ap (λ (e : Event). list_any (λ (t : TaskNo). not (has_task before t.0)) (started_in e)) asked.becomes ∙ asked_starts before asked.request asked.accepted
@@ -125,7 +126,7 @@ known_at journal (t ∷ rest) (suc k) d known below =
     known_at journal rest k d (or_parts (not (has_task journal t.0)) (list_any (λ (u : TaskNo). not (has_task journal u.0)) rest) known).1
     (omega (arith, below))
 
-pub started_at_exists : (event : Event) (before : List Event) (k : ℕ) (d : TaskNo) → MayFollow before event → k < length (started_in event)
+pub started_at_exists : (event : Event) (before : List Event) (k : ℕ) (d : TaskNo) → MayFollow refusal before event → k < length (started_in event)
     → (get_or (started_in event) k d).0 < task_count before
 started_at_exists event before k d follows below = known_at before (started_in event) k d (starts_known event before follows) below
 
@@ -140,7 +141,8 @@ known_listed journal (t ∷ rest) u known lists =
       | inr later ↦ known_listed journal rest u parts.1 later
     ]
 
-pub started_exists : (event : Event) (before : List Event) (u : ℕ) → MayFollow before event → lists_task u (started_in event) ≡ true → u < task_count before
+pub started_exists : (event : Event) (before : List Event) (u : ℕ) → MayFollow refusal before event → lists_task u (started_in event) ≡ true
+    → u < task_count before
 started_exists event before u follows lists = known_listed before (started_in event) u (starts_known event before follows) lists
 
 -- positions count from 1

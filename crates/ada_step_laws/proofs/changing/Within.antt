@@ -37,7 +37,7 @@ row_within journal e p (activates q f start ok at says pending done is_ok) frees
 row_within journal e p (leaves q f closing at says leave) frees = rw (← same_Some q p frees) (event_at-within journal q f at)
 row_within journal e p _ frees = absurd (none-some p frees)
 
-pub releases_within : (event : Event) (before : List Event) (p : ℕ) → MayFollow before event → released_in event ≡ Some p → p ≤ length before
+pub releases_within : (event : Event) (before : List Event) (p : ℕ) → MayFollow refusal before event → released_in event ≡ Some p → p ≤ length before
 releases_within event before p (inl forces) frees = row_within before event p (forced-row before event forces) frees
 releases_within event before p (inr asked) frees = asked_within before asked.request p asked.accepted (ap released_in (sym asked.becomes) ∙ frees)
 

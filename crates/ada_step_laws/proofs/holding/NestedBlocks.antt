@@ -298,7 +298,7 @@ asked_close journal (request.Close by) k accepted says =
     (innermost_found journal by.0 (innermost (nest journal by.0)) refl (is_accepted journal (request.Close by) accepted).in_block)
 asked_close journal _ k accepted says = absurd (none-some k says)
 
-new_close : (event : Event) (before : List Event) (k : Closing) → MayFollow before event → closing_in event ≡ Some k → IsInnermost before k.by k.block
+new_close : (event : Event) (before : List Event) (k : Closing) → MayFollow refusal before event → closing_in event ≡ Some k → IsInnermost before k.by k.block
 new_close event before k (inl forces) says = absurd (none-some k.by (sym (forced-step before event forces).holds_none ∙ held_in-closing event k says))
 new_close event before k (inr asked) says = asked_close before asked.request k asked.accepted (ap closing_in (sym asked.becomes) ∙ says)
 
@@ -368,7 +368,7 @@ row_leaving journal event c e k (leaves p f closing at closes leave) says stands
 row_leaving journal event c e k _ says stands closed = absurd (none-some c says)
 
 -- a block is left where its close is pending and all of its dependents are terminated
-pub leaves_ready : (event : Event) (before : List Event) (p : ℕ) → MayFollow before event → (gone : Leaves event before p)
+pub leaves_ready : (event : Event) (before : List Event) (p : ℕ) → MayFollow refusal before event → (gone : Leaves event before p)
     → is_to_leave before gone.at gone.closing ≡ true
 leaves_ready event before p (inl forces) gone =
     row_leaving before event gone.at gone.closed gone.closing (forced-row before event forces) gone.leaves gone.stands gone.says

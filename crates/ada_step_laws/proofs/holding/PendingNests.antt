@@ -154,7 +154,7 @@ asked_close journal (request.Close by) k accepted says =
     (innermost_is (innermost (nest journal by.0)) (is_accepted journal (request.Close by) accepted).in_block)
 asked_close journal _ k accepted says = absurd (none-some k says)
 
-new_close : (event : Event) (before : List Event) (k : Closing) → MayFollow before event → closing_in event ≡ Some k
+new_close : (event : Event) (before : List Event) (k : Closing) → MayFollow refusal before event → closing_in event ≡ Some k
     → innermost (nest before k.by) ≡ Some (Block k.block)
 new_close event before k (inl forces) says = absurd (none-some k.by (sym (forced-step before event forces).holds_none ∙ held_in-closing event k says))
 new_close event before k (inr asked) says = asked_close before asked.request k asked.accepted (ap closing_in (sym asked.becomes) ∙ says)
@@ -236,7 +236,7 @@ asked_wait journal (request.Wait by choices tail pick) w accepted says =
     (leb-false MOST_MEMBERS (length (nest journal by.0)) (is_accepted journal (request.Wait by choices tail pick) accepted).not_deep)
 asked_wait journal _ w accepted says = absurd (none-some w says)
 
-new_wait : (event : Event) (before : List Event) (w : Wait) → MayFollow before event → wait_in event ≡ Some w → length (nest before w.by) < MOST_MEMBERS
+new_wait : (event : Event) (before : List Event) (w : Wait) → MayFollow refusal before event → wait_in event ≡ Some w → length (nest before w.by) < MOST_MEMBERS
 new_wait event before w (inl forces) says = absurd (none-some w.by (sym (forced-step before event forces).holds_none ∙ held_in-wait event w says))
 new_wait event before w (inr asked) says = asked_wait before asked.request w asked.accepted (ap wait_in (sym asked.becomes) ∙ says)
 
@@ -275,7 +275,7 @@ asked_alone journal (request.Wait by choices (Delays pauses) pick) w accepted sa
     absurd (false≢true (ap (λ (x : Wait). is_open_terminate x.tail) (same_Some _ w says) ∙ opens))
 asked_alone journal _ w accepted says opens = absurd (none-some w says)
 
-new_alone : (event : Event) (before : List Event) (w : Wait) → MayFollow before event → wait_in event ≡ Some w → is_open_terminate w.tail ≡ true
+new_alone : (event : Event) (before : List Event) (w : Wait) → MayFollow refusal before event → wait_in event ≡ Some w → is_open_terminate w.tail ≡ true
     → list_any is_rendezvous (nest before w.by) ≡ false
 new_alone event before w (inl forces) says opens =
     absurd (none-some w.by (sym (forced-step before event forces).holds_none ∙ held_in-wait event w says))

@@ -16,6 +16,7 @@ use Rattle.ada_events.specs.Calls.{is_met, is_open_at, is_queued_at}
 use Rattle.ada_events.specs.Forced.{is_to_fail, is_to_cancel, forced}
 use Rattle.ada_events.specs.Termination.{is_at_open_terminate, is_ready_to_quit}
 use Rattle.ada_events.specs.Lawful.{IsLawful, MayFollow}
+use Rattle.ada_events.specs.Refusals.{refusal}
 use Rattle.ada_laws.specs.Calls.{IsCallAt, IsWaitAt}
 use Rattle.ada_laws.specs.Suspension.{IsSuspendedAt}
 use Rattle.ada_laws.proofs.searching.Searching.{option_map_or-true}
@@ -144,7 +145,7 @@ unfolding asked_event
 unasked journal (request.Open by) = refl
 unasked journal _ = refl
 
-answer_forced : (journal : List Event) (e : Event) → MayFollow journal e → is_answer e ≡ true → forced journal ≡ Some e
+answer_forced : (journal : List Event) (e : Event) → MayFollow refusal journal e → is_answer e ≡ true → forced journal ≡ Some e
 answer_forced journal e (inl forces) answers = forces
 answer_forced journal e (inr asked) answers =
     absurd (false≢true (sym (unasked journal asked.request) ∙ (ap is_answer (sym asked.becomes) ∙ answers)))

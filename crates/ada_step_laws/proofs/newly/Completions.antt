@@ -236,7 +236,7 @@ asked_itself journal (request.Elaborated by ok) task accepted says =
     subst (λ (n : ℕ). RunsAlone journal n) same (record { runs = asker_runs journal (request.Elaborated by ok) by.0 accepted refl; bare = bare })
 asked_itself journal _ task accepted says = absurd (none-some task says)
 
-runs_alone : (e : Event) (before : List Event) (task : ℕ) → MayFollow before e → completes_itself e ≡ Some task → RunsAlone before task
+runs_alone : (e : Event) (before : List Event) (task : ℕ) → MayFollow refusal before e → completes_itself e ≡ Some task → RunsAlone before task
 runs_alone e before task (inl forces) says = absurd (none-some task (sym (row_itself before e (forced-row before e forces)) ∙ says))
 runs_alone e before task (inr asked) says = asked_itself before asked.request task asked.accepted (ap completes_itself (sym asked.becomes) ∙ says)
 

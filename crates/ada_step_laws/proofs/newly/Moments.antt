@@ -17,7 +17,7 @@ use Rattle.ada_events.specs.Search.{is_some_and, event_at}
 use Rattle.ada_events.specs.Says.{Call, Wait, Delay, call_in, wait_in, delay_in, moment_in}
 use Rattle.ada_events.specs.Tasks.{moment}
 use Rattle.ada_events.specs.Calls.{is_pending, is_open_at, is_queued_at}
-use Rattle.ada_events.specs.Waits.{has_open_delay, is_due, least_due, taken_delay, way_of}
+use Rattle.ada_events.specs.Waits.{has_open_delay, is_due, least_due, tail_due, taken_delay, way_of}
 use Rattle.ada_events.specs.Forced.{is_conditional, is_to_cancel, passed_at, is_to_wake}
 use Rattle.ada_laws.proofs.searching.Searching.{then_some-some, if_some, option_map-some, option_map_or-true}
 use Rattle.ada_laws.proofs.searching.Saying.{held_in-call, held_in-wait, held_in-delay}
@@ -26,7 +26,7 @@ use Rattle.ada_step_laws.proofs.rows.TakenCalls.{pending_before}
 use Rattle.ada_step_laws.proofs.rows.TouchedKeys.{queued_before}
 use Rattle.ada_step_laws.specs.declared.row.Row.{Row}
 use Rattle.ada_step_laws.specs.declared.row.Row.TheVariants.{Cancelling, Passing, Waking}
-use Rattle.ada_step_laws.specs.Kinds.{tail_due, due_in, due_row, ComesDue}
+use Rattle.ada_step_laws.specs.Kinds.{due_in, due_row, ComesDue}
 use Rattle.ada_step_laws.proofs.newly.Waiting.{suspended_since}
 
 -- the moment that a call, a wait and a delay wait for

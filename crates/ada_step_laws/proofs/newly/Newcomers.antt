@@ -12,6 +12,7 @@ use Rattle.ada_events.specs.Phases.{is_terminated, is_abnormal}
 use Rattle.ada_events.specs.Termination.{is_ready_to_quit}
 use Rattle.ada_events.specs.Forced.{is_to_quit}
 use Rattle.ada_events.specs.Lawful.{IsLawful, MayFollow}
+use Rattle.ada_events.specs.Refusals.{refusal}
 use Rattle.ada_laws.proofs.searching.Growing.{task_count-more}
 use Rattle.ada_laws.proofs.forced.Rows.IsRow.{goes}
 use Rattle.ada_laws.proofs.held.Suspending.{suspended_before, suspended_exists}
@@ -35,7 +36,7 @@ only_makes (event.Created by under master families) c says = record { goes = ref
 only_makes _ c says = absurd (none-some c says)
 
 -- a terminated task exists
-end_exists : (e : Event) (before : List Event) (task : ℕ) → MayFollow before e → (is_terminated before task ≡ true → task < task_count before)
+end_exists : (e : Event) (before : List Event) (task : ℕ) → MayFollow refusal before e → (is_terminated before task ≡ true → task < task_count before)
     → IsEnd e before task → task < task_count before
 end_exists e before task follows was (alone gone) = gone_exists e before task follows gone
 end_exists e before task follows was (together m quit depends) = depends_exists before task m depends

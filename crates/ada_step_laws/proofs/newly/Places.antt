@@ -85,7 +85,7 @@ asked_closing journal (request.Close by) c accepted says =
     (innermost_within journal by.0 (innermost (nest journal by.0)) refl (is_accepted journal (request.Close by) accepted).in_block))
 asked_closing journal _ c accepted says = absurd (none-some c says)
 
-pub closing_open : (e : Event) (before : List Event) (c : Closing) → MayFollow before e → closing_in e ≡ Some c → IsOwnBlock before c.by c.block
+pub closing_open : (e : Event) (before : List Event) (c : Closing) → MayFollow refusal before e → closing_in e ≡ Some c → IsOwnBlock before c.by c.block
 closing_open e before c (inl forces) says = absurd (none-some c.by (sym (forced-step before e forces).holds_none ∙ held_in-closing e c says))
 closing_open e before c (inr asked) says = asked_closing before asked.request c asked.accepted (ap closing_in (sym asked.becomes) ∙ says)
 
@@ -130,7 +130,7 @@ row_pending journal e q (leaves p d k at says leave) left =
     )
 row_pending journal e q _ left = absurd (none-some q left)
 
-leaving_suspended : (e : Event) (before : List Event) (q : ℕ) → MayFollow before e → left_in e ≡ Some q
+leaving_suspended : (e : Event) (before : List Event) (q : ℕ) → MayFollow refusal before e → left_in e ≡ Some q
     → (d : Event) × (k : Closing) × (event_at before q ≡ Some d) × (closing_in d ≡ Some k) × (is_pending before q k.by ≡ true)
 leaving_suspended e before q (inl forces) left = row_pending before e q (forced-row before e forces) left
 leaving_suspended e before q (inr asked) left =

@@ -14,6 +14,7 @@ use Rattle.ada_events.specs.Masters.{depends_on}
 use Rattle.ada_events.specs.Phases.{is_abnormal}
 use Rattle.ada_events.specs.Termination.{is_ready_to_quit}
 use Rattle.ada_events.specs.Lawful.{IsLawful, MayFollow}
+use Rattle.ada_events.specs.Refusals.{refusal}
 use Rattle.ada_laws.specs.Calls.{IsCallAt}
 use Rattle.ada_laws.proofs.searching.Searching.{is_number-some}
 use Rattle.ada_laws.proofs.forced.Rows.{IsRow, forced-row}
@@ -137,7 +138,7 @@ unfolding released_in asked_event
 asked_frees journal (request.End by raised) x says = refl
 asked_frees journal _ x says = absurd (none-some x says)
 
-pub no_call : (e : Event) (before : List Event) (x : ℕ) (call : Call) → MayFollow before e → released_in e ≡ Some x → frees_call e ≡ false
+pub no_call : (e : Event) (before : List Event) (x : ℕ) (call : Call) → MayFollow refusal before e → released_in e ≡ Some x → frees_call e ≡ false
     → IsCallAt before call x → ⊥
 no_call e before x call (inl forces) releases other called = row_no_call before e x call (forced-row before e forces) releases other called
 no_call e before x call (inr asked) releases other called =

@@ -54,7 +54,7 @@ opener_named (event ∷ before) task p lawful block =
     ]
 
 -- who is suspended
-held_runs : (event : Event) (before : List Event) (task : ℕ) → MayFollow before event → held_in event ≡ Some task → is_running before task ≡ true
+held_runs : (event : Event) (before : List Event) (task : ℕ) → MayFollow refusal before event → held_in event ≡ Some task → is_running before task ≡ true
 held_runs event before task (inl forces) holds = absurd (none-some task (sym (forced-step before event forces).holds_none ∙ holds))
 held_runs event before task (inr asked) holds =
     asker_runs before asked.request task asked.accepted (held_in-asked before asked.request task (ap held_in (sym asked.becomes) ∙ holds))
@@ -132,7 +132,7 @@ asked_start journal (request.Activate by tasks) s t accepted says named =
     subst (λ (x : Start). IsMadeBy journal t.0 x.by) same (record { creation = c; made = made; by = eqb-true c.by by.0 is })
 asked_start journal _ s t accepted says named = absurd (none-some s says)
 
-start_asked : (event : Event) (before : List Event) (s : Start) (t : TaskNo) → MayFollow before event → start_in event ≡ Some s → Contains s.tasks t
+start_asked : (event : Event) (before : List Event) (s : Start) (t : TaskNo) → MayFollow refusal before event → start_in event ≡ Some s → Contains s.tasks t
     → IsMadeBy before t.0 s.by
 start_asked event before s t (inl forces) says named =
     absurd (none-some s.by (sym (forced-step before event forces).holds_none ∙ held_in-start event s says))

@@ -15,6 +15,7 @@ use Rattle.ada_events.specs.Phases.{has_start, is_completed, is_terminated, has_
 use Rattle.ada_events.specs.Forced.{is_to_go, is_to_quit}
 use Rattle.ada_events.specs.Termination.{all_terminated, is_complete, is_abandoned}
 use Rattle.ada_events.specs.Lawful.{MayFollow}
+use Rattle.ada_events.specs.Refusals.{refusal}
 use Rattle.ada_laws.proofs.searching.Searching.{option_map_or-true}
 use Rattle.ada_laws.proofs.searching.Growing.{has_ended-completed}
 use Rattle.ada_laws.proofs.forced.Rows.{forced-row}
@@ -28,12 +29,12 @@ unfolding gone_in quit_in asked_event
 asked_neither journal (request.Open by) = (refl, refl)
 asked_neither journal _ = (refl, refl)
 
-pub gone_goes : (e : Event) (before : List Event) (task : ℕ) → MayFollow before e → gone_in e ≡ Some task → is_to_go before task ≡ true
+pub gone_goes : (e : Event) (before : List Event) (task : ℕ) → MayFollow refusal before e → gone_in e ≡ Some task → is_to_go before task ≡ true
 gone_goes e before task (inl forces) says = row_going before e task (forced-row before e forces) says
 gone_goes e before task (inr asked) says =
     absurd (none-some task (sym (asked_neither before asked.request).0 ∙ (ap gone_in (sym asked.becomes) ∙ says)))
 
-pub quit_quits : (e : Event) (before : List Event) (m : Master) → MayFollow before e → quit_in e ≡ Some m → is_to_quit before m ≡ true
+pub quit_quits : (e : Event) (before : List Event) (m : Master) → MayFollow refusal before e → quit_in e ≡ Some m → is_to_quit before m ≡ true
 quit_quits e before m (inl forces) says = row_quits before e m (forced-row before e forces) says
 quit_quits e before m (inr asked) says =
     absurd (none-some m (sym (asked_neither before asked.request).1 ∙ (ap quit_in (sym asked.becomes) ∙ says)))

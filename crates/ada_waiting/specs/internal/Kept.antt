@@ -3,11 +3,11 @@ use Rattle.std.specs.Prelude.{◌==◌, if◌then◌else◌, ℤ, Option, Some, 
 use Rattle.std.specs.Option.{option_and_then}
 use Rattle.ada_events.specs.declared.event.Event.{Event}
 use Rattle.ada_events.specs.Search.{event_at}
+use Rattle.ada_events.specs.Waits.{due_by}
 use Rattle.ada_records.specs.declared.record.Record.{Record}
 use Rattle.ada_waiting.specs.declared.reasons.Reason.{Reason}
 use Rattle.ada_waiting.specs.declared.reasons.Reason.TheVariants as reason
 use Rattle.ada_waiting.specs.Reasons.{reason_by}
-use Rattle.ada_waiting.specs.Standstill.{due_by}
 
 -- of a task that hasn't ended
 abbrev pub live_reason : List Event → Record → Option Reason
