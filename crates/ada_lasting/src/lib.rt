@@ -5,6 +5,7 @@
 
 pub mod asking;
 pub mod awaited;
+pub mod clock;
 pub mod failure;
 pub mod forgetting;
 pub mod kernel;
