@@ -1,6 +1,6 @@
 //! Replaying a script: from the bytes that are read to the bytes that are written.
-ghost use Rattle.std.specs.Prelude.{IfOk, IfErr};
-ghost use Rattle.ada_script.specs.Script.{IsScript};
+ghost use Rattle.std.specs.Prelude.{◌≡◌, IfOk, IfErr};
+ghost use Rattle.ada_script.specs.Script.{IsScript, scope_of};
 ghost use Rattle.ada_replay.specs.Input.{most_bytes, TakesAtMost};
 ghost use Rattle.ada_replay.specs.Play.{Plays};
 ghost use Rattle.ada_replay.specs.Ends.{IsShortage, IsCutShort};
@@ -10,7 +10,7 @@ use crate::input::read_input;
 use crate::play::play;
 use crate::{Ending, RunFault};
 use ada_kernel::Kernel;
-use ada_script::{Cause, Script, ScriptFault, read};
+use ada_script::{Cause, Line, Names, Script, ScriptFault, read};
 use std::alloc::Global;
 use std::io::{Read, Write};
 
@@ -93,10 +93,27 @@ fn replay_script<W: Write>(
     let Ok((lines, mut names)) = script.into_parts() else {
         return Err(RunFault::Memory);
     };
+    replay_lines(alloc, &lines, &mut names, writer)
+}
+
+// Plays the lines of a script on a kernel of their own.
+fn replay_lines<W: Write>(
+    alloc: Global,
+    lines: &[Line],
+    names: &mut Names,
+    writer: &mut W,
+) -> Result<Ending, RunFault>
+    requires { names.old ≡ scope_of lines.now }
+    ensures ok { IfOk result (λ ending.
+        IsScriptReplayed ending lines.now (W.contents writer.old) (W.contents writer.new)) }
+    ensures err { IfErr result (λ fault. IsShortage fault
+        × IsCutShort (Plays lines.now (beginning lines.now)) (W.contents writer.old)
+        (W.contents writer.new)) }
+{
     let Ok(mut kernel) = Kernel::new(alloc) else {
         return Err(RunFault::Memory);
     };
-    match play(alloc, &mut kernel, &mut names, &lines, writer) {
+    match play(alloc, &mut kernel, names, lines, writer) {
         Ok(()) => Ok(ending_of(&kernel)),
         Err(fault) => Err(fault),
     }

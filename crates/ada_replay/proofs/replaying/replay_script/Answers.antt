@@ -4,6 +4,3 @@ use Rattle.ada_replay.proofs.replaying.replay_script.Goals as goal
 
 pub returns-in_default-clause-err : goal.returns-in_default-clause-err
 returns-in_default-clause-err g c = (inl refl, nothing_played c.args.script (g.W.Write.contents c.args.writer.now))
-
-pub returns-in_default-new-clause-err : goal.returns-in_default-new-clause-err
-returns-in_default-new-clause-err g c = (inl refl, nothing_played c.args.script (g.W.Write.contents c.args.writer.now))
