@@ -2,12 +2,12 @@
 use Rattle.std.specs.Prelude.{◌≡◌, ℕ}
 use Rattle.ada_statements.specs.declared.fault.Cause.TheVariants as causes
 use Rattle.ada_statements.specs.declared.statement.Statement.{Statement}
-use Rattle.ada_replay.specs.Play.{PlayState}
+use Rattle.ada_replay.specs.Play.{PlayState, Refuses}
 use Rattle.adascope.specs.declared.judgement.Judgement.{Judgement}
 use Rattle.adascope.specs.declared.judgement.Judgement.TheVariants.{Refused, Faulty}
 use Rattle.adascope.specs.declared.judgement.Stop.{Stop}
 use Rattle.adascope.specs.declared.judgement.Stop.TheVariants as stops
-use Rattle.adascope.specs.Lines.{declared, Refuses}
+use Rattle.adascope.specs.Lines.{declared}
 
 -- a statement is refused once its name is declared, or memory was refused
 abbrev pub IsTurnedDown : Statement → PlayState → Stop → PlayState → Type 0
