@@ -43,7 +43,7 @@ grows_by line old new (Refused cause) said None answers = ([], ap (λ (s : PlayS
 grows_by line old new (Shown value) said None answers = ([], ap (λ (s : PlayState). s.journal) answers.0)
 grows_by line old new (Group first last) said (Some request) answers =
     let asked : Event = asked_event old.journal request in
-    let (steps, is) = forces_keeps (asked ∷ old.journal) new.journal answers.says.after.forces in
+    let (steps, is) = forces_keeps (asked ∷ old.journal) new.journal answers.leads.after.forces in
     (steps ++ asked ∷ [], is ∙ sym (append_assoc steps (asked ∷ []) old.journal))
 grows_by line old new (Refused cause) said (Some request) answers = ([], ap (λ (s : PlayState). s.journal) answers.unchanged)
 grows_by line old new (Shown value) said (Some request) answers = absurd answers
@@ -88,11 +88,11 @@ prints_group line events kept names bound text more first last made answer bound
     let names_are : bound ≡ new.names =
     bound_is ∙ ap (λ n. bind n line.statement first made) (sym named) ∙ ap (λ (l : Line). bind old.names l.statement first made) (sym same)
     ∙ ap (λ k. bind old.names given.line.statement k made) group.first_is
-    ∙ ap (λ t. bind old.names given.line.statement (length old.journal + 1) t) made_is ∙ sym group.says.bound in
+    ∙ ap (λ t. bind old.names given.line.statement (length old.journal + 1) t) made_is ∙ sym group.leads.bound in
     let journal_is : reverse (take last events) ≡ new.journal = first_of events new.journal last continues group.last_is in
     let said_is : group_text bound kept.events (reverse (take last events)) ≡ said =
     ap (λ n. group_text n kept.events (reverse (take last events))) names_are ∙ ap (λ k. group_text new.names k (reverse (take last events))) given.events
-    ∙ ap (λ j. group_text new.names (length old.journal) j) journal_is ∙ sym group.says.printed in
+    ∙ ap (λ j. group_text new.names (length old.journal) j) journal_is ∙ sym group.printed in
     (printed ∙ ap (λ t. text ++ t) said_is, names_are)
 
 value_of : (line : Line) (old new : PlayState) (value : Value) (said : List ℕ) (asked : Option Request)

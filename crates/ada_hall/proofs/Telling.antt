@@ -1,7 +1,6 @@
 -- The history of a hall: what goes on, and one more answer.
-use Rattle.std.proofs.Common.{◌≡◌, ℕ, true, Option, Some, None, List, [], ◌∷◌, ◌++◌, length}
+use Rattle.std.proofs.Common.{◌≡◌, ℕ, true, Option, Some, List, [], ◌∷◌, ◌++◌, length}
 use Rattle.std.proofs.Common.{refl, sym, ap, subst, ◌∙◌, append_assoc, append-nil, inl, inr, MatchOption}
-use Rattle.std.proofs.lemmas.Bool.{false≢true}
 use Rattle.std.specs.Prelude.{slice_get}
 use Rattle.ada_events.specs.declared.event.Event.{Event}
 use Rattle.ada_events.specs.declared.names.TaskNo.{TaskNo}
@@ -17,12 +16,10 @@ use Rattle.ada_laws.proofs.forced.Forcing.{forces_keeps}
 use Rattle.ada_script.specs.declared.script.Line.{Line}
 use Rattle.ada_statements.specs.Scope.{Scope}
 use Rattle.ada_statements.specs.Binding.{bind, is_show, request_of}
-use Rattle.ada_statements.specs.declared.statement.Statement.{Statement}
-use Rattle.ada_statements.specs.declared.statement.Statement.TheVariants.{Tick, Open, Create, Activate, Up, Fail, Call, CallWithin, Try, Accept, Select, End}
-use Rattle.ada_statements.specs.declared.statement.Statement.TheVariants.{Raise, Close, Delay, Complete, Abort, ShowCallable, ShowTerminated, ShowCount}
 use Rattle.ada_printing.specs.Texts.{refusal_text, shown_text}
 use Rattle.ada_replay.specs.Play.{PlayState, group_text}
 use Rattle.ada_replay.specs.Replay.{beginning}
+use Rattle.ada_replay.proofs.Saying.{asks_nothing}
 use Rattle.ada_replay.specs.declared.answer.Answer.{Answer}
 use Rattle.ada_replay.specs.declared.answer.Answer.TheVariants.{Group, Refused, Shown}
 use Rattle.ada_hall.specs.declared.answer.KeptAnswer.{KeptAnswer}
@@ -95,13 +92,13 @@ pub answers_group : (line : Line) (request : Request) (old new : PlayState) (fir
 answers_group line request old new first last made asks accepted number bound last_is = (
   group_text new.names (length old.journal) new.journal,
   asks_it line request old (Group first last) (group_text new.names (length old.journal) new.journal) new asks (record {
-    says = record {
+    leads = record {
       unrefused = accepted.unrefused;
       after = accepted.after;
       bound = bound ∙ ap (λ (n : ℕ). bind old.names line.statement first (task_no n)) number
           ∙ ap (λ (n : ℕ). bind old.names line.statement n (task_no (task_count old.journal))) accepted.position;
-      printed = refl;
     };
+    printed = refl;
     first_is = accepted.position;
     last_is = last_is;
   }),
@@ -118,29 +115,6 @@ answers_refusal line request old new cause asks refused other names = (
     printed = refl;
   }),
 )
-
--- a statement that shows an attribute asks the kernel for nothing
-asks_nothing : (names : Scope) (statement : Statement) → is_show statement ≡ true → request_of names statement ≡ None
-asks_nothing names (Tick now) shows = absurd (false≢true shows)
-asks_nothing names (Open by block) shows = absurd (false≢true shows)
-asks_nothing names (Create by task under families) shows = absurd (false≢true shows)
-asks_nothing names (Activate by tasks) shows = absurd (false≢true shows)
-asks_nothing names (Up by) shows = absurd (false≢true shows)
-asks_nothing names (Fail by) shows = absurd (false≢true shows)
-asks_nothing names (Call by callee entry) shows = absurd (false≢true shows)
-asks_nothing names (CallWithin by callee entry duration) shows = absurd (false≢true shows)
-asks_nothing names (Try by callee entry) shows = absurd (false≢true shows)
-asks_nothing names (Accept by entry) shows = absurd (false≢true shows)
-asks_nothing names (Select by pick choices tail) shows = absurd (false≢true shows)
-asks_nothing names (End by) shows = absurd (false≢true shows)
-asks_nothing names (Raise by) shows = absurd (false≢true shows)
-asks_nothing names (Close by) shows = absurd (false≢true shows)
-asks_nothing names (Delay by duration) shows = absurd (false≢true shows)
-asks_nothing names (Complete by) shows = absurd (false≢true shows)
-asks_nothing names (Abort by tasks) shows = absurd (false≢true shows)
-asks_nothing names (ShowCallable by task) shows = refl
-asks_nothing names (ShowTerminated by task) shows = refl
-asks_nothing names (ShowCount by entry) shows = refl
 
 shows_it : (line : Line) (old : PlayState) (answer : Answer) → IsOfShow answer → (text : List ℕ) × AnswersShow line old answer text old
 shows_it line old (Group first last) of_show = absurd of_show

@@ -10,14 +10,15 @@ use Rattle.ada_events.specs.Tasks.{task_count}
 use Rattle.ada_script.specs.declared.script.Line.{Line}
 use Rattle.ada_statements.specs.Binding.{request_of}
 use Rattle.ada_printing.specs.Texts.{refusal_text, shown_text}
-use Rattle.ada_replay.specs.Play.{PlayState, SaysGroup}
+use Rattle.ada_replay.specs.Play.{PlayState, group_text, LeadsOn}
 use Rattle.ada_replay.specs.declared.answer.Answer.{Answer}
 use Rattle.ada_replay.specs.declared.answer.Answer.TheVariants.{Group, Refused, Shown}
 use Rattle.ada_hall.specs.declared.answer.KeptAnswer.{KeptAnswer}
 
 -- an accepted request: its answer names exactly the events that it led to
 pub record IsGroupOf (line : Line) (request : Request) (first last : ℕ) (old : PlayState) (text : List ℕ) (new : PlayState) : Type 0 where
-  pub says : SaysGroup line request old text new
+  pub leads : LeadsOn line.statement request old new
+  pub printed : text ≡ group_text new.names (length old.journal) new.journal
   pub first_is : first ≡ length old.journal + 1
   pub last_is : last ≡ length new.journal
 

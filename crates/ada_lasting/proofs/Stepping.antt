@@ -1,14 +1,15 @@
 -- A kernel that lives on follows a journal without an end from request to request.
-use Rattle.std.proofs.Common.{◌≡◌, ℕ, suc, ◌+◌, ◌-◌, true, Option, Some, None, List, ◌++◌, length, map, take, sym, ap, ◌∙◌, subst, if◌then◌else◌, arith}
+use Rattle.std.proofs.Common.{◌≡◌, ℕ, suc, ◌+◌, ◌-◌, ◌≤◌, true, Option, Some, None, List, ◌++◌, length, map, take, sym, ap, ◌∙◌, subst, if◌then◌else◌, arith}
 use Rattle.std.specs.Option.{option_map, is_some}
 use Rattle.std.proofs.lemmas.List.{length-append, take_at}
 use Rattle.ada_events.specs.declared.event.Event.{Event}
 use Rattle.ada_events.specs.declared.request.Request.{Request}
+use Rattle.ada_events.specs.declared.limits.TheConstants.{MOST_TASKS}
 use Rattle.ada_events.specs.Tasks.{task_count}
 use Rattle.ada_events.specs.Steps.{IsAccepted}
 use Rattle.ada_laws.specs.Unlimited.{refusal_but_limits}
 use Rattle.ada_laws.proofs.asking.Limitless.{lawful_unlimited, accepted_without_limits}
-use Rattle.ada_laws.proofs.asking.LimitLaws.{leads_on-unlimited}
+use Rattle.ada_laws.proofs.asking.LimitLaws.{tasks_are_few, leads_on-unlimited}
 use Rattle.ada_laws.proofs.asking.RequestLaws.{after-unlimited}
 use Rattle.ada_standing.specs.Renaming.{Renaming, renamed_event}
 use Rattle.ada_standing.specs.StandsIn.{StandsIn}
@@ -45,7 +46,10 @@ module _ (journal : List Event) (kernel : Long) (follows : Follows journal kerne
   kept = kept_nameable journal kernel.names follows.made r ∙ nameable
 
   pub refused_too : refusal_but_limits kernel.present (renamed_request (renaming_of kernel.names) r) ≡ refusal_but_limits journal r
-  refused_too = refused_alike journal kernel.present (renaming_of kernel.names) r follows.stands follows.lawful is_present.lawful kept
+  refused_too =
+      let few : task_count kernel.present ≤ MOST_TASKS = tasks_are_few kernel.present is_present.lawful in
+      refused_alike journal kernel.present (renaming_of kernel.names) r follows.stands follows.lawful
+      (lawful_unlimited kernel.present is_present.lawful) (omega arith) kept
 
   module _ (at : ℕ) (present : List Event) (accepted : IsAccepted kernel.present (renamed_request (renaming_of kernel.names) r) at present) where
     unrefused_present : refusal_but_limits kernel.present (renamed_request (renaming_of kernel.names) r) ≡ None

@@ -4,21 +4,21 @@ use Rattle.ada_statements.specs.declared.fault.Cause.TheVariants as causes
 use Rattle.ada_statements.specs.declared.statement.Statement.{Statement}
 use Rattle.ada_statements.specs.Scope.{MayStand}
 use Rattle.ada_statements.specs.Text.{words_in, lines_of, parts_of, with_first}
-use Rattle.ada_script.specs.Script.{is_skipped}
+use Rattle.ada_script.specs.Script.{IsPlain, is_skipped}
 use Rattle.ada_script.specs.Spelling.{words_of}
-use Rattle.ada_replay.specs.Play.{PlayState}
+use Rattle.ada_replay.specs.Play.{PlayState, Refuses}
 use Rattle.ada_replay.specs.declared.judgement.Judgement.{Judgement}
 use Rattle.ada_replay.specs.declared.judgement.Stop.{Stop}
 use Rattle.ada_replay.specs.declared.judgement.Stop.TheVariants as stops
-use Rattle.ada_replay.specs.Lines.{IsInRange, Says, Passes, Refuses, declared}
+use Rattle.ada_replay.specs.Lines.{Says, Passes, declared}
 use Rattle.ada_replay.specs.Courses.{IsCourse}
 use Rattle.ada_replay.specs.internal.Stopping.{IsStop, IsTurnedDown, judged}
 
 -- what was read is what a line says
-pub says_it : (line : List ℕ) (old : PlayState) (statement : Statement) → IsInRange line → is_skipped (words_in line) ≡ false
+pub says_it : (line : List ℕ) (old : PlayState) (statement : Statement) → IsPlain line → is_skipped (words_in line) ≡ false
     → MayStand old.names statement → words_of statement ≡ words_in line → Says old.names line statement
-says_it line old statement range unskipped stands spelled =
-    record { range = range; unskipped = unskipped; stands = stands; spelled = spelled }
+says_it line old statement plain unskipped stands spelled =
+    record { plain = plain; unskipped = unskipped; stands = stands; spelled = spelled }
 
 -- a statement that is turned down stops its line
 pub stops_line : (line : List ℕ) (old new : PlayState) (statement : Statement) (stop : Stop) → Says old.names line statement

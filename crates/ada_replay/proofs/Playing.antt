@@ -1,6 +1,5 @@
 -- Plays of some lines: one more line, some more lines, and that there is one.
 use Rattle.std.proofs.Common.{◌≡◌, ℕ, ◌+◌, Option, Some, None, List, [], ◌∷◌, ◌++◌, refl, sym, subst, append_assoc, append-nil, inl, inr, length}
-use Rattle.std.proofs.Common.{MatchOption}
 use Rattle.ada_events.specs.declared.request.Request.{Request}
 use Rattle.ada_events.specs.declared.refusal.Refusal.{Refusal}
 use Rattle.ada_events.specs.Tasks.{task_count}
@@ -10,10 +9,12 @@ use Rattle.ada_events.specs.Lawful.{IsLawful, IsSettled}
 use Rattle.ada_laws.proofs.asking.LimitLaws.{leads_to_a_journal}
 use Rattle.ada_laws.proofs.asking.RequestLaws.{stays_lawful}
 use Rattle.ada_script.specs.declared.script.Line.{Line}
+use Rattle.ada_statements.specs.declared.statement.Statement.{Statement}
 use Rattle.ada_statements.specs.Binding.{bind, request_of}
 use Rattle.ada_printing.specs.Texts.{refusal_text}
-use Rattle.ada_replay.specs.Play.{PlayState, group_text, SaysRequest, SaysShown, SaysLine, Plays, shown, show_text}
+use Rattle.ada_replay.specs.Play.{PlayState, group_text, shown, show_text, SaysLine, Plays}
 use Rattle.ada_replay.specs.Play.Plays.{no_more, one_more}
+use Rattle.ada_replay.proofs.Saying.{AcceptsAsked, says_group, says_refusal, says_shown}
 
 -- the journal of a state is lawful and settled
 pub record IsAtRest (state : PlayState) : Type 0 where
@@ -36,55 +37,55 @@ plays-append lines more old mid new text rest (one_more {line = first} {others =
     subst (λ t. Plays (first ∷ (others ++ more)) old t new) (sym (append_assoc a b rest))
     (one_more a first_says (plays-append others more next mid new b rest plays more_plays))
 
-request_at_rest : (line : Line) (request : Request) (old new : PlayState) (text : List ℕ) → IsAtRest old → SaysRequest line old text new request → IsAtRest new
-request_at_rest line request old new text rest (inl group) = record {
-  lawful = stays_lawful old.journal request new.journal rest.lawful rest.settled group.unrefused group.after;
-  settled = group.after.settled;
+accepted_at_rest : (statement : Statement) (asked : Option Request) (old new : PlayState) → IsAtRest old
+    → AcceptsAsked statement old new asked → IsAtRest new
+accepted_at_rest statement None old new rest shows = subst IsAtRest (sym shows.1) rest
+accepted_at_rest statement (Some request) old new rest leads = record {
+  lawful = stays_lawful old.journal request new.journal rest.lawful rest.settled leads.unrefused leads.after;
+  settled = leads.after.settled;
 }
-request_at_rest line request old new text rest (inr refused) = subst IsAtRest (sym refused.unchanged) rest
-
-at_rest : (line : Line) (asked : Option Request) (old new : PlayState) (text : List ℕ) → IsAtRest old
-    → MatchOption asked (SaysShown line old text new) (SaysRequest line old text new) → IsAtRest new
-at_rest line None old new text rest says = subst IsAtRest (sym says.unchanged) rest
-at_rest line (Some request) old new text rest says = request_at_rest line request old new text rest says
 
 -- what a line says leaves a state at rest
 pub says_at_rest : (line : Line) (old new : PlayState) (text : List ℕ) → IsAtRest old → SaysLine line old text new → IsAtRest new
-says_at_rest line old new text rest says = at_rest line (request_of old.names line.statement) old new text rest says
+says_at_rest line old new text rest (inl accepted) =
+    accepted_at_rest line.statement (request_of old.names line.statement) old new rest accepted.0
+says_at_rest line old new text rest (inr (cause, refused, same, printed)) = subst IsAtRest (sym same) rest
 
--- what a line may say, where its request is refused or not
-pub record Said (line : Line) (asked : Option Request) (old : PlayState) : Type 0 where
+-- what a line may say
+pub record Said (line : Line) (old : PlayState) : Type 0 where
   pub text : List ℕ
   pub new : PlayState
-  pub says : MatchOption asked (SaysShown line old text new) (SaysRequest line old text new)
+  pub says : SaysLine line old text new
 
-refused_or_not : (line : Line) (request : Request) (old : PlayState) → IsAtRest old → (answer : Option Refusal) → refusal old.journal request ≡ answer
-    → Said line (Some request) old
-refused_or_not line request old rest (Some cause) is = record {
+refused_or_not : (line : Line) (request : Request) (old : PlayState) → IsAtRest old → Some request ≡ request_of old.names line.statement
+    → (answer : Option Refusal) → refusal old.journal request ≡ answer → Said line old
+refused_or_not line request old rest asks (Some cause) is = record {
   text = refusal_text line.line cause;
   new = old;
-  says = inr (record { cause = cause; refused = is; unchanged = refl; printed = refl });
+  says = says_refusal line request old cause asks is;
 }
-refused_or_not line request old rest None is =
+refused_or_not line request old rest asks None is =
     let (journal, after) = leads_to_a_journal old.journal request rest.lawful rest.settled is in
     let names = bind old.names line.statement (length old.journal + 1) (task_no (task_count old.journal)) in
+    let new : PlayState = record { journal = journal; names = names } in
     record {
       text = group_text names (length old.journal) journal;
-      new = record { journal = journal; names = names };
-      says = inl (record { unrefused = is; after = after; bound = refl; printed = refl });
+      new = new;
+      says = says_group line request old new (group_text names (length old.journal) journal) asks
+          (record { unrefused = is; after = after; bound = refl }) refl;
     }
 
-said : (line : Line) (asked : Option Request) (old : PlayState) → IsAtRest old → Said line asked old
-said line None old rest = record {
+said : (line : Line) (asked : Option Request) (old : PlayState) → IsAtRest old → asked ≡ request_of old.names line.statement → Said line old
+said line None old rest asks = record {
   text = show_text line.line (shown old.names old.journal line.statement);
   new = old;
-  says = record { unchanged = refl; printed = refl };
+  says = says_shown line old (sym asks) (shown old.names old.journal line.statement) refl;
 }
-said line (Some request) old rest = refused_or_not line request old rest (refusal old.journal request) refl
+said line (Some request) old rest asks = refused_or_not line request old rest asks (refusal old.journal request) refl
 
 -- each line says something
-pub each_line_says : (line : Line) (old : PlayState) → IsAtRest old → Said line (request_of old.names line.statement) old
-each_line_says line old rest = said line (request_of old.names line.statement) old rest
+pub each_line_says : (line : Line) (old : PlayState) → IsAtRest old → Said line old
+each_line_says line old rest = said line (request_of old.names line.statement) old rest refl
 
 -- a play of some lines
 pub record Played (lines : List Line) (old : PlayState) : Type 0 where

@@ -1,7 +1,7 @@
 -- The play of a script: what its lines print, one after another, each over the journal and the bindings
 -- that the lines before it left.
-use Rattle.std.specs.Prelude.{◌≡◌, ◌⊎◌, ℕ, suc, ◌+◌, nat_lt, nat_le, ◌||◌, Bool, Result, Ok, Err, if◌then◌else◌, Some, None, List, [], ◌∷◌, ◌++◌, length}
-use Rattle.std.specs.Prelude.{MatchOption}
+use Rattle.std.specs.Prelude.{◌≡◌, ◌⊎◌, ℕ, suc, ◌+◌, nat_lt, nat_le, ◌||◌, Bool, Result, Ok, Err, if◌then◌else◌, Option, Some, None, List, [], ◌∷◌, ◌++◌}
+use Rattle.std.specs.Prelude.{IsOk, MatchOption, length}
 use Rattle.ada_events.specs.declared.event.Event.{Event}
 use Rattle.ada_events.specs.declared.request.Request.{Request}
 use Rattle.ada_events.specs.declared.refusal.Refusal.{Refusal}
@@ -33,23 +33,6 @@ group_text names from [] = []
 group_text names from (event ∷ before) =
     if nat_lt (length before) from then [] else group_text names from before ++ event_line names (suc (length before)) event
 
--- an accepted request prints its event and all that it forces, with its own name already bound
-pub record SaysGroup (line : Line) (request : Request) (old : PlayState) (text : List ℕ) (new : PlayState) : Type 0 where
-  pub unrefused : refusal old.journal request ≡ None
-  pub after : After old.journal request new.journal
-  pub bound : new.names ≡ bind old.names line.statement (length old.journal + 1) (task_no (task_count old.journal))
-  pub printed : text ≡ group_text new.names (length old.journal) new.journal
-
--- a refused one prints its line and cause, and changes nothing
-pub record SaysRefusal (line : Line) (request : Request) (old : PlayState) (text : List ℕ) (new : PlayState) : Type 0 where
-  pub cause : Refusal
-  pub refused : refusal old.journal request ≡ Some cause
-  pub unchanged : new ≡ old
-  pub printed : text ≡ refusal_text line.line cause
-
-abbrev pub SaysRequest : Line → PlayState → List ℕ → PlayState → Request → Type 0
-SaysRequest line old text new request = SaysGroup line request old text new ⊎ SaysRefusal line request old text new
-
 -- an attribute of a task, where the task that asks and the one that is asked about exist
 abbrev pub attribute : List Event → TaskNo → TaskNo → (List Event → ℕ → Bool) → Result Value Refusal
 attribute journal by task test =
@@ -69,18 +52,37 @@ shown names journal (ShowTerminated by task) = attribute journal (task_of names 
 shown names journal (ShowCount by entry) = count_value (own_count journal (task_of names by).0 (entry_of names by entry))
 shown names journal _ = Err UnknownTask
 
+-- a statement's request is accepted: it leads to the new journal, and the statement's own name is bound
+pub record LeadsOn (statement : Statement) (request : Request) (old new : PlayState) : Type 0 where
+  pub unrefused : refusal old.journal request ≡ None
+  pub after : After old.journal request new.journal
+  pub bound : new.names ≡ bind old.names statement (length old.journal + 1) (task_no (task_count old.journal))
+
+-- a statement is accepted: its request is, or its attribute is shown, and nothing changes
+abbrev pub Accepts : Statement → PlayState → PlayState → Type 0
+Accepts statement old new =
+    MatchOption (request_of old.names statement) (IsOk (shown old.names old.journal statement) × (new ≡ old)) (λ request. LeadsOn statement request old new)
+
+-- a statement is refused for this cause
+abbrev pub Refuses : Statement → PlayState → Refusal → Type 0
+Refuses statement old cause =
+    MatchOption (request_of old.names statement) (shown old.names old.journal statement ≡ Err cause) (λ request. refusal old.journal request ≡ Some cause)
+
+-- what an accepted line prints: the attribute that it shows, or its event and all that it forces, with its own name
+-- already bound
 abbrev pub show_text : ℕ → Result Value Refusal → List ℕ
 show_text line (Ok value) = shown_text line value
 show_text line (Err cause) = refusal_text line cause
 
--- a line that shows an attribute prints its value, or why it isn't shown, and changes nothing
-pub record SaysShown (line : Line) (old : PlayState) (text : List ℕ) (new : PlayState) : Type 0 where
-  pub unchanged : new ≡ old
-  pub printed : text ≡ show_text line.line (shown old.names old.journal line.statement)
+abbrev pub accepted_text : Line → PlayState → PlayState → Option Request → List ℕ
+accepted_text line old new None = show_text line.line (shown old.names old.journal line.statement)
+accepted_text line old new (Some request) = group_text new.names (length old.journal) new.journal
 
--- what a line prints
+-- a line is accepted, and prints that; or it is refused, prints its number and cause, and changes nothing
 abbrev pub SaysLine : Line → PlayState → List ℕ → PlayState → Type 0
-SaysLine line old text new = MatchOption (request_of old.names line.statement) (SaysShown line old text new) (SaysRequest line old text new)
+SaysLine line old text new =
+    (Accepts line.statement old new × (text ≡ accepted_text line old new (request_of old.names line.statement)))
+    ⊎ ((cause : Refusal) × Refuses line.statement old cause × (new ≡ old) × (text ≡ refusal_text line.line cause))
 
 -- what some lines print, one after another, and from where to where they lead
 pub data Plays : List Line → PlayState → List ℕ → PlayState → Type 0 where

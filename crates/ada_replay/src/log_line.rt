@@ -1,7 +1,8 @@
 //! One line of a log.
 ghost use Rattle.std.specs.Prelude.{◌≡◌, ◌⊎◌, OnOk, OnErr, IfErr};
 ghost use Rattle.ada_replay.specs.Ends.{state};
-ghost use Rattle.ada_replay.specs.Lines.{declared, Accepts, Refuses, Passes};
+ghost use Rattle.ada_replay.specs.Play.{Accepts, Refuses};
+ghost use Rattle.ada_replay.specs.Lines.{declared, Passes};
 ghost use Rattle.ada_replay.specs.internal.Stopping.{IsStop, IsTurnedDown};
 
 use crate::judgement::Stop;
@@ -10,12 +11,8 @@ use crate::shows::shown;
 use ada_events::Refusal;
 use ada_kernel::Kernel;
 use ada_script::cursor::Words;
-use ada_script::{Cause, Names, Statement, check_line, is_skipped, read_words, request};
+use ada_script::{Cause, Names, Statement, check_plain, is_skipped, read_words, request};
 use std::alloc::Global;
-
-/// The number by which a line is checked. A log may have more lines than a script, so that of a script's first line
-/// stands for each.
-const ANY_NUMBER: u32 = 1;
 
 // Asks of the kernel what a statement asks, and binds the name that it declares.
 fn ask(kernel: &mut Kernel, names: &mut Names, statement: &Statement) -> Result<(), Refusal>
@@ -67,7 +64,8 @@ pub fn take_line(
     ensures err { IfErr result (λ stop. IsStop line.now (state kernel.old names.old) stop
         (state kernel.new names.new)) }
 {
-    check_line(ANY_NUMBER, line)?;
+    // A log may have more lines than a script.
+    check_plain(line)?;
     let mut words = Words::new(line);
     if is_skipped(&words) {
         return Ok(());

@@ -1,13 +1,12 @@
 //! Playing the lines of a script on a kernel.
-ghost use Rattle.std.specs.Prelude.{◌≡◌, ℕ, ◌<◌, ◌≤◌, ◌^◌, ◌++◌, List, length, reverse, false, Some, IfOk, IfErr, OnOk};
+ghost use Rattle.std.specs.Prelude.{◌≡◌, ℕ, ◌<◌, ◌≤◌, ◌^◌, ◌++◌, List, length, reverse, true, false, IfOk, IfErr, OnOk};
 ghost use Rattle.ada_events.specs.Lawful.{IsLawful, IsSettled};
-ghost use Rattle.ada_replay.specs.Play.{group_text, shown as shown_of, SaysRequest, SaysShown, SaysLine, Plays};
+ghost use Rattle.ada_replay.specs.Play.{group_text, shown as shown_of, SaysLine, Plays};
 ghost use Rattle.ada_replay.specs.Answers.{answer_to, shown_or_refused};
 ghost use Rattle.ada_replay.specs.Ends.{state, IsShortage, IsWritten, IsCutShort};
 ghost use Rattle.ada_printing.specs.Texts.{refusal_text, shown_text};
 ghost use Rattle.ada_events.specs.Tasks.{task_count};
-ghost use Rattle.ada_events.specs.declared.request.Request.{Request as RequestValue};
-ghost use Rattle.ada_statements.specs.Binding.{is_show, request_of};
+ghost use Rattle.ada_statements.specs.Binding.{is_show};
 
 use crate::kernel_sink::send_to_kernel;
 use crate::output::{PIECE, write_output, write_piece};
@@ -81,9 +80,7 @@ fn say_request(
 ) -> Result<Answer, RunFault>
     requires { is_show line.now.statement ≡ false }
     ensures ok { OnOk result ((said : List ℕ) × (text.new.items ≡ text.old.items ++ said)
-        × (request : RequestValue) × (Some request ≡ request_of names.old line.now.statement)
-        × SaysRequest line.now (state kernel.old names.old) said
-        (state kernel.new names.new) request) }
+        × SaysLine line.now (state kernel.old names.old) said (state kernel.new names.new)) }
     ensures answer { IfOk result (λ answer. answer
         ≡ answer_to (state kernel.old names.old) line.now.statement (length kernel.new)) }
     ensures err { IfErr result (λ fault. (fault ≡ RunFault.Memory)
@@ -113,8 +110,9 @@ fn say_shown(
     line: &Line,
     text: &mut Vec<u8>,
 ) -> Result<Answer, RunFault>
+    requires { is_show line.now.statement ≡ true }
     ensures ok { OnOk result ((said : List ℕ) × (text.new.items ≡ text.old.items ++ said)
-        × SaysShown line.now (state kernel.now names.now) said (state kernel.now names.now)) }
+        × SaysLine line.now (state kernel.now names.now) said (state kernel.now names.now)) }
     ensures answer { IfOk result (λ answer. answer
         ≡ shown_or_refused (shown_of names.now kernel.now line.now.statement)) }
     ensures err { IfErr result (λ fault. (fault ≡ RunFault.Memory)

@@ -8,7 +8,8 @@ use Rattle.ada_script.specs.declared.script.Line.{Line}
 use Rattle.ada_statements.specs.declared.statement.Statement.{Statement}
 use Rattle.ada_statements.specs.Scope.{Scope, MayStand}
 use Rattle.ada_statements.specs.Text.{words_in}
-use Rattle.ada_script.specs.Script.{AddsLine, AddsLines, SpellsStatement, SpellsNothing, IsPlain, IsFault, IsOfWords, IsOfNoWords, Stops, is_skipped, scope_of}
+use Rattle.ada_script.specs.Script.{AddsLine, AddsLines, SpellsStatement, SpellsNothing, IsPlainAt, IsFault}
+use Rattle.ada_script.specs.Script.{IsOfWords, IsOfNoWords, Stops, is_skipped, scope_of}
 use Rattle.ada_script.specs.internal.Reading.{statement_of}
 use Rattle.ada_script.specs.internal.Fault.{cause_of}
 use Rattle.ada_script.proofs.TakenStatements.{statement_reads}
@@ -59,7 +60,7 @@ pub of_these : (names : Scope) (fault : Fault) {words these : List (List ℕ)} �
 of_these names fault same fails = subst (λ (ws : List (List ℕ)). (fault ≡ OutOfMemory) ⊎ (statement_of names ws ≡ Err fault)) same fails
 
 -- words that weren't read: memory was refused, or they are at fault
-pub words_fail : (names : Scope) (before : List Line) (number : ℕ) (line : List ℕ) (fault : Fault) → names ≡ scope_of before → IsPlain number line
+pub words_fail : (names : Scope) (before : List Line) (number : ℕ) (line : List ℕ) (fault : Fault) → names ≡ scope_of before → IsPlainAt number line
     → is_skipped (words_in line) ≡ false → (fault ≡ OutOfMemory) ⊎ (statement_of names (words_in line) ≡ Err fault)
     → (cause_of fault ≡ causes.OutOfMemory) ⊎ IsFault before number line (cause_of fault)
 words_fail names before number line fault known plain skipped fails = elim fails [

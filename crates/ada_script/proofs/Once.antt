@@ -12,7 +12,8 @@ use Rattle.ada_statements.specs.declared.statement.Statement.TheVariants.{Raise,
 use Rattle.ada_statements.specs.Text.{words_in, is_name}
 use Rattle.ada_script.specs.Spelling.{speaker, words_of}
 use Rattle.ada_statements.specs.Scope.{Scope, MayStand}
-use Rattle.ada_script.specs.Script.{IsPlain, IsUnplain, begins_comment, is_skipped, SpellsStatement, AddsLine, AddsLines, IsFault, Stops, scope_of}
+use Rattle.ada_script.specs.Script.{IsPlain, IsPlainAt, IsUnplain, IsUnplainAt}
+use Rattle.ada_script.specs.Script.{begins_comment, is_skipped, SpellsStatement, AddsLine, AddsLines, IsFault, Stops, scope_of}
 use Rattle.ada_script.specs.internal.Reading.{statement_of}
 use Rattle.ada_script.proofs.AgainParts.{name_letter}
 use Rattle.ada_script.proofs.AgainStatements.{statement_again}
@@ -71,19 +72,23 @@ adds_once before number line one other (plain, inr first) (plain', inr second) =
     first.2 ∙ ap made same ∙ sym second.2
 
 -- a line at fault adds nothing
-unplain : (number : ℕ) (line : List ℕ) (cause : Cause) → IsUnplain number line cause → IsPlain number line → ⊥
-unplain number line causes.NotAscii fault plain = fault.2 plain.2
-unplain number line causes.LineTooLong fault plain = omega (arith, fault.1, plain.1)
-unplain number line causes.BadStatement fault plain = fault
-unplain number line causes.BadNumber fault plain = fault
-unplain number line causes.UnknownName fault plain = fault
-unplain number line causes.DoubleName fault plain = fault
-unplain number line causes.TooManyLines fault plain = omega (arith, fault, plain.0)
-unplain number line causes.OutOfMemory fault plain = fault
+unplain : (line : List ℕ) (cause : Cause) → IsUnplain line cause → IsPlain line → ⊥
+unplain line causes.NotAscii fault plain = fault.1 plain.1
+unplain line causes.LineTooLong fault plain = omega (arith, fault, plain.0)
+unplain line causes.BadStatement fault plain = fault
+unplain line causes.BadNumber fault plain = fault
+unplain line causes.UnknownName fault plain = fault
+unplain line causes.DoubleName fault plain = fault
+unplain line causes.TooManyLines fault plain = fault
+unplain line causes.OutOfMemory fault plain = fault
+
+unplain_there : (number : ℕ) (line : List ℕ) (cause : Cause) → IsUnplainAt number line cause → IsPlainAt number line → ⊥
+unplain_there number line cause (inl many) plain = omega (arith, many.1, plain.0)
+unplain_there number line cause (inr fault) plain = unplain line cause fault.1 plain.1
 
 pub fault_adds_nothing : (before : List Line) (number : ℕ) (line : List ℕ) (cause : Cause) (added : List Line) → IsFault before number line cause
     → AddsLine before number line added → ⊥
-fault_adds_nothing before number line cause added (inl fault) adds = unplain number line cause fault adds.0
+fault_adds_nothing before number line cause added (inl fault) adds = unplain_there number line cause fault adds.0
 fault_adds_nothing before number line cause added (inr fault) (plain, inl skipped) = true≢false (sym skipped.0 ∙ fault.2.0)
 fault_adds_nothing before number line cause added (inr fault) (plain, inr said) = fault.2.1 said.0 said.1
 

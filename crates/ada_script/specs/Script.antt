@@ -13,19 +13,26 @@ use Rattle.ada_statements.specs.Scope.{Scope, main_alone, declare, MayStand}
 abbrev pub scope_of : List Line → Scope
 scope_of lines = fold (λ names line. declare names line.statement) main_alone lines
 
--- a line's number, length and bytes are in their ranges
+-- a line's length and bytes are in their ranges
 abbrev pub IsPrintable : List ℕ → Type 0
 IsPrintable line = All (λ b. (32 ≤ b) × (b ≤ 126)) line
 
-abbrev pub IsPlain : ℕ → List ℕ → Type 0
-IsPlain number line = (number ≤ 4096) × (length line ≤ 200) × IsPrintable line
+abbrev pub IsPlain : List ℕ → Type 0
+IsPlain line = (length line ≤ 200) × IsPrintable line
 
--- why a line's number, length and bytes aren't
-abbrev pub IsUnplain : ℕ → List ℕ → Cause → Type 0
-IsUnplain number _ TooManyLines = 4096 < number
-IsUnplain number line LineTooLong = (number ≤ 4096) × (200 < length line)
-IsUnplain number line NotAscii = (number ≤ 4096) × (length line ≤ 200) × ¬ IsPrintable line
-IsUnplain _ _ _ = ⊥
+-- and so is its number
+abbrev pub IsPlainAt : ℕ → List ℕ → Type 0
+IsPlainAt number line = (number ≤ 4096) × IsPlain line
+
+-- why a line's length and bytes aren't in their ranges
+abbrev pub IsUnplain : List ℕ → Cause → Type 0
+IsUnplain line LineTooLong = 200 < length line
+IsUnplain line NotAscii = (length line ≤ 200) × ¬ IsPrintable line
+IsUnplain _ _ = ⊥
+
+-- why its number isn't, or else these
+abbrev pub IsUnplainAt : ℕ → List ℕ → Cause → Type 0
+IsUnplainAt number line cause = ((cause ≡ TooManyLines) × (4096 < number)) ⊎ ((number ≤ 4096) × IsUnplain line cause)
 
 -- a line without words, or one whose first word begins with a number sign
 abbrev pub begins_comment : List ℕ → Bool
@@ -43,7 +50,7 @@ pub record SpellsStatement (before : List Line) (words : List (List ℕ)) (state
 
 -- what an acceptable line adds to the lines before it: nothing, or its statement
 abbrev pub AddsLine : List Line → ℕ → List ℕ → List Line → Type 0
-AddsLine before number line added = IsPlain number line
+AddsLine before number line added = IsPlainAt number line
     × ((IsTrue (is_skipped (words_in line)) × (added ≡ []))
     ⊎ ((statement : Statement) × SpellsStatement before (words_in line) statement × (added ≡ record { line = number; statement = statement } ∷ [])))
 
@@ -76,7 +83,7 @@ SpellsNothing before words = (is_skipped words ≡ false) × ((statement : State
 
 -- why a line behind these isn't acceptable: its number, its length or its bytes, and else its words
 abbrev pub IsFault : List Line → ℕ → List ℕ → Cause → Type 0
-IsFault before number line cause = IsUnplain number line cause ⊎ (IsOfWords cause × IsPlain number line × SpellsNothing before (words_in line))
+IsFault before number line cause = IsUnplainAt number line cause ⊎ (IsOfWords cause × IsPlainAt number line × SpellsNothing before (words_in line))
 
 -- of lines behind others, of which the first has this number, the first that isn't acceptable
 abbrev pub Stops : List Line → ℕ → List (List ℕ) → ScriptFault → Type 0

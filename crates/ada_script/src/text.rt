@@ -1,7 +1,8 @@
 //! Reading a text as a script.
 
 ghost use Rattle.std.specs.Prelude.{◌≡◌, ◌↔◌, ◌≤◌, ◌++◌, ◌⊎◌, List, [], IsTrue, OnOk, IfOk, IfErr, IsOkUnless};
-ghost use Rattle.ada_script.specs.Script.{IsPrintable, IsPlain, IsUnplain, is_skipped as skipped, scope_of, AddsLine, IsScript, IsFault, IsFirstFault};
+ghost use Rattle.ada_script.specs.Script.{IsPrintable, IsPlain, IsPlainAt, IsUnplain, IsUnplainAt};
+ghost use Rattle.ada_script.specs.Script.{is_skipped as skipped, scope_of, AddsLine, IsScript, IsFault, IsFirstFault};
 ghost use Rattle.ada_script.specs.internal.Printable.{printable};
 ghost use Rattle.ada_script.specs.declared.script.Line.{Line};
 
@@ -29,14 +30,11 @@ fn is_printable(line: &[u8]) -> bool
     are
 }
 
-/// Checks the number of a line, its length and its bytes, in this order.
-pub fn check_line(number: u32, line: &[u8]) -> Result<(), Cause>
-    ensures ok { OnOk result (IsPlain number line.now) }
-    ensures err { IfErr result (IsUnplain number line.now) }
+/// Checks the length of a line and its bytes, in this order.
+pub fn check_plain(line: &[u8]) -> Result<(), Cause>
+    ensures ok { OnOk result (IsPlain line.now) }
+    ensures err { IfErr result (IsUnplain line.now) }
 {
-    if number > 4096 {
-        return Err(Cause::TooManyLines);
-    }
     if line.len() > 200 {
         return Err(Cause::LineTooLong);
     }
@@ -44,6 +42,17 @@ pub fn check_line(number: u32, line: &[u8]) -> Result<(), Cause>
         return Err(Cause::NotAscii);
     }
     Ok(())
+}
+
+/// Checks the number of a line, its length and its bytes, in this order.
+pub fn check_line(number: u32, line: &[u8]) -> Result<(), Cause>
+    ensures ok { OnOk result (IsPlainAt number line.now) }
+    ensures err { IfErr result (IsUnplainAt number line.now) }
+{
+    if number > 4096 {
+        return Err(Cause::TooManyLines);
+    }
+    check_plain(line)
 }
 
 /// Whether there is no word, or the first one begins with a number sign.

@@ -1,16 +1,17 @@
 -- Laws of two journals, lawful where tasks, slots and events have no limit, of which the second stands in for the first.
-use Rattle.std.specs.Prelude.{◌≡◌, true, None, List, is_none}
+use Rattle.std.specs.Prelude.{◌≡◌, ◌≤◌, true, None, List, is_none}
 use Rattle.std.specs.Option.{option_and_then, option_or}
 use Rattle.ada_events.specs.declared.event.Event.{Event}
 use Rattle.ada_events.specs.declared.request.Request.{Request}
+use Rattle.ada_events.specs.Tasks.{task_count}
 use Rattle.ada_events.specs.Forced.{forced}
 use Rattle.ada_events.specs.Refusals.{refusal}
-use Rattle.ada_events.specs.Lawful.{IsLawful, IsSettled, After}
+use Rattle.ada_events.specs.Lawful.{IsSettled, After}
 use Rattle.ada_laws.specs.Unlimited.{IsLawfulUnlimited, refusal_but_limits, limit_refusal}
 use Rattle.ada_standing.specs.Renaming.{Renaming, chained, renamed_event}
 use Rattle.ada_standing.specs.StandsIn.{StandsIn}
 use Rattle.ada_standing.specs.Fewer.{AreEnough}
-use Rattle.ada_standing.specs.Asking.{renamed_request, names_kept, AnswersAlike}
+use Rattle.ada_standing.specs.Asking.{nobody, renamed_request, names_kept, AnswersAlike}
 use Rattle.ada_standing.specs.Leading.{LedAlike}
 
 -- the second journal forces what stands for the step that the first one forces, and none where that forces none
@@ -31,11 +32,12 @@ AnsweredAlike =
     → AnswersAlike old new names
 
 -- the second journal refuses what stands for a request as the first one refuses that, where tasks, slots and events
--- have no limit, and each task that the request names has a name or doesn't exist
+-- have no limit, each task that the request names has a name or doesn't exist, and nobody is no task of the second
 abbrev pub RefusedAlike : Type 0
 RefusedAlike =
     (old new : List Event) (names : Renaming) (request : Request) → StandsIn old new names → IsLawfulUnlimited old
-    → IsLawful new → names_kept names old request ≡ true → refusal_but_limits new (renamed_request names request) ≡ refusal_but_limits old request
+    → IsLawfulUnlimited new → task_count new ≤ nobody → names_kept names old request ≡ true
+    → refusal_but_limits new (renamed_request names request) ≡ refusal_but_limits old request
 
 -- a request is refused for a limit of tasks, slots or events only where it isn't refused for another cause
 abbrev pub LimitsRefuseAtLast : Type 0

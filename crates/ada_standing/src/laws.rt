@@ -21,8 +21,8 @@ pub fn answered_alike()
 
 /// Requests are refused alike, where tasks, slots and events have no limit: what stands for a request is refused for
 /// the same cause, or isn't refused either, provided that each task that the request names has a name or doesn't exist.
-/// The first journal is lawful where tasks, slots and events have no limit. The second one is lawful with the limits,
-/// so that task 65535, which is named for one without a name, doesn't exist in it.
+/// Both journals are lawful where tasks, slots and events have no limit, and the second one has no task 65535, which
+/// is named for one without a name: with the limits it has fewer.
 #[tactic(auto, using(crate::proofs::asked::Refusing::refused_alike))]
 pub fn refused_alike()
     ensures { RefusedAlike }

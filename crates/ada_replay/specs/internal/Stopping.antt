@@ -2,12 +2,12 @@
 use Rattle.std.specs.Prelude.{◌≡◌, ◌⊎◌, ℕ, List}
 use Rattle.ada_statements.specs.declared.fault.Cause.TheVariants as causes
 use Rattle.ada_statements.specs.declared.statement.Statement.{Statement}
-use Rattle.ada_replay.specs.Play.{PlayState}
+use Rattle.ada_replay.specs.Play.{PlayState, Refuses}
 use Rattle.ada_replay.specs.declared.judgement.Judgement.{Judgement}
 use Rattle.ada_replay.specs.declared.judgement.Judgement.TheVariants.{Refused, Faulty}
 use Rattle.ada_replay.specs.declared.judgement.Stop.{Stop}
 use Rattle.ada_replay.specs.declared.judgement.Stop.TheVariants as stops
-use Rattle.ada_replay.specs.Lines.{declared, Refuses, IsRefusedLine, IsFaultyLine}
+use Rattle.ada_replay.specs.Lines.{declared, IsRefusedLine, IsFaultyLine}
 
 -- a statement is refused once its name is declared, or memory was refused
 abbrev pub IsTurnedDown : Statement → PlayState → Stop → PlayState → Type 0

@@ -1,7 +1,6 @@
 -- Requests are refused alike but for the limits of tasks, slots and events.
-use Rattle.std.proofs.Common.{◌≡◌, ◌≤◌, Bool, true, false, List, ◌∷◌, drop, refl, arith}
+use Rattle.std.proofs.Common.{◌≡◌, ◌≤◌, Bool, true, false, List, ◌∷◌, drop, refl}
 use Rattle.ada_events.specs.declared.event.Event.{Event}
-use Rattle.ada_events.specs.declared.limits.TheConstants.{MOST_TASKS}
 use Rattle.ada_events.specs.declared.request.Request.{Request}
 use Rattle.ada_events.specs.declared.refusal.Refusal.{Refusal}
 use Rattle.ada_events.specs.declared.refusal.Refusal.TheVariants.{UnknownTask, NotRunning}
@@ -9,8 +8,6 @@ use Rattle.ada_events.specs.Tasks.{task_count}
 use Rattle.ada_events.specs.Refusals.{Cause, cause, causes, first_cause}
 use Rattle.ada_events.specs.Refusals.{names_unknown_task, asker_not_running}
 use Rattle.ada_laws.specs.Unlimited.{causes_but_limits, refusal_but_limits}
-use Rattle.ada_laws.proofs.asking.Limitless.{lawful_unlimited}
-use Rattle.ada_laws.proofs.asking.LimitLaws.{tasks_are_few}
 use Rattle.ada_standing.specs.Renaming.{Renaming}
 use Rattle.ada_standing.specs.StandsIn.{StandsIn}
 use Rattle.ada_standing.specs.Asking.{nobody, renamed_request, names_kept}
@@ -72,6 +69,5 @@ causes_alike old new names request stands orderly also few kept =
     (λ runs. others_alike old new names request stands orderly also (is_asking old names request kept known runs)))
 
 pub refused_alike : RefusedAlike
-refused_alike old new names request stands lawful lawful_too kept =
-    let few : task_count new ≤ MOST_TASKS = tasks_are_few new lawful_too in
-    causes_alike old new names request stands (lawful_orderly old lawful) (lawful_orderly new (lawful_unlimited new lawful_too)) (omega arith) kept
+refused_alike old new names request stands lawful lawful_too few kept =
+    causes_alike old new names request stands (lawful_orderly old lawful) (lawful_orderly new lawful_too) few kept
