@@ -1,6 +1,7 @@
 //! The calls that are tried.
 
 use crate::boards::{try_offer, try_open};
+use crate::crowds::{Crowd, CrowdCall};
 use crate::halls::{HallCall, try_hall};
 use crate::journals::Reserving;
 use crate::kernels::{Making, Play};
@@ -39,10 +40,11 @@ pub enum Call {
     HallSay,
     Playing(Playing),
     Lasting(LastingCall),
+    Crowd(CrowdCall),
 }
 
 /// All of them.
-pub const CALLS: [Call; 30] = [
+pub const CALLS: [Call; 34] = [
     Call::KernelNew,
     Call::KernelStep(Scene::EachEvent),
     Call::KernelStep(Scene::Termination),
@@ -73,6 +75,10 @@ pub const CALLS: [Call; 30] = [
     Call::Lasting(LastingCall::DueTick),
     Call::Lasting(LastingCall::DueCreate),
     Call::Lasting(LastingCall::Compact),
+    Call::Crowd(CrowdCall::First),
+    Call::Crowd(CrowdCall::Later),
+    Call::Crowd(CrowdCall::Again),
+    Call::Crowd(CrowdCall::Tick),
 ];
 
 /// How many tasks there may be before one is added in a trial of it.
@@ -105,6 +111,7 @@ impl Call {
             Call::HallSay => "Hall::say",
             Call::Playing(call) => call.name(),
             Call::Lasting(call) => call.name(),
+            Call::Crowd(call) => call.name(),
         }
     }
 
@@ -157,6 +164,7 @@ impl Call {
             Call::HallSay => try_hall(rt, HallCall::Say(number), reach),
             Call::Playing(call) => try_playing(rt, call, number, reach),
             Call::Lasting(call) => Ok(lasting(alloc, call, number, reach)),
+            Call::Crowd(call) => Ok(crowd(alloc, call, reach)),
         }
     }
 }
@@ -205,6 +213,12 @@ fn table(alloc: Global, call: TableCall, tasks: usize, reach: Reach) -> Option<S
 fn lasting(alloc: Global, call: LastingCall, tasks: usize, reach: Reach) -> Option<Seen> {
     let trial = Living::prepare(alloc, call, tasks);
     let twin = Living::prepare(alloc, call, tasks);
+    go(trial, twin, reach)
+}
+
+fn crowd(alloc: Global, call: CrowdCall, reach: Reach) -> Option<Seen> {
+    let trial = Crowd::prepare(alloc, call);
+    let twin = Crowd::prepare(alloc, call);
     go(trial, twin, reach)
 }
 

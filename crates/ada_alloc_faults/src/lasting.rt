@@ -44,11 +44,11 @@ impl LastingCall {
 
 const MAIN: u64 = 0;
 
-const SERVER: u64 = 1;
+pub const SERVER: u64 = 1;
 
-const CLIENT: u64 = 2;
+pub const CLIENT: u64 = 2;
 
-const LAST: u64 = 3;
+pub const LAST: u64 = 3;
 
 const ENTRY: Entry = Entry {
     family: 0,
@@ -70,7 +70,7 @@ pub struct Living {
     moment: i64,
 }
 
-fn create() -> LastingRequest {
+pub fn create() -> LastingRequest {
     LastingRequest::Create {
         by: MAIN,
         master: LastingMaster::Body(MAIN),
@@ -78,18 +78,18 @@ fn create() -> LastingRequest {
     }
 }
 
-fn activate() -> LastingRequest {
+pub fn activate() -> LastingRequest {
     LastingRequest::Activate {
         by: MAIN,
         tasks: LastingTasks::from_slice(&[SERVER, CLIENT, LAST]),
     }
 }
 
-fn up(by: u64) -> LastingRequest {
+pub fn up(by: u64) -> LastingRequest {
     LastingRequest::Elaborated { by, ok: true }
 }
 
-fn call_of(by: u64, patience: Patience) -> LastingRequest {
+pub fn call_of(by: u64, patience: Patience) -> LastingRequest {
     LastingRequest::Call {
         by,
         callee: SERVER,
@@ -297,7 +297,7 @@ fn is_short(kernel: &LongKernel) -> bool {
 }
 
 // Whether two kernels follow as many events and tasks, and tell the same of each task by its lasting name.
-fn are_alike(kernel: &LongKernel, other: &LongKernel) -> bool {
+pub fn are_alike(kernel: &LongKernel, other: &LongKernel) -> bool {
     kernel.names().made() == other.names().made()
         && kernel.names().next_position() == other.names().next_position()
         && (0..kernel.names().made()).all(|task| tell_the_same(kernel, other, task))

@@ -8,6 +8,7 @@
 
 mod boards;
 mod calls;
+mod crowds;
 mod halls;
 mod journals;
 mod kernels;

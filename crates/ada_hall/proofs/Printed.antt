@@ -15,8 +15,6 @@ use Rattle.ada_laws.proofs.forced.Forcing.{forces_keeps}
 use Rattle.ada_script.specs.declared.script.Line.{Line}
 use Rattle.ada_statements.specs.Scope.{Scope}
 use Rattle.ada_statements.specs.Binding.{bind, request_of}
-use Rattle.ada_printing.specs.declared.value.Value.{Value}
-use Rattle.ada_printing.specs.Texts.{shown_text}
 use Rattle.ada_replay.specs.Play.{PlayState, group_text}
 use Rattle.ada_replay.specs.declared.fault.RunFault.{RunFault}
 use Rattle.ada_replay.specs.declared.fault.RunFault.TheVariants.{Write}
@@ -94,12 +92,6 @@ prints_group line events kept names bound text more first last made answer bound
     ap (λ n. group_text n kept.events (reverse (take last events))) names_are ∙ ap (λ k. group_text new.names k (reverse (take last events))) given.events
     ∙ ap (λ j. group_text new.names (length old.journal) j) journal_is ∙ sym group.printed in
     (printed ∙ ap (λ t. text ++ t) said_is, names_are)
-
-value_of : (line : Line) (old new : PlayState) (value : Value) (said : List ℕ) (asked : Option Request)
-    → MatchOption asked (AnswersShow line old (Shown value) said new) (AnswersRequest line old (Shown value) said new)
-    → (new ≡ old) × (said ≡ shown_text line.line value)
-value_of line old new value said None answers = answers
-value_of line old new value said (Some request) answers = absurd answers
 
 -- ---- one answer after another
 

@@ -55,6 +55,16 @@ pub fn call(by: u64, callee: u64) -> LastingRequest {
     }
 }
 
+/// A conditional call of task 1 that isn't met. To give the task the same outcome, a shorter journal takes a helper.
+pub fn call_in_vain() -> LastingRequest {
+    LastingRequest::Call {
+        by: 1,
+        callee: 2,
+        entry: ENTRY,
+        patience: Patience::Conditional,
+    }
+}
+
 pub fn accept(by: u64) -> LastingRequest {
     LastingRequest::Wait {
         by,

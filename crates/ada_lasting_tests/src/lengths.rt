@@ -3,8 +3,9 @@
 
 use crate::asking::{
     MAIN, MAIN_BODY, abort, accept, activate, assert_accepted, assert_compacts, assert_refused,
-    assert_release, call, complete, end, live_and_end, make_up, up,
+    assert_release, call, call_in_vain, complete, create, end, live_and_end, make_up, up,
 };
+use ada_events::limits::MOST_TASKS;
 use ada_events::{Families, Family, Refusal};
 use ada_lasting::{LastingMaster, LastingRequest, LongKernel};
 use std::process::Abort;
@@ -72,6 +73,45 @@ fn a_short_journal_grows_to_twice_its_length(rt: HostRuntime) -> Result<(), Fail
         lengths.follow(&rt, before, length(&kernel));
     }
     assert!(&rt; lengths.times >= 8, "{}", lengths.times);
+    Ok(())
+}
+
+// 256 tasks live, all that there may be, and a shorter journal would take one more.
+fn crowd<R: Abort>(rt: &R, kernel: &mut LongKernel) {
+    for _ in 1..MOST_TASKS {
+        assert_done(rt, kernel, create(MAIN, MAIN_BODY));
+    }
+    assert_done(rt, kernel, activate(MAIN, 1));
+    assert_done(rt, kernel, up(1));
+    assert_done(rt, kernel, call_in_vain());
+}
+
+// Ticks until the present journal has so many events.
+fn tick_to<R: Abort>(rt: &R, kernel: &mut LongKernel, events: u32) {
+    for now in length(kernel)..events {
+        tick(rt, kernel, now);
+    }
+    assert_eq!(rt; length(kernel), events);
+}
+
+// At its threshold of 300 events the journal can't be made shorter. Then a task makes room. It is tried again at 600.
+#[test]
+fn what_was_in_vain_is_tried_again_at_twice_the_length(rt: HostRuntime) -> Result<(), Fail> {
+    let mut kernel = LongKernel::new(rt.alloc(), 300)?;
+    crowd(&rt, &mut kernel);
+    tick_to(&rt, &mut kernel, 301);
+    assert_done(&rt, &mut kernel, abort(MAIN, 7));
+    assert_release(&rt, &mut kernel, 7, Ok(()));
+    let mut lengths = Lengths {
+        short: 300,
+        times: 0,
+    };
+    for now in 301..601u32 {
+        let before = length(&kernel);
+        tick(&rt, &mut kernel, now);
+        lengths.follow(&rt, before, length(&kernel));
+    }
+    assert_eq!(&rt; lengths.times, 1);
     Ok(())
 }
 

@@ -1,12 +1,12 @@
 //! The limits of a kernel that lives on: its tasks at a time, its thresholds, and that its journal is never full.
 
 use crate::asking::{
-    ENTRY, MAIN, MAIN_BODY, abort, accept, activate, assert_accepted, assert_not_done,
-    assert_refused, assert_release, assert_terminated, call, create, end, up,
+    MAIN, MAIN_BODY, abort, accept, activate, assert_accepted, assert_not_done, assert_refused,
+    assert_release, assert_terminated, call, call_in_vain, create, end, up,
 };
 use ada_compact::NotCompacted;
+use ada_events::Refusal;
 use ada_events::limits::{MOST_APPENDED, MOST_EVENTS};
-use ada_events::{Patience, Refusal};
 use ada_lasting::{LastingRequest, LongKernel, NotDone};
 use std::process::Abort;
 use std::test::Fail;
@@ -120,16 +120,6 @@ fn the_journal_is_never_full(rt: HostRuntime) -> Result<(), Fail> {
         assert!(&rt; (kernel.present().journal().len() as usize) < MOST_EVENTS);
     }
     Ok(())
-}
-
-// A conditional call that isn't met. To give its task the same outcome, a shorter journal takes a helper.
-fn call_in_vain() -> LastingRequest {
-    LastingRequest::Call {
-        by: 1,
-        callee: 2,
-        entry: ENTRY,
-        patience: Patience::Conditional,
-    }
 }
 
 #[test]

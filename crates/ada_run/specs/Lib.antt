@@ -3,3 +3,4 @@ pub mod internal
 pub mod Orders
 pub mod Opening
 pub mod Reports
+pub mod Reading

@@ -2,31 +2,16 @@
 ghost use Rattle.std.specs.Prelude.{◌≡◌, ◌+◌, ◌<◌, ◌≤◌, ◌^◌, cond};
 ghost use Rattle.std.specs.List.{count_by};
 ghost use Rattle.ada_statements.specs.Binding.{is_show};
-ghost use Rattle.ada_board.specs.Answers.{latest};
-ghost use Rattle.ada_board.specs.Sights.{Reads};
 ghost use Rattle.ada_hall.specs.Speakers.{is_request_of, request_count};
-ghost use Rattle.ada_run.specs.internal.Reading.{value_on};
 
 use crate::{Gate, Report, Shared};
 use ada_board::BoardReader;
 use ada_events::Refusal;
 use ada_hall::speakers::{is_spoken_by, speaker_name};
-use ada_hall::{Asked, Asking, Hall, Session};
+use ada_hall::{Asked, Hall, Session};
 use ada_script::{Line, Name, Script, Value};
 use std::sync::Wait;
 use std::sync::ledger::Share;
-
-// What a reader answers; none where its board has no such task or entry.
-fn value_of<J: Session>(reader: &mut BoardReader<J>, what: Asking) -> Option<Value>
-    ensures reads { Reads reader.old reader.new }
-    ensures answer { result ≡ value_on (latest reader.new.seen) what }
-{
-    match what {
-        Asking::Callable(task) => Some(Value::Truth(reader.callable(task)?)),
-        Asking::Terminated(task) => Some(Value::Truth(reader.terminated(task)?)),
-        Asking::Count(slot) => Some(Value::Number(reader.count(slot)?)),
-    }
-}
 
 // Plays the request at a place: whether to go on. Where memory is refused, or the board stays behind, the hall
 // is stopped.
@@ -86,16 +71,17 @@ fn note_line<J: Session, R: Wait>(
 
 // Shows the attribute of the line at a place: it is asked for under the lock, read without it, and kept under
 // it again. Answers whether to go on.
-fn show_line<J: Session, R: Wait>(
+fn show_line<J: Session, R: Wait, G: Gate>(
     rt: &R,
     shared: &Shared<'_, J>,
     place: u32,
     reader: &mut BoardReader<J>,
+    gate: &G,
 ) -> bool {
     let value = match ask_line(rt, shared, place) {
         Ok(Asked { what, mark }) => {
             reader.learn(mark);
-            Ok(value_of(reader, what))
+            Ok(gate.read(reader, what))
         }
         Err(cause) => Err(cause),
     };
@@ -103,20 +89,21 @@ fn show_line<J: Session, R: Wait>(
 }
 
 // Plays a line, if no hall was stopped: whether to go on.
-fn play_line<J: Session, R: Wait>(
+fn play_line<J: Session, R: Wait, G: Gate>(
     rt: &R,
     shared: &Shared<'_, J>,
     line: &Line,
     place: u32,
     reader: &mut BoardReader<J>,
     report: &mut Report<J>,
+    gate: &G,
 ) -> bool
     requires room { report.old.accepted + report.old.refused + 1 < 2 ^ 32 }
     ensures one { report.new.accepted + report.new.refused
         ≤ report.old.accepted + report.old.refused + cond (is_show line.now.statement) 0 1 }
 {
     if line.statement.is_show() {
-        show_line(rt, shared, place, reader)
+        show_line(rt, shared, place, reader, gate)
     } else {
         say_line(rt, shared, place, report)
     }
@@ -147,7 +134,7 @@ fn play_lines<J: Session, R: Wait, G: Gate>(
         }
         let place = u32::from(place);
         gate.before(rt, shared, number, place);
-        let goes_on = play_line(rt, shared, line, place, reader, report);
+        let goes_on = play_line(rt, shared, line, place, reader, report, gate);
         gate.after(rt, shared, number, place);
         if !goes_on {
             return;

@@ -5,6 +5,8 @@
 #[cfg(test)]
 mod all_at_once;
 #[cfg(test)]
+mod beside;
+#[cfg(test)]
 mod command_lines;
 #[cfg(test)]
 mod crew;

@@ -16,7 +16,7 @@ fn is_answered(answers: &[KeptAnswer], place: usize, answer: Answer) -> bool {
 }
 
 /// The lines at these places were answered in their turn, and so.
-fn assert_answers<R: Abort>(rt: &R, answers: &[KeptAnswer], wanted: &[(usize, Answer)]) {
+pub fn assert_answers<R: Abort>(rt: &R, answers: &[KeptAnswer], wanted: &[(usize, Answer)]) {
     for (place, answer) in wanted {
         assert!(rt; is_answered(answers, *place, *answer), "place {place}");
     }
