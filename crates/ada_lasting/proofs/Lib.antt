@@ -17,4 +17,5 @@ mod Remembering
 mod GivingUp
 mod Waited
 mod Dividing
+mod Callers
 mod waits

@@ -6,3 +6,4 @@ pub mod Following
 pub mod Refusing
 pub mod internal
 pub mod Waiting
+pub mod Outcomes
