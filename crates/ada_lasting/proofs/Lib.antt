@@ -18,4 +18,5 @@ mod GivingUp
 mod Waited
 mod Dividing
 mod Callers
+mod Shown
 mod waits

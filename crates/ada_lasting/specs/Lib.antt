@@ -7,3 +7,4 @@ pub mod Refusing
 pub mod internal
 pub mod Waiting
 pub mod Outcomes
+pub mod Events

@@ -8,3 +8,4 @@ pub mod Mastering
 pub mod Reasons
 pub mod Awaiting
 pub mod Outcomes
+pub mod Events

@@ -319,10 +319,8 @@ impl LongKernel {
         }
     }
 
-    /// The events that the last accepted request appended, in their order, as the present journal has them:
-    /// [`LongKernel::names`] tells the lasting names of the tasks and positions that they name. None after a release,
-    /// and none once the journal was made shorter since then.
-    pub fn events(&self) -> &[Event]
+    // The events that the last accepted request appended, in their order, as the present journal has them.
+    pub(crate) fn group(&self) -> &[Event]
         ensures { reverse result.now ≡ self.now.group }
     {
         let events = self.kernel.journal().as_slice();

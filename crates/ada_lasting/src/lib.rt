@@ -5,6 +5,8 @@
 
 pub mod asking;
 pub mod awaited;
+pub mod counting;
+pub mod events;
 pub mod failure;
 pub mod forgetting;
 pub mod kernel;
