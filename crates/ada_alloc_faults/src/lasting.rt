@@ -282,7 +282,7 @@ impl Trial for Living {
                 }
                 (Some(kernel), Some(other_kernel)) => {
                     are_alike(kernel, other_kernel)
-                        && kernel.events() == other_kernel.events()
+                        && show_the_same(kernel, other_kernel)
                         && are_same(kernel.present(), other_kernel.present())
                 }
                 (None, None) => true,
@@ -301,6 +301,12 @@ pub fn are_alike(kernel: &LongKernel, other: &LongKernel) -> bool {
     kernel.names().made() == other.names().made()
         && kernel.names().next_position() == other.names().next_position()
         && (0..kernel.names().made()).all(|task| tell_the_same(kernel, other, task))
+}
+
+// Whether two kernels show the same events of their last request.
+fn show_the_same(kernel: &LongKernel, other: &LongKernel) -> bool {
+    kernel.events() == other.events()
+        && (0..kernel.events()).all(|at| kernel.event(at) == other.event(at))
 }
 
 fn tell_the_same(kernel: &LongKernel, other: &LongKernel, task: u64) -> bool {

@@ -9,10 +9,8 @@ use Rattle.ada_events.specs.Tasks.{task_count, has_task}
 use Rattle.ada_events.specs.Phases.{is_terminated, is_running}
 use Rattle.ada_events.specs.Attributes.{is_callable, count_refusal, own_count}
 use Rattle.ada_events.specs.Refusals.{first_cause}
-use Rattle.ada_events.specs.Outcomes.{outcome_of}
 use Rattle.ada_events.specs.declared.names.Entry.{Entry}
 use Rattle.ada_events.specs.declared.refusal.Refusal.TheVariants.{UnknownTask}
-use Rattle.ada_standing.specs.Renaming.{renamed_outcome}
 use Rattle.ada_laws.proofs.asking.Limitless.{lawful_unlimited}
 use Rattle.ada_standing.specs.Asking.{AnswersAlike}
 use Rattle.ada_standing.proofs.asked.Answering.{answered_alike}
@@ -57,14 +55,6 @@ module _ (journal : List Event) (kernel : Long) (follows : Follows journal kerne
       → then_some (has_task kernel.present v) (is_running kernel.present v)
       ≡ then_some (is_some (found kernel.names.tasks task)) (is_running journal task)
   running_here task v is = told_here (is_running journal) (is_running kernel.present) (λ u v is. (answers.tasks u v is).running) task v is
-
-  -- the outcome is that of the journal, with the call that it names renamed
-  pub outcome_here : (task v : ℕ) → found kernel.names.tasks task ≡ Some v
-      → then_some (has_task kernel.present v) (outcome_of kernel.present v)
-      ≡ option_and_then (λ (n : ℕ). renamed_outcome (renaming_of kernel.names) (outcome_of journal task)) (found kernel.names.tasks task)
-  outcome_here task v is =
-      let same = follows.stands.same task v is in
-      rw (is, same.exists) (sym same.outcome)
 
   pub count_here : (task v : ℕ) (entry : Entry) → found kernel.names.tasks task ≡ Some v → own_count kernel.present v entry ≡ own_count journal task entry
   count_here task v entry is = (answers.tasks task v is).own_count entry

@@ -98,12 +98,13 @@ no_masters : KnowsMasters [] first_names []
 no_masters = record { right = All-nil (IsRemembered []); complete = λ u v is other. absurd (other (alone u v is).0) }
 
 -- a kernel whose present journal is empty, with the first names, follows the empty journal
-pub begins : (kernel : Long) → kernel.present ≡ [] → kernel.names ≡ first_names → kernel.masters ≡ [] → Follows [] kernel
+pub begins : (kernel : Long) → kernel.present ≡ [] → kernel.names ≡ first_names → kernel.masters ≡ [] → kernel.group ≡ [] → Follows [] kernel
 unfolding task_count
-begins kernel empty first nobody = record {
+begins kernel empty first nobody nothing = record {
   lawful = tt;
   settled = empty_is_settled;
   stands = rw (empty, first) stands_empty;
+  shown = rw nothing refl;
   length = rw first refl;
   made = rw first refl;
   masters = rw (first, nobody) no_masters;

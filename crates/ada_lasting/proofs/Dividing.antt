@@ -133,7 +133,7 @@ module _ (journal : List Event) (kernel : Long) (follows : Follows journal kerne
           rw it.leads (divides_at from least it.present it it.leads u v named)
 
   -- what stands for a task has it for its lasting name
-  name_back : (u v : ℕ) → found kernel.names.tasks u ≡ Some v → named_by kernel.names.tasks v ≡ Some u
+  pub name_back : (u v : ℕ) → found kernel.names.tasks u ≡ Some v → named_by kernel.names.tasks v ≡ Some u
   name_back u v is =
       let (name, told) = found-named_by kernel.names.tasks u v is in
       let leads : found kernel.names.tasks name ≡ Some v =

@@ -17,4 +17,6 @@ mod Remembering
 mod GivingUp
 mod Waited
 mod Dividing
+mod Callers
+mod Shown
 mod waits

@@ -1,5 +1,5 @@
 -- The newest events of a journal are the last of the list in which they came.
-use Rattle.std.proofs.Common.{◌≡◌, ℕ, ◌-◌, ◌≤◌, ◌++◌, List, length, take, drop, reverse, sym, ap, ◌∙◌, arith}
+use Rattle.std.proofs.Common.{◌≡◌, ℕ, ◌-◌, ◌≤◌, ◌++◌, List, [], length, take, drop, reverse, sym, ap, ◌∙◌, arith}
 use Rattle.std.proofs.lemmas.List.{take-append-drop, take_at, length-drop, length-reverse, reverse-append, take_all}
 use Rattle.ada_events.specs.declared.event.Event.{Event}
 
@@ -11,6 +11,16 @@ newest_reversed events from within =
     sym (ap (take (length events - from)) whole
     ∙ take_at (reverse (drop from events)) (reverse (take from events)) (length events - from)
     (length-reverse (drop from events) ∙ length-drop from events))
+
+-- none, where there are no more
+pub none_newest : (events : List Event) (from : ℕ) → from ≡ length events → take (length events - from) events ≡ []
+none_newest events from same =
+    let none : length events - from ≡ 0 = omega (arith, same) in
+    ap (λ n. take n events) none
+
+-- the events by which a journal grew are its newest
+pub newest_appended : (before grown steps : List Event) (n : ℕ) → grown ≡ steps ++ before → length steps ≡ n → take n grown ≡ steps
+newest_appended before grown steps n is long = rw is (take_at steps before n long)
 
 -- the events from one on, as a journal has them
 pub newest_kept : (events : List Event) (from : ℕ) → from ≤ length events → {journal : List Event} → reverse events ≡ journal → length events ≡ length journal

@@ -1,5 +1,5 @@
 -- A kernel that lives on follows the same journal where its present journal is made shorter, and where a name is given up.
-use Rattle.std.proofs.Common.{◌≡◌, ◌≢◌, ℕ, Bool, true, false, Option, Some, List, refl, sym, ap, ◌∙◌, subst, inl, inr, arith}
+use Rattle.std.proofs.Common.{◌≡◌, ◌≢◌, ℕ, Bool, true, false, Option, Some, List, [], refl, sym, ap, ◌∙◌, subst, inl, inr, arith}
 use mathlib.Core.Bool.{beq}
 use Rattle.std.specs.Bool.{then_some}
 use Rattle.std.specs.Option.{option_eq}
@@ -32,20 +32,21 @@ was_named old names until task v rises is =
 
 -- a shorter present journal takes the place of the present one
 pub shortened : (journal : List Event) (kernel : Long) (present : List Event) (names : Names) (until : ℕ) (group : List Event) → Follows journal kernel
-    → AreInOrder kernel.names → StandsIn kernel.present present (standing_of names)
+    → AreInOrder kernel.names → StandsIn kernel.present present (standing_of names) → group ≡ []
     → Follows journal (record {
       present = present;
       names = moved_names kernel.names names until;
       group = group;
       masters = named_masters (moved_names kernel.names names until) kernel.masters;
     })
-shortened journal kernel present names until group follows order stands =
+shortened journal kernel present names until group follows order stands nothing =
     let chain : StandsIn journal present (chained (renaming_of kernel.names) (standing_of names)) =
     stand_ins_chain journal kernel.present present (renaming_of kernel.names) (standing_of names) follows.stands stands follows.lawful in
     record {
       lawful = follows.lawful;
       settled = follows.settled;
       stands = subst (StandsIn journal present) (sym (renaming-moved kernel.names names until order.tasks order.places)) chain;
+      shown = rw nothing refl;
       length = omega (arith, follows.length);
       made = follows.made;
       masters = masters_named journal (moved_names kernel.names names until) kernel.masters
@@ -78,14 +79,15 @@ still_named rows lasting task v is = elim (cases_eq task lasting) [
 
 -- the name of a terminated task is given up
 pub released : (journal : List Event) (kernel : Long) (task present : ℕ) (group : List Event) → Follows journal kernel
-    → found kernel.names.tasks task ≡ Some present → is_terminated kernel.present present ≡ true → task ≢ 0
+    → found kernel.names.tasks task ≡ Some present → is_terminated kernel.present present ≡ true → task ≢ 0 → group ≡ []
     → Follows journal (record { present = kernel.present; names = without_task kernel.names task; group = group; masters = kernel.masters })
-released journal kernel task present group follows named dead other =
+released journal kernel task present group follows named dead other nothing =
     record {
       lawful = follows.lawful;
       settled = follows.settled;
       stands = fewer_names_stand_in journal kernel.present (renaming_of kernel.names) (renaming_of (without_task kernel.names task)) follows.stands
           (without_task-enough journal kernel.names task (dead_too journal kernel task present follows named dead) other) follows.lawful follows.settled;
+      shown = rw nothing refl;
       length = follows.length;
       made = follows.made;
       masters = masters_fewer journal kernel.names (without_task kernel.names task) kernel.masters

@@ -1,7 +1,7 @@
 -- A kernel that lives on follows a journal without an end from request to request.
 use Rattle.std.proofs.Common.{◌≡◌, ℕ, suc, ◌+◌, ◌-◌, ◌≤◌, true, Option, Some, None, List, ◌++◌, length, map, take, sym, ap, ◌∙◌, subst, if◌then◌else◌, arith}
 use Rattle.std.specs.Option.{option_map, is_some}
-use Rattle.std.proofs.lemmas.List.{length-append, take_at}
+use Rattle.std.proofs.lemmas.List.{length-append, length-map}
 use Rattle.ada_events.specs.declared.event.Event.{Event}
 use Rattle.ada_events.specs.declared.request.Request.{Request}
 use Rattle.ada_events.specs.declared.limits.TheConstants.{MOST_TASKS}
@@ -27,6 +27,7 @@ use Rattle.ada_lasting.specs.internal.Nameable.{names_nameable}
 use Rattle.ada_lasting.specs.Following.{Long, Follows, IsStepped}
 use Rattle.ada_lasting.specs.internal.Present.{IsPresent}
 use Rattle.ada_lasting.proofs.Meant.{kept_nameable}
+use Rattle.ada_lasting.proofs.Newest.{newest_appended}
 use Rattle.ada_lasting.proofs.Remembering.{masters_after}
 use Rattle.ada_lasting.proofs.Growing.{count_after, names_after, tasks_follow, positions_follow, lengths, growth_too}
 
@@ -37,7 +38,7 @@ same_renaming x y tasks positions = λ i. record { task = λ u. tasks u i; posit
 newest_of : (before grown copies : List Event) → grown ≡ copies ++ before → take (length grown - length before) grown ≡ copies
 newest_of before grown copies is =
     let long : length grown ≡ length copies + length before = ap length is ∙ length-append copies before in
-    rw is (take_at copies before (length (copies ++ before) - length before) (omega (arith, length-append copies before)))
+    newest_appended before grown copies (length grown - length before) is (omega (arith, long))
 
 -- what the names and both journals know after the request
 module _ (journal : List Event) (kernel : Long) (follows : Follows journal kernel) (is_present : IsPresent kernel) (r : Request)
@@ -86,6 +87,11 @@ module _ (journal : List Event) (kernel : Long) (follows : Follows journal kerne
         is_present.order.tasks leads led in
         let longer = growth_too journal kernel.present kernel.names r grown present follows.made follows.length is_present.short is_present.order.grows
         is_present.order.tasks leads led in
+        let group : List Event = take (length present - length kernel.present) present in
+        let told : map Some group ≡ map (renamed_event (renaming_of after)) led.steps =
+        ap (map Some) (newest_of kernel.present present led.copies led.grown_too) ∙ (led.renamed ∙ ap (λ n. map (renamed_event n) led.steps) same) in
+        let as_many : length led.steps ≡ length group =
+        sym (length-map led.steps (renamed_event (renaming_of after))) ∙ (sym (ap length told) ∙ length-map group Some) in
         record {
           unrefused = unrefused;
           grown = grown;
@@ -94,6 +100,8 @@ module _ (journal : List Event) (kernel : Long) (follows : Follows journal kerne
             lawful = after-unlimited journal r grown follows.lawful follows.settled unrefused leads;
             settled = leads.settled;
             stands = subst (StandsIn grown present) same led.stands;
+            shown = told
+                ∙ ap (map (renamed_event (renaming_of after))) (sym (newest_appended journal grown led.steps (length group) led.grown as_many));
             length = omega (arith, grew, longer, follows.length, is_present.short, is_present.order.grows);
             made = count_after journal r grown leads ∙ ap (λ n. if creates r then suc n else n) follows.made;
             masters = masters_after journal r grown kernel.names kernel.masters master (task_count kernel.present) (length present) follows.made asks
@@ -102,5 +110,5 @@ module _ (journal : List Event) (kernel : Long) (follows : Follows journal kerne
           position = omega (arith, follows.length);
           steps = led.steps;
           appended = led.grown;
-          told = ap (map Some) (newest_of kernel.present present led.copies led.grown_too) ∙ (led.renamed ∙ ap (λ n. map (renamed_event n) led.steps) same);
+          told = told;
         }

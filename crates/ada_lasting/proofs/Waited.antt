@@ -21,7 +21,7 @@ module _ (journal : List Event) (kernel : Long) (follows : Follows journal kerne
       waited_alike journal kernel.present (renaming_of kernel.names) follows.stands follows.lawful (lawful_unlimited kernel.present is_present.lawful)
 
   -- what stands for a position has it for its lasting one
-  back : (p q : ℕ) → position_of kernel.names p ≡ Some q → lasting_of kernel.names q ≡ Some p
+  pub back : (p q : ℕ) → position_of kernel.names p ≡ Some q → lasting_of kernel.names q ≡ Some p
   back p q is =
       let within : q ≤ kernel.names.until = subst (λ n. q ≤ n) is_present.short (follows.stands.positions.within p q is).1 in
       let (name, told) = position-lasting_of kernel.names p q is within in

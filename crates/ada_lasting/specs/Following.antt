@@ -29,12 +29,13 @@ seen present names before masters = record {
 }
 
 -- the kernel follows a journal without an end: this is lawful, where tasks, slots and events have no limit, and settled,
--- the present journal stands in for it, the next event and the next task will have their places in it as names, and the
--- masters of tasks are remembered
+-- the present journal stands in for it, the events that are shown stand for its newest, in their order, the next event
+-- and the next task will have their places in it as names, and the masters of tasks are remembered
 pub record Follows (journal : List Event) (kernel : Long) : Type 0 where
   pub lawful : IsLawfulUnlimited journal
   pub settled : IsSettled journal
   pub stands : StandsIn journal kernel.present (renaming_of kernel.names)
+  pub shown : map Some kernel.group ≡ map (renamed_event (renaming_of kernel.names)) (take (length kernel.group) journal)
   pub length : length journal ≡ length_of kernel.names
   pub made : task_count journal ≡ kernel.names.made
   pub masters : KnowsMasters journal kernel.names kernel.masters

@@ -7,3 +7,5 @@ pub mod Refusing
 pub mod Clock
 pub mod internal
 pub mod Waiting
+pub mod Outcomes
+pub mod Events

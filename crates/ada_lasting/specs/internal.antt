@@ -7,3 +7,5 @@ pub mod Moving
 pub mod Mastering
 pub mod Reasons
 pub mod Awaiting
+pub mod Outcomes
+pub mod Events

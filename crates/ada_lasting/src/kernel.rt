@@ -4,9 +4,7 @@ ghost use Rattle.std.specs.Prelude.{◌≡◌, ◌≢◌, ◌⊎◌, ℕ, true, 
 ghost use Rattle.std.specs.Bool.{then_some};
 ghost use Rattle.ada_events.specs.declared.event.Event.{Event as Happening};
 ghost use Rattle.ada_events.specs.Attributes.{is_callable, is_finished, own_count};
-ghost use Rattle.ada_events.specs.Outcomes.{outcome_of};
-ghost use Rattle.ada_standing.specs.Renaming.{renamed_outcome};
-ghost use Rattle.std.specs.Option.{option_and_then, option_map};
+ghost use Rattle.std.specs.Option.{option_map};
 ghost use Rattle.ada_events.specs.Phases.{is_running, is_terminated};
 ghost use Rattle.ada_events.specs.declared.refusal.Refusal.TheVariants.{OutOfMemory};
 ghost use Rattle.ada_events.specs.Limits.{is_full};
@@ -17,7 +15,7 @@ ghost use Rattle.ada_lasting.specs.GivingUp.{GivesUpOnly};
 ghost use Rattle.ada_lasting.specs.Meaning.{meant, meant_master};
 ghost use Rattle.ada_lasting.specs.internal.Mastering.{asked_under};
 ghost use Rattle.ada_lasting.specs.internal.Causes.{IsRoomless};
-ghost use Rattle.ada_lasting.specs.Naming.{AreOneToOne, found, renaming_of};
+ghost use Rattle.ada_lasting.specs.Naming.{AreOneToOne, found};
 ghost use Rattle.ada_lasting.specs.Refusing.{IsCause, IsMadeShorter, IsRefused, IsUncompacted, IsUncounted, IsUnreleased, creates};
 
 use crate::failure::NotDone;
@@ -27,7 +25,7 @@ use crate::names::Names;
 use crate::requests::{LastingMaster, LastingRequest};
 use ada_compact::{Compacted, NotCompacted, compact};
 use ada_events::limits::{MOST_APPENDED, MOST_EVENTS, MOST_SLOTS, MOST_TASKS};
-use ada_events::{Entry, Event, Family, Outcome, Refusal, TaskNo};
+use ada_events::{Entry, Event, Family, Refusal, TaskNo};
 use ada_kernel::Kernel;
 use std::alloc::Global;
 use std::marker::Model;
@@ -321,10 +319,8 @@ impl LongKernel {
         }
     }
 
-    /// The events that the last accepted request appended, in their order, as the present journal has them:
-    /// [`LongKernel::names`] tells the lasting names of the tasks and positions that they name. None after a release,
-    /// and none once the journal was made shorter since then.
-    pub fn events(&self) -> &[Event]
+    // The events that the last accepted request appended, in their order, as the present journal has them.
+    pub(crate) fn group(&self) -> &[Event]
         ensures { reverse result.now ≡ self.now.group }
     {
         let events = self.kernel.journal().as_slice();
@@ -377,18 +373,6 @@ impl LongKernel {
     {
         self.known();
         self.kernel.running(self.names.task(task)?)
-    }
-
-    /// The outcome of a task, a call in it by its position in the present journal; none if the task was never made or
-    /// given up.
-    pub fn outcome(&self, task: u64) -> Option<Outcome>
-        ensures { (journal : List Happening) → Follows journal self.now
-            → result ≡ option_and_then (λ (v : ℕ).
-            renamed_outcome (renaming_of self.now.names) (outcome_of journal task))
-            (found self.now.names.tasks task) }
-    {
-        self.known();
-        self.kernel.outcome(self.names.task(task)?)
     }
 
     /// The attribute COUNT of an entry of the asking task's own (9.9), at most 256. Refused for the first that applies

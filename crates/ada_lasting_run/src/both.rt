@@ -1,8 +1,9 @@
 //! A kernel that lives on beside one that keeps everything: the same requests, and all that both answer compared.
 
-use crate::lines::{Lasting, Line, Own};
+use crate::lines::tells;
 use crate::plainly::{listed, other, plain_master, plain_request, plain_task};
 use crate::unlike::{Unlike, want};
+use ada_border::events::plain_of;
 use ada_compact::NotCompacted;
 use ada_events::{Event, Master, Member, Refusal, TaskNo};
 use ada_kernel::Kernel;
@@ -33,8 +34,6 @@ pub struct Both {
     pub(crate) crowded: u64,
     // The kinds of events that came up, a bit for each.
     pub(crate) kinds: u64,
-    wanted: Line,
-    found: Line,
 }
 
 const MAIN: Made = Made {
@@ -90,8 +89,6 @@ impl Both {
             live: Vec::new(alloc),
             crowded: 0,
             kinds: 0,
-            wanted: Line::new(alloc),
-            found: Line::new(alloc),
         };
         both.add(MAIN)?;
         Ok(both)
@@ -207,22 +204,13 @@ impl Both {
         Ok(())
     }
 
-    // The events of the last group are the same but for the names of tasks and positions.
+    // The events of the last group are told alike.
     fn compare_events(&mut self, before: usize) -> Result<(), Unlike> {
         let wanted = self.plain.journal().as_slice().get(before..).unwrap_or(&[]);
-        let found = self.long.events();
-        want(found.len() == wanted.len(), Unlike::Length)?;
-        let lasting = Lasting {
-            names: self.long.names(),
-        };
-        for (number, (one, other)) in wanted.iter().zip(found).enumerate() {
-            self.wanted.read(&Own, one);
-            self.found.read(&lasting, other);
-            self.kinds |= 1 << (self.wanted.kind() % 64);
-            want(
-                self.wanted.as_slice() == self.found.as_slice(),
-                Unlike::Event(number),
-            )?;
+        want(self.long.events() == wanted.len(), Unlike::Length)?;
+        for (at, event) in wanted.iter().enumerate() {
+            self.kinds |= 1 << (plain_of(event).kind % 64);
+            want(tells(&self.long, at, event), Unlike::Event(at))?;
         }
         Ok(())
     }
@@ -242,7 +230,7 @@ impl Both {
             let is_right = self.is_given_up(task) || !self.may_be_given_up(task);
             want(is_right, Unlike::Kept(task))?;
         }
-        want(self.long.events().is_empty(), Unlike::Length)
+        want(self.long.events() == 0, Unlike::Length)
     }
 
     // What the answer to a release is to be.

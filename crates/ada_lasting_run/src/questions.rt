@@ -3,13 +3,47 @@
 use crate::both::Both;
 use crate::plainly::plain_task;
 use crate::unlike::{Unlike, want};
-use ada_events::{Entry, Outcome};
-use ada_lasting::NotDone;
+use ada_events::{Entry, Event, Outcome};
+use ada_lasting::{LastingOutcome, NotDone};
 
 const FIRST: Entry = Entry {
     family: 0,
     index: 0,
 };
+
+// Whether an event ends the rendezvous with a call (9.5, 9.10).
+fn ends(event: &Event, at: u32) -> bool {
+    match event {
+        Event::Ended { call, .. } | Event::Failed { call } => *call == at,
+        _ => false,
+    }
+}
+
+// What an outcome is called by a kernel that lives on.
+fn as_lasting(outcome: Outcome, caller: Option<u64>) -> LastingOutcome {
+    match outcome {
+        Outcome::Dead => LastingOutcome::Dead,
+        Outcome::Done => LastingOutcome::Done,
+        Outcome::Held => LastingOutcome::Held,
+        Outcome::Served => LastingOutcome::Served,
+        Outcome::TaskingError => LastingOutcome::TaskingError,
+        Outcome::Cancelled => LastingOutcome::Cancelled,
+        Outcome::Accepted { call, choice } => LastingOutcome::Accepted {
+            call: u64::from(call),
+            choice,
+            caller,
+        },
+        Outcome::TookElse => LastingOutcome::TookElse,
+        Outcome::TookDelay(number) => LastingOutcome::TookDelay(number),
+        Outcome::ProgramError => LastingOutcome::ProgramError,
+        Outcome::Awake => LastingOutcome::Awake,
+        Outcome::ActivationOk => LastingOutcome::ActivationOk,
+        Outcome::ActivationFailed => LastingOutcome::ActivationFailed,
+        Outcome::BlockLeft => LastingOutcome::BlockLeft,
+        Outcome::Raised => LastingOutcome::Raised,
+        Outcome::Nothing => LastingOutcome::Nothing,
+    }
+}
 
 impl Both {
     /// Compares the answers to all questions.
@@ -56,30 +90,25 @@ impl Both {
     }
 
     fn compare_outcome(&self, task: u64) -> Result<(), Unlike> {
-        let wanted = self.plain.outcome(plain_task(task));
-        let is_like = match (self.long.outcome(task), wanted) {
-            (Some(found), Some(wanted)) => self.is_like(found, wanted),
-            (None, None) => true,
-            _ => false,
+        let wanted = match self.plain.outcome(plain_task(task)) {
+            Some(outcome) => Some(as_lasting(outcome, self.caller(outcome))),
+            None => None,
         };
-        want(is_like, Unlike::Outcome(task))
+        want(self.long.outcome(task) == wanted, Unlike::Outcome(task))
     }
 
-    // Whether two outcomes are the same, but for the name of a call.
-    fn is_like(&self, found: Outcome, wanted: Outcome) -> bool {
-        let (call, choice) = match found {
-            Outcome::Accepted { call, choice } => (call, choice),
-            _ => return found == wanted,
+    // Who made an accepted call whose rendezvous hasn't ended.
+    fn caller(&self, outcome: Outcome) -> Option<u64> {
+        let Outcome::Accepted { call, .. } = outcome else {
+            return None;
         };
-        match wanted {
-            Outcome::Accepted {
-                call: wanted_call,
-                choice: wanted_choice,
-            } => {
-                let name = self.long.names().lasting_position(call);
-                choice == wanted_choice && name == Some(u64::from(wanted_call))
+        let events = self.plain.journal().as_slice();
+        let later = events.get(call as usize..)?;
+        match self.plain.journal().get(call) {
+            Some(Event::Called { by, .. }) if !later.iter().any(|event| ends(event, call)) => {
+                Some(u64::from(by.0))
             }
-            _ => false,
+            _ => None,
         }
     }
 

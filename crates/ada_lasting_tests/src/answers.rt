@@ -1,11 +1,11 @@
 //! What a kernel that lives on answers about tasks once its journal was made shorter, and numbers in it are no names.
 
 use crate::asking::{
-    ENTRY, MAIN, abort, accept, assert_accepted, assert_compacts, assert_terminated, complete, end,
-    start_to_call,
+    ENTRY, MAIN, abort, accept, assert_accepted, assert_compacts, assert_terminated, call,
+    complete, end, start_to_call,
 };
-use ada_events::{Entry, Outcome, Refusal};
-use ada_lasting::{LongKernel, NotDone};
+use ada_events::{Entry, Refusal};
+use ada_lasting::{LastingOutcome, LongKernel, NotDone};
 use std::process::Abort;
 use std::test::Fail;
 
@@ -58,40 +58,70 @@ fn nothing_is_told_of_who_was_given_up_or_never_made(rt: HostRuntime) -> Result<
     Ok(())
 }
 
-fn assert_outcome<R: Abort>(rt: &R, kernel: &LongKernel, task: u64, wanted: Outcome) {
+fn assert_outcome<R: Abort>(rt: &R, kernel: &LongKernel, task: u64, wanted: LastingOutcome) {
     assert_eq!(rt; kernel.outcome(task), Some(wanted), "{task}");
 }
 
-// The task accepted the call at 18, by its only choice.
-fn assert_accepted_it<R: Abort>(rt: &R, kernel: &LongKernel, task: u64) {
-    match kernel.outcome(task) {
-        Some(Outcome::Accepted { call, choice }) => {
-            assert_eq!(rt; kernel.names().lasting_position(call), Some(18));
-            assert_eq!(rt; choice, 0);
-        }
-        outcome => assert!(rt; false, "{outcome:?}"),
-    }
+// It accepted the call at 18, by its only choice; the caller is told while the rendezvous lasts.
+fn assert_accepted_it<R: Abort>(rt: &R, kernel: &LongKernel, task: u64, caller: Option<u64>) {
+    let wanted = LastingOutcome::Accepted {
+        call: 18,
+        choice: 0,
+        caller,
+    };
+    assert_outcome(rt, kernel, task, wanted);
 }
 
 #[test]
 fn outcomes_are_those_of_the_task_that_is_named(rt: HostRuntime) -> Result<(), Fail> {
     let mut kernel = LongKernel::new(rt.alloc(), LATE)?;
     start_to_call(&rt, &mut kernel);
-    assert_outcome(&rt, &kernel, MAIN, Outcome::ActivationOk);
-    assert_outcome(&rt, &kernel, 2, Outcome::Nothing);
-    assert_outcome(&rt, &kernel, 3, Outcome::Held);
+    assert_outcome(&rt, &kernel, MAIN, LastingOutcome::ActivationOk);
+    assert_outcome(&rt, &kernel, 2, LastingOutcome::Nothing);
+    assert_outcome(&rt, &kernel, 3, LastingOutcome::Held);
     assert_accepted(&rt, &mut kernel, accept(2), 19);
+    assert_accepted_it(&rt, &kernel, 2, Some(3));
     assert_compacts(&rt, &mut kernel);
-    assert_accepted_it(&rt, &kernel, 2);
-    assert_outcome(&rt, &kernel, 3, Outcome::Held);
+    assert_accepted_it(&rt, &kernel, 2, Some(3));
+    assert_outcome(&rt, &kernel, 3, LastingOutcome::Held);
     assert_accepted(&rt, &mut kernel, end(2), 21);
+    // The call is over, and still named; the caller goes on.
+    assert_accepted_it(&rt, &kernel, 2, None);
     assert_compacts(&rt, &mut kernel);
-    // The call is over, and still named.
-    assert_accepted_it(&rt, &kernel, 2);
-    assert_outcome(&rt, &kernel, 3, Outcome::Served);
+    assert_accepted_it(&rt, &kernel, 2, None);
+    assert_outcome(&rt, &kernel, 3, LastingOutcome::Served);
     assert_accepted(&rt, &mut kernel, complete(3), 22);
     assert_compacts(&rt, &mut kernel);
-    assert_outcome(&rt, &kernel, 3, Outcome::Dead);
+    assert_outcome(&rt, &kernel, 3, LastingOutcome::Dead);
+    Ok(())
+}
+
+#[test]
+fn a_caller_is_told_until_its_rendezvous_ends(rt: HostRuntime) -> Result<(), Fail> {
+    let mut kernel = LongKernel::new(rt.alloc(), LATE)?;
+    start_to_call(&rt, &mut kernel);
+    assert_accepted(&rt, &mut kernel, accept(2), 19);
+    // Abnormal, it stays in its rendezvous (9.10).
+    assert_accepted(&rt, &mut kernel, abort(MAIN, 3), 21);
+    assert_compacts(&rt, &mut kernel);
+    assert_accepted_it(&rt, &kernel, 2, Some(3));
+    assert_accepted(&rt, &mut kernel, end(2), 22);
+    assert_accepted_it(&rt, &kernel, 2, None);
+    Ok(())
+}
+
+#[test]
+fn who_calls_again_is_no_caller_of_a_call_that_is_over(rt: HostRuntime) -> Result<(), Fail> {
+    let mut kernel = LongKernel::new(rt.alloc(), LATE)?;
+    start_to_call(&rt, &mut kernel);
+    assert_accepted(&rt, &mut kernel, accept(2), 19);
+    assert_accepted(&rt, &mut kernel, end(2), 21);
+    // Held up by a second call, it isn't in the first one's rendezvous.
+    assert_accepted(&rt, &mut kernel, call(3, 2), 22);
+    assert_outcome(&rt, &kernel, 3, LastingOutcome::Held);
+    assert_accepted_it(&rt, &kernel, 2, None);
+    assert_compacts(&rt, &mut kernel);
+    assert_accepted_it(&rt, &kernel, 2, None);
     Ok(())
 }
 
@@ -148,12 +178,12 @@ fn it_has_finished_once_the_main_program_is_terminated(rt: HostRuntime) -> Resul
     start_to_call(&rt, &mut kernel);
     // With it the called task is halted, the call fails, and the task is gone.
     assert_accepted(&rt, &mut kernel, abort(MAIN, 2), 19);
-    assert_outcome(&rt, &kernel, 3, Outcome::TaskingError);
+    assert_outcome(&rt, &kernel, 3, LastingOutcome::TaskingError);
     assert!(&rt; !kernel.finished());
     assert_accepted(&rt, &mut kernel, complete(MAIN), 23);
     assert_compacts(&rt, &mut kernel);
     // Completed, the main program waits for task 3, which depends on it (9.4).
-    assert_outcome(&rt, &kernel, MAIN, Outcome::Done);
+    assert_outcome(&rt, &kernel, MAIN, LastingOutcome::Done);
     assert!(&rt; !kernel.finished());
     assert_accepted(&rt, &mut kernel, complete(3), 24);
     assert!(&rt; kernel.finished());

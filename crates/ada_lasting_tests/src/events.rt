@@ -1,82 +1,73 @@
-//! The events of the last request to a kernel that lives on, once its journal was made shorter, and the lasting names
-//! of what they name.
+//! The events of the last request to a kernel that lives on, in names that last, once its journal was made shorter and
+//! numbers in it are no names.
 
-use crate::asking::{MAIN, abort, accept, assert_accepted, assert_compacts, end, start_to_call};
-use ada_events::{Event, TaskNo};
-use ada_lasting::LongKernel;
+use crate::asking::{
+    ENTRY, MAIN, MAIN_BODY, abort, accept, assert_accepted, assert_compacts, assert_release, call,
+    create, end, start_to_call,
+};
+use ada_border::events::PlainEvent;
+use ada_events::{Choice, Choices, Family, Pause, Pauses, Tail, TaskNo};
+use ada_lasting::{LastingMaster, LastingRequest, LastingTasks, LongKernel};
 use std::process::Abort;
 use std::test::Fail;
 
-fn assert_task<R: Abort>(rt: &R, kernel: &LongKernel, task: TaskNo, lasting: u64) {
-    assert_eq!(rt; kernel.names().lasting_task(task), Some(lasting));
-}
+// An event that names nothing, of no kind.
+const BLANK: PlainEvent = PlainEvent {
+    kind: 0,
+    form: 0,
+    task: 0,
+    callee: 0,
+    family: 0,
+    index: 0,
+    under_kind: 0,
+    master_kind: 0,
+    under: 0,
+    master: 0,
+    call: 0,
+    position: 0,
+    number: 0,
+    is_timed: 0,
+    moment: 0,
+    duration: 0,
+};
 
-fn assert_position<R: Abort>(rt: &R, kernel: &LongKernel, position: u32, lasting: u64) {
-    assert_eq!(rt; kernel.names().lasting_position(position), Some(lasting));
-}
-
-// A wait of task 2 at 19, which took the call at 18.
-fn assert_met<R: Abort>(rt: &R, kernel: &LongKernel) {
-    let events = kernel.events();
-    assert_eq!(rt; events.len(), 2);
-    match events.first() {
-        Some(Event::Waiting { by, .. }) => assert_task(rt, kernel, *by, 2),
-        other => assert!(rt; false, "{other:?}"),
-    }
-    match events.last() {
-        Some(Event::Met { call, wait }) => {
-            assert_position(rt, kernel, *call, 18);
-            assert_position(rt, kernel, *wait, 19);
-        }
-        other => assert!(rt; false, "{other:?}"),
-    }
-}
-
-// An abort of task 3 by the main program.
-fn assert_aborted<R: Abort>(rt: &R, kernel: &LongKernel) {
-    let events = kernel.events();
-    assert_eq!(rt; events.len(), 1);
-    match events.first() {
-        Some(Event::Aborted { by, tasks }) => {
-            assert_task(rt, kernel, *by, MAIN);
-            assert_eq!(rt; tasks.as_slice().len(), 1);
-            for task in tasks.as_slice() {
-                assert_task(rt, kernel, *task, 3);
-            }
-        }
-        other => assert!(rt; false, "{other:?}"),
+// An event of a kind, of a task.
+fn of_task(kind: u32, task: u64) -> PlainEvent {
+    PlainEvent {
+        kind,
+        task,
+        ..BLANK
     }
 }
 
-// The end of the rendezvous with the call at 18 by task 2; then task 3 is halted and gone.
-fn assert_ended<R: Abort>(rt: &R, kernel: &LongKernel) {
-    let events = kernel.events();
-    assert_eq!(rt; events.len(), 3);
-    match events.first() {
-        Some(Event::Ended { by, call, raised }) => {
-            assert_task(rt, kernel, *by, 2);
-            assert_position(rt, kernel, *call, 18);
-            assert!(rt; !*raised);
-        }
-        other => assert!(rt; false, "{other:?}"),
+// The last request appended these events, and no more.
+fn assert_events<R: Abort>(rt: &R, kernel: &LongKernel, wanted: &[PlainEvent]) {
+    assert_eq!(rt; kernel.events(), wanted.len());
+    for (at, event) in wanted.iter().enumerate() {
+        assert_eq!(rt; kernel.event(at), Some(*event), "{at}");
     }
-    assert_halted_and_gone(rt, kernel);
+    assert_eq!(rt; kernel.event(wanted.len()), None);
 }
 
-fn assert_halted_and_gone<R: Abort>(rt: &R, kernel: &LongKernel) {
-    let events = kernel.events();
-    match events.get(1) {
-        Some(Event::Halted { task }) => assert_task(rt, kernel, *task, 3),
-        other => assert!(rt; false, "{other:?}"),
+// The first of them names these tasks, and no more.
+fn assert_names<R: Abort>(rt: &R, kernel: &LongKernel, wanted: &[u64]) {
+    for (place, task) in wanted.iter().enumerate() {
+        assert_eq!(rt; kernel.event_task(0, place), Some(*task), "{place}");
     }
-    match events.get(2) {
-        Some(Event::Gone { task }) => assert_task(rt, kernel, *task, 3),
-        other => assert!(rt; false, "{other:?}"),
+    assert_eq!(rt; kernel.event_task(0, wanted.len()), None);
+    match kernel.event_lengths(0) {
+        Some(lengths) => assert_eq!(rt; lengths.tasks, wanted.len() as u64),
+        None => assert!(rt; false),
     }
 }
 
 fn assert_no_events<R: Abort>(rt: &R, kernel: &LongKernel) {
-    assert!(rt; kernel.events().is_empty());
+    assert_events(rt, kernel, &[]);
+    assert_eq!(rt; kernel.event_lengths(0), None);
+    assert_eq!(rt; kernel.event_task(0, 0), None);
+    assert!(rt; kernel.event_families(0).is_empty());
+    assert!(rt; kernel.event_choices(0).is_empty());
+    assert!(rt; kernel.event_delays(0).is_empty());
 }
 
 #[test]
@@ -85,14 +76,128 @@ fn events_have_lasting_names(rt: HostRuntime) -> Result<(), Fail> {
     start_to_call(&rt, &mut kernel);
     assert_no_events(&rt, &kernel);
     assert_accepted(&rt, &mut kernel, accept(2), 19);
-    assert_met(&rt, &kernel);
+    let met = PlainEvent {
+        kind: 15,
+        call: 18,
+        position: 19,
+        ..BLANK
+    };
+    assert_events(&rt, &kernel, &[of_task(6, 2), met]);
     assert_compacts(&rt, &mut kernel);
     assert_no_events(&rt, &kernel);
     assert_accepted(&rt, &mut kernel, abort(MAIN, 3), 21);
-    assert_aborted(&rt, &kernel);
+    assert_events(&rt, &kernel, &[of_task(11, MAIN)]);
+    assert_names(&rt, &kernel, &[3]);
     assert_compacts(&rt, &mut kernel);
     assert_accepted(&rt, &mut kernel, end(2), 22);
-    assert_ended(&rt, &kernel);
+    let ended = PlainEvent {
+        call: 18,
+        ..of_task(8, 2)
+    };
+    assert_events(&rt, &kernel, &[ended, of_task(13, 3), of_task(20, 3)]);
+    assert_names(&rt, &kernel, &[]);
+    Ok(())
+}
+
+#[test]
+fn a_creation_names_its_block_and_shows_its_families(rt: HostRuntime) -> Result<(), Fail> {
+    let mut kernel = LongKernel::new(rt.alloc(), 4096)?;
+    start_to_call(&rt, &mut kernel);
+    assert_accepted(&rt, &mut kernel, LastingRequest::Open { by: MAIN }, 19);
+    assert_events(&rt, &kernel, &[of_task(1, MAIN)]);
+    assert_compacts(&rt, &mut kernel);
+    let block = LastingMaster::Block(19);
+    assert_accepted(&rt, &mut kernel, create(MAIN, block), 20);
+    let made = PlainEvent {
+        under_kind: 1,
+        under: 19,
+        master_kind: 1,
+        master: 19,
+        ..of_task(2, MAIN)
+    };
+    assert_events(&rt, &kernel, &[made]);
+    assert_eq!(&rt;
+        kernel.event_families(0),
+        [Family { low: 0, high: 0 }].as_slice()
+    );
+    assert_accepted(&rt, &mut kernel, create(MAIN, MAIN_BODY), 21);
+    let made = PlainEvent {
+        master_kind: 0,
+        master: 0,
+        ..made
+    };
+    assert_events(&rt, &kernel, &[made]);
+    let both = LastingTasks::from_slice(&[4, 5]);
+    let start = LastingRequest::Activate {
+        by: MAIN,
+        tasks: both,
+    };
+    assert_accepted(&rt, &mut kernel, start, 22);
+    assert_events(&rt, &kernel, &[of_task(3, MAIN)]);
+    assert_names(&rt, &kernel, &[4, 5]);
+    Ok(())
+}
+
+#[test]
+fn a_call_names_the_callee(rt: HostRuntime) -> Result<(), Fail> {
+    let mut kernel = LongKernel::new(rt.alloc(), 4096)?;
+    start_to_call(&rt, &mut kernel);
+    assert_accepted(&rt, &mut kernel, accept(2), 19);
+    assert_accepted(&rt, &mut kernel, end(2), 21);
+    assert_compacts(&rt, &mut kernel);
+    assert_accepted(&rt, &mut kernel, call(3, 2), 22);
+    let called = PlainEvent {
+        callee: 2,
+        ..of_task(5, 3)
+    };
+    assert_events(&rt, &kernel, &[called]);
+    Ok(())
+}
+
+#[test]
+fn a_wait_shows_its_alternatives(rt: HostRuntime) -> Result<(), Fail> {
+    let mut kernel = LongKernel::new(rt.alloc(), 4096)?;
+    start_to_call(&rt, &mut kernel);
+    let choice = Choice {
+        guard: false,
+        entry: ENTRY,
+    };
+    let open = Pause {
+        guard: true,
+        duration: 50,
+    };
+    let closed = Pause {
+        guard: false,
+        duration: 50,
+    };
+    let wait = LastingRequest::Wait {
+        by: 2,
+        choices: Choices::from_slice(&[choice]),
+        tail: Tail::Delays(Pauses::from_slice(&[open, closed])),
+        pick: 7,
+    };
+    assert_accepted(&rt, &mut kernel, wait, 19);
+    let waiting = PlainEvent {
+        form: 2,
+        number: 7,
+        ..of_task(6, 2)
+    };
+    assert_events(&rt, &kernel, &[waiting]);
+    assert_eq!(&rt; kernel.event_choices(0), [choice].as_slice());
+    assert_eq!(&rt; kernel.event_delays(0), [Some(50i64), None].as_slice());
+    Ok(())
+}
+
+#[test]
+fn a_release_shows_no_events(rt: HostRuntime) -> Result<(), Fail> {
+    let mut kernel = LongKernel::new(rt.alloc(), 4096)?;
+    start_to_call(&rt, &mut kernel);
+    assert_accepted(&rt, &mut kernel, abort(MAIN, 3), 19);
+    // Abnormal and not in a rendezvous, it completes, and is terminated (9.4, 9.10).
+    let events = [of_task(11, MAIN), of_task(13, 3), of_task(20, 3)];
+    assert_events(&rt, &kernel, &events);
+    assert_release(&rt, &mut kernel, 3, Ok(()));
+    assert_no_events(&rt, &kernel);
     Ok(())
 }
 

@@ -130,7 +130,7 @@ fn begin_due<R: Abort>(rt: &R, kernel: &mut LongKernel) {
 // The journal was made shorter, and task 1 given up, but nothing happened: the next event is at 10.
 fn assert_shorter<R: Abort>(rt: &R, kernel: &mut LongKernel) {
     assert!(rt; kernel.present().journal().len() < 9);
-    assert!(rt; kernel.events().is_empty());
+    assert_eq!(rt; kernel.events(), 0);
     assert_terminated(rt, kernel, 1, None);
     assert_accepted(rt, kernel, LastingRequest::Open { by: MAIN }, 10);
 }

@@ -11,6 +11,7 @@ use Rattle.ada_lasting.specs.internal.Present.{IsPresent}
 use Rattle.ada_lasting.specs.internal.Mastering.{IsKeptOrGone}
 use Rattle.ada_lasting.specs.internal.Moving.{moved_names}
 use Rattle.ada_lasting.proofs.GivingUp.{gives_up_only}
+use Rattle.ada_lasting.proofs.Newest.{none_newest}
 use Rattle.ada_lasting.proofs.Shortened.{shortened}
 use Rattle.ada_lasting.proofs.kernel.LongKernel.compact.Goals as goal
 
@@ -18,7 +19,8 @@ pub returns-clause-follows : goal.returns-clause-follows
 returns-clause-follows c = λ journal follows.
     let here = subst (Follows journal) (sym c.self.view_is) follows in
     let is_present = subst IsPresent (sym c.self.view_is) c.known.ensures in
-    rw (c.retain.ensures, c.in-Ok-moved.ensures.ok) (shortened journal _ _ _ _ _ here is_present.order c.in-Ok-compact.ensures.stands)
+    rw (c.retain.ensures, c.in-Ok-moved.ensures.ok) (shortened journal _ _ _ _ _ here is_present.order c.in-Ok-compact.ensures.stands
+    (none_newest _ _ (c.len-until.ensures ∙ ap length c.journal.ensures.events)))
 
 pub invariant_of-self : goal.invariant_of-self
 invariant_of-self c =
@@ -27,7 +29,11 @@ invariant_of-self c =
     let long = c.len-until.ensures ∙ ap length c.journal.ensures.events in (
       rw c.in-Ok-moved.ensures.ok (sym long),
       omega (arith, long),
-      (journal, rw (c.retain.ensures, c.in-Ok-moved.ensures.ok) (shortened journal _ _ _ _ _ follows order c.in-Ok-compact.ensures.stands)),
+      (
+        journal,
+        rw (c.retain.ensures, c.in-Ok-moved.ensures.ok) (shortened journal _ _ _ _ _ follows order c.in-Ok-compact.ensures.stands
+            (none_newest _ _ long)),
+      ),
     )
 
 -- who has no name in the shorter journal wasn't kept, so his master is gone

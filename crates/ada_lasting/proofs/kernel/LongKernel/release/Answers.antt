@@ -5,6 +5,7 @@ use Rattle.ada_events.specs.Tasks.{has_task}
 use Rattle.ada_events.specs.Phases.{is_terminated}
 use Rattle.ada_lasting.specs.Naming.{found}
 use Rattle.ada_lasting.specs.Following.{Long, Follows}
+use Rattle.ada_lasting.proofs.Newest.{none_newest}
 use Rattle.ada_lasting.proofs.Shortened.{released, dead_told}
 use Rattle.ada_lasting.proofs.WithoutTask.{found-without-same, found-without-other}
 use Rattle.ada_lasting.proofs.kernel.LongKernel.release.Goals as goal
@@ -17,7 +18,8 @@ returns-in-Some-clause-follows c = λ journal follows.
     let dead : is_terminated c.self.inside.kernel c.in-Some.present.0 ≡ true =
     dead_told (has_task c.self.inside.kernel c.in-Some.present.0) (is_terminated c.self.inside.kernel c.in-Some.present.0) c.terminated.result
     c.terminated.ensures c.if-eq.ensures in
-    rw c.forget.ensures (released journal _ c.args.task c.in-Some.present.0 _ here named dead c.if-task-eq0.false)
+    rw c.forget.ensures (released journal _ c.args.task c.in-Some.present.0 _ here named dead c.if-task-eq0.false
+    (none_newest _ _ (c.len-self-inside.ensures ∙ ap length c.journal.ensures.events)))
 
 pub invariant_of-self : goal.invariant_of-self
 invariant_of-self c =
@@ -29,7 +31,11 @@ invariant_of-self c =
     let (journal, follows) = c.self.invariant.2 in (
       rw c.forget.ensures c.self.invariant.0,
       omega (arith, c.len-self-inside.ensures, ap length c.journal.ensures.events),
-      (journal, rw c.forget.ensures (released journal _ c.args.task c.in-Some.present.0 _ follows named dead c.if-task-eq0.false)),
+      (
+        journal,
+        rw c.forget.ensures (released journal _ c.args.task c.in-Some.present.0 _ follows named dead c.if-task-eq0.false
+            (none_newest _ _ (c.len-self-inside.ensures ∙ ap length c.journal.ensures.events))),
+      ),
     )
 
 pub returns-in-Some-clause-ok : goal.returns-in-Some-clause-ok

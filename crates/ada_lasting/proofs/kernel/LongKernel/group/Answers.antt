@@ -2,7 +2,7 @@ use Rattle.std.proofs.Common.{◌≡◌, ◌≤◌, length, reverse, sym, ap, �
 use Rattle.std.proofs.lemmas.List.{length-reverse}
 use Rattle.ada_lasting.specs.Following.{Long}
 use Rattle.ada_lasting.proofs.Newest.{newest_kept}
-use Rattle.ada_lasting.proofs.kernel.LongKernel.events.Goals as goal
+use Rattle.ada_lasting.proofs.kernel.LongKernel.group.Goals as goal
 
 pub returns : goal.returns
 returns c =
