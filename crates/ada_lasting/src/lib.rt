@@ -5,7 +5,6 @@
 
 pub mod asking;
 pub mod awaited;
-pub mod clock;
 pub mod counting;
 pub mod events;
 pub mod failure;

@@ -90,6 +90,7 @@ fn the_first_due_moment_outlives_a_shorter_journal(rt: HostRuntime) -> Result<()
     assert_accepted(&rt, &mut kernel, LastingRequest::Tick { now: 100 }, 19);
     assert_accepted(&rt, &mut kernel, delay(MAIN, 5000), 20);
     assert_compacts(&rt, &mut kernel);
+    assert_eq!(&rt; kernel.moment(), 100);
     assert_eq!(&rt; kernel.next_due(), Some(5100));
     assert_verdict(&rt, &kernel, Verdict::GoesOn);
     assert_accepted(&rt, &mut kernel, delay(2, 1000), 21);
