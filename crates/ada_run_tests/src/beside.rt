@@ -29,7 +29,7 @@ const SHOWS: usize = 6;
 const LAST: u32 = 7;
 
 /// A thread that has looked so often gives up, which takes it some seconds.
-const LOOKS: u32 = 5_000_000;
+const LOOKS: u32 = 20_000_000;
 
 /// Lets the lines go in turn. The main program holds the lock before its last line, from when an attribute is to be
 /// read until it was.
