@@ -204,7 +204,7 @@ impl Living {
     // How many events the present journal has.
     fn events(&self) -> u32 {
         match &self.kernel {
-            Some(kernel) => kernel.present().journal().len(),
+            Some(kernel) => kernel.kept(),
             None => 0,
         }
     }
@@ -293,14 +293,14 @@ impl Trial for Living {
 
 // Whether the present journal was made shorter, or is due for the first time.
 fn is_short(kernel: &LongKernel) -> bool {
-    kernel.present().journal().len() < 2 * SOON
+    kernel.kept() < 2 * SOON
 }
 
 // Whether two kernels follow as many events and tasks, and tell the same of each task by its lasting name.
 pub fn are_alike(kernel: &LongKernel, other: &LongKernel) -> bool {
-    kernel.names().made() == other.names().made()
-        && kernel.names().next_position() == other.names().next_position()
-        && (0..kernel.names().made()).all(|task| tell_the_same(kernel, other, task))
+    kernel.tasks() == other.tasks()
+        && kernel.length() == other.length()
+        && (0..kernel.tasks()).all(|task| tell_the_same(kernel, other, task))
 }
 
 // Whether two kernels show the same events of their last request.

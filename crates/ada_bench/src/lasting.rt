@@ -142,10 +142,7 @@ pub fn try_lasting(rt: &HostRuntime, rounds: usize) -> anyhow::Result<()> {
     living.meet(&mut kernel);
     let at = kernel.step(LastingRequest::Tick { now: 0 })?;
     kernel.compact()?;
-    println!(rt;
-        "lasting: {at} events, {} kept",
-        kernel.present().journal().len()
-    )?;
+    println!(rt; "lasting: {at} events, {} kept", kernel.kept())?;
     Ok(())
 }
 

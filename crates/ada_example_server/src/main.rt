@@ -2,7 +2,7 @@
 //! end, and memory holds a small part of it.
 #![tactic(auto)]
 
-use ada_events::{Choice, Choices, Entry, Families, Family, Patience, Tail, TaskNo};
+use ada_events::{Choice, Choices, Entry, Families, Family, Patience, Tail};
 use ada_lasting::{LastingMaster, LastingRequest, LastingTasks, LongKernel, NotDone};
 use std::env;
 
@@ -32,13 +32,13 @@ struct Service {
 impl Service {
     fn ask(&mut self, request: LastingRequest) -> Result<u64, NotDone> {
         let position = self.kernel.step(request)?;
-        self.most = self.most.max(self.kernel.present().journal().len());
+        self.most = self.most.max(self.kernel.kept());
         Ok(position)
     }
 
     // Creates a task and activates it: four events.
     fn start(&mut self, master: LastingMaster, families: Families) -> Result<u64, NotDone> {
-        let task = self.kernel.names().made();
+        let task = self.kernel.tasks();
         self.ask(LastingRequest::Create {
             by: MAIN,
             master,
@@ -92,26 +92,20 @@ impl Service {
     }
 
     fn alive(&self) -> usize {
-        let present = self.kernel.present();
-        let tasks = 0..present.tasks();
+        let tasks = 0..self.kernel.tasks();
         tasks
-            .filter(|task| present.terminated(TaskNo(*task)) == Some(false))
+            .filter(|task| self.kernel.terminated(*task) == Some(false))
             .count()
     }
 
     fn print(&self, rt: &HostRuntime) -> anyhow::Result<()> {
-        let names = self.kernel.names();
         println!(rt;
             "{} events, {} tasks",
-            names.next_position().saturating_sub(1),
-            names.made()
+            self.kernel.length(),
+            self.kernel.tasks()
         )?;
         println!(rt; "{} tasks alive", self.alive())?;
-        println!(rt;
-            "{} events kept, {} at most",
-            self.kernel.present().journal().len(),
-            self.most
-        )?;
+        println!(rt; "{} events kept, {} at most", self.kernel.kept(), self.most)?;
         Ok(())
     }
 }

@@ -2,7 +2,7 @@
 use Rattle.std.proofs.Common.{◌≡◌, ℕ, zero, suc, Option, Some, None, List, [], ◌∷◌, ◌++◌, length, map, reverse, take, refl, sym, ap, ◌∙◌}
 use Rattle.std.specs.Prelude.{slice_get}
 use Rattle.std.specs.Option.{option_map, option_and_then}
-use Rattle.std.proofs.lemmas.List.{map-append, length-map, length-reverse, reverse-append}
+use Rattle.std.proofs.lemmas.List.{map-append, reverse-append}
 use Rattle.std.proofs.lemmas.Option.{none-some, same_Some, slice_get-map}
 use Rattle.ada_events.specs.declared.event.Event.{Event}
 use Rattle.ada_events.specs.declared.names.Master.{Master}
@@ -157,13 +157,6 @@ like_at names group newest same at = by (slice_get (reverse newest) at) (slice_g
 module _ (journal : List Event) (kernel : Long) (follows : Follows journal kernel) where
   alike : (at : ℕ) → AreBoth (IsLike (renaming_of kernel.names)) (shown_at journal kernel at) (slice_get (reverse kernel.group) at)
   alike at = like_at (renaming_of kernel.names) kernel.group (take (length kernel.group) journal) follows.shown at
-
-  pub as_many_shown : length kernel.group ≡ length (shown journal kernel)
-  as_many_shown =
-      sym (length-map kernel.group Some)
-      ∙ (ap length follows.shown
-      ∙ (length-map (take (length kernel.group) journal) (renamed_event (renaming_of kernel.names))
-      ∙ sym (length-reverse (take (length kernel.group) journal))))
 
   pub lengths_shown : (at : ℕ) → option_map border.lengths_of (slice_get (reverse kernel.group) at) ≡ option_map border.lengths_of (shown_at journal kernel at)
   lengths_shown at = lengths_by (renaming_of kernel.names) (shown_at journal kernel at) (slice_get (reverse kernel.group) at) (alike at)

@@ -49,7 +49,7 @@ pub fn live(alloc: Global, generations: u64) -> anyhow::Result<Life> {
         living.generation(if number % 16 == 15 { MANY } else { FEW })?;
     }
     let Living { kernel, mut life } = living;
-    life.tasks = kernel.names().made();
+    life.tasks = kernel.tasks();
     Ok(life)
 }
 
@@ -63,7 +63,7 @@ impl Living {
 
     fn generation(&mut self, workers: u64) -> Result<(), NotDone> {
         let block = self.ask(LastingRequest::Open { by: MAIN })?;
-        let first = self.kernel.names().made();
+        let first = self.kernel.tasks();
         self.make(block, first, workers)?;
         for round in 0..ROUNDS {
             let server = first.wrapping_add(round % workers.max(1));

@@ -49,7 +49,7 @@ impl Both {
     /// Compares the answers to all questions.
     pub fn compare(&self) -> Result<(), Unlike> {
         let is_whole = self.long.finished() == self.plain.finished()
-            && self.long.names().made() == u64::from(self.plain.tasks());
+            && self.long.tasks() == u64::from(self.plain.tasks());
         want(is_whole, Unlike::Whole)?;
         for task in 0..=self.tasks() {
             self.compare_task(task)?;

@@ -149,7 +149,7 @@ pub fn assert_terminated<R: Abort>(
 /// A task that depends on a master is made and activated: its creation is at this position, and its activation follows
 /// with three events.
 pub fn make_up<R: Abort>(rt: &R, kernel: &mut LongKernel, by: u64, master: LastingMaster, at: u64) {
-    let task = kernel.names().made();
+    let task = kernel.tasks();
     assert_accepted(rt, kernel, create(by, master), at);
     assert_accepted(rt, kernel, activate(by, task), at.wrapping_add(1));
     assert_accepted(rt, kernel, up(task), at.wrapping_add(2));
@@ -163,7 +163,7 @@ pub fn live_and_end<R: Abort>(
     master: LastingMaster,
     at: u64,
 ) {
-    let task = kernel.names().made();
+    let task = kernel.tasks();
     make_up(rt, kernel, by, master, at);
     assert_accepted(rt, kernel, complete(task), at.wrapping_add(4));
     assert_terminated(rt, kernel, task, Some(true));

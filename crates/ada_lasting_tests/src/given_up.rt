@@ -123,13 +123,13 @@ fn a_task_is_given_up_once_its_block_ended_with_the_task_that_opened_it(
 // The journal has nine events, the number from which on it is made shorter before the next request.
 fn begin_due<R: Abort>(rt: &R, kernel: &mut LongKernel) {
     live_in_a_block(rt, kernel);
-    assert_eq!(rt; kernel.present().journal().len(), 9);
+    assert_eq!(rt; kernel.kept(), 9);
     assert_terminated(rt, kernel, 1, Some(true));
 }
 
 // The journal was made shorter, and task 1 given up, but nothing happened: the next event is at 10.
 fn assert_shorter<R: Abort>(rt: &R, kernel: &mut LongKernel) {
-    assert!(rt; kernel.present().journal().len() < 9);
+    assert!(rt; kernel.kept() < 9);
     assert_eq!(rt; kernel.events(), 0);
     assert_terminated(rt, kernel, 1, None);
     assert_accepted(rt, kernel, LastingRequest::Open { by: MAIN }, 10);

@@ -14,12 +14,12 @@ use std::test::Fail;
 const LATE: u32 = 4096;
 
 fn length(kernel: &LongKernel) -> u32 {
-    kernel.present().journal().len()
+    kernel.kept()
 }
 
 // The next position.
 fn next(kernel: &LongKernel) -> u64 {
-    kernel.names().next_position()
+    kernel.length().saturating_add(1)
 }
 
 fn assert_done<R: Abort>(rt: &R, kernel: &mut LongKernel, request: LastingRequest) {
@@ -119,7 +119,7 @@ fn what_was_in_vain_is_tried_again_at_twice_the_length(rt: HostRuntime) -> Resul
 fn meet_in_a_block<R: Abort>(rt: &R, kernel: &mut LongKernel) {
     let block = next(kernel);
     assert_accepted(rt, kernel, LastingRequest::Open { by: MAIN }, block);
-    let server = kernel.names().made();
+    let server = kernel.tasks();
     let client = server.wrapping_add(1);
     for _ in 0..2 {
         let at = next(kernel);
@@ -134,7 +134,7 @@ fn meet_in_a_block<R: Abort>(rt: &R, kernel: &mut LongKernel) {
 }
 
 fn given_up(kernel: &LongKernel) -> u64 {
-    let made = kernel.names().made();
+    let made = kernel.tasks();
     (0..made)
         .filter(|task| kernel.terminated(*task).is_none())
         .count() as u64
@@ -189,7 +189,7 @@ fn create_wide(master: LastingMaster) -> LastingRequest {
 fn live_wide<R: Abort>(rt: &R, kernel: &mut LongKernel) {
     let block = next(kernel);
     assert_accepted(rt, kernel, LastingRequest::Open { by: MAIN }, block);
-    let task = kernel.names().made();
+    let task = kernel.tasks();
     assert_done(rt, kernel, create_wide(LastingMaster::Block(block)));
     assert_done(rt, kernel, activate(MAIN, task));
     assert_done(rt, kernel, up(task));

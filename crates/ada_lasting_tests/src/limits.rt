@@ -93,7 +93,7 @@ fn tick<R: Abort>(rt: &R, kernel: &mut LongKernel, events: u64, ticks: u64) {
 }
 
 fn assert_length<R: Abort>(rt: &R, kernel: &LongKernel, length: u32) {
-    assert_eq!(rt; kernel.present().journal().len(), length);
+    assert_eq!(rt; kernel.kept(), length);
 }
 
 // A shorter journal of the main program alone has one event, a tick to the present moment. The next tick follows it.
@@ -117,7 +117,7 @@ fn the_journal_is_never_full(rt: HostRuntime) -> Result<(), Fail> {
     for threshold in [4096, u32::MAX] {
         let mut kernel = LongKernel::new(rt.alloc(), threshold)?;
         tick(&rt, &mut kernel, 0, ticks);
-        assert!(&rt; (kernel.present().journal().len() as usize) < MOST_EVENTS);
+        assert!(&rt; (kernel.kept() as usize) < MOST_EVENTS);
     }
     Ok(())
 }
