@@ -1,7 +1,9 @@
 //! Trials of a kernel that lives on beside 256 tasks that live, where no compaction finds room.
 
 use crate::kernels::are_same;
-use crate::lasting::{CLIENT, LAST, SERVER, activate, are_alike, call_of, create, up};
+use crate::lasting::{
+    CLIENT, LAST, SERVER, activate, are_alike, call_of, create, show_the_same, up,
+};
 use crate::trial::{Answer, Trial};
 use ada_events::limits::MOST_TASKS;
 use ada_events::{Patience, Refusal};
@@ -103,7 +105,7 @@ impl Crowd {
     // How many events the present journal has.
     fn events(&self) -> u32 {
         match &self.kernel {
-            Some(kernel) => kernel.present().journal().len(),
+            Some(kernel) => kernel.kept(),
             None => 0,
         }
     }
@@ -151,7 +153,7 @@ impl Trial for Crowd {
         match (&self.kernel, &other.kernel) {
             (Some(kernel), Some(other)) => {
                 are_alike(kernel, other)
-                    && kernel.events() == other.events()
+                    && show_the_same(kernel, other)
                     && are_same(kernel.present(), other.present())
             }
             _ => false,

@@ -304,7 +304,7 @@ pub fn are_alike(kernel: &LongKernel, other: &LongKernel) -> bool {
 }
 
 // Whether two kernels show the same events of their last request.
-fn show_the_same(kernel: &LongKernel, other: &LongKernel) -> bool {
+pub fn show_the_same(kernel: &LongKernel, other: &LongKernel) -> bool {
     kernel.events() == other.events()
         && (0..kernel.events()).all(|at| kernel.event(at) == other.event(at))
 }
