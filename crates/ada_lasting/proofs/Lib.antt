@@ -20,3 +20,4 @@ mod Dividing
 mod Callers
 mod Shown
 mod waits
+mod Timely

@@ -4,6 +4,7 @@ pub mod Remembering
 pub mod GivingUp
 pub mod Following
 pub mod Refusing
+pub mod Clock
 pub mod internal
 pub mod Waiting
 pub mod Outcomes

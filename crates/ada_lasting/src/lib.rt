@@ -5,6 +5,7 @@
 
 pub mod asking;
 pub mod awaited;
+pub mod clock;
 pub mod counting;
 pub mod events;
 pub mod failure;

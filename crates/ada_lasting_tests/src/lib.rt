@@ -12,6 +12,8 @@ mod asking;
 #[cfg(test)]
 mod callers;
 #[cfg(test)]
+mod clock;
+#[cfg(test)]
 mod events;
 #[cfg(test)]
 mod given_up;
