@@ -23,7 +23,8 @@ onwards-in old now request past wanted timely journal follows = sym (timely.comp
 
 -- without a tick
 pub stepped_later : (old new : Long) (now gap : ℤ) (request asked : Request) (past wanted : Bool) (result : Result ℕ NotDone)
-    → IsTimely old now request past wanted → ((journal : List Event) → Follows journal old → gap ≡ since journal now) → asked ≡ asked_later gap request → wanted ≡ false
+    → IsTimely old now request past wanted → ((journal : List Event) → Follows journal old → gap ≡ since journal now)
+    → asked ≡ asked_later gap request → wanted ≡ false
     → ((journal : List Event) → Follows journal old → GivesUpOnly journal old.names new.names)
     → IfOk result (λ at. (journal : List Event) → Follows journal old → IsStepped journal asked at new)
     → IfOk result (λ at. (journal : List Event) → Follows journal old → IsSteppedAt journal now request old at new)
@@ -38,7 +39,8 @@ stepped_later old new now gap request asked past wanted (Ok at) timely gap-is is
 stepped_later old new now gap request asked past wanted (Err cause) timely gap-is is unwanted given stepped = tt
 
 pub refused_later : (old new : Long) (now gap : ℤ) (request asked : Request) (past wanted : Bool) (result : Result ℕ NotDone)
-    → IsTimely old now request past wanted → ((journal : List Event) → Follows journal old → gap ≡ since journal now) → asked ≡ asked_later gap request → wanted ≡ false
+    → IsTimely old now request past wanted → ((journal : List Event) → Follows journal old → gap ≡ since journal now)
+    → asked ≡ asked_later gap request → wanted ≡ false
     → ((journal : List Event) → Follows journal old → GivesUpOnly journal old.names new.names)
     → IfErr result (λ cause. (journal : List Event) → Follows journal old → IsRefused journal asked cause old new)
     → IfErr result (λ cause. (journal : List Event) → Follows journal old → IsRefusedAt journal now request cause old new)
