@@ -124,13 +124,14 @@ impl Crowd {
         self.ask(LastingRequest::Tick { now: 0 })
     }
 
-    // A creation, which is refused.
+    // A creation, which is refused: for want of memory too, if its name finds no room.
     fn create(&mut self) -> Answer {
         let Some(kernel) = &mut self.kernel else {
             return Answer::Failed;
         };
         match kernel.step(create()) {
             Err(NotDone::Refused(Refusal::TooManyTasks)) => Answer::Done,
+            Err(NotDone::Refused(Refusal::OutOfMemory)) => Answer::Refused,
             _ => Answer::Failed,
         }
     }
