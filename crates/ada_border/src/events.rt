@@ -42,8 +42,8 @@ pub struct PlainEvent {
     pub duration: i64,
 }
 
-// An event of a kind, without more.
-fn blank(kind: u32) -> PlainEvent
+/// An event of a kind, without more.
+pub fn blank(kind: u32) -> PlainEvent
     ensures { result ≡ spec.blank kind }
 {
     PlainEvent {

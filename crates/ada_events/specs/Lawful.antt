@@ -30,7 +30,7 @@ abbrev pub IsLawfulBy : (List Event → Request → Option Refusal) → List Eve
 IsLawfulBy cause_of [] = Unit {0}
 IsLawfulBy cause_of (event ∷ before) = IsLawfulBy cause_of before × MayFollow cause_of before event
 
--- and that by the causes of the rules
+-- a journal in which each event may follow by the rules
 abbrev pub IsLawful : List Event → Type 0
 IsLawful = IsLawfulBy refusal
 

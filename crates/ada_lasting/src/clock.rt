@@ -124,7 +124,7 @@ impl LastingRequest {
 
 impl LongKernel {
     // Whether a moment of the host's clock is before the kernel's.
-    fn is_past(&self, now: i64) -> bool
+    fn is_before(&self, now: i64) -> bool
         ensures { (journal : List Happening) → Follows journal self.now
             → result ≡ int_lt now (moment journal) }
     {
@@ -165,7 +165,7 @@ impl LongKernel {
         ensures err { IfErr result (λ cause. (journal : List Happening) → Follows journal self.old
             → IsRefusedAt journal now (meant request) cause self.old self.new) }
     {
-        if self.is_past(now) {
+        if self.is_before(now) {
             return Err(NotDone::Refused(Refusal::MomentBack));
         }
         if !self.wants_tick(now, &request) {

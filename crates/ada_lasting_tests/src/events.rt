@@ -5,38 +5,17 @@ use crate::asking::{
     ENTRY, MAIN, MAIN_BODY, abort, accept, assert_accepted, assert_compacts, assert_release, call,
     create, end, start_to_call,
 };
-use ada_border::events::PlainEvent;
+use ada_border::events::{PlainEvent, blank};
 use ada_events::{Choice, Choices, Family, Pause, Pauses, Tail, TaskNo};
 use ada_lasting::{LastingMaster, LastingRequest, LastingTasks, LongKernel};
 use std::process::Abort;
 use std::test::Fail;
 
-// An event that names nothing, of no kind.
-const BLANK: PlainEvent = PlainEvent {
-    kind: 0,
-    form: 0,
-    task: 0,
-    callee: 0,
-    family: 0,
-    index: 0,
-    under_kind: 0,
-    master_kind: 0,
-    under: 0,
-    master: 0,
-    call: 0,
-    position: 0,
-    number: 0,
-    is_timed: 0,
-    moment: 0,
-    duration: 0,
-};
-
 // An event of a kind, of a task.
 fn of_task(kind: u32, task: u64) -> PlainEvent {
     PlainEvent {
-        kind,
         task,
-        ..BLANK
+        ..blank(kind)
     }
 }
 
@@ -77,10 +56,9 @@ fn events_have_lasting_names(rt: HostRuntime) -> Result<(), Fail> {
     assert_no_events(&rt, &kernel);
     assert_accepted(&rt, &mut kernel, accept(2), 19);
     let met = PlainEvent {
-        kind: 15,
         call: 18,
         position: 19,
-        ..BLANK
+        ..blank(15)
     };
     assert_events(&rt, &kernel, &[of_task(6, 2), met]);
     assert_compacts(&rt, &mut kernel);

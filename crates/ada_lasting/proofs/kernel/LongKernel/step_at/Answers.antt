@@ -11,14 +11,14 @@ use Rattle.ada_lasting.proofs.kernel.LongKernel.step_at.Goals as goal
 pub returns-then-not-wants_tick-clause-ok : goal.returns-then-not-wants_tick-clause-ok
 returns-then-not-wants_tick-clause-ok c =
     stepped_later c.args.self.now c.step.new.self c.args.now _ (meant c.args.request) (meant c.later.result)
-    c.is_past.result c.wants_tick.result c.step.result
+    c.is_before.result c.wants_tick.result c.step.result
     (record { compares = search rules; onwards = search rules; wants = search rules })
     (search rules) c.later.ensures (search rules) c.step.ensures.given_up c.step.ensures.ok
 
 pub returns-then-not-wants_tick-clause-err : goal.returns-then-not-wants_tick-clause-err
 returns-then-not-wants_tick-clause-err c =
     refused_later c.args.self.now c.step.new.self c.args.now _ (meant c.args.request) (meant c.later.result)
-    c.is_past.result c.wants_tick.result c.step.result
+    c.is_before.result c.wants_tick.result c.step.result
     (record { compares = search rules; onwards = search rules; wants = search rules })
     (search rules) c.later.ensures (search rules) c.step.ensures.given_up c.step.ensures.err
 
@@ -26,7 +26,7 @@ pub returns-in-Ok-clause-ok : goal.returns-in-Ok-clause-ok
 unfolding meant
 returns-in-Ok-clause-ok c =
     stepped_then c.args.self.now c.step-2.new.self c.step-in-Ok.new.self c.args.now (meant c.args.request)
-    c.is_past.result c.wants_tick.result c.in-Ok.field-0 c.step-in-Ok.result
+    c.is_before.result c.wants_tick.result c.in-Ok.field-0 c.step-in-Ok.result
     (record { compares = search rules; onwards = search rules; wants = search rules })
     (search rules) c.step-2.ensures.given_up
     (subst (λ n. (journal : List Event) → Follows journal c.args.self.now → IsStepped journal (Tick n) c.in-Ok.field-0 c.step-2.new.self)
@@ -37,7 +37,7 @@ pub returns-in-Ok-clause-err : goal.returns-in-Ok-clause-err
 unfolding meant
 returns-in-Ok-clause-err c =
     refused_then c.args.self.now c.step-2.new.self c.step-in-Ok.new.self c.args.now (meant c.args.request)
-    c.is_past.result c.wants_tick.result c.in-Ok.field-0 c.step-in-Ok.result
+    c.is_before.result c.wants_tick.result c.in-Ok.field-0 c.step-in-Ok.result
     (record { compares = search rules; onwards = search rules; wants = search rules })
     (search rules) c.step-2.ensures.given_up
     (subst (λ n. (journal : List Event) → Follows journal c.args.self.now → IsStepped journal (Tick n) c.in-Ok.field-0 c.step-2.new.self)
@@ -47,7 +47,7 @@ returns-in-Ok-clause-err c =
 pub returns-in-Err-clause-err : goal.returns-in-Err-clause-err
 unfolding meant
 returns-in-Err-clause-err c =
-    tick_refused c.args.self.now c.step-2.new.self c.args.now (meant c.args.request) c.is_past.result c.wants_tick.result c.in-Err.cause
+    tick_refused c.args.self.now c.step-2.new.self c.args.now (meant c.args.request) c.is_before.result c.wants_tick.result c.in-Err.cause
     (record { compares = search rules; onwards = search rules; wants = search rules })
     (search rules) c.step-2.ensures.given_up
     (subst (λ n. (journal : List Event) → Follows journal c.args.self.now → IsRefused journal (Tick n) c.in-Err.cause c.args.self.now c.step-2.new.self)
