@@ -17,45 +17,57 @@ package body Adatask is
 
    function C_Kernel_New (K : in out Handle) return Answer
      with Import, Convention => C, External_Name => "adatask_kernel_new";
+   function C_Kernel_New_Lasting (Threshold : Event_Count; K : in out Handle) return Answer
+     with Import, Convention => C, External_Name => "adatask_kernel_new_lasting";
    procedure C_Kernel_Drop (K : Handle)
      with Import, Convention => C, External_Name => "adatask_kernel_drop";
-   function C_Open (K : in out Handle; By : Task_Number; At_Position : in out Position) return Answer
+   function C_Release (K : in out Handle; T : Task_Number) return Answer
+     with Import, Convention => C, External_Name => "adatask_release";
+   function C_Compact (K : in out Handle) return Answer
+     with Import, Convention => C, External_Name => "adatask_compact";
+   function C_Open
+     (K : in out Handle; Now : Milliseconds; By : Task_Number; At_Position : in out Position) return Answer
      with Import, Convention => C, External_Name => "adatask_open";
    function C_Create
-     (K : in out Handle; By : Task_Number; Kind : Master_Kind; Master : Unsigned_64; Families : System.Address;
-      Count : size_t; At_Position : in out Position) return Answer
+     (K : in out Handle; Now : Milliseconds; By : Task_Number; Kind : Master_Kind; Master : Unsigned_64;
+      Families : System.Address; Count : size_t; At_Position : in out Position) return Answer
      with Import, Convention => C, External_Name => "adatask_create";
    function C_Activate
-     (K : in out Handle; By : Task_Number; Tasks : System.Address; Count : size_t;
+     (K : in out Handle; Now : Milliseconds; By : Task_Number; Tasks : System.Address; Count : size_t;
       At_Position : in out Position) return Answer
      with Import, Convention => C, External_Name => "adatask_activate";
    function C_Elaborated
-     (K : in out Handle; By : Task_Number; Ok : Unsigned_32; At_Position : in out Position) return Answer
+     (K : in out Handle; Now : Milliseconds; By : Task_Number; Ok : Unsigned_32;
+      At_Position : in out Position) return Answer
      with Import, Convention => C, External_Name => "adatask_elaborated";
    function C_Call
-     (K : in out Handle; By, Callee : Task_Number; Family : Family_Number; Index : Entry_Index; Kind : Call_Kind;
-      Length : Milliseconds; At_Position : in out Position) return Answer
+     (K : in out Handle; Now : Milliseconds; By, Callee : Task_Number; Family : Family_Number; Index : Entry_Index;
+      Kind : Call_Kind; Length : Milliseconds; At_Position : in out Position) return Answer
      with Import, Convention => C, External_Name => "adatask_call";
    function C_Wait
-     (K : in out Handle; By : Task_Number; Choices : System.Address; Count : size_t; Last : Last_Part;
-      Delays : System.Address; Delay_Count : size_t; Pick : Pick_Number;
+     (K : in out Handle; Now : Milliseconds; By : Task_Number; Choices : System.Address; Count : size_t;
+      Last : Last_Part; Delays : System.Address; Delay_Count : size_t; Pick : Pick_Number;
       At_Position : in out Position) return Answer
      with Import, Convention => C, External_Name => "adatask_wait";
    function C_Delay_Task
-     (K : in out Handle; By : Task_Number; Length : Milliseconds; At_Position : in out Position) return Answer
+     (K : in out Handle; Now : Milliseconds; By : Task_Number; Length : Milliseconds;
+      At_Position : in out Position) return Answer
      with Import, Convention => C, External_Name => "adatask_delay";
    function C_End_Accept
-     (K : in out Handle; By : Task_Number; Raised : Unsigned_32; At_Position : in out Position) return Answer
+     (K : in out Handle; Now : Milliseconds; By : Task_Number; Raised : Unsigned_32;
+      At_Position : in out Position) return Answer
      with Import, Convention => C, External_Name => "adatask_end";
-   function C_Close (K : in out Handle; By : Task_Number; At_Position : in out Position) return Answer
+   function C_Close
+     (K : in out Handle; Now : Milliseconds; By : Task_Number; At_Position : in out Position) return Answer
      with Import, Convention => C, External_Name => "adatask_close";
-   function C_Complete (K : in out Handle; By : Task_Number; At_Position : in out Position) return Answer
+   function C_Complete
+     (K : in out Handle; Now : Milliseconds; By : Task_Number; At_Position : in out Position) return Answer
      with Import, Convention => C, External_Name => "adatask_complete";
    function C_Abort_All
-     (K : in out Handle; By : Task_Number; Tasks : System.Address; Count : size_t;
+     (K : in out Handle; Now : Milliseconds; By : Task_Number; Tasks : System.Address; Count : size_t;
       At_Position : in out Position) return Answer
      with Import, Convention => C, External_Name => "adatask_abort";
-   function C_Tick (K : in out Handle; Now : Milliseconds; At_Position : in out Position) return Answer
+   function C_Tick (K : in out Handle; Now, Moment : Milliseconds; At_Position : in out Position) return Answer
      with Import, Convention => C, External_Name => "adatask_tick";
    function C_Tasks (K : in out Handle) return Task_Number
      with Import, Convention => C, External_Name => "adatask_tasks";
@@ -87,7 +99,7 @@ package body Adatask is
      with Import, Convention => C, External_Name => "adatask_runnable";
    function C_Next_Due (K : in out Handle; Moment : in out Milliseconds) return Answer
      with Import, Convention => C, External_Name => "adatask_next_due";
-   procedure C_Show_Board (K : in out Handle; Now : in out Board)
+   function C_Board_Of (K : in out Handle; Now : in out Board) return Answer
      with Import, Convention => C, External_Name => "adatask_board";
    function C_Event_At (K : in out Handle; At_Position : Position; E : in out Event) return Answer
      with Import, Convention => C, External_Name => "adatask_event";
@@ -147,13 +159,35 @@ package body Adatask is
       Settle (C_Kernel_New (K.Held), Said);
    end Renew;
 
+   procedure Renew_Lasting (K : in out Kernel; Threshold : Event_Count := 4_096; Said : access Answer := null) is
+   begin
+      Drop (K);
+      Settle (C_Kernel_New_Lasting (Threshold, K.Held), Said);
+   end Renew_Lasting;
+
    procedure Drop (K : in out Kernel) is
    begin
       if Is_There (K) then
          C_Kernel_Drop (K.Held);
          K.Held.Kernel := System.Null_Address;
       end if;
+      K.Now := No_Clock;
    end Drop;
+
+   procedure Set_Clock (K : in out Kernel; Now : Milliseconds) is
+   begin
+      K.Now := Now;
+   end Set_Clock;
+
+   procedure Release (K : in out Kernel; T : Task_Number; Said : access Answer := null) is
+   begin
+      Settle ((if Is_There (K) then C_Release (K.Held, T) else No_Kernel), Said);
+   end Release;
+
+   procedure Compact (K : in out Kernel; Said : access Answer := null) is
+   begin
+      Settle ((if Is_There (K) then C_Compact (K.Held) else No_Kernel), Said);
+   end Compact;
 
    ----------------
    --  Requests  --
@@ -162,7 +196,7 @@ package body Adatask is
    function Open_Block (K : in out Kernel; By : Task_Number; Said : access Answer := null) return Position is
       At_Position : Position := 0;
    begin
-      Settle ((if Is_There (K) then C_Open (K.Held, By, At_Position) else No_Kernel), Said);
+      Settle ((if Is_There (K) then C_Open (K.Held, K.Now, By, At_Position) else No_Kernel), Said);
       return At_Position;
    end Open_Block;
 
@@ -179,7 +213,8 @@ package body Adatask is
       Settle
         ((if Is_There (K)
           then C_Create
-                 (K.Held, By, On.Kind, Number, Start (Entries'Address, Entries'Length), Entries'Length, At_Position)
+                 (K.Held, K.Now, By, On.Kind, Number, Start (Entries'Address, Entries'Length), Entries'Length,
+                  At_Position)
           else No_Kernel), Said);
       return At_Position;
    end Create_Task;
@@ -191,7 +226,7 @@ package body Adatask is
    begin
       Settle
         ((if Is_There (K)
-          then C_Activate (K.Held, By, Start (Tasks'Address, Tasks'Length), Tasks'Length, At_Position)
+          then C_Activate (K.Held, K.Now, By, Start (Tasks'Address, Tasks'Length), Tasks'Length, At_Position)
           else No_Kernel), Said);
       return At_Position;
    end Activate_Tasks;
@@ -201,7 +236,10 @@ package body Adatask is
    is
       At_Position : Position := 0;
    begin
-      Settle ((if Is_There (K) then C_Elaborated (K.Held, By, Boolean'Pos (Ok), At_Position) else No_Kernel), Said);
+      Settle
+        ((if Is_There (K)
+          then C_Elaborated (K.Held, K.Now, By, Boolean'Pos (Ok), At_Position)
+          else No_Kernel), Said);
       return At_Position;
    end End_Activation;
 
@@ -213,7 +251,7 @@ package body Adatask is
    begin
       Settle
         ((if Is_There (K)
-          then C_Call (K.Held, By, Callee, Item.Family, Item.Index, Kind, Length, At_Position)
+          then C_Call (K.Held, K.Now, By, Callee, Item.Family, Item.Index, Kind, Length, At_Position)
           else No_Kernel), Said);
       return At_Position;
    end Call_Entry;
@@ -233,7 +271,7 @@ package body Adatask is
    begin
       Settle
         ((if Is_There (K)
-          then C_Wait (K.Held, By, Start (Choices'Address, Choices'Length), Choices'Length, Last,
+          then C_Wait (K.Held, K.Now, By, Start (Choices'Address, Choices'Length), Choices'Length, Last,
                  Start (Alternatives'Address, Alternatives'Length), Alternatives'Length, Pick, At_Position)
           else No_Kernel), Said);
       return At_Position;
@@ -244,7 +282,7 @@ package body Adatask is
    is
       At_Position : Position := 0;
    begin
-      Settle ((if Is_There (K) then C_Delay_Task (K.Held, By, Length, At_Position) else No_Kernel), Said);
+      Settle ((if Is_There (K) then C_Delay_Task (K.Held, K.Now, By, Length, At_Position) else No_Kernel), Said);
       return At_Position;
    end Delay_For;
 
@@ -255,7 +293,7 @@ package body Adatask is
    begin
       Settle
         ((if Is_There (K)
-          then C_End_Accept (K.Held, By, Boolean'Pos (Raised), At_Position)
+          then C_End_Accept (K.Held, K.Now, By, Boolean'Pos (Raised), At_Position)
           else No_Kernel), Said);
       return At_Position;
    end End_Rendezvous;
@@ -263,14 +301,14 @@ package body Adatask is
    function Close_Block (K : in out Kernel; By : Task_Number; Said : access Answer := null) return Position is
       At_Position : Position := 0;
    begin
-      Settle ((if Is_There (K) then C_Close (K.Held, By, At_Position) else No_Kernel), Said);
+      Settle ((if Is_There (K) then C_Close (K.Held, K.Now, By, At_Position) else No_Kernel), Said);
       return At_Position;
    end Close_Block;
 
    function Complete_Task (K : in out Kernel; By : Task_Number; Said : access Answer := null) return Position is
       At_Position : Position := 0;
    begin
-      Settle ((if Is_There (K) then C_Complete (K.Held, By, At_Position) else No_Kernel), Said);
+      Settle ((if Is_There (K) then C_Complete (K.Held, K.Now, By, At_Position) else No_Kernel), Said);
       return At_Position;
    end Complete_Task;
 
@@ -281,7 +319,7 @@ package body Adatask is
    begin
       Settle
         ((if Is_There (K)
-          then C_Abort_All (K.Held, By, Start (Tasks'Address, Tasks'Length), Tasks'Length, At_Position)
+          then C_Abort_All (K.Held, K.Now, By, Start (Tasks'Address, Tasks'Length), Tasks'Length, At_Position)
           else No_Kernel), Said);
       return At_Position;
    end Abort_Tasks;
@@ -289,7 +327,7 @@ package body Adatask is
    function Tick (K : in out Kernel; Now : Milliseconds; Said : access Answer := null) return Position is
       At_Position : Position := 0;
    begin
-      Settle ((if Is_There (K) then C_Tick (K.Held, Now, At_Position) else No_Kernel), Said);
+      Settle ((if Is_There (K) then C_Tick (K.Held, No_Clock, Now, At_Position) else No_Kernel), Said);
       return At_Position;
    end Tick;
 
@@ -382,10 +420,7 @@ package body Adatask is
    function Board_Of (K : in out Kernel; Said : access Answer := null) return Board is
       Now : Board;
    begin
-      if Is_There (K) then
-         C_Show_Board (K.Held, Now);
-      end if;
-      Settle ((if Is_There (K) then Accepted else No_Kernel), Said);
+      Settle ((if Is_There (K) then C_Board_Of (K.Held, Now) else No_Kernel), Said);
       return Now;
    end Board_Of;
 

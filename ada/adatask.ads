@@ -84,7 +84,14 @@ package Adatask is
       No_Such_Item,         --  the list has no such item, or none is found
       No_Such_Task,         --  there is no such task
       No_Such_Entry,        --  the task has no such entry
-      No_Kernel)            --  the kernel was dropped, or memory for it was refused
+      No_Kernel,            --  the kernel was dropped, or memory for it was refused
+      Given_Up,             --  the task, or the event, was given up
+      Not_Terminated,       --  the task isn't terminated, so it can't be given up
+      No_Room,              --  what lives leaves no room in which the journal could be made shorter
+      Not_Compacted,        --  for want of memory the journal wasn't made shorter; a request doesn't fit then
+      No_More_Names,        --  all numbers of tasks or positions are used up
+      Lives_On,             --  only a kernel that keeps everything does this
+      Keeps_All)            --  only a kernel that lives on does this
      with Convention => C, Size => 32;
    for Answer use
      (Accepted => 0,
@@ -97,7 +104,8 @@ package Adatask is
       --  End of what tools/write_tables wrote
       Too_Long => 100,
       No_Such_Kind => 101, Out_Of_Range => 102, No_Such_Event => 103, No_Such_Item => 104, No_Such_Task => 105,
-      No_Such_Entry => 106, No_Kernel => 107);
+      No_Such_Entry => 106, No_Kernel => 107, Given_Up => 108, Not_Terminated => 109, No_Room => 110,
+      Not_Compacted => 111, No_More_Names => 112, Lives_On => 113, Keeps_All => 114);
 
    --  What a refusal raises.
    Refused : exception;
@@ -110,12 +118,16 @@ package Adatask is
    --  Tasks and events  --
    ------------------------
 
-   --  A task: 0 is the main program, and the others count up in the order of their creation, to 255 (9.1).
-   type Task_Number is range 0 .. 2 ** 63 - 1 with Size => 64;
+   --  A task: 0 is the main program, and the others count up in the order of their creation (9.1), to 255 in a kernel
+   --  that keeps everything.
+   type Task_Or_Nobody is range -1 .. 2 ** 63 - 1 with Size => 64;
+   Nobody : constant Task_Or_Nobody := -1;
+   subtype Task_Number is Task_Or_Nobody range 0 .. Task_Or_Nobody'Last;
    Main_Program : constant Task_Number := 0;
 
-   --  Where an event stands in the journal, from 1 to 65,536; a call, wait, delay, start of an activation, close or
-   --  block is named by the position of its event. 0 stands for none.
+   --  Where an event stands among all that there ever were, from 1, to 65,536 in a kernel that keeps everything. A
+   --  call, wait, delay, start of an activation, close or block is named by the position of its event. 0 stands for
+   --  none.
    type Position is range 0 .. 2 ** 63 - 1 with Size => 64;
 
    --  A moment, counted from the beginning, 0 to 9_000_000_000_000; or a duration, of which a negative one counts as 0
@@ -347,6 +359,7 @@ package Adatask is
       Kind   : Outcome_Kind := Did_Nothing;
       Number : Place := 0;                  --  the alternative that was taken, from 0
       Call   : Position := 0;               --  the call that was accepted
+      Caller : Task_Or_Nobody := Nobody;    --  who made it, while it is suspended in the rendezvous (9.5)
    end record with Convention => C;
 
    --  Why a task doesn't go on by itself.
@@ -384,11 +397,35 @@ package Adatask is
    ---------------
 
    --  A kernel, made where it is declared, with an empty journal; the main program runs in it. It can't be copied, and
-   --  is dropped where it is left. If memory for it was refused, each request is answered No_Kernel.
+   --  is dropped where it is left. If memory for it was refused, each request is answered No_Kernel. It keeps
+   --  everything: each event and each task stays, those that are gone too.
    type Kernel is limited private;
 
-   --  Drops the kernel, and makes a new one in its place. Answers Accepted or Out_Of_Memory.
+   --  Drops the kernel, and makes a new one that keeps everything in its place. Answers Accepted or Out_Of_Memory.
    procedure Renew (K : in out Kernel; Said : access Answer := null);
+
+   --  Drops the kernel, and makes a new one that lives on in its place: at most 256 tasks and 1,024 entries at a time,
+   --  and no end of events. No number of a task or of a position is used twice. The events that still matter lie in a
+   --  journal that is made shorter when it has Threshold of them. Terminated tasks whose masters are gone are given up
+   --  then: what names such a task is answered Given_Up. The events of the last request can be asked for, and no
+   --  others. Answers Accepted or Out_Of_Memory.
+   type Event_Count is range 0 .. 65_536 with Size => 32;
+   procedure Renew_Lasting (K : in out Kernel; Threshold : Event_Count := 4_096; Said : access Answer := null);
+
+   --  The moment of the host's clock for each request from now on, or No_Clock. At a moment a request's durations count
+   --  from it; and if a task waits for that moment or for an earlier one, or a duration of the request is over at once,
+   --  a tick to it comes first, and stays if the request is refused. A moment before the kernel's is answered
+   --  Moment_Back. Only a kernel that lives on has a clock: the other answers each request Keeps_All then.
+   No_Clock : constant Milliseconds := -1;
+   procedure Set_Clock (K : in out Kernel; Now : Milliseconds);
+
+   --  Gives a terminated task of a kernel that lives on up, as Unchecked_Deallocation its storage: it takes no room,
+   --  and may not be named any more. No event is shown until the next request.
+   procedure Release (K : in out Kernel; T : Task_Number; Said : access Answer := null);
+
+   --  Makes the journal of a kernel that lives on shorter now, at a moment of the host's choice. No event is shown
+   --  until the next request.
+   procedure Compact (K : in out Kernel; Said : access Answer := null);
 
    --  Drops the kernel now; it may be renewed.
    procedure Drop (K : in out Kernel);
@@ -452,7 +489,7 @@ package Adatask is
    --  Questions, which change no kernel  --
    -----------------------------------------
 
-   --  How many tasks there are, the main program counted, and how many events; 0 without a kernel.
+   --  How many tasks there are or ever were, the main program counted, and how many events; 0 without a kernel.
    function Tasks (K : in out Kernel) return Task_Number;
    function Events (K : in out Kernel) return Position;
 
@@ -470,7 +507,8 @@ package Adatask is
    function Count_Of
      (K : in out Kernel; By : Task_Number; Item : Entry_Name; Said : access Answer := null) return Natural;
 
-   --  The slot of an entry, below 1,024: all entries are numbered in order of task, family and index.
+   --  The slot of an entry, below 1,024, of a kernel that keeps everything: all entries are numbered in order of task,
+   --  family and index.
    function Slot
      (K : in out Kernel; T : Task_Number; Item : Entry_Name; Said : access Answer := null) return Natural;
 
@@ -495,10 +533,11 @@ package Adatask is
    --  open delay alternative. A tick to an earlier moment forces nothing.
    function Next_Due (K : in out Kernel; Said : access Answer := null) return Milliseconds;
 
-   --  The attributes of all tasks and entries (9.9).
+   --  The attributes of all tasks and entries (9.9), of a kernel that keeps everything.
    function Board_Of (K : in out Kernel; Said : access Answer := null) return Board;
 
-   --  The event at a position, and what its lists have at a place.
+   --  The event at a position, and what its lists have at a place. A kernel that lives on has the events that the last
+   --  request appended.
    function Event_At (K : in out Kernel; At_Position : Position; Said : access Answer := null) return Event;
    function Lengths_At (K : in out Kernel; At_Position : Position; Said : access Answer := null) return List_Lengths;
    function Task_At
@@ -519,6 +558,7 @@ private
 
    type Kernel is new Ada.Finalization.Limited_Controlled with record
       Held : Handle;
+      Now  : Milliseconds := No_Clock;
    end record;
    overriding procedure Initialize (K : in out Kernel);
    overriding procedure Finalize (K : in out Kernel);

@@ -20,10 +20,22 @@
 extern "C" {
 #endif
 
-/* A kernel; one without a kernel has the null pointer. */
+/* What the library has of a kernel: the null pointer if there is none. */
 typedef struct {
   void *kernel;
+} ada_handle;
+
+/* A kernel, and the moment of its host's clock, which ada_set_clock sets. */
+typedef struct {
+  ada_handle handle;
+  int64_t now;
 } ada_kernel;
+
+/* A host without a clock: durations count from the last tick. */
+enum { ADA_NO_CLOCK = -1 };
+
+/* What a variable begins with: no kernel. */
+#define ADA_NO_KERNEL {{NULL}, ADA_NO_CLOCK}
 
 /* ---- Codes ---- */
 
@@ -86,7 +98,14 @@ enum {
   ADA_NO_SUCH_ITEM = 104,        /* the list of the event has no such item */
   ADA_NO_SUCH_TASK = 105,        /* there is no such task */
   ADA_NO_SUCH_ENTRY = 106,       /* the task has no such entry */
-  ADA_NULL = 107                 /* a pointer is null, or there is no kernel */
+  ADA_NULL = 107,                /* a pointer is null, or there is no kernel */
+  ADA_GIVEN_UP = 108,            /* the task, or the event, was given up */
+  ADA_NOT_TERMINATED = 109,      /* the task isn't terminated, so it can't be given up */
+  ADA_NO_ROOM = 110,             /* what lives leaves no room in which the journal could be made shorter */
+  ADA_NOT_COMPACTED = 111,       /* for want of memory the journal wasn't made shorter; a request doesn't fit then */
+  ADA_NO_MORE_NAMES = 112,       /* all numbers of tasks or positions below 2 to the power of 64 are used up */
+  ADA_LIVES_ON = 113,            /* only a kernel that keeps everything does this */
+  ADA_KEEPS_ALL = 114            /* only a kernel that lives on does this */
 };
 
 /* ---- Kinds ---- */
@@ -232,6 +251,13 @@ static inline const char *ada_code_name(int32_t code) {
     case ADA_NO_SUCH_TASK: return "NoSuchTask";
     case ADA_NO_SUCH_ENTRY: return "NoSuchEntry";
     case ADA_NULL: return "Null";
+    case ADA_GIVEN_UP: return "GivenUp";
+    case ADA_NOT_TERMINATED: return "NotTerminated";
+    case ADA_NO_ROOM: return "NoRoom";
+    case ADA_NOT_COMPACTED: return "NotCompacted";
+    case ADA_NO_MORE_NAMES: return "NoMoreNames";
+    case ADA_LIVES_ON: return "LivesOn";
+    case ADA_KEEPS_ALL: return "KeepsAll";
     default: return NULL;
   }
 }
@@ -360,11 +386,15 @@ typedef struct {
   uint32_t is_open;
 } ada_due;
 
-/* What became of a task: the number of the alternative taken, from 0, and the position of the call accepted. */
+/* The number that no task has. */
+#define ADA_NOBODY UINT64_MAX
+
+/* What became of a task. What its kind has no use for is 0. */
 typedef struct {
-  uint32_t kind; /* ADA_DID_NOTHING .. ADA_GOT_EXCEPTION */
-  uint32_t number;
-  uint64_t call;
+  uint32_t kind;   /* ADA_DID_NOTHING .. ADA_GOT_EXCEPTION */
+  uint32_t number; /* of the alternative that was taken, from 0 */
+  uint64_t call;   /* the position of the call that was accepted */
+  uint64_t caller; /* who made it, while suspended in the rendezvous (9.5); else ADA_NOBODY */
 } ada_outcome;
 
 /* Why a task doesn't go on: the position is that of its start, call, wait, delay or close; 0 if it isn't suspended. */
@@ -391,42 +421,45 @@ typedef struct {
  */
 
 int32_t adatask_kernel_new(void **out);
-void adatask_kernel_drop(ada_kernel k);
-int32_t adatask_open(ada_kernel *k, uint64_t by, uint64_t *at);
-int32_t adatask_create(ada_kernel *k, uint64_t by, uint32_t master_kind, uint64_t master, const ada_family *families,
-                       size_t count, uint64_t *at);
-int32_t adatask_activate(ada_kernel *k, uint64_t by, const uint64_t *tasks, size_t count, uint64_t *at);
-int32_t adatask_elaborated(ada_kernel *k, uint64_t by, uint32_t ok, uint64_t *at);
-int32_t adatask_call(ada_kernel *k, uint64_t by, uint64_t callee, uint32_t family, int32_t index, uint32_t patience,
-                     int64_t duration, uint64_t *at);
-int32_t adatask_wait(ada_kernel *k, uint64_t by, const ada_choice *choices, size_t count, uint32_t tail,
+int32_t adatask_kernel_new_lasting(uint32_t threshold, void **out);
+void adatask_kernel_drop(ada_handle h);
+int32_t adatask_release(ada_handle *h, uint64_t task);
+int32_t adatask_compact(ada_handle *h);
+int32_t adatask_open(ada_handle *h, int64_t now, uint64_t by, uint64_t *at);
+int32_t adatask_create(ada_handle *h, int64_t now, uint64_t by, uint32_t master_kind, uint64_t master,
+                       const ada_family *families, size_t count, uint64_t *at);
+int32_t adatask_activate(ada_handle *h, int64_t now, uint64_t by, const uint64_t *tasks, size_t count, uint64_t *at);
+int32_t adatask_elaborated(ada_handle *h, int64_t now, uint64_t by, uint32_t ok, uint64_t *at);
+int32_t adatask_call(ada_handle *h, int64_t now, uint64_t by, uint64_t callee, uint32_t family, int32_t index,
+                     uint32_t patience, int64_t duration, uint64_t *at);
+int32_t adatask_wait(ada_handle *h, int64_t now, uint64_t by, const ada_choice *choices, size_t count, uint32_t tail,
                      const ada_pause *delays, size_t delay_count, uint32_t pick, uint64_t *at);
-int32_t adatask_delay(ada_kernel *k, uint64_t by, int64_t duration, uint64_t *at);
-int32_t adatask_end(ada_kernel *k, uint64_t by, uint32_t raised, uint64_t *at);
-int32_t adatask_close(ada_kernel *k, uint64_t by, uint64_t *at);
-int32_t adatask_complete(ada_kernel *k, uint64_t by, uint64_t *at);
-int32_t adatask_abort(ada_kernel *k, uint64_t by, const uint64_t *tasks, size_t count, uint64_t *at);
-int32_t adatask_tick(ada_kernel *k, int64_t now, uint64_t *at);
-uint64_t adatask_tasks(ada_kernel *k);
-uint64_t adatask_events(ada_kernel *k);
-uint32_t adatask_finished(ada_kernel *k);
-int32_t adatask_running(ada_kernel *k, uint64_t task, uint32_t *out);
-int32_t adatask_callable(ada_kernel *k, uint64_t task, uint32_t *out);
-int32_t adatask_terminated(ada_kernel *k, uint64_t task, uint32_t *out);
-int32_t adatask_outcome(ada_kernel *k, uint64_t task, ada_outcome *out);
-int32_t adatask_reason(ada_kernel *k, uint64_t task, ada_reason *out);
-int32_t adatask_awaited(ada_kernel *k, uint64_t task, uint64_t from, uint64_t *out);
-int32_t adatask_runnable(ada_kernel *k, uint64_t from, uint64_t *out);
-int32_t adatask_next_due(ada_kernel *k, int64_t *out);
-void adatask_board(ada_kernel *k, ada_board *out);
-int32_t adatask_slot(ada_kernel *k, uint64_t task, uint32_t family, int32_t index, uint32_t *out);
-int32_t adatask_event(ada_kernel *k, uint64_t position, ada_event *out);
-int32_t adatask_count(ada_kernel *k, uint64_t by, uint32_t family, int32_t index, uint32_t *out);
-int32_t adatask_lengths(ada_kernel *k, uint64_t position, ada_lengths *out);
-int32_t adatask_event_task(ada_kernel *k, uint64_t position, uint64_t place, uint64_t *out);
-int32_t adatask_event_family(ada_kernel *k, uint64_t position, uint64_t place, ada_family *out);
-int32_t adatask_event_choice(ada_kernel *k, uint64_t position, uint64_t place, ada_choice *out);
-int32_t adatask_event_delay(ada_kernel *k, uint64_t position, uint64_t place, ada_due *out);
+int32_t adatask_delay(ada_handle *h, int64_t now, uint64_t by, int64_t duration, uint64_t *at);
+int32_t adatask_end(ada_handle *h, int64_t now, uint64_t by, uint32_t raised, uint64_t *at);
+int32_t adatask_close(ada_handle *h, int64_t now, uint64_t by, uint64_t *at);
+int32_t adatask_complete(ada_handle *h, int64_t now, uint64_t by, uint64_t *at);
+int32_t adatask_abort(ada_handle *h, int64_t now, uint64_t by, const uint64_t *tasks, size_t count, uint64_t *at);
+int32_t adatask_tick(ada_handle *h, int64_t now, int64_t moment, uint64_t *at);
+uint64_t adatask_tasks(ada_handle *h);
+uint64_t adatask_events(ada_handle *h);
+uint32_t adatask_finished(ada_handle *h);
+int32_t adatask_running(ada_handle *h, uint64_t task, uint32_t *out);
+int32_t adatask_callable(ada_handle *h, uint64_t task, uint32_t *out);
+int32_t adatask_terminated(ada_handle *h, uint64_t task, uint32_t *out);
+int32_t adatask_outcome(ada_handle *h, uint64_t task, ada_outcome *out);
+int32_t adatask_reason(ada_handle *h, uint64_t task, ada_reason *out);
+int32_t adatask_awaited(ada_handle *h, uint64_t task, uint64_t from, uint64_t *out);
+int32_t adatask_runnable(ada_handle *h, uint64_t from, uint64_t *out);
+int32_t adatask_next_due(ada_handle *h, int64_t *out);
+int32_t adatask_board(ada_handle *h, ada_board *out);
+int32_t adatask_slot(ada_handle *h, uint64_t task, uint32_t family, int32_t index, uint32_t *out);
+int32_t adatask_event(ada_handle *h, uint64_t position, ada_event *out);
+int32_t adatask_count(ada_handle *h, uint64_t by, uint32_t family, int32_t index, uint32_t *out);
+int32_t adatask_lengths(ada_handle *h, uint64_t position, ada_lengths *out);
+int32_t adatask_event_task(ada_handle *h, uint64_t position, uint64_t place, uint64_t *out);
+int32_t adatask_event_family(ada_handle *h, uint64_t position, uint64_t place, ada_family *out);
+int32_t adatask_event_choice(ada_handle *h, uint64_t position, uint64_t place, ada_choice *out);
+int32_t adatask_event_delay(ada_handle *h, uint64_t position, uint64_t place, ada_due *out);
 
 /*
  * ---- What the library asks for ----
@@ -463,21 +496,66 @@ void rattle_dealloc(void *where);
 
 /* ---- A kernel ---- */
 
-/* Makes a kernel, whose journal is empty and in which the main program, task 0, runs. */
+/*
+ * Makes a kernel that keeps everything: its journal is empty, and the main program, task 0, runs in it. Each event and
+ * each task stays, those that are gone too: it ends after 65,536 events, 256 tasks and 1,024 entries.
+ */
 static inline int32_t ada_kernel_new(ada_kernel *k) {
-  return k ? adatask_kernel_new(&k->kernel) : ADA_NULL;
+  if (!k) return ADA_NULL;
+  k->now = ADA_NO_CLOCK;
+  return adatask_kernel_new(&k->handle.kernel);
+}
+
+/*
+ * Makes a kernel that lives on: at most 256 tasks and 1,024 entries at a time, and no end of events. Tasks are named by
+ * the number of their creation and positions are counted from the beginning, in 64 bits; no number is used twice. The
+ * events that still matter lie in a journal that is made shorter when it has `threshold` of them, 4,096 say; that takes
+ * a moment longer than another request. Terminated tasks whose masters are gone are given up then: what names such a
+ * task is answered ADA_GIVEN_UP. The events of the last request can be asked for, and no others.
+ */
+static inline int32_t ada_kernel_new_lasting(ada_kernel *k, uint32_t threshold) {
+  if (!k) return ADA_NULL;
+  k->now = ADA_NO_CLOCK;
+  return adatask_kernel_new_lasting(threshold, &k->handle.kernel);
 }
 
 /* Gives up a kernel, if there is one. */
 static inline void ada_kernel_drop(ada_kernel *k) {
-  if (k && k->kernel) {
-    adatask_kernel_drop(*k);
-    k->kernel = NULL;
+  if (k && k->handle.kernel) {
+    adatask_kernel_drop(k->handle);
+    k->handle.kernel = NULL;
   }
 }
 
+/*
+ * The moment of the host's clock, in milliseconds from the beginning, for each request from now on, or ADA_NO_CLOCK. At
+ * a moment a request's durations count from it. If a task waits for that moment or for an earlier one, or a duration of
+ * the request is over at once, a tick to it comes first, and stays if the request is refused. Else there is no tick: a
+ * clock costs no event if nothing is due. A moment before the kernel's is answered ADA_MOMENT_BACK. Only a kernel that
+ * lives on has a clock: the other answers each request ADA_KEEPS_ALL then.
+ */
+static inline void ada_set_clock(ada_kernel *k, int64_t now) {
+  if (k) k->now = now;
+}
+
+/*
+ * Gives a terminated task of a kernel that lives on up, so that it takes no room: it may not be named any more. The
+ * main program is answered ADA_MAIN_TASK. No event is shown until the next request.
+ */
+static inline int32_t ada_release(ada_kernel *k, uint64_t task) {
+  return k && k->handle.kernel ? adatask_release(&k->handle, task) : ADA_NULL;
+}
+
+/*
+ * Makes the journal of a kernel that lives on shorter now, at a moment of the host's choice; or longer, if little of it
+ * is over. No event is shown until the next request.
+ */
+static inline int32_t ada_compact(ada_kernel *k) {
+  return k && k->handle.kernel ? adatask_compact(&k->handle) : ADA_NULL;
+}
+
 /* Whether there is a kernel, and something to write to. */
-static inline int ada_has(const ada_kernel *k, const void *out) { return k && k->kernel && out; }
+static inline int ada_has(const ada_kernel *k, const void *out) { return k && k->handle.kernel && out; }
 
 /*
  * ---- Requests: `by` is the task that asks, and `at` is written the position of its event ----
@@ -488,7 +566,7 @@ static inline int ada_has(const ada_kernel *k, const void *out) { return k && k-
 
 /* Opens a block within what the task is in (5.6, 9.4). */
 static inline int32_t ada_open(ada_kernel *k, uint64_t by, uint64_t *at) {
-  return ada_has(k, at) ? adatask_open(k, by, at) : ADA_NULL;
+  return ada_has(k, at) ? adatask_open(&k->handle, k->now, by, at) : ADA_NULL;
 }
 
 /* Makes a task that depends on a master (9.1, 9.4), with at most 16 families. Its number is ada_tasks() - 1 then. */
@@ -496,25 +574,26 @@ static inline int32_t ada_create(ada_kernel *k, uint64_t by, uint32_t master_kin
                                  const ada_family *families, size_t count, uint64_t *at) {
   ada_family none = {0, 0};
   if (!ada_has(k, at) || (count && !families)) return ADA_NULL;
-  return adatask_create(k, by, master_kind, master, count ? families : &none, count, at);
+  return adatask_create(&k->handle, k->now, by, master_kind, master, count ? families : &none, count, at);
 }
 
 /* Starts the activation of tasks, and waits for its end (9.3). */
 static inline int32_t ada_activate(ada_kernel *k, uint64_t by, const uint64_t *tasks, size_t count, uint64_t *at) {
   uint64_t none = 0;
   if (!ada_has(k, at) || (count && !tasks)) return ADA_NULL;
-  return adatask_activate(k, by, count ? tasks : &none, count, at);
+  return adatask_activate(&k->handle, k->now, by, count ? tasks : &none, count, at);
 }
 
 /* Ends the task's own activation, by an exception if `ok` is 0 (9.3). */
 static inline int32_t ada_elaborated(ada_kernel *k, uint64_t by, uint32_t ok, uint64_t *at) {
-  return ada_has(k, at) ? adatask_elaborated(k, by, ok, at) : ADA_NULL;
+  return ada_has(k, at) ? adatask_elaborated(&k->handle, k->now, by, ok, at) : ADA_NULL;
 }
 
 /* Calls an entry (9.5, 9.7.2, 9.7.3). The duration, in milliseconds, is that of a timed call; others have none. */
 static inline int32_t ada_call(ada_kernel *k, uint64_t by, uint64_t callee, uint32_t family, int32_t index,
                                uint32_t patience, int64_t duration, uint64_t *at) {
-  return ada_has(k, at) ? adatask_call(k, by, callee, family, index, patience, duration, at) : ADA_NULL;
+  if (!ada_has(k, at)) return ADA_NULL;
+  return adatask_call(&k->handle, k->now, by, callee, family, index, patience, duration, at);
 }
 
 /*
@@ -526,8 +605,8 @@ static inline int32_t ada_wait(ada_kernel *k, uint64_t by, const ada_choice *cho
   ada_choice no_choice = {0, 0, 0};
   ada_pause no_delay = {0, 0};
   if (!ada_has(k, at) || (count && !choices) || (delay_count && !delays)) return ADA_NULL;
-  return adatask_wait(k, by, count ? choices : &no_choice, count, tail, delay_count ? delays : &no_delay, delay_count,
-                      pick, at);
+  return adatask_wait(&k->handle, k->now, by, count ? choices : &no_choice, count, tail,
+                      delay_count ? delays : &no_delay, delay_count, pick, at);
 }
 
 /* Accepts a call of one entry: a wait with one open alternative (9.5). */
@@ -541,70 +620,70 @@ static inline int32_t ada_accept(ada_kernel *k, uint64_t by, uint32_t family, in
 
 /* Delays the task by a duration in milliseconds (9.6). */
 static inline int32_t ada_delay(ada_kernel *k, uint64_t by, int64_t duration, uint64_t *at) {
-  return ada_has(k, at) ? adatask_delay(k, by, duration, at) : ADA_NULL;
+  return ada_has(k, at) ? adatask_delay(&k->handle, k->now, by, duration, at) : ADA_NULL;
 }
 
 /* Ends the innermost accept statement, by an exception if `raised` is 1 (9.5, 11.5). */
 static inline int32_t ada_end(ada_kernel *k, uint64_t by, uint32_t raised, uint64_t *at) {
-  return ada_has(k, at) ? adatask_end(k, by, raised, at) : ADA_NULL;
+  return ada_has(k, at) ? adatask_end(&k->handle, k->now, by, raised, at) : ADA_NULL;
 }
 
 /* Leaves the innermost block, once its dependents are terminated (9.4). */
 static inline int32_t ada_close(ada_kernel *k, uint64_t by, uint64_t *at) {
-  return ada_has(k, at) ? adatask_close(k, by, at) : ADA_NULL;
+  return ada_has(k, at) ? adatask_close(&k->handle, k->now, by, at) : ADA_NULL;
 }
 
 /* Completes the task's body (9.4). */
 static inline int32_t ada_complete(ada_kernel *k, uint64_t by, uint64_t *at) {
-  return ada_has(k, at) ? adatask_complete(k, by, at) : ADA_NULL;
+  return ada_has(k, at) ? adatask_complete(&k->handle, k->now, by, at) : ADA_NULL;
 }
 
 /* Aborts tasks and their dependents (9.10). */
 static inline int32_t ada_abort(ada_kernel *k, uint64_t by, const uint64_t *tasks, size_t count, uint64_t *at) {
   uint64_t none = 0;
   if (!ada_has(k, at) || (count && !tasks)) return ADA_NULL;
-  return adatask_abort(k, by, count ? tasks : &none, count, at);
+  return adatask_abort(&k->handle, k->now, by, count ? tasks : &none, count, at);
 }
 
 /* Moves the moment, in milliseconds from the beginning. */
 static inline int32_t ada_tick(ada_kernel *k, int64_t now, uint64_t *at) {
-  return ada_has(k, at) ? adatask_tick(k, now, at) : ADA_NULL;
+  return ada_has(k, at) ? adatask_tick(&k->handle, ADA_NO_CLOCK, now, at) : ADA_NULL;
 }
 
 /* ---- Questions, which change nothing ---- */
 
-/* How many tasks there are, the main program counted; 0 without a kernel. */
-static inline uint64_t ada_tasks(ada_kernel *k) { return k && k->kernel ? adatask_tasks(k) : 0; }
+/* How many tasks there are or ever were, the main program counted; 0 without a kernel. */
+static inline uint64_t ada_tasks(ada_kernel *k) { return k && k->handle.kernel ? adatask_tasks(&k->handle) : 0; }
 
-/* How many events there are; 0 without a kernel. */
-static inline uint64_t ada_events(ada_kernel *k) { return k && k->kernel ? adatask_events(k) : 0; }
+/* How many events there are or ever were; 0 without a kernel. */
+static inline uint64_t ada_events(ada_kernel *k) { return k && k->handle.kernel ? adatask_events(&k->handle) : 0; }
 
 /* Whether the main program is terminated, 0 or 1; 0 without a kernel. */
-static inline uint32_t ada_finished(ada_kernel *k) { return k && k->kernel ? adatask_finished(k) : 0; }
+static inline uint32_t ada_finished(ada_kernel *k) { return k && k->handle.kernel ? adatask_finished(&k->handle) : 0; }
 
 /* Whether a task is running, 0 or 1: it is activated or being so, hasn't ended, and isn't held up. */
 static inline int32_t ada_running(ada_kernel *k, uint64_t task, uint32_t *out) {
-  return ada_has(k, out) ? adatask_running(k, task, out) : ADA_NULL;
+  return ada_has(k, out) ? adatask_running(&k->handle, task, out) : ADA_NULL;
 }
 
 /* The attribute CALLABLE of a task, 0 or 1 (9.9). */
 static inline int32_t ada_callable(ada_kernel *k, uint64_t task, uint32_t *out) {
-  return ada_has(k, out) ? adatask_callable(k, task, out) : ADA_NULL;
+  return ada_has(k, out) ? adatask_callable(&k->handle, task, out) : ADA_NULL;
 }
 
 /* The attribute TERMINATED of a task, 0 or 1 (9.9). */
 static inline int32_t ada_terminated(ada_kernel *k, uint64_t task, uint32_t *out) {
-  return ada_has(k, out) ? adatask_terminated(k, task, out) : ADA_NULL;
+  return ada_has(k, out) ? adatask_terminated(&k->handle, task, out) : ADA_NULL;
 }
 
 /* What became of a task's latest call, wait, delay, activation or close. */
 static inline int32_t ada_outcome_of(ada_kernel *k, uint64_t task, ada_outcome *out) {
-  return ada_has(k, out) ? adatask_outcome(k, task, out) : ADA_NULL;
+  return ada_has(k, out) ? adatask_outcome(&k->handle, task, out) : ADA_NULL;
 }
 
 /* Why a task doesn't go on by itself. */
 static inline int32_t ada_reason_of(ada_kernel *k, uint64_t task, ada_reason *out) {
-  return ada_has(k, out) ? adatask_reason(k, task, out) : ADA_NULL;
+  return ada_has(k, out) ? adatask_reason(&k->handle, task, out) : ADA_NULL;
 }
 
 /*
@@ -613,7 +692,7 @@ static inline int32_t ada_reason_of(ada_kernel *k, uint64_t task, ada_reason *ou
  * searches the journal, and is for diagnosis.
  */
 static inline int32_t ada_awaited(ada_kernel *k, uint64_t task, uint64_t from, uint64_t *out) {
-  return ada_has(k, out) ? adatask_awaited(k, task, from, out) : ADA_NULL;
+  return ada_has(k, out) ? adatask_awaited(&k->handle, task, from, out) : ADA_NULL;
 }
 
 /*
@@ -621,7 +700,7 @@ static inline int32_t ada_awaited(ada_kernel *k, uint64_t task, uint64_t from, u
  * ADA_NO_SUCH_ITEM. All of them: for (t = 0; ada_runnable(&k, t, &t) == 0; t++) ...
  */
 static inline int32_t ada_runnable(ada_kernel *k, uint64_t from, uint64_t *out) {
-  return ada_has(k, out) ? adatask_runnable(k, from, out) : ADA_NULL;
+  return ada_has(k, out) ? adatask_runnable(&k->handle, from, out) : ADA_NULL;
 }
 
 /*
@@ -629,54 +708,55 @@ static inline int32_t ada_runnable(ada_kernel *k, uint64_t from, uint64_t *out) 
  * open delay alternative. A tick to an earlier moment forces nothing.
  */
 static inline int32_t ada_next_due(ada_kernel *k, int64_t *out) {
-  return ada_has(k, out) ? adatask_next_due(k, out) : ADA_NULL;
+  return ada_has(k, out) ? adatask_next_due(&k->handle, out) : ADA_NULL;
 }
 
-/* The attributes of all tasks and entries. */
+/* The attributes of all tasks and entries, of a kernel that keeps everything. */
 static inline int32_t ada_board_of(ada_kernel *k, ada_board *out) {
-  if (!ada_has(k, out)) return ADA_NULL;
-  adatask_board(k, out);
-  return ADA_ACCEPTED;
+  return ada_has(k, out) ? adatask_board(&k->handle, out) : ADA_NULL;
 }
 
-/* The slot of an entry, below 1,024: all entries are numbered in order of task, family and index. */
+/*
+ * The slot of an entry, below 1,024, of a kernel that keeps everything: all entries are numbered in order of task,
+ * family and index.
+ */
 static inline int32_t ada_slot(ada_kernel *k, uint64_t task, uint32_t family, int32_t index, uint32_t *out) {
-  return ada_has(k, out) ? adatask_slot(k, task, family, index, out) : ADA_NULL;
+  return ada_has(k, out) ? adatask_slot(&k->handle, task, family, index, out) : ADA_NULL;
 }
 
-/* The event at a position, from 1. */
+/* The event at a position, from 1. A kernel that lives on has those that the last request appended. */
 static inline int32_t ada_event_at(ada_kernel *k, uint64_t position, ada_event *out) {
-  return ada_has(k, out) ? adatask_event(k, position, out) : ADA_NULL;
+  return ada_has(k, out) ? adatask_event(&k->handle, position, out) : ADA_NULL;
 }
 
 /* COUNT of an entry of the asking task's own (9.9). A refusal has the code of its cause. */
 static inline int32_t ada_count(ada_kernel *k, uint64_t by, uint32_t family, int32_t index, uint32_t *out) {
-  return ada_has(k, out) ? adatask_count(k, by, family, index, out) : ADA_NULL;
+  return ada_has(k, out) ? adatask_count(&k->handle, by, family, index, out) : ADA_NULL;
 }
 
 /* How many items the lists of the event at a position have. */
 static inline int32_t ada_lengths_of(ada_kernel *k, uint64_t position, ada_lengths *out) {
-  return ada_has(k, out) ? adatask_lengths(k, position, out) : ADA_NULL;
+  return ada_has(k, out) ? adatask_lengths(&k->handle, position, out) : ADA_NULL;
 }
 
 /* A task that an activation or an abort named, by its place from 0. */
 static inline int32_t ada_event_task(ada_kernel *k, uint64_t position, uint64_t place, uint64_t *out) {
-  return ada_has(k, out) ? adatask_event_task(k, position, place, out) : ADA_NULL;
+  return ada_has(k, out) ? adatask_event_task(&k->handle, position, place, out) : ADA_NULL;
 }
 
 /* A family that a task declared, by its place from 0. */
 static inline int32_t ada_event_family(ada_kernel *k, uint64_t position, uint64_t place, ada_family *out) {
-  return ada_has(k, out) ? adatask_event_family(k, position, place, out) : ADA_NULL;
+  return ada_has(k, out) ? adatask_event_family(&k->handle, position, place, out) : ADA_NULL;
 }
 
 /* An accept alternative of a wait, by its place from 0. */
 static inline int32_t ada_event_choice(ada_kernel *k, uint64_t position, uint64_t place, ada_choice *out) {
-  return ada_has(k, out) ? adatask_event_choice(k, position, place, out) : ADA_NULL;
+  return ada_has(k, out) ? adatask_event_choice(&k->handle, position, place, out) : ADA_NULL;
 }
 
 /* A delay alternative of a wait, by its place from 0. */
 static inline int32_t ada_event_delay(ada_kernel *k, uint64_t position, uint64_t place, ada_due *out) {
-  return ada_has(k, out) ? adatask_event_delay(k, position, place, out) : ADA_NULL;
+  return ada_has(k, out) ? adatask_event_delay(&k->handle, position, place, out) : ADA_NULL;
 }
 
 #ifdef __cplusplus

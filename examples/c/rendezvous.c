@@ -49,7 +49,7 @@ static void print_event(ada_kernel *k, uint64_t position, uint64_t *made) {
 int main(void) {
   const ada_family e = {0, 0};
   const uint64_t both[] = {1, 2};
-  ada_kernel k = {NULL};
+  ada_kernel k = ADA_NO_KERNEL;
   uint64_t at = 0, position, made = 0;
 
   check(ada_kernel_new(&k), "a kernel");

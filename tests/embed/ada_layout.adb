@@ -43,7 +43,7 @@ procedure Ada_Layout is
       Print ("pause", D'Size, (D.Length'Position, D.Is_Open'Position));
       Print ("due", Du'Size, (Du.Moment'Position, Du.Is_Open'Position));
       Print ("lengths", L'Size, (L.Tasks'Position, L.Families'Position, L.Choices'Position, L.Delays'Position));
-      Print ("outcome", O'Size, (O.Kind'Position, O.Number'Position, O.Call'Position));
+      Print ("outcome", O'Size, (O.Kind'Position, O.Number'Position, O.Call'Position, O.Caller'Position));
       Print ("reason", R'Size, (R.Kind'Position, R.At_Position'Position));
       Print ("board", B'Size,
              (B.Events'Position, B.Tasks'Position, B.Slots'Position, B.Callable'Position, B.Terminated'Position,

@@ -386,7 +386,7 @@ int main(void) {
   try_answers();
   try_items();
   ada_kernel_drop(&k);
-  note(k.kernel == NULL, "a dropped kernel", -1);
+  note(k.handle.kernel == NULL, "a dropped kernel", -1);
   printf("%d passed, %d failed\n", passed, failed);
   return failed != 0;
 }

@@ -1,7 +1,7 @@
 /* SPDX-License-Identifier: MIT */
 /* Plays scripts through the library, one after the other, and prints what adatask prints for them, with its status for
    the last: gallery PATH .. The scripts are tables, which tools/script_table writes into the header that SCRIPT_TABLES
-   names; no script is read here. */
+   names; no script is read here. Built with -DLASTING, it plays them on kernels that live on. */
 
 #include "adatask.h"
 #include <stdio.h>
@@ -73,6 +73,14 @@ static void fail(const char *what, int32_t code) {
 
 static void must(int32_t code, const char *what) {
   if (code != ADA_ACCEPTED) fail(what, code);
+}
+
+static int32_t make_kernel(void) {
+#ifdef LASTING
+  return ada_kernel_new_lasting(&k, MOST_EVENTS);
+#else
+  return ada_kernel_new(&k);
+#endif
 }
 
 static void unbind_all(void) {
@@ -290,7 +298,7 @@ static const script_row *find(const char *path) {
 static int play_script(void) {
   size_t i;
   int status;
-  must(ada_kernel_new(&k), "a kernel");
+  must(make_kernel(), "a kernel");
   unbind_all();
   for (i = 0; i < script->rows_count; i++) play(&script->rows[i]);
   status = ada_finished(&k) ? 0 : 3;

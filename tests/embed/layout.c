@@ -54,7 +54,8 @@ static void print_answers(void) {
   SIZE(ada_outcome, "outcome");
   MEMBER(ada_outcome, kind);
   MEMBER(ada_outcome, number);
-  LAST(ada_outcome, call);
+  MEMBER(ada_outcome, call);
+  LAST(ada_outcome, caller);
   SIZE(ada_reason, "reason");
   MEMBER(ada_reason, kind);
   LAST(ada_reason, position);

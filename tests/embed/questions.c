@@ -79,7 +79,12 @@ static void due_never(int line) {
 #define DUE(moment) due(__LINE__, moment)
 #define NOTHING_DUE() due_never(__LINE__)
 
+/* With -DLASTING each kernel is one that lives on, of which no question has another answer, but that it has no board. */
+#ifdef LASTING
+static void begin(void) { SAYS(ADA_ACCEPTED, ada_kernel_new_lasting(&k, 60000)); }
+#else
 static void begin(void) { SAYS(ADA_ACCEPTED, ada_kernel_new(&k)); }
+#endif
 
 /* Task 1 with an entry, and others without one, made by the main program and active: 2 * tasks + 2 events. */
 static void begin_with(uint64_t tasks) {
@@ -340,6 +345,20 @@ static void try_moments(void) {
 
 /* ---- The board ---- */
 
+#ifdef LASTING
+
+static void try_board(void) {
+  static ada_board board;
+  uint32_t slot = 7;
+  begin();
+  SAYS(ADA_LIVES_ON, ada_board_of(&k, &board));
+  SAYS(ADA_LIVES_ON, ada_slot(&k, 0, 0, 0, &slot));
+  note(slot == 7, __LINE__, "nothing is written");
+  ada_kernel_drop(&k);
+}
+
+#else
+
 /* The main program, and task 1 with E and F(1..3), after two calls of F(2) and one of E. */
 static void try_board(void) {
   const ada_family families[2] = {{0, 0}, {1, 3}};
@@ -373,6 +392,8 @@ static void try_board(void) {
   note(rest == 0, __LINE__, "unused places");
   ada_kernel_drop(&k);
 }
+
+#endif
 
 /* ---- Longer plays, whose answers are compared with each other ---- */
 
@@ -427,6 +448,9 @@ static int32_t ask_somehow(void) {
 
 /* The board says of each task and of each entry what the questions of one say. */
 static int agrees_with_board(void) {
+#ifdef LASTING
+  return 1;
+#else
   static ada_board board;
   uint64_t task;
   int agrees = ada_board_of(&k, &board) == ADA_ACCEPTED;
@@ -441,6 +465,7 @@ static int agrees_with_board(void) {
                 ada_count(&k, task, 1, index, &count) == ADA_ACCEPTED && count == board.counts[slot];
   }
   return agrees;
+#endif
 }
 
 /* A task has no reason exactly if it runs or is terminated, and waits for nobody who is terminated. */

@@ -78,14 +78,14 @@ static int32_t ask(ada_kernel *k, int i, uint64_t *at) {
 
 /* Plays until a request isn't accepted, with one growth refused; whether one was. */
 static int play(long growth) {
-  ada_kernel k = {NULL};
+  ada_kernel k = ADA_NO_KERNEL;
   uint64_t at = 0;
   int32_t code;
   int i;
   left = growth;
   code = ada_kernel_new(&k);
   if (code != ADA_ACCEPTED) {
-    note(code == ADA_OUT_OF_MEMORY && k.kernel == NULL, "a kernel", growth);
+    note(code == ADA_OUT_OF_MEMORY && k.handle.kernel == NULL, "a kernel", growth);
     return 1;
   }
   for (i = 0; i < 60; i++) {
@@ -124,7 +124,7 @@ static void begin(ada_kernel *k) {
 
 static void try_questions(void) {
   static ada_board board;
-  ada_kernel k = {NULL};
+  ada_kernel k = ADA_NO_KERNEL;
   ada_outcome outcome;
   ada_reason reason;
   ada_event event;

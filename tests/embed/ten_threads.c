@@ -229,7 +229,7 @@ int main(void) {
   note(&moved, run(1, make, &moved, sizeof moved) == 1, "a thread that makes");
   note(&moved, run(2, use, clients, sizeof clients[0]) == 2, "two threads that use");
   note(&moved, ada_events(&moved.k) == 10 + 2 * ROUNDS * 4, "the events of two threads");
-  note(&moved, run(1, give_up, &moved, sizeof moved) == 1 && !moved.k.kernel, "a thread that drops");
+  note(&moved, run(1, give_up, &moved, sizeof moved) == 1 && !moved.k.handle.kernel, "a thread that drops");
   for (i = 0; i < PLAYERS; i++) {
     moved.passed += players[i].passed;
     moved.failed += players[i].failed;

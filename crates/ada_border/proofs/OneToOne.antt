@@ -101,19 +101,19 @@ checked journal request = refl
 
 pub outcomes : AreOutcomesReadBack
 unfolding plain_outcome outcome_at
-outcomes became.Nothing = refl
-outcomes became.Dead = refl
-outcomes became.Done = refl
-outcomes became.Held = refl
-outcomes became.Served = refl
-outcomes became.TaskingError = refl
-outcomes became.Cancelled = refl
-outcomes (became.Accepted call choice) = refl
-outcomes became.TookElse = refl
-outcomes (became.TookDelay number) = refl
-outcomes became.ProgramError = refl
-outcomes became.Awake = refl
-outcomes became.ActivationOk = refl
-outcomes became.ActivationFailed = refl
-outcomes became.BlockLeft = refl
-outcomes became.Raised = refl
+outcomes became.Nothing caller = refl
+outcomes became.Dead caller = refl
+outcomes became.Done caller = refl
+outcomes became.Held caller = refl
+outcomes became.Served caller = refl
+outcomes became.TaskingError caller = refl
+outcomes became.Cancelled caller = refl
+outcomes (became.Accepted call choice) caller = refl
+outcomes became.TookElse caller = refl
+outcomes (became.TookDelay number) caller = refl
+outcomes became.ProgramError caller = refl
+outcomes became.Awake caller = refl
+outcomes became.ActivationOk caller = refl
+outcomes became.ActivationFailed caller = refl
+outcomes became.BlockLeft caller = refl
+outcomes became.Raised caller = refl

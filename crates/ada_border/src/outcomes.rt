@@ -4,14 +4,18 @@ ghost use Rattle.ada_border.specs.Outcomes as spec;
 
 use ada_events::Outcome;
 
-/// What became of a task's latest doing: its kind, the number of the alternative that was taken, from 0, and the
-/// position of the call that was accepted. What a kind has no use for is 0.
+/// The number that stands for no task.
+pub const NOBODY: u64 = u64::MAX;
+
+/// What became of a task's latest doing: its kind; the number of the alternative that was taken, from 0; and of the call
+/// that was accepted its position, and who made it, or [`NOBODY`]. What a kind has no use for is 0.
 #[repr(C)]
 #[derive(Clone, Copy, Debug, PartialEq, Eq)]
 pub struct PlainOutcome {
     pub kind: u32,
     pub number: u32,
     pub call: u64,
+    pub caller: u64,
 }
 
 fn of_kind(kind: u32, number: u8, call: u32) -> PlainOutcome
@@ -21,13 +25,21 @@ fn of_kind(kind: u32, number: u8, call: u32) -> PlainOutcome
         kind,
         number: u32::from(number),
         call: u64::from(call),
+        caller: NOBODY,
     }
 }
 
-/// The outcome in plain numbers.
+/// The number of a task, or [`NOBODY`].
+pub fn or_nobody(task: Option<u64>) -> u64
+    ensures { result ≡ spec.or_nobody task }
+{
+    task.unwrap_or(NOBODY)
+}
+
+/// The outcome in plain numbers, with the caller of the call that was accepted, if it is told.
 #[tactic(auto, unfolding(crate::specs::Outcomes::plain_outcome))]
-pub fn plain_outcome(outcome: Outcome) -> PlainOutcome
-    ensures { result ≡ spec.plain_outcome outcome }
+pub fn plain_outcome(outcome: Outcome, caller: Option<u64>) -> PlainOutcome
+    ensures { result ≡ spec.plain_outcome outcome caller }
 {
     match outcome {
         Outcome::Nothing => of_kind(0, 0, 0),
@@ -37,7 +49,10 @@ pub fn plain_outcome(outcome: Outcome) -> PlainOutcome
         Outcome::Served => of_kind(4, 0, 0),
         Outcome::TaskingError => of_kind(5, 0, 0),
         Outcome::Cancelled => of_kind(6, 0, 0),
-        Outcome::Accepted { call, choice } => of_kind(7, choice, call),
+        Outcome::Accepted { call, choice } => PlainOutcome {
+            caller: or_nobody(caller),
+            ..of_kind(7, choice, call)
+        },
         Outcome::TookElse => of_kind(8, 0, 0),
         Outcome::TookDelay(number) => of_kind(9, number, 0),
         Outcome::ProgramError => of_kind(10, 0, 0),

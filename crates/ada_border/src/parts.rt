@@ -163,8 +163,9 @@ pub fn choices_in(plain: &[PlainChoice]) -> Result<Choices, Bad>
     Ok(choices)
 }
 
+/// The accept alternative of its entry and its flag.
 #[inline(always)]
-pub(crate) fn choice_in(plain: PlainChoice) -> Result<Choice, Bad>
+pub fn choice_in(plain: PlainChoice) -> Result<Choice, Bad>
     ensures { result ≡ spec.choice_in plain }
 {
     let entry = entry_in(plain.family, plain.index)?;

@@ -79,7 +79,7 @@ pub fn call_in(
 
 /// The last part of a selective wait, by its kind.
 #[inline(always)]
-fn tail_in(kind: u32, delays: &[PlainPause]) -> Result<Tail, Bad>
+pub fn tail_in(kind: u32, delays: &[PlainPause]) -> Result<Tail, Bad>
     ensures { result ≡ spec.tail_in kind delays.now }
 {
     if kind == 2 {

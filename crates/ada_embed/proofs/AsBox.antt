@@ -7,7 +7,7 @@ use Rattle.std_heap.specs.contracts.Global as Heap
 use Rattle.std_heap.specs.contracts.GlobalAllocator.TheImpl.{ghosts, dict}
 use Rattle.std_heap.proofs.Global.TheLaws as heap
 use Rattle.ada_embed.specs.Sealed.{kernel_row}
-use Rattle.ada_kernel.proofs.kernel.Kernel.TheLaws as home
+use Rattle.ada_embed.proofs.host_kernel.HostKernel.TheLaws as home
 use Rattle.ada_embed.specs.contracts.handle.Handle as Sealed
 
 abbrev pub E : Bx

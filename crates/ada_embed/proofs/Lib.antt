@@ -1,2 +1,4 @@
 pub mod ReadBack
 pub mod AsBox
+pub mod Asking
+pub mod Told

@@ -1,4 +1,9 @@
+pub mod Answers
+pub mod Codes
+pub mod Lasting
+pub mod Outcomes
 pub mod Questions
 pub mod Reasons
+pub mod Requests
 pub mod Sealed
 pub mod internal

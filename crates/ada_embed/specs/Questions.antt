@@ -16,7 +16,6 @@ use Rattle.ada_waiting.specs.Runnable.{first_runnable}
 use Rattle.ada_waiting.specs.Standstill.{first_due}
 use Rattle.ada_border.specs.Answers.{or_bad}
 use Rattle.ada_border.specs.Events.{flag, plain_of, lengths_of}
-use Rattle.ada_border.specs.Outcomes.{plain_outcome}
 use Rattle.ada_border.specs.Requests.{with_read, task_in, position_in, entry_in}
 use Rattle.ada_border.specs.declared.bad.Bad.{Bad}
 use Rattle.ada_border.specs.declared.bad.Bad.TheVariants.{NoSuchEvent, NoSuchItem, NoSuchTask, NoSuchEntry}
@@ -24,6 +23,7 @@ use Rattle.ada_border.specs.declared.events.PlainEvent.{PlainEvent}
 use Rattle.ada_border.specs.declared.lists.PlainLengths.{PlainLengths}
 use Rattle.ada_border.specs.declared.outcomes.PlainOutcome.{PlainOutcome}
 use Rattle.ada_embed.specs.declared.reasons.PlainReason.{PlainReason}
+use Rattle.ada_embed.specs.Outcomes.{outcome_told}
 use Rattle.ada_embed.specs.Reasons.{plain_reason}
 
 -- ---- of a task
@@ -46,7 +46,7 @@ abbrev pub terminated_of : List Event → ℕ → Result ℕ Bad
 terminated_of journal number = of_task journal number (λ task. flag (is_terminated journal task))
 
 abbrev pub outcome_of_task : List Event → ℕ → Result PlainOutcome Bad
-outcome_of_task journal number = of_task journal number (λ task. plain_outcome (outcome_of journal task))
+outcome_of_task journal number = of_task journal number (λ task. outcome_told journal (outcome_of journal task))
 
 abbrev pub reason_told : List Event → ℕ → Result PlainReason Bad
 reason_told journal number = with_read (known journal number) (λ task. Ok (plain_reason (reason_of journal task.0)))

@@ -1,11 +1,11 @@
--- What a `Handle` owns: the same as a `Box<Kernel>`.
+-- What a `Handle` owns: the same as a `Box<HostKernel>`.
 use base.Fml.{Fml}
 use denote.RawPtr.{Ptr}
 use denote.RattleType.{RattleType}
 use Rattle.std.specs.Box.Ownership.{box_owns}
 use Rattle.std.specs.Global.{Global}
 use Rattle.std_heap.specs.contracts.GlobalAllocator.TheImpl.{ghosts}
-use Rattle.ada_kernel.specs.contracts.kernel.Kernel as K
+use Rattle.ada_embed.specs.contracts.host_kernel.HostKernel as K
 
 abbrev pub kernel_row : RattleType
 kernel_row = K.the_row

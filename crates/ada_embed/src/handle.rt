@@ -1,11 +1,11 @@
 //! A handle to a kernel, which C keeps as a pointer.
 ghost use Rattle.std.specs.Prelude.{◌≡◌};
-ghost use Rattle.ada_kernel.specs.declared.kernel.Kernel.{Kernel};
+ghost use Rattle.ada_embed.specs.declared.host_kernel.HostKernel.{HostKernel};
 ghost use Rattle.ada_embed.specs.Sealed.{handle_owns};
 ghost use Rattle.ada_embed.specs.internal.Coded.{kernel_coded};
 
+use crate::host_kernel::HostKernel;
 use crate::parts::Parts;
-use ada_kernel::Kernel;
 use std::alloc::Global;
 use std::marker::{Model, Send};
 
@@ -15,7 +15,7 @@ use std::marker::{Model, Send};
 pub struct Handle {
     ptr: *mut u8,
     alloc: Global,
-    pub ghost home: { Kernel } by { kernel_coded },
+    pub ghost home: { HostKernel } by { kernel_coded },
 }
 
 impl Model for Handle {
@@ -30,21 +30,21 @@ impl Handle {
     ghost use Rattle.ada_embed.specs.internal.Follows.{handle_follows};
 
     /// What the handle owns, for the last time.
-    pub fn into_parts(self) -> Parts<Kernel, Global>
+    pub fn into_parts(self) -> Parts<HostKernel, Global>
         ensures { result.value ≡ self.home }
     {
         let Handle { ptr, alloc } = self;
         Parts {
-            ptr: ptr as *mut Kernel,
+            ptr: ptr as *mut HostKernel,
             alloc,
         }
     }
 
     /// The kernel behind the handle.
-    pub fn kernel(&mut self) -> &mut Kernel
+    pub fn kernel(&mut self) -> &mut HostKernel
         ensures* writes_back { sem 𝓛 (handle_follows self.entry result) }
         ensures value { result.now ≡ self.old.home }
     {
-        unsafe { &mut *(self.ptr as *mut Kernel) }
+        unsafe { &mut *(self.ptr as *mut HostKernel) }
     }
 }

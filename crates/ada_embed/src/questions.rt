@@ -1,221 +1,230 @@
-//! Questions to a kernel, in numbers.
-ghost use Rattle.std.specs.Prelude.{◌≡◌, option_map};
-ghost use Rattle.ada_border.specs.Answers.{or_bad as found_or};
-ghost use Rattle.ada_border.specs.Events as events;
+//! Questions, which change nothing.
+
+ghost use Rattle.std.specs.Prelude.{◌≡◌, length};
+ghost use Rattle.ada_border.specs.Boards as boards;
 ghost use Rattle.ada_border.specs.Events.{flag as flag_of};
-ghost use Rattle.ada_border.specs.declared.bad.Bad.TheVariants.{NoSuchItem};
-ghost use Rattle.ada_events.specs.declared.names.TaskNo.{TaskNo as Task};
-ghost use Rattle.ada_embed.specs.Questions as spec;
+ghost use Rattle.ada_events.specs.Attributes.{is_finished};
+ghost use Rattle.ada_events.specs.Tasks.{task_count};
+ghost use Rattle.ada_embed.specs.Answers.{IsBoardOf, IsCountedBy, IsNumberOf, IsToldBy};
+ghost use Rattle.ada_embed.specs.Answers.{IsToldByWhole};
+ghost use Rattle.ada_embed.specs.Lasting as lasts;
+ghost use Rattle.ada_embed.specs.Questions as asked;
 
-use crate::answering::or_bad;
-use crate::reasons::{PlainReason, plain_reason};
-use ada_border::Bad;
-use ada_border::events::{PlainEvent, flag, plain_of};
-use ada_border::lists::{
-    PlainDue, PlainLengths, choices_of, dues_of, families_of, lengths_of, plain_choice, plain_due,
-    plain_family, tasks_of,
-};
-use ada_border::outcomes::{PlainOutcome, plain_outcome};
-use ada_border::parts::{PlainChoice, PlainFamily, entry_in, position_in, task_in};
-use ada_events::{Refusal, TaskNo};
-use ada_kernel::Kernel;
-use ada_waiting::{first_awaited, first_runnable, next_due, reason_in};
+use crate::answering::{tell, tell_count, tell_or};
+use crate::codes::LIVES_ON;
+use crate::handle::Handle;
+use crate::host_kernel::HostKernel;
+use crate::lasting::questions as lasting;
+use crate::reasons::PlainReason;
+use crate::whole::questions as whole;
+use ada_border::boards::{PlainBoard, plain_board};
+use ada_border::codes::ACCEPTED;
+use ada_border::events::flag;
+use ada_border::outcomes::PlainOutcome;
 
-fn flag_or_none(holds: Option<bool>) -> Option<u32>
-    ensures { result ≡ option_map flag_of holds }
+/// How many tasks there are or ever were, the main program counted: the number of the next one.
+#[unsafe(no_mangle)]
+pub extern "C" fn adatask_tasks(h: &mut Handle) -> u64
+    ensures told { IsNumberOf h.old.home task_count result }
+    ensures same { h.new.home ≡ h.old.home }
 {
-    match holds {
-        Some(holds) => Some(flag(holds)),
-        None => None,
-    }
+    let told = match h.kernel() {
+        HostKernel::Whole(kernel) => u64::from(kernel.tasks()),
+        HostKernel::Lasting(kernel) => kernel.tasks(),
+    };
+    told
 }
 
-// The task of a number, if there is one.
-fn known(kernel: &Kernel, number: u64) -> Result<TaskNo, Bad>
-    ensures { result ≡ spec.known kernel.now number }
+/// How many events there are or ever were: the position of the latest one.
+#[unsafe(no_mangle)]
+pub extern "C" fn adatask_events(h: &mut Handle) -> u64
+    ensures told { IsNumberOf h.old.home length result }
+    ensures same { h.new.home ≡ h.old.home }
 {
-    let task = task_in(number)?;
-    if task.0 < kernel.tasks() {
-        Ok(task)
-    } else {
-        Err(Bad::NoSuchTask)
-    }
+    let told = match h.kernel() {
+        HostKernel::Whole(kernel) => u64::from(kernel.journal().len()),
+        HostKernel::Lasting(kernel) => kernel.length(),
+    };
+    told
 }
 
-// The number of a task that was found.
-fn item_or_none(found: Option<TaskNo>) -> Result<u64, Bad>
-    ensures { result ≡ found_or (option_map (λ (t : Task). t.0) found) NoSuchItem }
+/// Whether the main program is terminated.
+#[unsafe(no_mangle)]
+pub extern "C" fn adatask_finished(h: &mut Handle) -> u32
+    ensures told { IsNumberOf h.old.home (λ journal. flag_of (is_finished journal)) result }
+    ensures same { h.new.home ≡ h.old.home }
 {
-    match found {
-        Some(task) => Ok(u64::from(task.0)),
-        None => Err(Bad::NoSuchItem),
-    }
+    let told = match h.kernel() {
+        HostKernel::Whole(kernel) => flag(kernel.finished()),
+        HostKernel::Lasting(kernel) => flag(kernel.finished()),
+    };
+    told
 }
 
 /// Whether a task is running.
-pub fn running(kernel: &Kernel, task: u64) -> Result<u32, Bad>
-    ensures { result ≡ spec.running_of kernel.now task }
+#[unsafe(no_mangle)]
+pub extern "C" fn adatask_running(h: &mut Handle, task: u64, out: &mut u32) -> i32
+    ensures told { IsToldBy h.old.home (λ journal. asked.running_of journal task)
+        (lasts.running_of task) result out.old out.new }
+    ensures same { h.new.home ≡ h.old.home }
 {
-    let task = task_in(task)?;
-    or_bad(flag_or_none(kernel.running(task)), Bad::NoSuchTask)
+    let code = match h.kernel() {
+        HostKernel::Whole(kernel) => tell(whole::running(kernel, task), out),
+        HostKernel::Lasting(kernel) => tell_or(lasting::running(kernel, task), out),
+    };
+    code
 }
 
 /// The attribute CALLABLE of a task (9.9).
-pub fn callable(kernel: &Kernel, task: u64) -> Result<u32, Bad>
-    ensures { result ≡ spec.callable_of kernel.now task }
+#[unsafe(no_mangle)]
+pub extern "C" fn adatask_callable(h: &mut Handle, task: u64, out: &mut u32) -> i32
+    ensures told { IsToldBy h.old.home (λ journal. asked.callable_of journal task)
+        (lasts.callable_of task) result out.old out.new }
+    ensures same { h.new.home ≡ h.old.home }
 {
-    let task = task_in(task)?;
-    or_bad(flag_or_none(kernel.callable(task)), Bad::NoSuchTask)
+    let code = match h.kernel() {
+        HostKernel::Whole(kernel) => tell(whole::callable(kernel, task), out),
+        HostKernel::Lasting(kernel) => tell_or(lasting::callable(kernel, task), out),
+    };
+    code
 }
 
 /// The attribute TERMINATED of a task (9.9).
-pub fn terminated(kernel: &Kernel, task: u64) -> Result<u32, Bad>
-    ensures { result ≡ spec.terminated_of kernel.now task }
+#[unsafe(no_mangle)]
+pub extern "C" fn adatask_terminated(h: &mut Handle, task: u64, out: &mut u32) -> i32
+    ensures told { IsToldBy h.old.home (λ journal. asked.terminated_of journal task)
+        (lasts.terminated_of task) result out.old out.new }
+    ensures same { h.new.home ≡ h.old.home }
 {
-    let task = task_in(task)?;
-    or_bad(flag_or_none(kernel.terminated(task)), Bad::NoSuchTask)
+    let code = match h.kernel() {
+        HostKernel::Whole(kernel) => tell(whole::terminated(kernel, task), out),
+        HostKernel::Lasting(kernel) => tell_or(lasting::terminated(kernel, task), out),
+    };
+    code
 }
 
-/// The outcome of a task.
-pub fn outcome(kernel: &Kernel, task: u64) -> Result<PlainOutcome, Bad>
-    ensures { result ≡ spec.outcome_of_task kernel.now task }
+/// What became of a task's latest call, wait, delay, activation or close; of a call that it accepted the caller too,
+/// while that is suspended in the rendezvous (9.5).
+#[unsafe(no_mangle)]
+pub extern "C" fn adatask_outcome(h: &mut Handle, task: u64, out: &mut PlainOutcome) -> i32
+    ensures told { IsToldBy h.old.home (λ journal. asked.outcome_of_task journal task)
+        (lasts.outcome_of_task task) result out.old out.new }
+    ensures same { h.new.home ≡ h.old.home }
 {
-    let task = task_in(task)?;
-    match kernel.outcome(task) {
-        Some(outcome) => Ok(plain_outcome(outcome)),
-        None => Err(Bad::NoSuchTask),
-    }
+    let code = match h.kernel() {
+        HostKernel::Whole(kernel) => tell(whole::outcome(kernel, task), out),
+        HostKernel::Lasting(kernel) => tell_or(lasting::outcome(kernel, task), out),
+    };
+    code
 }
 
-/// Why a task doesn't go on.
-pub fn reason(kernel: &Kernel, task: u64) -> Result<PlainReason, Bad>
-    ensures { result ≡ spec.reason_told kernel.now task }
+/// Why a task doesn't go on by itself.
+#[unsafe(no_mangle)]
+pub extern "C" fn adatask_reason(h: &mut Handle, task: u64, out: &mut PlainReason) -> i32
+    ensures told { IsToldBy h.old.home (λ journal. asked.reason_told journal task)
+        (lasts.reason_told task) result out.old out.new }
+    ensures same { h.new.home ≡ h.old.home }
 {
-    let task = known(kernel, task)?;
-    Ok(plain_reason(reason_in(kernel, task)))
+    let code = match h.kernel() {
+        HostKernel::Whole(kernel) => tell(whole::reason(kernel, task), out),
+        HostKernel::Lasting(kernel) => tell_or(lasting::reason(kernel, task), out),
+    };
+    code
 }
 
 /// The first task, of a number or more, for which a task waits.
-pub fn awaited(kernel: &Kernel, task: u64, from: u64) -> Result<u64, Bad>
-    ensures { result ≡ spec.awaited_told kernel.now task from }
+#[unsafe(no_mangle)]
+pub extern "C" fn adatask_awaited(h: &mut Handle, task: u64, from: u64, out: &mut u64) -> i32
+    ensures told { IsToldBy h.old.home (λ journal. asked.awaited_told journal task from)
+        (lasts.awaited_told task from) result out.old out.new }
+    ensures same { h.new.home ≡ h.old.home }
 {
-    let from = task_in(from)?;
-    let task = known(kernel, task)?;
-    item_or_none(first_awaited(kernel, task, from))
+    let code = match h.kernel() {
+        HostKernel::Whole(kernel) => tell(whole::awaited(kernel, task, from), out),
+        HostKernel::Lasting(kernel) => tell_or(lasting::awaited(kernel, task, from), out),
+    };
+    code
+}
+
+/// The first moment, in milliseconds, for which any task waits (9.6, 9.7.1, 9.7.3).
+#[unsafe(no_mangle)]
+pub extern "C" fn adatask_next_due(h: &mut Handle, out: &mut i64) -> i32
+    ensures told { IsToldBy h.old.home (asked.due_told)
+        (lasts.due_told) result out.old out.new }
+    ensures same { h.new.home ≡ h.old.home }
+{
+    let code = match h.kernel() {
+        HostKernel::Whole(kernel) => tell(whole::due(kernel), out),
+        HostKernel::Lasting(kernel) => tell_or(lasting::due(kernel), out),
+    };
+    code
 }
 
 /// The first task, of a number or more, that runs and didn't before the last request.
-pub fn runnable(kernel: &Kernel, from: u64) -> Result<u64, Bad>
-    ensures { result ≡ spec.runnable_told kernel.now from }
+#[unsafe(no_mangle)]
+pub extern "C" fn adatask_runnable(h: &mut Handle, from: u64, out: &mut u64) -> i32
+    ensures told { IsToldByWhole h.old.home (λ journal. asked.runnable_told journal from)
+        result out.old out.new }
+    ensures same { h.new.home ≡ h.old.home }
 {
-    let from = task_in(from)?;
-    item_or_none(first_runnable(kernel, from))
-}
-
-/// The first moment for which any task waits.
-pub fn due(kernel: &Kernel) -> Result<i64, Bad>
-    ensures { result ≡ spec.due_told kernel.now }
-{
-    or_bad(next_due(kernel), Bad::NoSuchItem)
-}
-
-/// The slot of an entry.
-pub fn slot(kernel: &Kernel, task: u64, family: u32, index: i32) -> Result<u32, Bad>
-    ensures { result ≡ spec.slot_of_entry kernel.now task family index }
-{
-    let task = task_in(task)?;
-    let entry = entry_in(family, index)?;
-    match kernel.slot(task, entry) {
-        Some(slot) => Ok(u32::from(slot)),
-        None => Err(Bad::NoSuchEntry),
-    }
-}
-
-/// The event at a position.
-pub fn event(kernel: &Kernel, position: u64) -> Result<PlainEvent, Bad>
-    ensures { result ≡ spec.event_told kernel.now position }
-{
-    let position = position_in(position)?;
-    match kernel.journal().get(position) {
-        Some(event) => Ok(plain_of(event)),
-        None => Err(Bad::NoSuchEvent),
-    }
-}
-
-/// How many items the lists of an event have.
-pub fn lengths(kernel: &Kernel, position: u64) -> Result<PlainLengths, Bad>
-    ensures { result ≡ spec.lengths_told kernel.now position }
-{
-    let position = position_in(position)?;
-    match kernel.journal().get(position) {
-        Some(event) => Ok(lengths_of(event)),
-        None => Err(Bad::NoSuchEvent),
-    }
-}
-
-/// COUNT of an entry of the asking task's own (9.9).
-pub fn count(kernel: &Kernel, by: u64, family: u32, index: i32) -> Result<Result<u16, Refusal>, Bad>
-    ensures { result ≡ spec.count_told kernel.now by family index }
-{
-    let by = task_in(by)?;
-    let entry = entry_in(family, index)?;
-    Ok(kernel.count(by, entry))
-}
-
-/// A task of an event's list.
-pub fn task_item(kernel: &Kernel, position: u64, place: u64) -> Result<u64, Bad>
-    ensures { result ≡ spec.item_told kernel.now position place events.tasks_of events.plain_task }
-{
-    let position = position_in(position)?;
-    let Some(event) = kernel.journal().get(position) else {
-        return Err(Bad::NoSuchEvent);
+    let code = match h.kernel() {
+        HostKernel::Whole(kernel) => tell(whole::runnable(kernel, from), out),
+        HostKernel::Lasting(_) => LIVES_ON,
     };
-    match tasks_of(event).get(place as usize) {
-        Some(item) => Ok(u64::from(item.0)),
-        None => Err(Bad::NoSuchItem),
-    }
+    code
 }
 
-/// A family of an event's list.
-pub fn family_item(kernel: &Kernel, position: u64, place: u64) -> Result<PlainFamily, Bad>
-    ensures { result ≡ spec.item_told kernel.now position place events.families_of
-        events.plain_family }
+/// The attributes of all tasks and entries (9.9), of a kernel that keeps everything.
+#[unsafe(no_mangle)]
+pub extern "C" fn adatask_board(h: &mut Handle, out: &mut PlainBoard) -> i32
+    ensures told { IsBoardOf h.old.home result out.old out.new }
+    ensures same { h.new.home ≡ h.old.home }
 {
-    let position = position_in(position)?;
-    let Some(event) = kernel.journal().get(position) else {
-        return Err(Bad::NoSuchEvent);
+    let code = match h.kernel() {
+        HostKernel::Whole(kernel) => {
+            *out = plain_board(kernel.board());
+            ACCEPTED
+        }
+        HostKernel::Lasting(_) => LIVES_ON,
     };
-    match families_of(event).get(place as usize) {
-        Some(item) => Ok(plain_family(*item)),
-        None => Err(Bad::NoSuchItem),
-    }
+    code
 }
 
-/// An accept alternative of a wait.
-pub fn choice_item(kernel: &Kernel, position: u64, place: u64) -> Result<PlainChoice, Bad>
-    ensures { result ≡ spec.item_told kernel.now position place events.choices_of
-        events.plain_choice }
+/// The slot of an entry, below 1,024, of a kernel that keeps everything.
+#[unsafe(no_mangle)]
+pub extern "C" fn adatask_slot(
+    h: &mut Handle,
+    task: u64,
+    family: u32,
+    index: i32,
+    out: &mut u32,
+) -> i32
+    ensures told { IsToldByWhole h.old.home
+        (λ journal. asked.slot_of_entry journal task family index) result out.old out.new }
+    ensures same { h.new.home ≡ h.old.home }
 {
-    let position = position_in(position)?;
-    let Some(event) = kernel.journal().get(position) else {
-        return Err(Bad::NoSuchEvent);
+    let code = match h.kernel() {
+        HostKernel::Whole(kernel) => tell(whole::slot(kernel, task, family, index), out),
+        HostKernel::Lasting(_) => LIVES_ON,
     };
-    match choices_of(event).get(place as usize) {
-        Some(item) => Ok(plain_choice(*item)),
-        None => Err(Bad::NoSuchItem),
-    }
+    code
 }
 
-/// A delay alternative of a wait.
-pub fn due_item(kernel: &Kernel, position: u64, place: u64) -> Result<PlainDue, Bad>
-    ensures { result ≡ spec.item_told kernel.now position place events.dues_of events.plain_due }
+/// COUNT of an entry of the asking task's own (9.9). A refusal has the code of its cause.
+#[unsafe(no_mangle)]
+pub extern "C" fn adatask_count(
+    h: &mut Handle,
+    by: u64,
+    family: u32,
+    index: i32,
+    out: &mut u32,
+) -> i32
+    ensures told { IsCountedBy h.old.home by family index result out.old out.new }
+    ensures same { h.new.home ≡ h.old.home }
 {
-    let position = position_in(position)?;
-    let Some(event) = kernel.journal().get(position) else {
-        return Err(Bad::NoSuchEvent);
+    let code = match h.kernel() {
+        HostKernel::Whole(kernel) => tell_count(whole::count(kernel, by, family, index), out),
+        HostKernel::Lasting(kernel) => lasting::count(kernel, by, family, index, out),
     };
-    match dues_of(event).get(place as usize) {
-        Some(item) => Ok(plain_due(*item)),
-        None => Err(Bad::NoSuchItem),
-    }
+    code
 }

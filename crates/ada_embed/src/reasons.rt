@@ -1,8 +1,11 @@
 //! Why a task doesn't go on, in plain numbers.
 ghost use Rattle.std.specs.Prelude.{◌≡◌};
+ghost use Rattle.std.specs.Option.{option_map};
+ghost use Rattle.ada_lasting.specs.Meaning.{meant_reason};
 ghost use Rattle.ada_embed.specs.Reasons as spec;
 ghost use Rattle.ada_embed.specs.Reasons.{AreReasonsReadBack};
 
+use ada_lasting::LastingReason;
 use ada_waiting::Reason;
 
 /// Why a task doesn't go on: 0 if it does or is terminated, else the kind of its reason; and the position of the start,
@@ -14,13 +17,10 @@ pub struct PlainReason {
     pub position: u64,
 }
 
-fn at(kind: u32, position: u32) -> PlainReason
+fn at(kind: u32, position: u64) -> PlainReason
     ensures { result ≡ spec.at kind position }
 {
-    PlainReason {
-        kind,
-        position: u64::from(position),
-    }
+    PlainReason { kind, position }
 }
 
 /// The reason in plain numbers, or that there is none.
@@ -31,13 +31,31 @@ pub fn plain_reason(reason: Option<Reason>) -> PlainReason
     match reason {
         None => at(0, 0),
         Some(Reason::NotStarted) => at(1, 0),
-        Some(Reason::Activating { start }) => at(2, start),
-        Some(Reason::Queued { call }) => at(3, call),
-        Some(Reason::InRendezvous { call }) => at(4, call),
-        Some(Reason::Waiting { wait }) => at(5, wait),
-        Some(Reason::Delayed { pause }) => at(6, pause),
-        Some(Reason::Leaving { close }) => at(7, close),
+        Some(Reason::Activating { start }) => at(2, u64::from(start)),
+        Some(Reason::Queued { call }) => at(3, u64::from(call)),
+        Some(Reason::InRendezvous { call }) => at(4, u64::from(call)),
+        Some(Reason::Waiting { wait }) => at(5, u64::from(wait)),
+        Some(Reason::Delayed { pause }) => at(6, u64::from(pause)),
+        Some(Reason::Leaving { close }) => at(7, u64::from(close)),
         Some(Reason::Completed) => at(8, 0),
+    }
+}
+
+/// The reason in plain numbers, in names that last.
+#[tactic(auto, unfolding(crate::specs::Reasons::plain_reason, ada_lasting::specs::Meaning::meant_reason))]
+pub fn plain_lasting_reason(reason: Option<LastingReason>) -> PlainReason
+    ensures { result ≡ spec.plain_reason (option_map meant_reason reason) }
+{
+    match reason {
+        None => at(0, 0),
+        Some(LastingReason::NotStarted) => at(1, 0),
+        Some(LastingReason::Activating { start }) => at(2, start),
+        Some(LastingReason::Queued { call }) => at(3, call),
+        Some(LastingReason::InRendezvous { call }) => at(4, call),
+        Some(LastingReason::Waiting { wait }) => at(5, wait),
+        Some(LastingReason::Delayed { pause }) => at(6, pause),
+        Some(LastingReason::Leaving { close }) => at(7, close),
+        Some(LastingReason::Completed) => at(8, 0),
     }
 }
 

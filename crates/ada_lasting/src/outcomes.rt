@@ -96,8 +96,8 @@ fn if_in_rendezvous(kernel: &Kernel, task: TaskNo, call: u32) -> Option<TaskNo>
     }
 }
 
-// The caller of the call at a position of the present journal, while its rendezvous lasts.
-fn caller_in(kernel: &Kernel, call: u32) -> Option<TaskNo>
+/// The caller of the call at a position of a kernel's journal, while its rendezvous lasts (9.5).
+pub fn caller_in(kernel: &Kernel, call: u32) -> Option<TaskNo>
     ensures { option_map (λ (t : Task). t.0) result ≡ told.caller_of kernel.now call }
 {
     let event = kernel.journal().get(call)?;

@@ -6,7 +6,7 @@ use denote.Struct.Owning.{shape, fields, to}
 use denote.Struct.Struct.{exits_of}
 use Rattle.std_alloc.proofs.SendSync.{lies, quiet}
 use Rattle.std.proofs.Crossing.{crosses, frees}
-use Rattle.ada_kernel.proofs.kernel.Kernel.TheSendSync as KernelCrosses
+use Rattle.ada_embed.proofs.host_kernel.HostKernel.TheSendSync as KernelCrosses
 use Rattle.ada_embed.specs.Sealed.{kernel_row}
 use Rattle.ada_embed.specs.contracts.handle.Handle as Sealed
 

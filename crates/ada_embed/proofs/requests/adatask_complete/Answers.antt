@@ -1,0 +1,12 @@
+use Rattle.std.proofs.Common.{rules}
+use Rattle.ada_lasting.specs.Meaning.{meant}
+use Rattle.ada_embed.specs.Requests as asked
+use Rattle.ada_embed.specs.Requests.{read_as}
+use Rattle.ada_embed.proofs.Asking.{answered_by}
+use Rattle.ada_embed.proofs.requests.adatask_complete.Goals as goal
+
+pub returns-in-Lasting : goal.returns-in-Lasting
+returns-in-Lasting c =
+    answered_by c.args.h.now.home c.in-Lasting.kernel c.answer-code-in-Lasting.new.kernel (asked.complete_in c.args.by)
+    (read_as meant c.complete_in-in-Lasting.result) _ c.args.now c.answer-code-in-Lasting.result _ c.args.at.now c.answer-code-in-Lasting.new.at
+    (search rules) c.complete_in-in-Lasting.ensures (search rules) (search rules) c.answer-code-in-Lasting.ensures
