@@ -51,7 +51,8 @@ pub extern "C" fn adatask_event_task(
     place: u64,
     out: &mut u64,
 ) -> i32
-    ensures told { IsToldBy h.old.home (λ journal. asked.item_told journal position place events.tasks_of events.plain_task)
+    ensures told { IsToldBy h.old.home
+        (λ journal. asked.item_told journal position place events.tasks_of events.plain_task)
         (lasts.task_told position place) result out.old out.new }
     ensures same { h.new.home ≡ h.old.home }
 {
@@ -70,8 +71,10 @@ pub extern "C" fn adatask_event_family(
     place: u64,
     out: &mut PlainFamily,
 ) -> i32
-    ensures told { IsToldBy h.old.home (λ journal. asked.item_told journal position place events.families_of events.plain_family)
-        (lasts.item_told position place events.families_of events.plain_family) result out.old out.new }
+    ensures told { IsToldBy h.old.home
+        (λ journal. asked.item_told journal position place events.families_of events.plain_family)
+        (lasts.item_told position place events.families_of events.plain_family)
+        result out.old out.new }
     ensures same { h.new.home ≡ h.old.home }
 {
     let code = match h.kernel() {
@@ -89,8 +92,10 @@ pub extern "C" fn adatask_event_choice(
     place: u64,
     out: &mut PlainChoice,
 ) -> i32
-    ensures told { IsToldBy h.old.home (λ journal. asked.item_told journal position place events.choices_of events.plain_choice)
-        (lasts.item_told position place events.choices_of events.plain_choice) result out.old out.new }
+    ensures told { IsToldBy h.old.home
+        (λ journal. asked.item_told journal position place events.choices_of events.plain_choice)
+        (lasts.item_told position place events.choices_of events.plain_choice)
+        result out.old out.new }
     ensures same { h.new.home ≡ h.old.home }
 {
     let code = match h.kernel() {
@@ -108,8 +113,10 @@ pub extern "C" fn adatask_event_delay(
     place: u64,
     out: &mut PlainDue,
 ) -> i32
-    ensures told { IsToldBy h.old.home (λ journal. asked.item_told journal position place events.dues_of events.plain_due)
-        (lasts.item_told position place events.dues_of events.plain_due) result out.old out.new }
+    ensures told { IsToldBy h.old.home
+        (λ journal. asked.item_told journal position place events.dues_of events.plain_due)
+        (lasts.item_told position place events.dues_of events.plain_due)
+        result out.old out.new }
     ensures same { h.new.home ≡ h.old.home }
 {
     let code = match h.kernel() {

@@ -1,7 +1,7 @@
 //! What a kernel that lives on is asked, and answers, in numbers.
 
 pub mod answers;
-pub mod outcomes;
+mod outcomes;
 pub mod questions;
 pub mod requests;
 
