@@ -2,6 +2,7 @@ mod Finding
 mod Meant
 mod Noting
 mod Growing
+mod Earlier
 mod Stepping
 mod Beginning
 mod Shortened
@@ -17,6 +18,7 @@ mod Remembering
 mod GivingUp
 mod Waited
 mod Dividing
+mod Began
 mod Callers
 mod Shown
 mod waits

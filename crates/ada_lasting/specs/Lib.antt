@@ -3,6 +3,7 @@ pub mod Meaning
 pub mod Remembering
 pub mod GivingUp
 pub mod Following
+pub mod LastRequest
 pub mod Refusing
 pub mod Clock
 pub mod internal

@@ -18,6 +18,7 @@ pub mod outcomes;
 pub mod reasons;
 pub mod requests;
 pub mod rows;
+pub mod runnable;
 pub mod standstill;
 pub mod waiting;
 
