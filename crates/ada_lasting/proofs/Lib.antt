@@ -7,6 +7,7 @@ mod Stepping
 mod Beginning
 mod Shortened
 mod Answered
+mod Queued
 mod Refused
 mod Newest
 mod Asked

@@ -8,5 +8,6 @@ pub mod Refusing
 pub mod Clock
 pub mod internal
 pub mod Waiting
+pub mod Queues
 pub mod Outcomes
 pub mod Events

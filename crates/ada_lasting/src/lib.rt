@@ -15,6 +15,7 @@ pub mod masters;
 pub mod moving;
 pub mod names;
 pub mod outcomes;
+pub mod queues;
 pub mod reasons;
 pub mod requests;
 pub mod rows;
