@@ -1,5 +1,5 @@
 -- At the beginning the kernel follows the empty journal.
-use Rattle.std.proofs.Common.{◌≡◌, ℕ, zero, suc, ◌<◌, true, not, Some, [], map, refl, sym, ap, arith}
+use Rattle.std.proofs.Common.{◌≡◌, ℕ, zero, suc, ◌<◌, true, not, Some, [], map, refl, sym, ap, inl, arith}
 use Rattle.std.specs.Prelude.{◌-◌}
 use Rattle.std.proofs.lemmas.Bool.{and_parts, ltb-true, lt-ltb, lt-leb, ne_eqb}
 use Rattle.std.specs.Option.{option_and_then}
@@ -105,6 +105,7 @@ begins kernel empty first nobody nothing = record {
   settled = empty_is_settled;
   stands = rw (empty, first) stands_empty;
   shown = rw nothing refl;
+  before = inl nothing;
   length = rw first refl;
   made = rw first refl;
   masters = rw (first, nobody) no_masters;

@@ -153,7 +153,7 @@ module _ (journal : List Event) (kernel : Long) (follows : Follows journal kerne
         ]
       ]
 
-  named_back : (o n : Option ℕ) → option_map (found kernel.names.tasks) o ≡ option_map Some n → option_and_then (named_by kernel.names.tasks) n ≡ o
+  pub named_back : (o n : Option ℕ) → option_map (found kernel.names.tasks) o ≡ option_map Some n → option_and_then (named_by kernel.names.tasks) n ≡ o
   named_back None None is = refl
   named_back None (Some w) is = absurd (none-some _ is)
   named_back (Some t) None is = absurd (none-some _ (sym is))

@@ -2,10 +2,12 @@ mod Finding
 mod Meant
 mod Noting
 mod Growing
+mod Earlier
 mod Stepping
 mod Beginning
 mod Shortened
 mod Answered
+mod Queued
 mod Refused
 mod Newest
 mod Asked
@@ -17,6 +19,7 @@ mod Remembering
 mod GivingUp
 mod Waited
 mod Dividing
+mod Began
 mod Callers
 mod Shown
 mod waits

@@ -47,6 +47,7 @@ shortened journal kernel present names until group follows order stands nothing 
       settled = follows.settled;
       stands = subst (StandsIn journal present) (sym (renaming-moved kernel.names names until order.tasks order.places)) chain;
       shown = rw nothing refl;
+      before = inl nothing;
       length = omega (arith, follows.length);
       made = follows.made;
       masters = masters_named journal (moved_names kernel.names names until) kernel.masters
@@ -88,6 +89,7 @@ released journal kernel task present group follows named dead other nothing =
       stands = fewer_names_stand_in journal kernel.present (renaming_of kernel.names) (renaming_of (without_task kernel.names task)) follows.stands
           (without_task-enough journal kernel.names task (dead_too journal kernel task present follows named dead) other) follows.lawful follows.settled;
       shown = rw nothing refl;
+      before = inl nothing;
       length = follows.length;
       made = follows.made;
       masters = masters_fewer journal kernel.names (without_task kernel.names task) kernel.masters

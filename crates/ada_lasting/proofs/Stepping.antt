@@ -1,5 +1,5 @@
 -- A kernel that lives on follows a journal without an end from request to request.
-use Rattle.std.proofs.Common.{◌≡◌, ℕ, suc, ◌+◌, ◌-◌, ◌≤◌, true, Option, Some, None, List, ◌++◌, length, map, take, sym, ap, ◌∙◌, subst, if◌then◌else◌, arith}
+use Rattle.std.proofs.Common.{◌≡◌, ℕ, suc, ◌+◌, ◌-◌, ◌≤◌, true, Option, Some, None, List, ◌++◌, length, map, take, sym, ap, ◌∙◌, subst, inr, if◌then◌else◌, arith}
 use Rattle.std.specs.Option.{option_map, is_some}
 use Rattle.std.proofs.lemmas.List.{length-append, length-map}
 use Rattle.ada_events.specs.declared.event.Event.{Event}
@@ -27,6 +27,7 @@ use Rattle.ada_lasting.specs.internal.Nameable.{names_nameable}
 use Rattle.ada_lasting.specs.Following.{Long, Follows, IsStepped}
 use Rattle.ada_lasting.specs.internal.Present.{IsPresent}
 use Rattle.ada_lasting.proofs.Meant.{kept_nameable}
+use Rattle.ada_lasting.proofs.Earlier.{agreed_before}
 use Rattle.ada_lasting.proofs.Newest.{newest_appended}
 use Rattle.ada_lasting.proofs.Remembering.{masters_after}
 use Rattle.ada_lasting.proofs.Growing.{count_after, names_after, tasks_follow, positions_follow, lengths, growth_too}
@@ -88,8 +89,9 @@ module _ (journal : List Event) (kernel : Long) (follows : Follows journal kerne
         let longer = growth_too journal kernel.present kernel.names r grown present follows.made follows.length is_present.short is_present.order.grows
         is_present.order.tasks leads led in
         let group : List Event = take (length present - length kernel.present) present in
+        let copied : group ≡ led.copies = newest_of kernel.present present led.copies led.grown_too in
         let told : map Some group ≡ map (renamed_event (renaming_of after)) led.steps =
-        ap (map Some) (newest_of kernel.present present led.copies led.grown_too) ∙ (led.renamed ∙ ap (λ n. map (renamed_event n) led.steps) same) in
+        ap (map Some) copied ∙ (led.renamed ∙ ap (λ n. map (renamed_event n) led.steps) same) in
         let as_many : length led.steps ≡ length group =
         sym (length-map led.steps (renamed_event (renaming_of after))) ∙ (sym (ap length told) ∙ length-map group Some) in
         record {
@@ -102,6 +104,12 @@ module _ (journal : List Event) (kernel : Long) (follows : Follows journal kerne
             stands = subst (StandsIn grown present) same led.stands;
             shown = told
                 ∙ ap (map (renamed_event (renaming_of after))) (sym (newest_appended journal grown led.steps (length group) led.grown as_many));
+            before = inr (agreed_before journal kernel.present (renaming_of kernel.names) r (renamed_request (renaming_of kernel.names) r) grown
+                (stepped_kernel (masters_next master kernel.names.made kernel.masters)) follows.stands follows.lawful
+                (lawful_unlimited kernel.present is_present.lawful) follows.settled is_present.settled unrefused unrefused_present leads accepted.after led
+                as_many (sym (ap length copied))
+                (tasks_follow journal kernel.present kernel.names r grown present follows.made follows.length is_present.short is_present.order.grows
+                is_present.order.tasks leads led));
             length = omega (arith, grew, longer, follows.length, is_present.short, is_present.order.grows);
             made = count_after journal r grown leads ∙ ap (λ n. if creates r then suc n else n) follows.made;
             masters = masters_after journal r grown kernel.names kernel.masters master (task_count kernel.present) (length present) follows.made asks

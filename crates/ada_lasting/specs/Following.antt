@@ -1,14 +1,16 @@
 -- A kernel that lives on follows a journal without an end.
-use Rattle.std.specs.Prelude.{◌≡◌, ℕ, ◌+◌, ◌-◌, Some, None, List, ◌++◌, length, map, take}
+use Rattle.std.specs.Prelude.{◌≡◌, ◌⊎◌, ℕ, ◌+◌, ◌-◌, Some, None, List, [], ◌++◌, length, map, take, drop}
 use Rattle.ada_events.specs.declared.event.Event.{Event}
 use Rattle.ada_events.specs.declared.request.Request.{Request}
 use Rattle.ada_events.specs.Tasks.{task_count}
+use Rattle.ada_events.specs.Phases.{is_running}
 use Rattle.ada_events.specs.Lawful.{IsSettled, After}
 use Rattle.ada_laws.specs.Unlimited.{IsLawfulUnlimited, refusal_but_limits}
 use Rattle.ada_standing.specs.Renaming.{renamed_event}
 use Rattle.ada_standing.specs.StandsIn.{StandsIn}
+use Rattle.ada_waiting.specs.Runnable.{before_last}
 use Rattle.ada_lasting.specs.declared.masters.Dependent.{Dependent}
-use Rattle.ada_lasting.specs.Naming.{Naming, length_of, renaming_of}
+use Rattle.ada_lasting.specs.Naming.{Naming, found, length_of, renaming_of}
 use Rattle.ada_lasting.specs.Remembering.{KnowsMasters}
 
 -- what a contract sees of a kernel that lives on: its present journal, what has lasting names in it, the events that the
@@ -28,14 +30,27 @@ seen present names before masters = record {
   masters = masters;
 }
 
+-- what a journal was before the events that are shown
+abbrev pub before_shown : List Event → Long → List Event
+before_shown journal kernel = drop (length kernel.group) journal
+
+-- the events that are shown are those of the present journal's last request, and a task that has a name ran before them
+-- exactly if what has its name in the present journal did
+pub record AgreedBefore (journal : List Event) (kernel : Long) : Type 0 where
+  pub last : before_last kernel.present ≡ before_shown kernel.present kernel
+  pub running : (u v : ℕ) → found kernel.names.tasks u ≡ Some v
+      → is_running (before_shown kernel.present kernel) v ≡ is_running (before_shown journal kernel) u
+
 -- the kernel follows a journal without an end: this is lawful, where tasks, slots and events have no limit, and settled,
--- the present journal stands in for it, the events that are shown stand for its newest, in their order, the next event
--- and the next task will have their places in it as names, and the masters of tasks are remembered
+-- the present journal stands in for it, the events that are shown stand for its newest, in their order, and if there are
+-- any, both journals agreed before them, the next event and the next task will have their places in it as names, and the
+-- masters of tasks are remembered
 pub record Follows (journal : List Event) (kernel : Long) : Type 0 where
   pub lawful : IsLawfulUnlimited journal
   pub settled : IsSettled journal
   pub stands : StandsIn journal kernel.present (renaming_of kernel.names)
   pub shown : map Some kernel.group ≡ map (renamed_event (renaming_of kernel.names)) (take (length kernel.group) journal)
+  pub before : (kernel.group ≡ []) ⊎ AgreedBefore journal kernel
   pub length : length journal ≡ length_of kernel.names
   pub made : task_count journal ≡ kernel.names.made
   pub masters : KnowsMasters journal kernel.names kernel.masters

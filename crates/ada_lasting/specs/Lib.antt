@@ -3,9 +3,11 @@ pub mod Meaning
 pub mod Remembering
 pub mod GivingUp
 pub mod Following
+pub mod LastRequest
 pub mod Refusing
 pub mod Clock
 pub mod internal
 pub mod Waiting
+pub mod Queues
 pub mod Outcomes
 pub mod Events

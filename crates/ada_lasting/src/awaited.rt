@@ -14,7 +14,7 @@ use ada_events::TaskNo;
 
 impl Names {
     // The task of the present journal from whose number on tasks stand for those from a lasting number on.
-    fn first_there(&self, from: u64, tasks: u16) -> TaskNo
+    pub(crate) fn first_there(&self, from: u64, tasks: u16) -> TaskNo
         ensures { result.0 ≡ first_there self.now.tasks from tasks }
     {
         let first = match first_name(&self.tasks, from) {

@@ -337,7 +337,7 @@ impl LongKernel {
 
     /// The kernel with the present journal. There is a journal without an end that this kernel follows: each clause
     /// that begins with one tells of it. How many tasks and slots there are, and who began to run last, is answered of
-    /// the present journal alone.
+    /// the present journal alone; [`LongKernel::first_runnable`] tells who began to run by the last request.
     pub fn present(&self) -> &Kernel
         ensures present { result.now ≡ self.now.present }
         ensures follows { LivesOn self.now }

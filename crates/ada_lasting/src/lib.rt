@@ -15,9 +15,11 @@ pub mod masters;
 pub mod moving;
 pub mod names;
 pub mod outcomes;
+pub mod queues;
 pub mod reasons;
 pub mod requests;
 pub mod rows;
+pub mod runnable;
 pub mod standstill;
 pub mod waiting;
 

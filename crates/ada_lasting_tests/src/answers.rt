@@ -191,3 +191,36 @@ fn it_has_finished_once_the_main_program_is_terminated(rt: HostRuntime) -> Resul
     assert!(&rt; kernel.finished());
     Ok(())
 }
+
+fn assert_queued<R: Abort>(
+    rt: &R,
+    kernel: &LongKernel,
+    task: u64,
+    entry: Entry,
+    wanted: Option<u16>,
+) {
+    assert_eq!(rt; kernel.queued(task, entry), wanted, "{task}");
+}
+
+// Task 3 has called task 2, and the main program calls it too. The main program has no entries.
+#[test]
+fn anybody_may_ask_how_many_calls_are_queued(rt: HostRuntime) -> Result<(), Fail> {
+    let mut kernel = LongKernel::new(rt.alloc(), LATE)?;
+    start_to_call(&rt, &mut kernel);
+    assert_queued(&rt, &kernel, 2, ENTRY, Some(1));
+    assert_queued(&rt, &kernel, 3, ENTRY, Some(0));
+    assert_accepted(&rt, &mut kernel, call(MAIN, 2), 19);
+    assert_compacts(&rt, &mut kernel);
+    assert_queued(&rt, &kernel, 2, ENTRY, Some(2));
+    assert_accepted(&rt, &mut kernel, accept(2), 20);
+    assert_queued(&rt, &kernel, 2, ENTRY, Some(1));
+    assert_queued(&rt, &kernel, MAIN, ENTRY, None);
+    for task in UNNAMED {
+        assert_queued(&rt, &kernel, task, ENTRY, None);
+    }
+    let outside = Entry { index: 1, ..ENTRY };
+    assert_queued(&rt, &kernel, 2, outside, None);
+    let undeclared = Entry { family: 1, ..ENTRY };
+    assert_queued(&rt, &kernel, 2, undeclared, None);
+    Ok(())
+}

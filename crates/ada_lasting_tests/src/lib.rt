@@ -18,6 +18,8 @@ mod events;
 #[cfg(test)]
 mod given_up;
 #[cfg(test)]
+mod last_request;
+#[cfg(test)]
 mod lengths;
 #[cfg(test)]
 mod limits;
