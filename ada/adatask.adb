@@ -85,6 +85,10 @@ package body Adatask is
      (K : in out Handle; By : Task_Number; Family : Family_Number; Index : Entry_Index;
       Number : in out Unsigned_32) return Answer
      with Import, Convention => C, External_Name => "adatask_count";
+   function C_Queued
+     (K : in out Handle; T : Task_Number; Family : Family_Number; Index : Entry_Index;
+      Number : in out Unsigned_32) return Answer
+     with Import, Convention => C, External_Name => "adatask_queued";
    function C_Slot
      (K : in out Handle; T : Task_Number; Family : Family_Number; Index : Entry_Index;
       Number : in out Unsigned_32) return Answer
@@ -370,6 +374,15 @@ package body Adatask is
       Settle ((if Is_There (K) then C_Count (K.Held, By, Item.Family, Item.Index, Number) else No_Kernel), Said);
       return Natural (Number);
    end Count_Of;
+
+   function Queue_Length
+     (K : in out Kernel; T : Task_Number; Item : Entry_Name; Said : access Answer := null) return Natural
+   is
+      Number : Unsigned_32 := 0;
+   begin
+      Settle ((if Is_There (K) then C_Queued (K.Held, T, Item.Family, Item.Index, Number) else No_Kernel), Said);
+      return Natural (Number);
+   end Queue_Length;
 
    function Slot
      (K : in out Kernel; T : Task_Number; Item : Entry_Name; Said : access Answer := null) return Natural

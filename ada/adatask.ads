@@ -413,9 +413,11 @@ package Adatask is
    procedure Renew_Lasting (K : in out Kernel; Threshold : Event_Count := 4_096; Said : access Answer := null);
 
    --  The moment of the host's clock for each request from now on, or No_Clock. At a moment a request's durations count
-   --  from it; and if a task waits for that moment or for an earlier one, or a duration of the request is over at once,
-   --  a tick to it comes first, and stays if the request is refused. A moment before the kernel's is answered
-   --  Moment_Back. Only a kernel that lives on has a clock: the other answers each request Keeps_All then.
+   --  from it, and there is no tick. But if a task waits for that moment or for an earlier one, or a duration of the
+   --  request is over at once, a tick to it comes first, and stays if the request is refused. That tick isn't shown as
+   --  part of the request: who wakes tasks asks for it, once Next_Due is at or before the moment. A moment before the
+   --  kernel's is answered Moment_Back. Only a kernel that lives on has a clock: the other answers each request
+   --  Keeps_All then.
    No_Clock : constant Milliseconds := -1;
    procedure Set_Clock (K : in out Kernel; Now : Milliseconds);
 
@@ -506,6 +508,10 @@ package Adatask is
    --  COUNT of an entry of the asking task's own (9.9). It is refused like a request.
    function Count_Of
      (K : in out Kernel; By : Task_Number; Item : Entry_Name; Said : access Answer := null) return Natural;
+
+   --  How many calls are queued at an entry of a task (9.5): its COUNT, which anybody may ask here.
+   function Queue_Length
+     (K : in out Kernel; T : Task_Number; Item : Entry_Name; Said : access Answer := null) return Natural;
 
    --  The slot of an entry, below 1,024, of a kernel that keeps everything: all entries are numbered in order of task,
    --  family and index.

@@ -455,6 +455,7 @@ int32_t adatask_board(ada_handle *h, ada_board *out);
 int32_t adatask_slot(ada_handle *h, uint64_t task, uint32_t family, int32_t index, uint32_t *out);
 int32_t adatask_event(ada_handle *h, uint64_t position, ada_event *out);
 int32_t adatask_count(ada_handle *h, uint64_t by, uint32_t family, int32_t index, uint32_t *out);
+int32_t adatask_queued(ada_handle *h, uint64_t task, uint32_t family, int32_t index, uint32_t *out);
 int32_t adatask_lengths(ada_handle *h, uint64_t position, ada_lengths *out);
 int32_t adatask_event_task(ada_handle *h, uint64_t position, uint64_t place, uint64_t *out);
 int32_t adatask_event_family(ada_handle *h, uint64_t position, uint64_t place, ada_family *out);
@@ -529,10 +530,11 @@ static inline void ada_kernel_drop(ada_kernel *k) {
 
 /*
  * The moment of the host's clock, in milliseconds from the beginning, for each request from now on, or ADA_NO_CLOCK. At
- * a moment a request's durations count from it. If a task waits for that moment or for an earlier one, or a duration of
- * the request is over at once, a tick to it comes first, and stays if the request is refused. Else there is no tick: a
- * clock costs no event if nothing is due. A moment before the kernel's is answered ADA_MOMENT_BACK. Only a kernel that
- * lives on has a clock: the other answers each request ADA_KEEPS_ALL then.
+ * a moment a request's durations count from it, and there is no tick: a clock costs no event. But if a task waits for
+ * that moment or for an earlier one, or a duration of the request is over at once, a tick to it comes first, and stays
+ * if the request is refused. That tick isn't shown as part of the request: a host that wakes tasks asks for it itself,
+ * once ada_next_due is at or before its moment. A moment before the kernel's is answered ADA_MOMENT_BACK. Only a kernel
+ * that lives on has a clock: the other answers each request ADA_KEEPS_ALL then.
  */
 static inline void ada_set_clock(ada_kernel *k, int64_t now) {
   if (k) k->now = now;
@@ -732,6 +734,11 @@ static inline int32_t ada_event_at(ada_kernel *k, uint64_t position, ada_event *
 /* COUNT of an entry of the asking task's own (9.9). A refusal has the code of its cause. */
 static inline int32_t ada_count(ada_kernel *k, uint64_t by, uint32_t family, int32_t index, uint32_t *out) {
   return ada_has(k, out) ? adatask_count(&k->handle, by, family, index, out) : ADA_NULL;
+}
+
+/* How many calls are queued at an entry of a task (9.5): its COUNT, which anybody may ask here. */
+static inline int32_t ada_queued(ada_kernel *k, uint64_t task, uint32_t family, int32_t index, uint32_t *out) {
+  return ada_has(k, out) ? adatask_queued(&k->handle, task, family, index, out) : ADA_NULL;
 }
 
 /* How many items the lists of the event at a position have. */

@@ -1,6 +1,7 @@
 --  SPDX-License-Identifier: MIT
 --  Plays one journal by the Ada package, and asks after each request for what the rules give then (docs/RULES.md). Each
---  kind of request and each question is among them. Prints what fails; the last line is 'N passed, M failed'.
+--  kind of request and each question is among them. Then the same with a kernel that lives on, and what only that does.
+--  Prints what fails; the last line is 'N passed, M failed'.
 
 with Ada.Command_Line;
 with Ada.Text_IO; use Ada.Text_IO;
@@ -10,6 +11,9 @@ with Interfaces;  use Interfaces;
 procedure Ada_Answers is
 
    K : Kernel;
+
+   --  Whether the kernel lives on.
+   Is_Lasting : Boolean := False;
 
    Passed, Failed : Natural := 0;
 
@@ -69,7 +73,8 @@ procedure Ada_Answers is
             and then Call_Kind_Of (Now) = Timed and then Boolean (Now.Is_Timed) and then Now.Moment = 30
             and then Now.Length = 30, "what event 8 says");
       Note (Reason_Of (K, Client) = (Queued, 8) and then Awaited (K, Client) = Server, "why the client waits");
-      Note (Count_Of (K, Server, Second) = 1 and then Slot (K, Server, Second) = 2, "the queue and its slot");
+      Note (Count_Of (K, Server, Second) = 1 and then Queue_Length (K, Server, Second) = 1, "the queue");
+      Note (Is_Lasting or else Slot (K, Server, Second) = 2, "its slot");
       Note (Next_Due (K) = 30, "what is due after event 8");
    end Call;
 
@@ -88,14 +93,15 @@ procedure Ada_Answers is
       Note (Tick (K, 20) = 10 and then Event_At (K, 10).Moment = 20, "event 10");
       Now := Event_At (K, 11);
       Note (Now.Kind = Adatask.Passed and then Now.At_Position = 9 and then Way_Of (Now) = By_Delay, "event 11");
-      Note (Outcome_Of (K, Server) = (Took_Delay, 0, 0) and then Runnable (K) = Server, "the server after event 11");
+      Note (Outcome_Of (K, Server) = (Took_Delay, 0, 0, Nobody) and then Runnable (K) = Server,
+            "the server after event 11");
    end Wait;
 
    procedure Meet is
    begin
       Note (Accept_Call (K, Server, Second) = 12 and then Event_At (K, 13).Kind = Met, "event 12");
       Note (Event_At (K, 13).Call = 8 and then Event_At (K, 13).At_Position = 12, "event 13");
-      Note (Outcome_Of (K, Server) = (Has_Accepted, 0, 8), "the server after event 13");
+      Note (Outcome_Of (K, Server) = (Has_Accepted, 0, 8, Client), "the server after event 13");
       Note (Reason_Of (K, Client) = (In_Rendezvous, 8), "why the client waits in its rendezvous");
       Note_None (Runnable (K, Said => Said'Access) = 0, "who runs after event 13 and didn't before");
       Note_None (Next_Due (K, Said'Access) = 0, "what is due after event 13");
@@ -143,16 +149,65 @@ procedure Ada_Answers is
       Note (Event_At (K, 31).Kind = Gone and then Finished (K) and then Events (K) = 31, "event 31");
    end Finish;
 
+   procedure Play is
+   begin
+      Make;
+      Activate;
+      Call;
+      Wait;
+      Meet;
+      Leave;
+      Try;
+      if not Is_Lasting then
+         Show;
+      end if;
+      Finish;
+   end Play;
+
+   --  The question that was asked with Said was answered so.
+   procedure Note_Answer (Wanted : Answer; What : String) is
+   begin
+      Note (Said = Wanted, What & ": " & Said'Image);
+   end Note_Answer;
+
+   --  The client is terminated, and given up. The main program is delayed at moment 100 of the clock until 105.
+   procedure Live_On is
+   begin
+      Release (K, Client);
+      Note (not Running (K, Client, Said'Access), "a task that was given up");
+      Note_Answer (Given_Up, "a question about it");
+      Note (Event_At (K, 31, Said'Access).Kind = No_Event, "an event after a release");
+      Note_Answer (Given_Up, "a question about that");
+      Release (K, Main_Program, Said'Access);
+      Note_Answer (Main_Task, "a release of the main program");
+      Note (Board_Of (K, Said'Access).Tasks = 0, "a board of a kernel that lives on");
+      Note_Answer (Lives_On, "a question for a board");
+      Compact (K);
+      Note (Tasks (K) = 3 and then Events (K) = 31, "the numbers after a compaction");
+      Renew_Lasting (K, Threshold => 100);
+      Set_Clock (K, 100);
+      Note (Delay_For (K, Main_Program, 5) = 1 and then Next_Due (K) = 105, "a delay at a moment of the clock");
+   end Live_On;
+
+   --  What only a kernel that lives on does.
+   procedure Keep_All is
+   begin
+      Release (K, Client, Said'Access);
+      Note_Answer (Keeps_All, "a release where all is kept");
+      Compact (K, Said'Access);
+      Note_Answer (Keeps_All, "a compaction where all is kept");
+      Set_Clock (K, 100);
+      Note (Tick (K, 100, Said'Access) = 32 and then Open_Block (K, Main_Program, Said'Access) = 0, "a clock");
+      Note_Answer (Keeps_All, "a request with a clock where all is kept");
+   end Keep_All;
+
 begin
-   Make;
-   Activate;
-   Call;
-   Wait;
-   Meet;
-   Leave;
-   Try;
-   Show;
-   Finish;
+   Play;
+   Keep_All;
+   Renew_Lasting (K);
+   Is_Lasting := True;
+   Play;
+   Live_On;
    Put_Line (Passed'Image (2 .. Passed'Image'Last) & " passed," & Failed'Image & " failed");
    Ada.Command_Line.Set_Exit_Status (if Failed = 0 then 0 else 1);
 end Ada_Answers;

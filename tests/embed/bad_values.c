@@ -26,6 +26,9 @@
      runnable                                         from               item          kernel, out
      next_due                                                            item          kernel, out
      board_of                                                                          kernel, out
+     queued                                           task, family       task, entry   kernel, out
+
+   What only a kernel that lives on does is answered so. lasting_values.c has the same of such a kernel.
 
    A number that is in range and names no task, family, index or block of a request is a refusal of the rules. */
 
@@ -135,6 +138,9 @@ static void try_no_kernel(void) {
   WITHOUT(ada_runnable(it, 0, &at));
   WITHOUT(ada_next_due(it, &moment));
   WITHOUT(ada_board_of(it, &told.board));
+  WITHOUT(ada_queued(it, 1, 0, 0, &out));
+  WITHOUT(ada_release(it, 1));
+  WITHOUT(ada_compact(it));
   note(ada_tasks(&none) == 0 && ada_tasks(NULL) == 0, "ada_tasks without a kernel", -1);
   note(ada_events(&none) == 0 && ada_events(NULL) == 0, "ada_events without a kernel", -1);
   note(ada_finished(&none) == 0 && ada_finished(NULL) == 0, "ada_finished without a kernel", -1);
@@ -180,6 +186,7 @@ static void try_null(void) {
   BAD(ADA_NULL, ada_runnable(&k, 0, NULL));
   BAD(ADA_NULL, ada_next_due(&k, NULL));
   BAD(ADA_NULL, ada_board_of(&k, NULL));
+  BAD(ADA_NULL, ada_queued(&k, 1, 0, 0, NULL));
 }
 
 /* Numbers that are too large for what they stand for, kinds that are none, and lists that are too long. */
@@ -262,6 +269,11 @@ static void try_questions(void) {
   BAD(ADA_NO_SUCH_ENTRY, ada_slot(&k, 2, 0, 0, &out));
   LARGE(MANY, ada_slot(&k, n, 0, 0, &out));
   BAD(ADA_OUT_OF_RANGE, ada_slot(&k, 1, 256, 0, &out));
+  BAD(ADA_NO_SUCH_ENTRY, ada_queued(&k, 1, 1, 0, &out));
+  BAD(ADA_NO_SUCH_ENTRY, ada_queued(&k, 1, 0, 1, &out));
+  BAD(ADA_NO_SUCH_TASK, ada_queued(&k, 2, 256, 0, &out));
+  LARGE(MANY, ada_queued(&k, n, 0, 0, &out));
+  BAD(ADA_OUT_OF_RANGE, ada_queued(&k, 1, 256, 0, &out));
   BAD(ADA_UNKNOWN_TASK, ada_count(&k, 2, 0, 0, &out));
   BAD(ADA_NO_SUCH_FAMILY, ada_count(&k, 1, 1, 0, &out));
   BAD(ADA_CONSTRAINT_ERROR, ada_count(&k, 1, 0, 1, &out));
@@ -284,6 +296,16 @@ static void try_none(void) {
   BAD(ADA_NO_SUCH_ITEM, ada_runnable(&k, MANY - 1, &at));
   LARGE(MANY, ada_runnable(&k, n, &at));
   BAD(ADA_NO_SUCH_ITEM, ada_next_due(&k, &moment));
+}
+
+/* A kernel that keeps everything has no clock, and gives nothing up. */
+static void try_lasting(void) {
+  BAD(ADA_KEEPS_ALL, ada_release(&k, 1));
+  BAD(ADA_KEEPS_ALL, ada_compact(&k));
+  ada_set_clock(&k, 0);
+  BAD(ADA_KEEPS_ALL, ada_delay(&k, 0, 5, &at));
+  BAD(ADA_KEEPS_ALL, ada_open(&k, MANY, &at));
+  ada_set_clock(&k, ADA_NO_CLOCK);
 }
 
 static void try_events(void) {
@@ -382,6 +404,7 @@ int main(void) {
   try_requests();
   try_questions();
   try_none();
+  try_lasting();
   try_events();
   try_answers();
   try_items();

@@ -76,14 +76,19 @@ static int32_t ask(ada_kernel *k, int i, uint64_t *at) {
   }
 }
 
+/* Makes a kernel that keeps everything, or one that lives on and makes its journal shorter again and again. */
+static int32_t make_kernel(ada_kernel *k, int lasting) {
+  return lasting ? ada_kernel_new_lasting(k, 8) : ada_kernel_new(k);
+}
+
 /* Plays until a request isn't accepted, with one growth refused; whether one was. */
-static int play(long growth) {
+static int play(long growth, int lasting) {
   ada_kernel k = ADA_NO_KERNEL;
   uint64_t at = 0;
   int32_t code;
   int i;
   left = growth;
-  code = ada_kernel_new(&k);
+  code = make_kernel(&k, lasting);
   if (code != ADA_ACCEPTED) {
     note(code == ADA_OUT_OF_MEMORY && k.handle.kernel == NULL, "a kernel", growth);
     return 1;
@@ -101,6 +106,26 @@ static int play(long growth) {
   }
   ada_kernel_drop(&k);
   return 0;
+}
+
+/* Makes a journal of 60 requests shorter with one growth refused; whether one was. Afterwards it can be made shorter. */
+static int compact(long growth) {
+  ada_kernel k = ADA_NO_KERNEL;
+  uint64_t at = 0;
+  int32_t code;
+  int i;
+  left = -1;
+  note(ada_kernel_new_lasting(&k, 60000) == ADA_ACCEPTED, "a kernel that lives on", growth);
+  for (i = 0; i < 60; i++) note(ask(&k, i, &at) == ADA_ACCEPTED, "a request", growth);
+  left = growth;
+  code = ada_compact(&k);
+  left = -1;
+  if (code != ADA_ACCEPTED) {
+    note(code == ADA_NOT_COMPACTED && ada_events(&k) > 60, "a compaction without memory", growth);
+    note(ada_compact(&k) == ADA_ACCEPTED, "a compaction afterwards", growth);
+  }
+  ada_kernel_drop(&k);
+  return code != ADA_ACCEPTED;
 }
 
 /* An answer that took no memory. */
@@ -168,8 +193,11 @@ static void try_questions(void) {
 
 int main(void) {
   long growth = 0;
-  while (play(growth)) growth++;
+  while (play(growth, 0)) growth++;
   note(growth > 10, "growths are met", growth);
+  for (growth = 0; growth < 400; growth++) play(growth, 1);
+  for (growth = 0; compact(growth); growth++) continue;
+  note(growth > 10, "growths of a compaction are met", growth);
   try_questions();
   printf("%d passed, %d failed\n", passed, failed);
   return failed != 0;

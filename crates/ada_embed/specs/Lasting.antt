@@ -12,15 +12,18 @@ use Rattle.ada_waiting.specs.Reasons.{reason_of}
 use Rattle.ada_waiting.specs.Standstill.{first_due}
 use Rattle.ada_border.specs.Codes.{bad_code}
 use Rattle.ada_border.specs.Events.{flag, plain_of, lengths_of}
+use Rattle.ada_border.specs.Requests.{entry_in}
 use Rattle.ada_border.specs.declared.bad.Bad.{Bad}
-use Rattle.ada_border.specs.declared.bad.Bad.TheVariants.{NoSuchEvent, NoSuchItem, NoSuchTask}
+use Rattle.ada_border.specs.declared.bad.Bad.TheVariants.{NoSuchEntry, NoSuchEvent, NoSuchItem, NoSuchTask}
 use Rattle.ada_border.specs.declared.events.PlainEvent.{PlainEvent}
 use Rattle.ada_border.specs.declared.lists.PlainLengths.{PlainLengths}
 use Rattle.ada_border.specs.declared.outcomes.PlainOutcome.{PlainOutcome}
 use Rattle.ada_lasting.specs.Events.{shown, shown_at, listed, list_of}
 use Rattle.ada_lasting.specs.Following.{Long, Follows}
 use Rattle.ada_lasting.specs.GivingUp.{GivesUpOnly}
+use Rattle.ada_lasting.specs.LastRequest.{first_began}
 use Rattle.ada_lasting.specs.Naming.{found}
+use Rattle.ada_lasting.specs.Queues.{queued}
 use Rattle.ada_lasting.specs.Refusing.{IsUncounted, IsUncompacted, IsUnreleased, IsMadeShorter}
 use Rattle.ada_lasting.specs.declared.failure.NotDone.{NotDone}
 use Rattle.ada_embed.specs.declared.reasons.PlainReason.{PlainReason}
@@ -40,6 +43,11 @@ or_code None why = Err why
 abbrev pub with_told : {A B : Type 0} → Result A ℤ → (A → Result B ℤ) → Result B ℤ
 with_told (Ok told) next = next told
 with_told (Err why) next = Err why
+
+-- what was read, or the code of what is wrong with it
+abbrev pub as_told : {A : Type 0} → Result A Bad → Result A ℤ
+as_told (Ok read) = Ok read
+as_told (Err bad) = Err (bad_code bad)
 
 -- ---- of a task
 
@@ -72,6 +80,10 @@ awaited_told task from journal kernel = with_told (of_named journal kernel task 
     or_code first (bad_code NoSuchItem))
 
 -- ---- of all tasks
+
+-- the first task, of a number or more, that runs and didn't before the last request
+abbrev pub runnable_told : ℕ → List Event → Long → Result ℕ ℤ
+runnable_told from journal kernel = or_code (first_began journal kernel from) (bad_code NoSuchItem)
 
 -- the first moment for which any task waits
 abbrev pub due_told : List Event → Long → Result ℤ ℤ
@@ -107,6 +119,11 @@ item_told position item list plain journal kernel = with_told (place_of position
     or_code (option_map plain (slice_get (list_of list (shown_at journal kernel place)) item)) (bad_code NoSuchItem))
 
 -- ---- of a queue
+
+-- how many calls are queued at an entry of a task, whoever asks
+abbrev pub queued_told : ℕ → ℕ → ℤ → List Event → Long → Result ℕ ℤ
+queued_told task family index journal kernel = with_told (of_named journal kernel task task) (λ named.
+    with_told (as_told (entry_in family index)) (λ entry. or_code (queued journal named entry) (bad_code NoSuchEntry)))
 
 -- how many calls there are is written; or it wasn't told
 abbrev pub IsCountTold : Result ℕ NotDone → ℤ → ℕ → ℕ → Type 0

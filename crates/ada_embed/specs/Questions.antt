@@ -22,6 +22,7 @@ use Rattle.ada_border.specs.declared.bad.Bad.TheVariants.{NoSuchEvent, NoSuchIte
 use Rattle.ada_border.specs.declared.events.PlainEvent.{PlainEvent}
 use Rattle.ada_border.specs.declared.lists.PlainLengths.{PlainLengths}
 use Rattle.ada_border.specs.declared.outcomes.PlainOutcome.{PlainOutcome}
+use Rattle.ada_lasting.specs.Queues.{queued}
 use Rattle.ada_embed.specs.declared.reasons.PlainReason.{PlainReason}
 use Rattle.ada_embed.specs.Outcomes.{outcome_told}
 use Rattle.ada_embed.specs.Reasons.{plain_reason}
@@ -89,6 +90,11 @@ item_told journal number place list plain = with_read (of_event journal number l
     or_bad (option_map plain (slice_get items place)) NoSuchItem)
 
 -- ---- of a queue
+
+-- how many calls are queued at an entry of a task, whoever asks
+abbrev pub queued_told : List Event → ℕ → ℕ → ℤ → Result ℕ Bad
+queued_told journal number family index = with_read (known journal number) (λ task. with_read (entry_in family index) (λ entry.
+    or_bad (queued journal task.0 entry) NoSuchEntry))
 
 -- COUNT of an entry of the asking task's own
 abbrev pub count_told : List Event → ℕ → ℕ → ℤ → Result (Result ℕ Refusal) Bad

@@ -163,13 +163,13 @@ pub extern "C" fn adatask_next_due(h: &mut Handle, out: &mut i64) -> i32
 /// The first task, of a number or more, that runs and didn't before the last request.
 #[unsafe(no_mangle)]
 pub extern "C" fn adatask_runnable(h: &mut Handle, from: u64, out: &mut u64) -> i32
-    ensures told { IsToldByWhole h.old.home (λ journal. asked.runnable_told journal from)
-        result out.old out.new }
+    ensures told { IsToldBy h.old.home (λ journal. asked.runnable_told journal from)
+        (lasts.runnable_told from) result out.old out.new }
     ensures same { h.new.home ≡ h.old.home }
 {
     let code = match h.kernel() {
         HostKernel::Whole(kernel) => tell(whole::runnable(kernel, from), out),
-        HostKernel::Lasting(_) => LIVES_ON,
+        HostKernel::Lasting(kernel) => tell_or(lasting::runnable(kernel, from), out),
     };
     code
 }
@@ -225,6 +225,27 @@ pub extern "C" fn adatask_count(
     let code = match h.kernel() {
         HostKernel::Whole(kernel) => tell_count(whole::count(kernel, by, family, index), out),
         HostKernel::Lasting(kernel) => lasting::count(kernel, by, family, index, out),
+    };
+    code
+}
+
+/// How many calls are queued at an entry of a task (9.5): its COUNT, which anybody may ask here.
+#[unsafe(no_mangle)]
+pub extern "C" fn adatask_queued(
+    h: &mut Handle,
+    task: u64,
+    family: u32,
+    index: i32,
+    out: &mut u32,
+) -> i32
+    ensures told { IsToldBy h.old.home
+        (λ journal. asked.queued_told journal task family index)
+        (lasts.queued_told task family index) result out.old out.new }
+    ensures same { h.new.home ≡ h.old.home }
+{
+    let code = match h.kernel() {
+        HostKernel::Whole(kernel) => tell(whole::queued(kernel, task, family, index), out),
+        HostKernel::Lasting(kernel) => tell_or(lasting::queued(kernel, task, family, index), out),
     };
     code
 }

@@ -29,8 +29,8 @@ fn is_within(family: Family, entry: Entry) -> bool
     family.contains(entry.index)
 }
 
-// How many calls are queued at an entry of a task that is there; none if the task doesn't have the entry.
-fn queued_in(view: &View<'_>, task: TaskNo, entry: Entry) -> Option<u16>
+/// How many calls are queued at an entry of a task that is there (9.5); none if the task doesn't have the entry.
+pub fn queued_in(view: &View<'_>, task: TaskNo, entry: Entry) -> Option<u16>
     requires { task.0 < task_count view.now }
     ensures { result ≡ queued view.now task.0 entry }
 {

@@ -15,6 +15,7 @@ use ada_border::events::{PlainEvent, flag};
 use ada_border::lists::{PlainDue, PlainLengths, plain_choice, plain_due, plain_family};
 use ada_border::outcomes::PlainOutcome;
 use ada_border::parts::{PlainChoice, PlainFamily, entry_in};
+use ada_events::Entry;
 use ada_lasting::{LongKernel, NotDone};
 
 // What was found, or why nothing was.
@@ -108,6 +109,14 @@ pub fn awaited(kernel: &LongKernel, task: u64, from: u64) -> Result<u64, i32>
     }
 }
 
+/// The first task, of a number or more, that runs and didn't before the last request.
+pub fn runnable(kernel: &LongKernel, from: u64) -> Result<u64, i32>
+    ensures { (journal : List Happening) → Follows journal kernel.now
+        → result ≡ spec.runnable_told from journal kernel.now }
+{
+    or_code(kernel.first_runnable(from), bad_code(Bad::NoSuchItem))
+}
+
 /// The first moment for which any task waits.
 pub fn due(kernel: &LongKernel) -> Result<i64, i32>
     ensures { (journal : List Happening) → Follows journal kernel.now
@@ -198,6 +207,31 @@ pub fn due_item(kernel: &LongKernel, position: u64, item: u64) -> Result<PlainDu
     match kernel.event_delays(place).get(item as usize) {
         Some(item) => Ok(plain_due(*item)),
         None => Err(bad_code(Bad::NoSuchItem)),
+    }
+}
+
+// The entry of a family by its place and an index.
+fn entry(family: u32, index: i32) -> Result<Entry, i32>
+    ensures { result ≡ spec.as_told (requests.entry_in family index) }
+{
+    match entry_in(family, index) {
+        Ok(entry) => Ok(entry),
+        Err(bad) => Err(bad_code(bad)),
+    }
+}
+
+/// How many calls are queued at an entry of a task.
+pub fn queued(kernel: &LongKernel, task: u64, family: u32, index: i32) -> Result<u32, i32>
+    ensures { (journal : List Happening) → Follows journal kernel.now
+        → result ≡ spec.queued_told task family index journal kernel.now }
+{
+    if kernel.running(task).is_none() {
+        return Err(nameless(kernel, task));
+    }
+    let entry = entry(family, index)?;
+    match kernel.queued(task, entry) {
+        Some(count) => Ok(u32::from(count)),
+        None => Err(bad_code(Bad::NoSuchEntry)),
     }
 }
 

@@ -21,6 +21,7 @@ use ada_border::parts::{PlainChoice, PlainFamily, entry_in, position_in, task_in
 use ada_events::{Outcome, Refusal, TaskNo};
 use ada_kernel::Kernel;
 use ada_lasting::outcomes::caller_in;
+use ada_lasting::queues::queued_in;
 use ada_waiting::{first_awaited, first_runnable, next_due, reason_in};
 
 fn flag_or_none(holds: Option<bool>) -> Option<u32>
@@ -139,6 +140,18 @@ pub fn slot(kernel: &Kernel, task: u64, family: u32, index: i32) -> Result<u32, 
     let entry = entry_in(family, index)?;
     match kernel.slot(task, entry) {
         Some(slot) => Ok(u32::from(slot)),
+        None => Err(Bad::NoSuchEntry),
+    }
+}
+
+/// How many calls are queued at an entry of a task.
+pub fn queued(kernel: &Kernel, task: u64, family: u32, index: i32) -> Result<u32, Bad>
+    ensures { result ≡ spec.queued_told kernel.now task family index }
+{
+    let task = known(kernel, task)?;
+    let entry = entry_in(family, index)?;
+    match queued_in(&kernel.view(), task, entry) {
+        Some(count) => Ok(u32::from(count)),
         None => Err(Bad::NoSuchEntry),
     }
 }
