@@ -5,7 +5,7 @@
 --
 --  An operation that may be refused takes Said last. If it is left out, a refusal raises Refused, with the name of the
 --  answer as its message. If it is given, the answer is put there and nothing is raised; the result of a refused one is
---  0 or False, in each component of a record. A refused request changes nothing.
+--  0 or False, in each component of a record, or Nobody for a caller. A refused request changes nothing.
 --
 --  A kernel is used by one task at a time: make it a component of a protected object. It is `in out` in each operation,
 --  in questions too, so the compiler refuses a protected function that asks one, since several tasks may be in such a

@@ -277,7 +277,7 @@ procedure Ada_Values is
 
    procedure Ask_Outcome (Said : access Answer) is
    begin
-      Take (Outcome_Of (K, 2, Said) = (Did_Nothing, 0, 0));
+      Take (Outcome_Of (K, 2, Said) = (Did_Nothing, 0, 0, Nobody));
    end Ask_Outcome;
 
    procedure Ask_Reason (Said : access Answer) is

@@ -12,7 +12,7 @@ use Rattle.ada_lasting.specs.GivingUp.{GivesUpOnly}
 use Rattle.ada_lasting.specs.Refusing.{IsRefused}
 use Rattle.ada_embed.specs.declared.host_kernel.HostKernel.{HostKernel}
 use Rattle.ada_embed.specs.declared.host_kernel.HostKernel.TheVariants.{Lasting}
-use Rattle.ada_embed.specs.Answers.{has_clock, IsSteppedNow, IsRefusedNow, IsAnsweredLasting, IsAnsweredBy}
+use Rattle.ada_embed.specs.Answers.{has_clock, IsSteppedNow, IsRefusedNow, IsAnsweredLasting, IsAnsweredBy, IsChangedBy}
 use Rattle.ada_embed.specs.Codes.{lasting_code}
 use Rattle.ada_embed.specs.Requests.{Asked, wait_in}
 
@@ -95,6 +95,17 @@ answered_by home old new asked read passed now code said was at kind is same als
       new,
       refl,
       answered_alike old new read asked.lasting passed now code said was at is same also answered,
+    )
+
+-- what a kernel that lives on changed is what is changed for a host
+pub changed_by : (home : HostKernel) (old new : Long) (changes : List Event → ℤ → Long → Long → Type 0) (code said : ℤ)
+    → home ≡ Lasting old → code ≡ said → ((journal : List Event) → Follows journal old → changes journal code old new)
+    → IsChangedBy home changes said (Lasting new)
+changed_by home old new changes code said kind also changed =
+    subst (λ h. IsChangedBy h changes said (Lasting new)) (sym kind) (
+      new,
+      refl,
+      λ journal follows. subst (λ c. changes journal c old new) also (changed journal follows),
     )
 
 one_item : {A : Type 0} (items : List A) (default : A) → length items ≡ 1 → items ≡ get_or items 0 default ∷ []

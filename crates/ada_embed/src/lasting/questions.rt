@@ -1,5 +1,5 @@
 //! Questions to a kernel that lives on, in numbers.
-ghost use Rattle.std.specs.Prelude.{◌≡◌, List};
+ghost use Rattle.std.specs.Prelude.{◌≡◌, List, option_map, slice_get};
 ghost use Rattle.ada_border.specs.Events as events;
 ghost use Rattle.ada_border.specs.Requests as requests;
 ghost use Rattle.ada_events.specs.declared.event.Event.{Event as Happening};
@@ -15,7 +15,7 @@ use ada_border::events::{PlainEvent, flag};
 use ada_border::lists::{PlainDue, PlainLengths, plain_choice, plain_due, plain_family};
 use ada_border::outcomes::PlainOutcome;
 use ada_border::parts::{PlainChoice, PlainFamily, entry_in};
-use ada_events::Entry;
+use ada_events::{Choice, Entry, Family};
 use ada_lasting::{LongKernel, NotDone};
 
 // What was found, or why nothing was.
@@ -171,6 +171,13 @@ pub fn task_item(kernel: &LongKernel, position: u64, item: u64) -> Result<u64, i
     )
 }
 
+// The one at a place, from 0, in plain numbers.
+fn family_at(families: &[Family], place: u64) -> Option<PlainFamily>
+    ensures { result ≡ option_map events.plain_family (slice_get families.now place) }
+{
+    Some(plain_family(*families.get(place as usize)?))
+}
+
 /// A family of an event's list.
 pub fn family_item(kernel: &LongKernel, position: u64, item: u64) -> Result<PlainFamily, i32>
     ensures { (journal : List Happening) → Follows journal kernel.now
@@ -178,10 +185,15 @@ pub fn family_item(kernel: &LongKernel, position: u64, item: u64) -> Result<Plai
         journal kernel.now }
 {
     let place = place(kernel, position)?;
-    match kernel.event_families(place).get(item as usize) {
-        Some(item) => Ok(plain_family(*item)),
-        None => Err(bad_code(Bad::NoSuchItem)),
-    }
+    let family = family_at(kernel.event_families(place), item);
+    or_code(family, bad_code(Bad::NoSuchItem))
+}
+
+// The one at a place, from 0, in plain numbers.
+fn choice_at(choices: &[Choice], place: u64) -> Option<PlainChoice>
+    ensures { result ≡ option_map events.plain_choice (slice_get choices.now place) }
+{
+    Some(plain_choice(*choices.get(place as usize)?))
 }
 
 /// An accept alternative of a wait.
@@ -191,10 +203,15 @@ pub fn choice_item(kernel: &LongKernel, position: u64, item: u64) -> Result<Plai
         journal kernel.now }
 {
     let place = place(kernel, position)?;
-    match kernel.event_choices(place).get(item as usize) {
-        Some(item) => Ok(plain_choice(*item)),
-        None => Err(bad_code(Bad::NoSuchItem)),
-    }
+    let choice = choice_at(kernel.event_choices(place), item);
+    or_code(choice, bad_code(Bad::NoSuchItem))
+}
+
+// The one at a place, from 0, in plain numbers.
+fn due_at(delays: &[Option<i64>], place: u64) -> Option<PlainDue>
+    ensures { result ≡ option_map events.plain_due (slice_get delays.now place) }
+{
+    Some(plain_due(*delays.get(place as usize)?))
 }
 
 /// A delay alternative of a wait.
@@ -204,10 +221,8 @@ pub fn due_item(kernel: &LongKernel, position: u64, item: u64) -> Result<PlainDu
         journal kernel.now }
 {
     let place = place(kernel, position)?;
-    match kernel.event_delays(place).get(item as usize) {
-        Some(item) => Ok(plain_due(*item)),
-        None => Err(bad_code(Bad::NoSuchItem)),
-    }
+    let due = due_at(kernel.event_delays(place), item);
+    or_code(due, bad_code(Bad::NoSuchItem))
 }
 
 // The entry of a family by its place and an index.
