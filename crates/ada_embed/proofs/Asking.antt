@@ -73,6 +73,25 @@ refused old new read request cause passed now code was is same coded not journal
       refl,
     ))
 
+-- without a clock
+
+pub accepted_without : (old new : Long) (read : Result Request Bad) (request : Request) (was at : ℕ) → read ≡ Ok request
+    → ((journal : List Event) → Follows journal old → GivesUpOnly journal old.names new.names)
+    → ((journal : List Event) → Follows journal old → IsStepped journal request at new)
+    → (now : ℤ) → has_clock now ≡ false → (journal : List Event) → Follows journal old
+    → IsAnsweredLasting journal read now (pos 0) was at old new
+accepted_without old new read request was at is given stepped now none =
+    accepted old new read request now now was at is refl (λ journal follows. inl (none, given journal follows, stepped journal follows))
+
+pub refused_without_clock : (old new : Long) (read : Result Request Bad) (request : Request) (cause : NotDone) (code : ℤ) (was : ℕ)
+    → read ≡ Ok request → code ≡ lasting_code cause
+    → ((journal : List Event) → Follows journal old → GivesUpOnly journal old.names new.names)
+    → ((journal : List Event) → Follows journal old → IsRefused journal request cause old new)
+    → (now : ℤ) → has_clock now ≡ false → (journal : List Event) → Follows journal old
+    → IsAnsweredLasting journal read now code was was old new
+refused_without_clock old new read request cause code was is coded given not now none =
+    refused old new read request cause now now code was is refl coded (λ journal follows. inl (none, given journal follows, not journal follows))
+
 -- the same answer, where what was read is what was asked, and numbers come back as they went
 pub answered_alike : (old new : Long) (read asked : Result Request Bad) (passed now code said : ℤ) (was at : ℕ)
     → read ≡ asked → passed ≡ now → code ≡ said
@@ -85,6 +104,14 @@ answered_alike old new read asked passed now code said was at is same also answe
     )
     )
 
+pub answered_alike_without : (old new : Long) (read asked : Result Request Bad) (code said : ℤ) (was at : ℕ) → read ≡ asked → code ≡ said
+    → ((now : ℤ) → has_clock now ≡ false → (journal : List Event) → Follows journal old
+    → IsAnsweredLasting journal read now code was at old new)
+    → (now : ℤ) → has_clock now ≡ false → (journal : List Event) → Follows journal old
+    → IsAnsweredLasting journal asked now said was at old new
+answered_alike_without old new read asked code said was at is also answered now none =
+    answered_alike old new read asked now now code said was at is refl also (answered now none)
+
 -- what a kernel that lives on answered to what was read is what a host is answered
 pub answered_by : (home : HostKernel) (old new : Long) (asked : Asked) (read : Result Request Bad) (passed now code said : ℤ) (was at : ℕ)
     → home ≡ Lasting old → read ≡ asked.lasting → passed ≡ now → code ≡ said
@@ -96,6 +123,15 @@ answered_by home old new asked read passed now code said was at kind is same als
       refl,
       answered_alike old new read asked.lasting passed now code said was at is same also answered,
     )
+
+-- the same without a clock
+pub answered_by_without : (home : HostKernel) (old new : Long) (asked : Asked) (read : Result Request Bad) (now code said : ℤ) (was at : ℕ)
+    → home ≡ Lasting old → read ≡ asked.lasting → has_clock now ≡ false → code ≡ said
+    → ((now : ℤ) → has_clock now ≡ false → (journal : List Event) → Follows journal old
+    → IsAnsweredLasting journal read now code was at old new)
+    → IsAnsweredBy home asked now said was at (Lasting new)
+answered_by_without home old new asked read now code said was at kind is none also answered =
+    answered_by home old new asked read now now code said was at kind is refl also (answered now none)
 
 -- what a kernel that lives on changed is what is changed for a host
 pub changed_by : (home : HostKernel) (old new : Long) (changes : List Event → ℤ → Long → Long → Type 0) (code said : ℤ)

@@ -23,7 +23,10 @@ pub extern "C" fn adatask_open(h: &mut Handle, now: i64, by: u64, at: &mut u64) 
 {
     let code = match h.kernel() {
         HostKernel::Whole(kernel) => whole::answer(kernel, now, requests::open_in(by), at),
-        HostKernel::Lasting(kernel) => lasting::answer(kernel, now, lasting::open_in(by), at),
+        HostKernel::Lasting(kernel) if now >= 0 => {
+            lasting::answer_at(kernel, now, lasting::open_in(by), at)
+        }
+        HostKernel::Lasting(kernel) => lasting::answer(kernel, lasting::open_in(by), at),
     };
     code
 }
@@ -49,9 +52,16 @@ pub extern "C" fn adatask_create(
             requests::create_in(by, master_kind, master, families),
             at,
         ),
+        HostKernel::Lasting(kernel) if now >= 0 => {
+            lasting::answer_at(
+                kernel,
+                now,
+                lasting::create_in(by, master_kind, master, families),
+                at,
+            )
+        }
         HostKernel::Lasting(kernel) => lasting::answer(
             kernel,
-            now,
             lasting::create_in(by, master_kind, master, families),
             at,
         ),
@@ -78,12 +88,10 @@ pub extern "C" fn adatask_activate(
             requests::activate_in(by, tasks),
             at,
         ),
-        HostKernel::Lasting(kernel) => lasting::answer(
-            kernel,
-            now,
-            lasting::activate_in(by, tasks),
-            at,
-        ),
+        HostKernel::Lasting(kernel) if now >= 0 => {
+            lasting::answer_at(kernel, now, lasting::activate_in(by, tasks), at)
+        }
+        HostKernel::Lasting(kernel) => lasting::answer(kernel, lasting::activate_in(by, tasks), at),
     };
     code
 }
@@ -107,12 +115,10 @@ pub extern "C" fn adatask_elaborated(
             requests::elaborated_in(by, ok),
             at,
         ),
-        HostKernel::Lasting(kernel) => lasting::answer(
-            kernel,
-            now,
-            lasting::elaborated_in(by, ok),
-            at,
-        ),
+        HostKernel::Lasting(kernel) if now >= 0 => {
+            lasting::answer_at(kernel, now, lasting::elaborated_in(by, ok), at)
+        }
+        HostKernel::Lasting(kernel) => lasting::answer(kernel, lasting::elaborated_in(by, ok), at),
     };
     code
 }
@@ -140,9 +146,16 @@ pub extern "C" fn adatask_call(
             requests::call_in(by, callee, family, index, patience, duration),
             at,
         ),
+        HostKernel::Lasting(kernel) if now >= 0 => {
+            lasting::answer_at(
+                kernel,
+                now,
+                lasting::call_in(by, callee, family, index, patience, duration),
+                at,
+            )
+        }
         HostKernel::Lasting(kernel) => lasting::answer(
             kernel,
-            now,
             lasting::call_in(by, callee, family, index, patience, duration),
             at,
         ),
@@ -170,8 +183,16 @@ pub extern "C" fn adatask_wait(
         HostKernel::Whole(kernel) => {
             whole::wait(kernel, now, by, choices, tail, delays, pick, at)
         }
+        HostKernel::Lasting(kernel) if now >= 0 => {
+            lasting::answer_at(
+                kernel,
+                now,
+                lasting::wait_in(by, choices, tail, delays, pick),
+                at,
+            )
+        }
         HostKernel::Lasting(kernel) => {
-            lasting::wait(kernel, now, by, choices, tail, delays, pick, at)
+            lasting::wait(kernel, by, choices, tail, delays, pick, at)
         }
     };
     code
@@ -196,12 +217,10 @@ pub extern "C" fn adatask_delay(
             requests::delay_in(by, duration),
             at,
         ),
-        HostKernel::Lasting(kernel) => lasting::answer(
-            kernel,
-            now,
-            lasting::delay_in(by, duration),
-            at,
-        ),
+        HostKernel::Lasting(kernel) if now >= 0 => {
+            lasting::answer_at(kernel, now, lasting::delay_in(by, duration), at)
+        }
+        HostKernel::Lasting(kernel) => lasting::answer(kernel, lasting::delay_in(by, duration), at),
     };
     code
 }
@@ -214,12 +233,10 @@ pub extern "C" fn adatask_end(h: &mut Handle, now: i64, by: u64, raised: u32, at
 {
     let code = match h.kernel() {
         HostKernel::Whole(kernel) => whole::answer(kernel, now, requests::end_in(by, raised), at),
-        HostKernel::Lasting(kernel) => lasting::answer(
-            kernel,
-            now,
-            lasting::end_in(by, raised),
-            at,
-        ),
+        HostKernel::Lasting(kernel) if now >= 0 => {
+            lasting::answer_at(kernel, now, lasting::end_in(by, raised), at)
+        }
+        HostKernel::Lasting(kernel) => lasting::answer(kernel, lasting::end_in(by, raised), at),
     };
     code
 }
@@ -232,7 +249,10 @@ pub extern "C" fn adatask_close(h: &mut Handle, now: i64, by: u64, at: &mut u64)
 {
     let code = match h.kernel() {
         HostKernel::Whole(kernel) => whole::answer(kernel, now, requests::close_in(by), at),
-        HostKernel::Lasting(kernel) => lasting::answer(kernel, now, lasting::close_in(by), at),
+        HostKernel::Lasting(kernel) if now >= 0 => {
+            lasting::answer_at(kernel, now, lasting::close_in(by), at)
+        }
+        HostKernel::Lasting(kernel) => lasting::answer(kernel, lasting::close_in(by), at),
     };
     code
 }
@@ -245,7 +265,10 @@ pub extern "C" fn adatask_complete(h: &mut Handle, now: i64, by: u64, at: &mut u
 {
     let code = match h.kernel() {
         HostKernel::Whole(kernel) => whole::answer(kernel, now, requests::complete_in(by), at),
-        HostKernel::Lasting(kernel) => lasting::answer(kernel, now, lasting::complete_in(by), at),
+        HostKernel::Lasting(kernel) if now >= 0 => {
+            lasting::answer_at(kernel, now, lasting::complete_in(by), at)
+        }
+        HostKernel::Lasting(kernel) => lasting::answer(kernel, lasting::complete_in(by), at),
     };
     code
 }
@@ -264,12 +287,10 @@ pub extern "C" fn adatask_abort(
 {
     let code = match h.kernel() {
         HostKernel::Whole(kernel) => whole::answer(kernel, now, requests::abort_in(by, tasks), at),
-        HostKernel::Lasting(kernel) => lasting::answer(
-            kernel,
-            now,
-            lasting::abort_in(by, tasks),
-            at,
-        ),
+        HostKernel::Lasting(kernel) if now >= 0 => {
+            lasting::answer_at(kernel, now, lasting::abort_in(by, tasks), at)
+        }
+        HostKernel::Lasting(kernel) => lasting::answer(kernel, lasting::abort_in(by, tasks), at),
     };
     code
 }
@@ -287,7 +308,10 @@ pub extern "C" fn adatask_tick(h: &mut Handle, now: i64, moment: i64, at: &mut u
             Ok(Request::Tick { now: moment }),
             at,
         ),
-        HostKernel::Lasting(kernel) => lasting::answer(kernel, now, lasting::tick_to(moment), at),
+        HostKernel::Lasting(kernel) if now >= 0 => {
+            lasting::answer_at(kernel, now, lasting::tick_to(moment), at)
+        }
+        HostKernel::Lasting(kernel) => lasting::answer(kernel, lasting::tick_to(moment), at),
     };
     code
 }

@@ -2,11 +2,17 @@ use Rattle.std.proofs.Common.{rules}
 use Rattle.ada_lasting.specs.Meaning.{meant}
 use Rattle.ada_embed.specs.Requests as asked
 use Rattle.ada_embed.specs.Requests.{read_as}
-use Rattle.ada_embed.proofs.Asking.{answered_by}
+use Rattle.ada_embed.proofs.Asking.{answered_by, answered_by_without}
 use Rattle.ada_embed.proofs.requests.adatask_delay.Goals as goal
 
 pub returns-in-Lasting : goal.returns-in-Lasting
 returns-in-Lasting c =
-    answered_by c.args.h.now.home c.in-Lasting.kernel c.answer-code-in-Lasting.new.kernel (asked.delay_in c.args.by c.args.duration)
-    (read_as meant c.delay_in-in-Lasting.result) _ c.args.now c.answer-code-in-Lasting.result _ c.args.at.now c.answer-code-in-Lasting.new.at
-    (search rules) (search rules) (search rules) (search rules) c.answer-code-in-Lasting.ensures
+    answered_by c.args.h.now.home c.in-Lasting.kernel c.answer_at-code.new.kernel (asked.delay_in c.args.by c.args.duration)
+    (read_as meant c.delay_in-in-Lasting.result) _ c.args.now c.answer_at-code.result _ c.args.at.now c.answer_at-code.new.at
+    (search rules) (search rules) (search rules) (search rules) c.answer_at-code.ensures
+
+pub returns-in-Lasting-2 : goal.returns-in-Lasting-2
+returns-in-Lasting-2 c =
+    answered_by_without c.args.h.now.home c.in-Lasting.kernel c.answer-code-in-Lasting-2.new.kernel (asked.delay_in c.args.by c.args.duration)
+    (read_as meant c.delay_in-in-Lasting-2.result) c.args.now c.answer-code-in-Lasting-2.result _ c.args.at.now c.answer-code-in-Lasting-2.new.at
+    (search rules) (search rules) (search rules) (search rules) c.answer-code-in-Lasting-2.ensures
