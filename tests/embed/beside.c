@@ -1,8 +1,8 @@
 /* SPDX-License-Identifier: MIT */
 /* Asks a kernel that keeps everything and one that lives on the same random requests, with compactions and releases at
-   random moments, and compares their answers, events and attributes: beside SEQUENCES SEED. A task that was given up has
-   to be terminated where everything is kept. Prints the first sequence that fails, with its seed; the last line is 'N
-   passed, M failed', of sequences. */
+   random moments, and compares their answers, events and attributes: beside SEQUENCES SEED. A task that was given up
+   has to be terminated where everything is kept. Prints the first sequence that fails, with its seed; the last line is
+   'N passed, M failed', of sequences. */
 
 #include "adatask.h"
 #include <stdio.h>
@@ -211,6 +211,9 @@ static int same_counts(uint64_t task) {
     int32_t said = ada_count(&whole, task, family, 1, &a);
     if (said != ada_count(&lasting, task, family, 1, &b)) return wrong("whether COUNT is told");
     if (said == ADA_ACCEPTED && a != b) return wrong("COUNT");
+    said = ada_queued(&whole, task, family, 1, &a);
+    if (said != ada_queued(&lasting, task, family, 1, &b)) return wrong("whether there is a queue");
+    if (said == ADA_ACCEPTED && a != b) return wrong("how many calls are queued");
   }
   return 1;
 }

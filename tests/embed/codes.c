@@ -37,6 +37,24 @@ KEEPS(ADA_TOO_DEEP, 21);
 KEEPS(ADA_JOURNAL_FULL, 22);
 KEEPS(ADA_OUT_OF_MEMORY, 23);
 
+/* ---- What is wrong with numbers, and what isn't done ---- */
+
+KEEPS(ADA_TOO_LONG, 100);
+KEEPS(ADA_NO_SUCH_KIND, 101);
+KEEPS(ADA_OUT_OF_RANGE, 102);
+KEEPS(ADA_NO_SUCH_EVENT, 103);
+KEEPS(ADA_NO_SUCH_ITEM, 104);
+KEEPS(ADA_NO_SUCH_TASK, 105);
+KEEPS(ADA_NO_SUCH_ENTRY, 106);
+KEEPS(ADA_NULL, 107);
+KEEPS(ADA_GIVEN_UP, 108);
+KEEPS(ADA_NOT_TERMINATED, 109);
+KEEPS(ADA_NO_ROOM, 110);
+KEEPS(ADA_NOT_COMPACTED, 111);
+KEEPS(ADA_NO_MORE_NAMES, 112);
+KEEPS(ADA_LIVES_ON, 113);
+KEEPS(ADA_KEEPS_ALL, 114);
+
 /* ---- Kinds of events ---- */
 
 KEEPS(ADA_OPENED, 1);
@@ -156,7 +174,9 @@ static void try_texts(void) {
   is_named(ada_code_name(24), NULL);
   is_named(ada_code_name(100), "TooLong");
   is_named(ada_code_name(107), "Null");
-  is_named(ada_code_name(108), NULL);
+  is_named(ada_code_name(108), "GivenUp");
+  is_named(ada_code_name(114), "KeepsAll");
+  is_named(ada_code_name(115), NULL);
   is_named(ada_kind_name(0), NULL);
   is_named(ada_kind_name(1), "Opened");
   is_named(ada_kind_name(22), "Left");

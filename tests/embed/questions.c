@@ -79,7 +79,7 @@ static void due_never(int line) {
 #define DUE(moment) due(__LINE__, moment)
 #define NOTHING_DUE() due_never(__LINE__)
 
-/* With -DLASTING each kernel is one that lives on, of which no question has another answer, but that it has no board. */
+/* With -DLASTING each kernel is one that lives on: but for the board, no question has another answer then. */
 #ifdef LASTING
 static void begin(void) { SAYS(ADA_ACCEPTED, ada_kernel_new_lasting(&k, 60000)); }
 #else

@@ -108,7 +108,7 @@ static int play(long growth, int lasting) {
   return 0;
 }
 
-/* Makes a journal of 60 requests shorter with one growth refused; whether one was. Afterwards it can be made shorter. */
+/* Makes a journal of 60 requests shorter with one growth refused; whether one was. Afterwards that can be done. */
 static int compact(long growth) {
   ada_kernel k = ADA_NO_KERNEL;
   uint64_t at = 0;
