@@ -20,6 +20,7 @@ mod GivingUp
 mod Waited
 mod Dividing
 mod Began
+mod Ends
 mod Callers
 mod Shown
 mod waits

@@ -1,5 +1,6 @@
 -- A kernel that lives on follows a journal without an end from request to request.
-use Rattle.std.proofs.Common.{◌≡◌, ℕ, suc, ◌+◌, ◌-◌, ◌≤◌, true, Option, Some, None, List, ◌++◌, length, map, take, sym, ap, ◌∙◌, subst, inr, if◌then◌else◌, arith}
+use Rattle.std.proofs.Common.{◌≡◌, ℕ, suc, ◌+◌, ◌-◌, ◌≤◌, true, Option, Some, None, List, ◌++◌, length, map, take, if◌then◌else◌}
+use Rattle.std.proofs.Common.{sym, ap, ◌∙◌, subst, inr, arith}
 use Rattle.std.specs.Option.{option_map, is_some}
 use Rattle.std.proofs.lemmas.List.{length-append, length-map}
 use Rattle.ada_events.specs.declared.event.Event.{Event}
@@ -27,7 +28,7 @@ use Rattle.ada_lasting.specs.internal.Nameable.{names_nameable}
 use Rattle.ada_lasting.specs.Following.{Long, Follows, IsStepped}
 use Rattle.ada_lasting.specs.internal.Present.{IsPresent}
 use Rattle.ada_lasting.proofs.Meant.{kept_nameable}
-use Rattle.ada_lasting.proofs.Earlier.{agreed_before}
+use Rattle.ada_lasting.proofs.Earlier.{makes_alike, agreed_before}
 use Rattle.ada_lasting.proofs.Newest.{newest_appended}
 use Rattle.ada_lasting.proofs.Remembering.{masters_after}
 use Rattle.ada_lasting.proofs.Growing.{count_after, names_after, tasks_follow, positions_follow, lengths, growth_too}
@@ -107,7 +108,7 @@ module _ (journal : List Event) (kernel : Long) (follows : Follows journal kerne
             before = inr (agreed_before journal kernel.present (renaming_of kernel.names) r (renamed_request (renaming_of kernel.names) r) grown
                 (stepped_kernel (masters_next master kernel.names.made kernel.masters)) follows.stands follows.lawful
                 (lawful_unlimited kernel.present is_present.lawful) follows.settled is_present.settled unrefused unrefused_present leads accepted.after led
-                as_many (sym (ap length copied))
+                (makes_alike (renaming_of kernel.names) r) as_many (sym (ap length copied))
                 (tasks_follow journal kernel.present kernel.names r grown present follows.made follows.length is_present.short is_present.order.grows
                 is_present.order.tasks leads led));
             length = omega (arith, grew, longer, follows.length, is_present.short, is_present.order.grows);

@@ -1,9 +1,9 @@
 -- A kernel that lives on follows a journal without an end.
-use Rattle.std.specs.Prelude.{◌≡◌, ◌⊎◌, ℕ, ◌+◌, ◌-◌, Some, None, List, [], ◌++◌, length, map, take, drop}
+use Rattle.std.specs.Prelude.{◌≡◌, ◌⊎◌, ℕ, true, false, ◌+◌, ◌-◌, Some, None, List, [], ◌++◌, length, map, take, drop}
 use Rattle.ada_events.specs.declared.event.Event.{Event}
 use Rattle.ada_events.specs.declared.request.Request.{Request}
-use Rattle.ada_events.specs.Tasks.{task_count}
-use Rattle.ada_events.specs.Phases.{is_running}
+use Rattle.ada_events.specs.Tasks.{task_count, has_task}
+use Rattle.ada_events.specs.Phases.{is_running, is_terminated}
 use Rattle.ada_events.specs.Lawful.{IsSettled, After}
 use Rattle.ada_laws.specs.Unlimited.{IsLawfulUnlimited, refusal_but_limits}
 use Rattle.ada_standing.specs.Renaming.{renamed_event}
@@ -34,12 +34,19 @@ seen present names before masters = record {
 abbrev pub before_shown : List Event → Long → List Event
 before_shown journal kernel = drop (length kernel.group) journal
 
--- the events that are shown are those of the present journal's last request, and a task that has a name ran before them
--- exactly if what has its name in the present journal did
+-- the events that are shown are those of the present journal's last request; before them, a task that has a name ran, and
+-- was terminated, exactly if what has its name in the present journal did and was; and whoever wasn't terminated then has
+-- a name
 pub record AgreedBefore (journal : List Event) (kernel : Long) : Type 0 where
   pub last : before_last kernel.present ≡ before_shown kernel.present kernel
   pub running : (u v : ℕ) → found kernel.names.tasks u ≡ Some v
       → is_running (before_shown kernel.present kernel) v ≡ is_running (before_shown journal kernel) u
+  pub terminated : (u v : ℕ) → found kernel.names.tasks u ≡ Some v
+      → is_terminated (before_shown kernel.present kernel) v ≡ is_terminated (before_shown journal kernel) u
+  pub named : (u : ℕ) → has_task journal u ≡ true → is_terminated (before_shown journal kernel) u ≡ false
+      → (v : ℕ) × (found kernel.names.tasks u ≡ Some v)
+  pub others : (v : ℕ) → has_task kernel.present v ≡ true → is_terminated (before_shown kernel.present kernel) v ≡ false
+      → (u : ℕ) × (found kernel.names.tasks u ≡ Some v)
 
 -- the kernel follows a journal without an end: this is lawful, where tasks, slots and events have no limit, and settled,
 -- the present journal stands in for it, the events that are shown stand for its newest, in their order, and if there are

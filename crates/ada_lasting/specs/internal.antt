@@ -7,5 +7,6 @@ pub mod Moving
 pub mod Mastering
 pub mod Reasons
 pub mod Awaiting
+pub mod Ended
 pub mod Outcomes
 pub mod Events

@@ -6,11 +6,13 @@ ghost use Rattle.ada_events.specs.declared.event.Event.{Event as Happening};
 ghost use Rattle.ada_events.specs.Attributes.{is_callable, is_finished, own_count};
 ghost use Rattle.std.specs.Option.{option_map};
 ghost use Rattle.ada_events.specs.Phases.{is_running, is_terminated};
+ghost use Rattle.ada_events.specs.declared.names.TaskNo.{TaskNo as Task};
 ghost use Rattle.ada_events.specs.declared.refusal.Refusal.TheVariants.{OutOfMemory};
 ghost use Rattle.ada_events.specs.Limits.{is_full};
 ghost use Rattle.ada_lasting.specs.declared.failure.NotDone.TheVariants.{Refused};
 ghost use Rattle.ada_lasting.specs.internal.Present.{IsPresent};
-ghost use Rattle.ada_lasting.specs.Following.{Follows, IsStepped, LivesOn};
+ghost use Rattle.ada_lasting.specs.Following.{Follows, IsStepped, LivesOn, before_shown};
+ghost use Rattle.ada_lasting.specs.LastRequest.{first_since};
 ghost use Rattle.ada_lasting.specs.GivingUp.{GivesUpOnly};
 ghost use Rattle.ada_lasting.specs.Meaning.{meant, meant_master};
 ghost use Rattle.ada_lasting.specs.internal.Mastering.{asked_under};
@@ -18,6 +20,7 @@ ghost use Rattle.ada_lasting.specs.internal.Causes.{IsRoomless};
 ghost use Rattle.ada_lasting.specs.Naming.{AreOneToOne, found};
 ghost use Rattle.ada_lasting.specs.Refusing.{IsCause, IsMadeShorter, IsRefused, IsUncompacted, IsUncounted, IsUnreleased, creates};
 
+use crate::ended::{Flags, first_ended, read_ended, take_ended};
 use crate::failure::NotDone;
 use crate::masters::Masters;
 use crate::moving::NotMoved;
@@ -44,17 +47,23 @@ pub struct LongKernel {
     tried: u32,
     // How many events the present journal had before the last request.
     group: u32,
+    // Which of its tasks were terminated before that; of no use if no events are shown. And room for those that are so
+    // before the next request.
+    ended: Flags,
+    spare: Flags,
 }
 
 impl Model for LongKernel {
     ghost use Rattle.std.specs.Prelude.{◌≡◌, ◌≤◌, length};
     ghost use Rattle.ada_lasting.specs.Following.{LivesOn, Long, seen};
+    ghost use Rattle.ada_lasting.specs.internal.Ended.{KnowsEnded};
 
     ghost Value = { Long };
 
     ghost view = { λ k. seen k.kernel k.names k.group k.masters };
 
     ghost invariant = { λ k. (length k.kernel ≡ k.names.until) × (k.group ≤ length k.kernel)
+        × KnowsEnded k.ended k.group k.kernel
         × LivesOn (seen k.kernel k.names k.group k.masters) };
 }
 
@@ -105,6 +114,8 @@ impl LongKernel {
             due: threshold,
             tried: 0,
             group: 0,
+            ended: [false; MOST_TASKS],
+            spare: [false; MOST_TASKS],
         })
     }
 
@@ -273,8 +284,10 @@ impl LongKernel {
         if let Err(cause) = self.masters.name_next(&mut self.names, present, master) {
             return Err(cause);
         }
+        let are_read = read_ended(&mut self.spare, &self.kernel, self.group, &self.ended);
         match self.kernel.step(asked) {
             Ok(_) => {
+                take_ended(&mut self.ended, &self.spare, are_read);
                 self.group = before;
                 self.names.grow(self.kernel.journal().len());
                 Ok(position)
@@ -325,6 +338,16 @@ impl LongKernel {
     {
         let events = self.kernel.journal().as_slice();
         &events[self.group as usize..]
+    }
+
+    // The first task of a number or more of the present journal that is terminated and wasn't before the last request.
+    pub(crate) fn first_ended(&self, from: TaskNo) -> Option<TaskNo>
+        requires { self.now.group ≢ [] }
+        ensures { option_map (λ (t : Task). t.0) result ≡ first_since is_terminated
+            (before_shown self.now.present self.now) self.now.present from.0 }
+    {
+        self.known();
+        first_ended(&self.kernel, &self.ended, from)
     }
 
     /// What has lasting names in the present journal.

@@ -7,6 +7,7 @@ pub mod asking;
 pub mod awaited;
 pub mod clock;
 pub mod counting;
+pub mod ended;
 pub mod events;
 pub mod failure;
 pub mod forgetting;

@@ -1,4 +1,4 @@
-use Rattle.std.proofs.Common.{◌≡◌, ◌+◌, ◌-◌, Bool, true, List, length, take, sym, ap, ◌∙◌, subst, arith}
+use Rattle.std.proofs.Common.{◌≡◌, ◌+◌, ◌-◌, Bool, true, List, length, take, sym, ap, ◌∙◌, subst, inr, arith}
 use Rattle.std.specs.Prelude.{is_some}
 use Rattle.ada_events.specs.declared.event.Event.{Event}
 use Rattle.ada_events.specs.declared.request.Request.{Request}
@@ -15,8 +15,10 @@ use Rattle.ada_lasting.specs.Following.{Long, Follows, IsStepped}
 use Rattle.ada_lasting.specs.Refusing.{IsCause}
 use Rattle.ada_lasting.specs.internal.Causes.{IsUnnamed}
 use Rattle.ada_lasting.specs.internal.Present.{named_next}
+use Rattle.ada_lasting.specs.internal.Ended.{ended_in}
 use Rattle.ada_lasting.proofs.GivingUp.{names_stay}
 use Rattle.ada_lasting.proofs.Noting.{nothing_noted, noted_task}
+use Rattle.ada_lasting.proofs.Ends.{earlier_again, one_ends_nobody}
 use Rattle.ada_lasting.proofs.Refused.{unnamed_is_cause}
 use Rattle.ada_lasting.proofs.Asked.{stepped_by, refused_by, after_longer, until_next}
 use Rattle.ada_lasting.proofs.kernel.LongKernel.ask.Goals as goal
@@ -32,8 +34,8 @@ returns-in-Some-clause-err c = λ journal follows.
 
 pub invariant_of-self : goal.invariant_of-self
 invariant_of-self c =
-    let (journal, follows) = c.self.invariant.2 in
-    rw (c.in-Err.ensures.unnamed, c.in-Err.ensures.unchanged) (c.self.invariant.0, c.self.invariant.1, (journal, follows))
+    let (journal, follows) = c.self.invariant.3 in
+    rw (c.in-Err.ensures.unnamed, c.in-Err.ensures.unchanged) (c.self.invariant.0, c.self.invariant.1, c.self.invariant.2, (journal, follows))
 
 pub returns-in-Err-clause-err : goal.returns-in-Err-clause-err
 returns-in-Err-clause-err c = λ journal follows.
@@ -96,12 +98,21 @@ stepped_now c journal follows =
 
 pub invariant_of-self-in-Ok : goal.invariant_of-self-in-Ok
 invariant_of-self-in-Ok c =
-    let (journal, follows) = c.self.invariant.2 in
+    let (journal, follows) = c.self.invariant.3 in
     let longer = after_longer c.self.inside.kernel c.asked-asked.result c.step.new.self c.in-Ok.ensures.ok.after in
     let long : c.len.result ≡ length c.step.new.self = c.len.ensures ∙ ap length c.journal-in-Ok.ensures.events in
     let before : c.len-before.result ≡ length c.self.inside.kernel = c.len-before.ensures ∙ ap length c.journal.ensures.events in
     let now = stepped_now c journal (subst (Follows journal) c.self.view_is follows) in
-    (sym long ∙ sym (ap (λ (n : Naming). n.until) c.grow.ensures), omega (arith, longer, before), (now.grown, now.follows))
+    let after = c.in-Ok.ensures.ok.after in
+    let right : c.take_ended.new.flags ≡ ended_in c.self.inside.kernel = c.take_ended.ensures ∙ c.read_ended-are_read.ensures in (
+      sym long ∙ sym (ap (λ (n : Naming). n.until) c.grow.ensures),
+      omega (arith, longer, before),
+      record {
+        before = inr (right ∙ ap ended_in (earlier_again c.self.inside.kernel c.asked-asked.result c.step.new.self c.len-before.result before after));
+        one = one_ends_nobody c.self.inside.kernel c.asked-asked.result c.step.new.self c.len-before.result before after;
+      },
+      (now.grown, now.follows),
+    )
 
 pub returns-in-Ok-clause-ok : goal.returns-in-Ok-clause-ok
 returns-in-Ok-clause-ok c = λ journal follows. stepped_now c journal follows
@@ -122,9 +133,9 @@ restored_masters c = c.unname_next.ensures.masters c.self.inside.names.made c.se
 
 pub invariant_of-self-in-Err-step : goal.invariant_of-self-in-Err-step
 invariant_of-self-in-Err-step c =
-    let (journal, follows) = c.self.invariant.2 in
+    let (journal, follows) = c.self.invariant.3 in
     rw (c.in-Err-step.ensures.err.unchanged, restored_names c, restored_masters c)
-    (c.self.invariant.0, c.self.invariant.1, (journal, follows))
+    (c.self.invariant.0, c.self.invariant.1, c.self.invariant.2, (journal, follows))
 
 pub returns-in-Err-step-clause-err : goal.returns-in-Err-step-clause-err
 returns-in-Err-step-clause-err c = λ journal follows.

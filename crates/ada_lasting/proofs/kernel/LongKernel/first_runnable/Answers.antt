@@ -1,19 +1,20 @@
-use Rattle.std.proofs.Common.{◌≡◌, List, Some, None, sym, ap, ◌∙◌}
+use Rattle.std.proofs.Common.{◌≡◌, List, sym, ap, ◌∙◌}
 use Rattle.std.specs.Option.{option_map, option_and_then}
 use Rattle.ada_events.specs.declared.event.Event.{Event}
 use Rattle.ada_events.specs.declared.names.TaskNo.{TaskNo}
+use Rattle.ada_events.specs.Phases.{is_running}
 use Rattle.ada_events.specs.Tasks.{task_count}
 use Rattle.ada_waiting.specs.Runnable.{first_runnable}
 use Rattle.ada_lasting.specs.Naming.{Naming, named_by}
 use Rattle.ada_lasting.specs.Following.{Long}
 use Rattle.ada_lasting.specs.internal.Awaiting.{first_there}
-use Rattle.ada_lasting.proofs.Began.{nobody_began, began_here, none_shown, some_shown}
+use Rattle.ada_lasting.proofs.Began.{nobody_newly, began_here, none_shown, some_shown}
 use Rattle.ada_lasting.proofs.kernel.LongKernel.first_runnable.Goals as goal
 
 -- no events are shown
 pub returns-then-is_empty : goal.returns-then-is_empty
 returns-then-is_empty c = λ journal follows.
-    nobody_began journal c.args.self.now c.args.from
+    nobody_newly is_running journal c.args.self.now c.args.from
     (none_shown c.group.result.now c.args.self.now.group c.group.ensures (sym c.is_empty.ensures ∙ c.if-is_empty.true))
 
 -- nobody began to run

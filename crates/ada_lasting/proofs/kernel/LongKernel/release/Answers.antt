@@ -8,6 +8,7 @@ use Rattle.ada_lasting.specs.Following.{Long, Follows}
 use Rattle.ada_lasting.proofs.Newest.{none_newest}
 use Rattle.ada_lasting.proofs.Shortened.{released, dead_told}
 use Rattle.ada_lasting.proofs.WithoutTask.{found-without-same, found-without-other}
+use Rattle.ada_lasting.proofs.Ends.{no_events_known}
 use Rattle.ada_lasting.proofs.kernel.LongKernel.release.Goals as goal
 
 pub returns-in-Some-clause-follows : goal.returns-in-Some-clause-follows
@@ -28,9 +29,10 @@ invariant_of-self c =
     let dead : is_terminated c.self.inside.kernel c.in-Some.present.0 ≡ true =
     dead_told (has_task c.self.inside.kernel c.in-Some.present.0) (is_terminated c.self.inside.kernel c.in-Some.present.0) c.terminated.result
     c.terminated.ensures c.if-eq.ensures in
-    let (journal, follows) = c.self.invariant.2 in (
+    let (journal, follows) = c.self.invariant.3 in (
       rw c.forget.ensures c.self.invariant.0,
       omega (arith, c.len-self-inside.ensures, ap length c.journal.ensures.events),
+      no_events_known c.self.inside.ended _ _ (none_newest _ _ (c.len-self-inside.ensures ∙ ap length c.journal.ensures.events)),
       (
         journal,
         rw c.forget.ensures (released journal _ c.args.task c.in-Some.present.0 _ follows named dead c.if-task-eq0.false
