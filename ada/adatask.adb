@@ -101,6 +101,8 @@ package body Adatask is
      with Import, Convention => C, External_Name => "adatask_awaited";
    function C_Runnable (K : in out Handle; From : Task_Number; T : in out Task_Number) return Answer
      with Import, Convention => C, External_Name => "adatask_runnable";
+   function C_Ended (K : in out Handle; From : Task_Number; T : in out Task_Number) return Answer
+     with Import, Convention => C, External_Name => "adatask_ended";
    function C_Next_Due (K : in out Handle; Moment : in out Milliseconds) return Answer
      with Import, Convention => C, External_Name => "adatask_next_due";
    function C_Board_Of (K : in out Handle; Now : in out Board) return Answer
@@ -422,6 +424,15 @@ package body Adatask is
       Settle ((if Is_There (K) then C_Runnable (K.Held, From, T) else No_Kernel), Said);
       return T;
    end Runnable;
+
+   function Ended_Task
+     (K : in out Kernel; From : Task_Number := 0; Said : access Answer := null) return Task_Number
+   is
+      T : Task_Number := 0;
+   begin
+      Settle ((if Is_There (K) then C_Ended (K.Held, From, T) else No_Kernel), Said);
+      return T;
+   end Ended_Task;
 
    function Next_Due (K : in out Kernel; Said : access Answer := null) return Milliseconds is
       Moment : Milliseconds := 0;

@@ -535,6 +535,11 @@ package Adatask is
    function Runnable
      (K : in out Kernel; From : Task_Number := 0; Said : access Answer := null) return Task_Number;
 
+   --  The first task with the number From or more that is terminated, and wasn't before the last request that was
+   --  accepted; or No_Such_Item. Of a kernel that lives on.
+   function Ended_Task
+     (K : in out Kernel; From : Task_Number := 0; Said : access Answer := null) return Task_Number;
+
    --  The first moment for which any task waits, or No_Such_Item: of a delay, a timed call that isn't served yet, or an
    --  open delay alternative. A tick to an earlier moment forces nothing.
    function Next_Due (K : in out Kernel; Said : access Answer := null) return Milliseconds;

@@ -450,6 +450,7 @@ int32_t adatask_outcome(ada_handle *h, uint64_t task, ada_outcome *out);
 int32_t adatask_reason(ada_handle *h, uint64_t task, ada_reason *out);
 int32_t adatask_awaited(ada_handle *h, uint64_t task, uint64_t from, uint64_t *out);
 int32_t adatask_runnable(ada_handle *h, uint64_t from, uint64_t *out);
+int32_t adatask_ended(ada_handle *h, uint64_t from, uint64_t *out);
 int32_t adatask_next_due(ada_handle *h, int64_t *out);
 int32_t adatask_board(ada_handle *h, ada_board *out);
 int32_t adatask_slot(ada_handle *h, uint64_t task, uint32_t family, int32_t index, uint32_t *out);
@@ -703,6 +704,14 @@ static inline int32_t ada_awaited(ada_kernel *k, uint64_t task, uint64_t from, u
  */
 static inline int32_t ada_runnable(ada_kernel *k, uint64_t from, uint64_t *out) {
   return ada_has(k, out) ? adatask_runnable(&k->handle, from, out) : ADA_NULL;
+}
+
+/*
+ * The first task numbered `from` or more that is terminated and wasn't before the last request that was accepted, or
+ * ADA_NO_SUCH_ITEM; of a kernel that lives on.
+ */
+static inline int32_t ada_ended(ada_kernel *k, uint64_t from, uint64_t *out) {
+  return ada_has(k, out) ? adatask_ended(&k->handle, from, out) : ADA_NULL;
 }
 
 /*

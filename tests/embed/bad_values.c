@@ -27,6 +27,7 @@
      next_due                                                            item          kernel, out
      board_of                                                                          kernel, out
      queued                                           task, family       task, entry   kernel, out
+     ended                                                               item          kernel, out
 
    What only a kernel that lives on does is answered so. lasting_values.c has the same of such a kernel.
 
@@ -302,6 +303,7 @@ static void try_none(void) {
 static void try_lasting(void) {
   BAD(ADA_KEEPS_ALL, ada_release(&k, 1));
   BAD(ADA_KEEPS_ALL, ada_compact(&k));
+  BAD(ADA_KEEPS_ALL, ada_ended(&k, 0, &at));
   ada_set_clock(&k, 0);
   BAD(ADA_KEEPS_ALL, ada_delay(&k, 0, 5, &at));
   BAD(ADA_KEEPS_ALL, ada_open(&k, MANY, &at));

@@ -235,6 +235,20 @@ static int same_runnable(void) {
   return 1;
 }
 
+/* Who is terminated and wasn't before the request: those that a flag for each task tells, which is set here. */
+static int same_ended(uint8_t *was) {
+  uint64_t task, next = 0;
+  for (task = 0; task < ada_tasks(&whole); task++) {
+    int is = is_terminated(task);
+    if (is && !was[task]) {
+      if (ada_ended(&lasting, next, &next) != ADA_ACCEPTED || next != task) return wrong("who was terminated");
+      next++;
+    }
+    was[task] = (uint8_t)is;
+  }
+  return ada_ended(&lasting, next, &next) == ADA_NO_SUCH_ITEM ? 1 : wrong("who wasn't terminated");
+}
+
 static int same_state(void) {
   uint64_t task;
   int64_t a = 0, b = 0;
@@ -258,7 +272,7 @@ static int names_the_gone(const request *r) {
   return wrong("nobody whom the request names was given up");
 }
 
-static int try_request(int64_t *moment) {
+static int try_request(int64_t *moment, uint8_t *ended) {
   request r = draw();
   uint64_t at = 0, also = 0;
   int32_t said;
@@ -270,7 +284,7 @@ static int try_request(int64_t *moment) {
   if (at != also) return wrong("another position");
   if (r.kind == ADA_OPENED) blocks[block_count++] = at;
   if (r.kind == ADA_TICKED) *moment += r.duration;
-  return same_events(at) && same_runnable();
+  return same_events(at) && same_runnable() && same_ended(ended);
 }
 
 static int try_release(void) {
@@ -296,6 +310,7 @@ static int try_compaction(void) {
 }
 
 static int try_sequence(void) {
+  uint8_t ended[MOST_TASKS + 1] = {0};
   int64_t moment = 0;
   size_t turn;
   int right = 1;
@@ -303,7 +318,7 @@ static int try_sequence(void) {
   if (ada_kernel_new(&whole) || ada_kernel_new_lasting(&lasting, (uint32_t)(4 + below(80)))) exit(2);
   for (turn = 0; right && turn < REQUESTS; turn++) {
     uint64_t way = below(24);
-    right = way == 0 ? try_compaction() : way == 1 ? try_release() : try_request(&moment);
+    right = way == 0 ? try_compaction() : way == 1 ? try_release() : try_request(&moment, ended);
     right = right && same_state();
   }
   ada_kernel_drop(&whole);

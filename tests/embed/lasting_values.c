@@ -173,6 +173,8 @@ static void try_null(void) {
   BAD(ADA_NULL, ada_release(&none, 1));
   BAD(ADA_NULL, ada_compact(NULL));
   BAD(ADA_NULL, ada_compact(&none));
+  BAD(ADA_NULL, ada_ended(&none, 0, &at));
+  BAD(ADA_NULL, ada_ended(&k, 0, NULL));
   BAD(ADA_NULL, ada_queued(&none, 1, 0, 0, &out));
   BAD(ADA_NULL, ada_queued(&k, 1, 0, 0, NULL));
   ada_set_clock(NULL, 5);
@@ -206,8 +208,12 @@ static void try_giving_up(void) {
   BAD(ADA_NOT_TERMINATED, ada_release(&k, 1));
   BAD(ADA_UNKNOWN_TASK, ada_release(&k, 2));
   BAD(ADA_UNKNOWN_TASK, ada_release(&k, LAST));
-  AT(9, ada_complete(&k, 1, &at));
+  BAD(ADA_NO_SUCH_ITEM, ada_ended(&k, 0, &at));
+  AT(9, ada_complete(&k, 1, &at)); /* 10 gone 1 */
+  GOOD(ada_ended(&k, 0, &at));
+  note(at == 1, "who is terminated by event 10");
   clear();
+  BAD(ADA_NO_SUCH_ITEM, ada_ended(&k, 2, &at));
   GOOD(ada_release(&k, 1));
   BAD(ADA_GIVEN_UP, ada_release(&k, 1));
   BAD(ADA_GIVEN_UP, ada_running(&k, 1, &out));

@@ -78,6 +78,12 @@ abbrev pub IsToldByWhole : {A : Type 0} → HostKernel → (List Event → Resul
 IsToldByWhole (Whole journal) whole code was written = IsTold (whole journal) code was written
 IsToldByWhole (Lasting kernel) whole code was written = (code ≡ lives_on) × (written ≡ was)
 
+-- a question that only a kernel that lives on answers
+abbrev pub IsToldByLasting : {A : Type 0} → HostKernel → (List Event → Long → Result A ℤ) → ℤ → A → A → Type 0
+IsToldByLasting (Whole journal) lasting code was written = (code ≡ keeps_all) × (written ≡ was)
+IsToldByLasting (Lasting kernel) lasting code was written =
+    (journal : List Event) → Follows journal kernel → IsToldOr (lasting journal kernel) code was written
+
 -- the attributes of all tasks and entries, which only a kernel that keeps everything tells (9.9)
 abbrev pub IsBoardOf : HostKernel → ℤ → PlainBoard → PlainBoard → Type 0
 IsBoardOf (Whole journal) code was written = (code ≡ pos 0) × (written ≡ plain_board (board_of journal))

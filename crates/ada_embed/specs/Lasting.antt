@@ -21,7 +21,7 @@ use Rattle.ada_border.specs.declared.outcomes.PlainOutcome.{PlainOutcome}
 use Rattle.ada_lasting.specs.Events.{shown, shown_at, listed, list_of}
 use Rattle.ada_lasting.specs.Following.{Long, Follows}
 use Rattle.ada_lasting.specs.GivingUp.{GivesUpOnly}
-use Rattle.ada_lasting.specs.LastRequest.{first_began}
+use Rattle.ada_lasting.specs.LastRequest.{first_began, first_ended}
 use Rattle.ada_lasting.specs.Naming.{found}
 use Rattle.ada_lasting.specs.Queues.{queued}
 use Rattle.ada_lasting.specs.Refusing.{IsUncounted, IsUncompacted, IsUnreleased, IsMadeShorter}
@@ -84,6 +84,10 @@ awaited_told task from journal kernel = with_told (of_named journal kernel task 
 -- the first task, of a number or more, that runs and didn't before the last request
 abbrev pub runnable_told : ℕ → List Event → Long → Result ℕ ℤ
 runnable_told from journal kernel = or_code (first_began journal kernel from) (bad_code NoSuchItem)
+
+-- the first task, of a number or more, that is terminated and wasn't before the last request
+abbrev pub ended_told : ℕ → List Event → Long → Result ℕ ℤ
+ended_told from journal kernel = or_code (first_ended journal kernel from) (bad_code NoSuchItem)
 
 -- the first moment for which any task waits
 abbrev pub due_told : List Event → Long → Result ℤ ℤ

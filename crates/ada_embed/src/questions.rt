@@ -6,12 +6,12 @@ ghost use Rattle.ada_border.specs.Events.{flag as flag_of};
 ghost use Rattle.ada_events.specs.Attributes.{is_finished};
 ghost use Rattle.ada_events.specs.Tasks.{task_count};
 ghost use Rattle.ada_embed.specs.Answers.{IsBoardOf, IsCountedBy, IsNumberOf, IsToldBy};
-ghost use Rattle.ada_embed.specs.Answers.{IsToldByWhole};
+ghost use Rattle.ada_embed.specs.Answers.{IsToldByLasting, IsToldByWhole};
 ghost use Rattle.ada_embed.specs.Lasting as lasts;
 ghost use Rattle.ada_embed.specs.Questions as asked;
 
 use crate::answering::{tell, tell_count, tell_or};
-use crate::codes::LIVES_ON;
+use crate::codes::{KEEPS_ALL, LIVES_ON};
 use crate::handle::Handle;
 use crate::host_kernel::HostKernel;
 use crate::lasting::questions as lasting;
@@ -170,6 +170,20 @@ pub extern "C" fn adatask_runnable(h: &mut Handle, from: u64, out: &mut u64) -> 
     let code = match h.kernel() {
         HostKernel::Whole(kernel) => tell(whole::runnable(kernel, from), out),
         HostKernel::Lasting(kernel) => tell_or(lasting::runnable(kernel, from), out),
+    };
+    code
+}
+
+/// The first task, of a number or more, that is terminated and wasn't before the last request, of a kernel that lives
+/// on.
+#[unsafe(no_mangle)]
+pub extern "C" fn adatask_ended(h: &mut Handle, from: u64, out: &mut u64) -> i32
+    ensures told { IsToldByLasting h.old.home (lasts.ended_told from) result out.old out.new }
+    ensures same { h.new.home ≡ h.old.home }
+{
+    let code = match h.kernel() {
+        HostKernel::Whole(_) => KEEPS_ALL,
+        HostKernel::Lasting(kernel) => tell_or(lasting::ended(kernel, from), out),
     };
     code
 }

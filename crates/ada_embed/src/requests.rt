@@ -23,9 +23,7 @@ pub extern "C" fn adatask_open(h: &mut Handle, now: i64, by: u64, at: &mut u64) 
 {
     let code = match h.kernel() {
         HostKernel::Whole(kernel) => whole::answer(kernel, now, requests::open_in(by), at),
-        HostKernel::Lasting(kernel) if now >= 0 => {
-            lasting::answer_at(kernel, now, lasting::open_in(by), at)
-        }
+        HostKernel::Lasting(kernel) if now >= 0 => { lasting::clocked::open(kernel, now, by, at) }
         HostKernel::Lasting(kernel) => lasting::answer(kernel, lasting::open_in(by), at),
     };
     code
@@ -53,12 +51,7 @@ pub extern "C" fn adatask_create(
             at,
         ),
         HostKernel::Lasting(kernel) if now >= 0 => {
-            lasting::answer_at(
-                kernel,
-                now,
-                lasting::create_in(by, master_kind, master, families),
-                at,
-            )
+            lasting::clocked::create(kernel, now, by, master_kind, master, families, at)
         }
         HostKernel::Lasting(kernel) => lasting::answer(
             kernel,
@@ -89,7 +82,7 @@ pub extern "C" fn adatask_activate(
             at,
         ),
         HostKernel::Lasting(kernel) if now >= 0 => {
-            lasting::answer_at(kernel, now, lasting::activate_in(by, tasks), at)
+            lasting::clocked::activate(kernel, now, by, tasks, at)
         }
         HostKernel::Lasting(kernel) => lasting::answer(kernel, lasting::activate_in(by, tasks), at),
     };
@@ -116,7 +109,7 @@ pub extern "C" fn adatask_elaborated(
             at,
         ),
         HostKernel::Lasting(kernel) if now >= 0 => {
-            lasting::answer_at(kernel, now, lasting::elaborated_in(by, ok), at)
+            lasting::clocked::elaborated(kernel, now, by, ok, at)
         }
         HostKernel::Lasting(kernel) => lasting::answer(kernel, lasting::elaborated_in(by, ok), at),
     };
@@ -147,11 +140,8 @@ pub extern "C" fn adatask_call(
             at,
         ),
         HostKernel::Lasting(kernel) if now >= 0 => {
-            lasting::answer_at(
-                kernel,
-                now,
-                lasting::call_in(by, callee, family, index, patience, duration),
-                at,
+            lasting::clocked::call(
+                kernel, now, by, callee, family, index, patience, duration, at,
             )
         }
         HostKernel::Lasting(kernel) => lasting::answer(
@@ -184,12 +174,7 @@ pub extern "C" fn adatask_wait(
             whole::wait(kernel, now, by, choices, tail, delays, pick, at)
         }
         HostKernel::Lasting(kernel) if now >= 0 => {
-            lasting::answer_at(
-                kernel,
-                now,
-                lasting::wait_in(by, choices, tail, delays, pick),
-                at,
-            )
+            lasting::clocked::wait(kernel, now, by, choices, tail, delays, pick, at)
         }
         HostKernel::Lasting(kernel) => {
             lasting::wait(kernel, by, choices, tail, delays, pick, at)
@@ -218,7 +203,7 @@ pub extern "C" fn adatask_delay(
             at,
         ),
         HostKernel::Lasting(kernel) if now >= 0 => {
-            lasting::answer_at(kernel, now, lasting::delay_in(by, duration), at)
+            lasting::clocked::delay(kernel, now, by, duration, at)
         }
         HostKernel::Lasting(kernel) => lasting::answer(kernel, lasting::delay_in(by, duration), at),
     };
@@ -234,7 +219,7 @@ pub extern "C" fn adatask_end(h: &mut Handle, now: i64, by: u64, raised: u32, at
     let code = match h.kernel() {
         HostKernel::Whole(kernel) => whole::answer(kernel, now, requests::end_in(by, raised), at),
         HostKernel::Lasting(kernel) if now >= 0 => {
-            lasting::answer_at(kernel, now, lasting::end_in(by, raised), at)
+            lasting::clocked::end(kernel, now, by, raised, at)
         }
         HostKernel::Lasting(kernel) => lasting::answer(kernel, lasting::end_in(by, raised), at),
     };
@@ -249,9 +234,7 @@ pub extern "C" fn adatask_close(h: &mut Handle, now: i64, by: u64, at: &mut u64)
 {
     let code = match h.kernel() {
         HostKernel::Whole(kernel) => whole::answer(kernel, now, requests::close_in(by), at),
-        HostKernel::Lasting(kernel) if now >= 0 => {
-            lasting::answer_at(kernel, now, lasting::close_in(by), at)
-        }
+        HostKernel::Lasting(kernel) if now >= 0 => { lasting::clocked::close(kernel, now, by, at) }
         HostKernel::Lasting(kernel) => lasting::answer(kernel, lasting::close_in(by), at),
     };
     code
@@ -266,7 +249,7 @@ pub extern "C" fn adatask_complete(h: &mut Handle, now: i64, by: u64, at: &mut u
     let code = match h.kernel() {
         HostKernel::Whole(kernel) => whole::answer(kernel, now, requests::complete_in(by), at),
         HostKernel::Lasting(kernel) if now >= 0 => {
-            lasting::answer_at(kernel, now, lasting::complete_in(by), at)
+            lasting::clocked::complete(kernel, now, by, at)
         }
         HostKernel::Lasting(kernel) => lasting::answer(kernel, lasting::complete_in(by), at),
     };
@@ -288,7 +271,7 @@ pub extern "C" fn adatask_abort(
     let code = match h.kernel() {
         HostKernel::Whole(kernel) => whole::answer(kernel, now, requests::abort_in(by, tasks), at),
         HostKernel::Lasting(kernel) if now >= 0 => {
-            lasting::answer_at(kernel, now, lasting::abort_in(by, tasks), at)
+            lasting::clocked::abort(kernel, now, by, tasks, at)
         }
         HostKernel::Lasting(kernel) => lasting::answer(kernel, lasting::abort_in(by, tasks), at),
     };
@@ -309,7 +292,7 @@ pub extern "C" fn adatask_tick(h: &mut Handle, now: i64, moment: i64, at: &mut u
             at,
         ),
         HostKernel::Lasting(kernel) if now >= 0 => {
-            lasting::answer_at(kernel, now, lasting::tick_to(moment), at)
+            lasting::clocked::tick(kernel, now, moment, at)
         }
         HostKernel::Lasting(kernel) => lasting::answer(kernel, lasting::tick_to(moment), at),
     };

@@ -117,6 +117,14 @@ pub fn runnable(kernel: &LongKernel, from: u64) -> Result<u64, i32>
     or_code(kernel.first_runnable(from), bad_code(Bad::NoSuchItem))
 }
 
+/// The first task, of a number or more, that is terminated and wasn't before the last request.
+pub fn ended(kernel: &LongKernel, from: u64) -> Result<u64, i32>
+    ensures { (journal : List Happening) → Follows journal kernel.now
+        → result ≡ spec.ended_told from journal kernel.now }
+{
+    or_code(kernel.first_terminated(from), bad_code(Bad::NoSuchItem))
+}
+
 /// The first moment for which any task waits.
 pub fn due(kernel: &LongKernel) -> Result<i64, i32>
     ensures { (journal : List Happening) → Follows journal kernel.now

@@ -1,4 +1,4 @@
-use Rattle.std.proofs.Common.{rules}
+use Rattle.std.proofs.Common.{rules, refl}
 use Rattle.ada_lasting.specs.Meaning.{meant}
 use Rattle.ada_embed.specs.Requests as asked
 use Rattle.ada_embed.specs.Requests.{read_as}
@@ -7,9 +7,8 @@ use Rattle.ada_embed.proofs.requests.adatask_close.Goals as goal
 
 pub returns-in-Lasting : goal.returns-in-Lasting
 returns-in-Lasting c =
-    answered_by c.args.h.now.home c.in-Lasting.kernel c.answer_at-code.new.kernel (asked.close_in c.args.by)
-    (read_as meant c.close_in-in-Lasting.result) _ c.args.now c.answer_at-code.result _ c.args.at.now c.answer_at-code.new.at
-    (search rules) c.close_in-in-Lasting.ensures (search rules) (search rules) c.answer_at-code.ensures
+    answered_by c.args.h.now.home c.in-Lasting.kernel c.close-code.new.kernel (asked.close_in c.args.by) _ _ c.args.now c.close-code.result _
+    c.args.at.now c.close-code.new.at (search rules) refl (search rules) (search rules) c.close-code.ensures
 
 pub returns-in-Lasting-2 : goal.returns-in-Lasting-2
 returns-in-Lasting-2 c =

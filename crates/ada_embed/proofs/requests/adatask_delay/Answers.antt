@@ -1,4 +1,4 @@
-use Rattle.std.proofs.Common.{rules}
+use Rattle.std.proofs.Common.{rules, to_z, of_z, w64}
 use Rattle.ada_lasting.specs.Meaning.{meant}
 use Rattle.ada_embed.specs.Requests as asked
 use Rattle.ada_embed.specs.Requests.{read_as}
@@ -7,9 +7,9 @@ use Rattle.ada_embed.proofs.requests.adatask_delay.Goals as goal
 
 pub returns-in-Lasting : goal.returns-in-Lasting
 returns-in-Lasting c =
-    answered_by c.args.h.now.home c.in-Lasting.kernel c.answer_at-code.new.kernel (asked.delay_in c.args.by c.args.duration)
-    (read_as meant c.delay_in-in-Lasting.result) _ c.args.now c.answer_at-code.result _ c.args.at.now c.answer_at-code.new.at
-    (search rules) (search rules) (search rules) (search rules) c.answer_at-code.ensures
+    answered_by c.args.h.now.home c.in-Lasting.kernel c.delay-code.new.kernel (asked.delay_in c.args.by c.args.duration) (asked.delay_in c.args.by (to_z w64 (of_z w64 c.args.duration))).lasting
+    _ c.args.now c.delay-code.result _ c.args.at.now c.delay-code.new.at (search rules) (search rules) (search rules) (search rules)
+    c.delay-code.ensures
 
 pub returns-in-Lasting-2 : goal.returns-in-Lasting-2
 returns-in-Lasting-2 c =

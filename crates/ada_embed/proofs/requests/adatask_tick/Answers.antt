@@ -1,4 +1,4 @@
-use Rattle.std.proofs.Common.{rules}
+use Rattle.std.proofs.Common.{rules, to_z, of_z, w64}
 use Rattle.ada_lasting.specs.Meaning.{meant}
 use Rattle.ada_embed.specs.Requests as asked
 use Rattle.ada_embed.specs.Requests.{read_as}
@@ -7,12 +7,12 @@ use Rattle.ada_embed.proofs.requests.adatask_tick.Goals as goal
 
 pub returns-in-Lasting : goal.returns-in-Lasting
 returns-in-Lasting c =
-    answered_by c.args.h.now.home c.in-Lasting.kernel c.answer_at-code.new.kernel (asked.tick_to c.args.moment)
-    (read_as meant c.tick_to.result) _ c.args.now c.answer_at-code.result _ c.args.at.now c.answer_at-code.new.at
-    (search rules) (search rules) (search rules) (search rules) c.answer_at-code.ensures
+    answered_by c.args.h.now.home c.in-Lasting.kernel c.tick-code.new.kernel (asked.tick_to c.args.moment) (asked.tick_to (to_z w64 (of_z w64 c.args.moment))).lasting
+    _ c.args.now c.tick-code.result _ c.args.at.now c.tick-code.new.at (search rules) (search rules) (search rules) (search rules)
+    c.tick-code.ensures
 
 pub returns-in-Lasting-2 : goal.returns-in-Lasting-2
 returns-in-Lasting-2 c =
     answered_by_without c.args.h.now.home c.in-Lasting.kernel c.answer-code-in-Lasting-2.new.kernel (asked.tick_to c.args.moment)
-    (read_as meant c.tick_to-in-Lasting-2.result) c.args.now c.answer-code-in-Lasting-2.result _ c.args.at.now c.answer-code-in-Lasting-2.new.at
+    (read_as meant c.tick_to.result) c.args.now c.answer-code-in-Lasting-2.result _ c.args.at.now c.answer-code-in-Lasting-2.new.at
     (search rules) (search rules) (search rules) (search rules) c.answer-code-in-Lasting-2.ensures
