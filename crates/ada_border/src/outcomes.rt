@@ -7,8 +7,8 @@ use ada_events::Outcome;
 /// The number that stands for no task.
 pub const NOBODY: u64 = u64::MAX;
 
-/// What became of a task's latest doing: its kind; the number of the alternative that was taken, from 0; and of the call
-/// that was accepted its position, and who made it, or [`NOBODY`]. What a kind has no use for is 0.
+/// What became of a task's latest doing: its kind; the number of the alternative that was taken, from 0; the position
+/// of the call that was accepted; and who made that, or [`NOBODY`]. What a kind has no use for is 0.
 #[repr(C)]
 #[derive(Clone, Copy, Debug, PartialEq, Eq)]
 pub struct PlainOutcome {

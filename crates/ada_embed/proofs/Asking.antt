@@ -1,5 +1,6 @@
 -- A kernel that lives on is asked with or without a clock of its host's, and answers in numbers.
-use Rattle.std.proofs.Common.{◌≡◌, ℕ, ℤ, pos, true, false, Result, Ok, Err, List, IfOk, IfErr, inl, inr, subst, sym, refl, ap, ◌∙◌, [], ◌∷◌, length, get_or, arith}
+use Rattle.std.proofs.Common.{◌≡◌, ℕ, ℤ, pos, true, false, Result, Ok, Err, List, [], ◌∷◌, length, get_or}
+use Rattle.std.proofs.Common.{IfOk, IfErr, inl, inr, subst, sym, refl, ap, ◌∙◌, arith}
 use Rattle.ada_events.specs.declared.event.Event.{Event}
 use Rattle.ada_events.specs.declared.request.Request.{Request}
 use Rattle.ada_border.specs.declared.bad.Bad.{Bad}

@@ -1,5 +1,6 @@
 -- Questions to a kernel that lives on, and their answers in numbers.
-use Rattle.std.specs.Prelude.{◌≡◌, ◌≢◌, ◌⊎◌, ℕ, ℤ, pos, true, ◌-◌, ◌==◌, ◌||◌, if◌then◌else◌, nat_lt, nat_le, Option, Some, None, Result, Ok, Err, List, length, option_map, slice_get}
+use Rattle.std.specs.Prelude.{◌≡◌, ◌≢◌, ◌⊎◌, ℕ, ℤ, pos, true, ◌-◌, ◌==◌, ◌||◌, if◌then◌else◌, nat_lt, nat_le}
+use Rattle.std.specs.Prelude.{Option, Some, None, Result, Ok, Err, List, length, option_map, slice_get}
 use Rattle.std.specs.Option.{is_some, option_and_then}
 use Rattle.ada_events.specs.Attributes.{is_callable, own_count}
 use Rattle.ada_events.specs.Outcomes.{outcome_of}

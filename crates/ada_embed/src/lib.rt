@@ -1,5 +1,5 @@
-//! The kernel for programs in C and Ada: its requests and questions in numbers. A kernel is of one of two kinds: it keeps
-//! everything, or it lives on.
+//! The kernel for programs in C and Ada: its requests and questions in numbers. A kernel is of one of two kinds: it
+//! keeps everything, or it lives on.
 #![tactic(auto)]
 
 ghost use Rattle.std.specs.Prelude.{◌≡◌, ◌⊎◌, pos};
@@ -22,7 +22,7 @@ pub mod whole;
 use ada_border::codes::{ACCEPTED, refusal_code};
 use ada_events::Refusal;
 use ada_kernel::Kernel;
-use ada_lasting::{LongKernel, NotDone};
+use ada_lasting::LongKernel;
 use codes::{KEEPS_ALL, lasting_code};
 use handle::Handle;
 use host_kernel::HostKernel;
@@ -60,7 +60,7 @@ pub extern "C" fn adatask_kernel_new(alloc: Global, out: &mut *mut u8) -> i32
     }
 }
 
-/// Makes a kernel that lives on, or finds no memory. Its present journal is made shorter when it has `threshold` events.
+/// Makes a kernel that lives on, or finds no memory. Its present journal is made shorter when it has so many events.
 #[unsafe(no_mangle)]
 pub extern "C" fn adatask_kernel_new_lasting(
     alloc: Global,

@@ -1,7 +1,6 @@
 //! Questions, which change nothing.
 
 ghost use Rattle.std.specs.Prelude.{◌≡◌, length};
-ghost use Rattle.ada_border.specs.Boards as boards;
 ghost use Rattle.ada_border.specs.Events.{flag as flag_of};
 ghost use Rattle.ada_events.specs.Attributes.{is_finished};
 ghost use Rattle.ada_events.specs.Tasks.{task_count};

@@ -1,10 +1,9 @@
-//! Requests of tasks. `now` is the moment of the host's clock, in milliseconds from the beginning, or negative if it has
-//! none. Accepted, the position of the request's event is written to `at`.
+//! Requests of tasks. `now` is the moment of the host's clock, in milliseconds from the beginning, or negative if it
+//! has none. Accepted, the position of the request's event is written to `at`.
 //!
 //! A function answers 0, or a code: below 100 that of a cause of a refusal, and from 100 that of what is wrong with the
 //! numbers, or that of what a kernel that lives on can't do. It writes only where it answers 0.
 
-ghost use Rattle.std.specs.Prelude.{◌≡◌};
 ghost use Rattle.ada_embed.specs.Answers.{IsAnsweredBy};
 ghost use Rattle.ada_embed.specs.Requests as asked;
 

@@ -1,6 +1,6 @@
 //! Requests to a kernel that lives on at a moment of the host's clock. Each is a function of its own, out of the way of
 //! hosts without a clock: such a request is laid into memory, and that would be cleared for those too.
-ghost use Rattle.std.specs.Prelude.{◌≡◌, List};
+ghost use Rattle.std.specs.Prelude.{List};
 ghost use Rattle.ada_events.specs.declared.event.Event.{Event as Happening};
 ghost use Rattle.ada_lasting.specs.Following.{Follows};
 ghost use Rattle.ada_embed.specs.Answers.{IsAnsweredLasting};

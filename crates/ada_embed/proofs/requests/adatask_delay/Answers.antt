@@ -7,7 +7,8 @@ use Rattle.ada_embed.proofs.requests.adatask_delay.Goals as goal
 
 pub returns-in-Lasting : goal.returns-in-Lasting
 returns-in-Lasting c =
-    answered_by c.args.h.now.home c.in-Lasting.kernel c.delay-code.new.kernel (asked.delay_in c.args.by c.args.duration) (asked.delay_in c.args.by (to_z w64 (of_z w64 c.args.duration))).lasting
+    answered_by c.args.h.now.home c.in-Lasting.kernel c.delay-code.new.kernel (asked.delay_in c.args.by c.args.duration)
+    (asked.delay_in c.args.by (to_z w64 (of_z w64 c.args.duration))).lasting
     _ c.args.now c.delay-code.result _ c.args.at.now c.delay-code.new.at (search rules) (search rules) (search rules) (search rules)
     c.delay-code.ensures
 

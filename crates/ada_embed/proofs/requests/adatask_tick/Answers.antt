@@ -7,7 +7,8 @@ use Rattle.ada_embed.proofs.requests.adatask_tick.Goals as goal
 
 pub returns-in-Lasting : goal.returns-in-Lasting
 returns-in-Lasting c =
-    answered_by c.args.h.now.home c.in-Lasting.kernel c.tick-code.new.kernel (asked.tick_to c.args.moment) (asked.tick_to (to_z w64 (of_z w64 c.args.moment))).lasting
+    answered_by c.args.h.now.home c.in-Lasting.kernel c.tick-code.new.kernel (asked.tick_to c.args.moment)
+    (asked.tick_to (to_z w64 (of_z w64 c.args.moment))).lasting
     _ c.args.now c.tick-code.result _ c.args.at.now c.tick-code.new.at (search rules) (search rules) (search rules) (search rules)
     c.tick-code.ensures
 
