@@ -173,6 +173,8 @@ procedure Ada_Answers is
    --  The client is terminated, and given up. The main program is delayed at moment 100 of the clock until 105.
    procedure Live_On is
    begin
+      Note (Ended_Task (K) = Main_Program and then Ended_Task (K, From => 1) = Server, "who is terminated by event 31");
+      Note_None (Ended_Task (K, From => 2, Said => Said'Access) = 0, "who was terminated before");
       Release (K, Client);
       Note (not Running (K, Client, Said'Access), "a task that was given up");
       Note_Answer (Given_Up, "a question about it");
@@ -192,6 +194,8 @@ procedure Ada_Answers is
    --  What only a kernel that lives on does.
    procedure Keep_All is
    begin
+      Note (Ended_Task (K, Said => Said'Access) = 0, "who is terminated where all is kept");
+      Note_Answer (Keeps_All, "a question for that");
       Release (K, Client, Said'Access);
       Note_Answer (Keeps_All, "a release where all is kept");
       Compact (K, Said'Access);
