@@ -1,6 +1,6 @@
 -- Questions to a kernel that lives on, and their answers in numbers.
 use Rattle.std.specs.Prelude.{◌≡◌, ◌≢◌, ◌⊎◌, ℕ, ℤ, pos, true, ◌-◌, ◌==◌, ◌||◌, if◌then◌else◌, nat_lt, nat_le}
-use Rattle.std.specs.Prelude.{Option, Some, None, Result, Ok, Err, List, length, option_map, slice_get}
+use Rattle.std.specs.Prelude.{Option, Some, None, Result, Ok, Err, List, [], length, option_map, slice_get}
 use Rattle.std.specs.Option.{is_some, option_and_then}
 use Rattle.ada_events.specs.Attributes.{is_callable, own_count}
 use Rattle.ada_events.specs.Outcomes.{outcome_of}
@@ -148,11 +148,11 @@ IsCountedOr journal kernel by (Err bad) code was written = (code ≡ bad_code ba
 
 -- ---- of what may be given up
 
--- the task was given up, and all others keep their names; or it wasn't, and nothing is changed
+-- the task was given up, all others keep their names, and no events are shown; or it wasn't, and nothing is changed
 abbrev pub IsReleased : ℕ → List Event → ℤ → Long → Long → Type 0
 IsReleased task journal code before after =
     ((code ≡ pos 0) × Follows journal after × (is_some (found before.names.tasks task) ≡ true) × (found after.names.tasks task ≡ None)
-    × ((other : ℕ) → other ≢ task → found after.names.tasks other ≡ found before.names.tasks other))
+    × ((other : ℕ) → other ≢ task → found after.names.tasks other ≡ found before.names.tasks other) × (after.group ≡ []))
     ⊎ ((cause : NotDone) × IsUnreleased journal before.names task cause × (code ≡ lasting_code cause) × (after ≡ before))
 
 -- the present journal was made shorter; or it wasn't, and nothing is changed
