@@ -513,7 +513,8 @@ static inline int32_t ada_kernel_new(ada_kernel *k) {
  * the number of their creation and positions are counted from the beginning, in 64 bits; no number is used twice. The
  * events that still matter lie in a journal that is made shorter when it has `threshold` of them, 4,096 say; that takes
  * a moment longer than another request. Terminated tasks whose masters are gone are given up then: what names such a
- * task is answered ADA_GIVEN_UP. The events of the last request can be asked for, and no others.
+ * task is answered ADA_GIVEN_UP. The events of the last request can be asked for, and no others. ADA_TOO_MANY_TASKS and
+ * ADA_TOO_MANY_SLOTS count what lives here, what isn't given up, and what helps to keep it in a shorter journal.
  */
 static inline int32_t ada_kernel_new_lasting(ada_kernel *k, uint32_t threshold) {
   if (!k) return ADA_NULL;
@@ -564,7 +565,8 @@ static inline int ada_has(const ada_kernel *k, const void *out) { return k && k-
  * ---- Requests: `by` is the task that asks, and `at` is written the position of its event ----
  *
  * What is wrong with the numbers is answered before any cause, for the first number from the left that is. A duration
- * counts from the kernel's moment, that of the last tick; a negative one counts as 0.
+ * counts from the moment of the host's clock, or without one from the kernel's moment, that of the last tick; a negative
+ * one counts as 0.
  */
 
 /* Opens a block within what the task is in (5.6, 9.4). */
@@ -700,7 +702,8 @@ static inline int32_t ada_awaited(ada_kernel *k, uint64_t task, uint64_t from, u
 
 /*
  * The first task numbered `from` or more that runs and didn't before the last request that was accepted, or
- * ADA_NO_SUCH_ITEM. All of them: for (t = 0; ada_runnable(&k, t, &t) == 0; t++) ...
+ * ADA_NO_SUCH_ITEM. All of them: for (t = 0; ada_runnable(&k, t, &t) == 0; t++) ... A kernel that lives on tells it until
+ * a task is released or the journal is made shorter.
  */
 static inline int32_t ada_runnable(ada_kernel *k, uint64_t from, uint64_t *out) {
   return ada_has(k, out) ? adatask_runnable(&k->handle, from, out) : ADA_NULL;
@@ -708,7 +711,7 @@ static inline int32_t ada_runnable(ada_kernel *k, uint64_t from, uint64_t *out) 
 
 /*
  * The first task numbered `from` or more that is terminated and wasn't before the last request that was accepted, or
- * ADA_NO_SUCH_ITEM; of a kernel that lives on.
+ * ADA_NO_SUCH_ITEM; of a kernel that lives on, until a task is released or the journal is made shorter.
  */
 static inline int32_t ada_ended(ada_kernel *k, uint64_t from, uint64_t *out) {
   return ada_has(k, out) ? adatask_ended(&k->handle, from, out) : ADA_NULL;
