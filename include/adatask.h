@@ -565,8 +565,8 @@ static inline int ada_has(const ada_kernel *k, const void *out) { return k && k-
  * ---- Requests: `by` is the task that asks, and `at` is written the position of its event ----
  *
  * What is wrong with the numbers is answered before any cause, for the first number from the left that is. A duration
- * counts from the moment of the host's clock, or without one from the kernel's moment, that of the last tick; a negative
- * one counts as 0.
+ * counts from the moment of the host's clock, or without one from the kernel's moment, that of the last tick; a
+ * negative one counts as 0.
  */
 
 /* Opens a block within what the task is in (5.6, 9.4). */
@@ -702,8 +702,8 @@ static inline int32_t ada_awaited(ada_kernel *k, uint64_t task, uint64_t from, u
 
 /*
  * The first task numbered `from` or more that runs and didn't before the last request that was accepted, or
- * ADA_NO_SUCH_ITEM. All of them: for (t = 0; ada_runnable(&k, t, &t) == 0; t++) ... A kernel that lives on tells it until
- * a task is released or the journal is made shorter.
+ * ADA_NO_SUCH_ITEM. All of them: for (t = 0; ada_runnable(&k, t, &t) == 0; t++) ... A kernel that lives on tells it
+ * until a task is released or the journal is made shorter.
  */
 static inline int32_t ada_runnable(ada_kernel *k, uint64_t from, uint64_t *out) {
   return ada_has(k, out) ? adatask_runnable(&k->handle, from, out) : ADA_NULL;
