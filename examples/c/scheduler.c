@@ -1,7 +1,7 @@
 /* SPDX-License-Identifier: MIT */
 /*
- * A little run-time system over the kernel: tasks are coroutines, one processor is shared in turn, and time is
- * simulated. The kernel says what the rules force; the system has to do two things:
+ * A little run-time system over a kernel that lives on: tasks are coroutines, one processor is shared in turn, and time
+ * is simulated. The kernel says what the rules force; the system has to do two things:
  *
  * - After each request, ada_runnable names whoever runs now and didn't before: they come into the ready list.
  * - When nobody is ready, ada_next_due names the next moment for which a task waits: the clock moves there.
@@ -25,6 +25,8 @@ typedef struct task {
   int turn;         /* the number of a loop's turn */
   int item;         /* what its call carries; parameters are the run-time system's, not the kernel's */
   uint64_t request; /* the position of its latest request */
+  uint64_t callee;  /* whom it called last, and which entry */
+  uint32_t family;
 } task;
 
 static task tasks[TASKS];
@@ -47,14 +49,17 @@ static uint64_t number_of(const task *self) { return (uint64_t)(self - tasks); }
 
 static const char *name(uint64_t number) { return tasks[number].name; }
 
-static ada_event event_at(uint64_t position) {
-  ada_event e;
-  must(ada_event_at(&k, position, &e));
-  return e;
+/* The task whose latest request stands at a position: it is still held up by that, or has just been let go. The kernel
+   shows the events of the last request alone. */
+static const task *asker_at(uint64_t position) {
+  uint64_t number;
+  for (number = 0; number < TASKS; number++)
+    if (tasks[number].request == position) return &tasks[number];
+  fprintf(stderr, "scheduler: nobody asked for event %lu last\n", (unsigned long)position);
+  exit(1);
 }
 
-/* The task that asked for the event at a position. */
-static const char *asker(uint64_t position) { return name(event_at(position).task); }
+static const char *asker(uint64_t position) { return asker_at(position)->name; }
 
 static void tell_list(uint64_t position) {
   uint64_t place, number;
@@ -77,8 +82,8 @@ static void tell_call(const ada_event *e) {
 }
 
 static void tell_meeting(const ada_event *e) {
-  ada_event call = event_at(e->call);
-  printf("  %s accepts %s of %s", name(call.callee), entries[call.callee][call.family], name(call.task));
+  const task *caller = asker_at(e->call);
+  printf("  %s accepts %s of %s", name(caller->callee), entries[caller->callee][caller->family], caller->name);
 }
 
 /* What a task asked for, and what the clock did. */
@@ -117,7 +122,8 @@ static void tell_step(const ada_event *e) {
 /* The events from a position on: a request, and the steps that it forced. */
 static void tell(uint64_t position) {
   for (; position <= ada_events(&k); position++) {
-    ada_event e = event_at(position);
+    ada_event e;
+    must(ada_event_at(&k, position, &e));
     printf("%4d  ", (int)now);
     if (e.kind <= ADA_TICKED) tell_request(position, &e);
     else tell_step(&e);
@@ -145,9 +151,12 @@ static uint64_t take_ready(void) {
   return number;
 }
 
+/* A task that was given up is terminated. */
 static int is_running(uint64_t number) {
   uint32_t runs;
-  must(ada_running(&k, number, &runs));
+  int32_t code = ada_running(&k, number, &runs);
+  if (code == ADA_GIVEN_UP) return 0;
+  must(code);
   return runs != 0;
 }
 
@@ -207,10 +216,14 @@ static int32_t activate(task *self, uint64_t low, uint64_t high) {
 }
 
 static int32_t call(task *self, uint64_t callee, uint32_t family) {
+  self->callee = callee;
+  self->family = family;
   return ada_call(&k, number_of(self), callee, family, 0, ADA_SIMPLE, 0, &self->request);
 }
 
 static int32_t call_within(task *self, uint64_t callee, uint32_t family, int64_t duration) {
+  self->callee = callee;
+  self->family = family;
   return ada_call(&k, number_of(self), callee, family, 0, ADA_TIMED, duration, &self->request);
 }
 
@@ -237,10 +250,10 @@ static int32_t select_put_or_get(task *self) {
   return ada_wait(&k, number_of(self), choices, 2, ADA_TERMINATE, NULL, 0, 0, &self->request);
 }
 
-/* The statements of the accept statement: its wait's outcome says which alternative was taken, and by whose call. */
+/* The statements of the accept statement: its wait's outcome says which alternative was taken, and who called. */
 static void carry_item(task *self) {
   ada_outcome taken = outcome_of(self);
-  task *caller = &tasks[event_at(taken.call).task];
+  task *caller = &tasks[taken.caller];
   if (taken.number == PUT) {
     places[held++] = caller->item;
   } else {
@@ -361,7 +374,7 @@ int main(void) {
   set(CLERK, "Clerk", clerk);
   set(ANN, "Ann", ann);
   set(SLEEPER, "Sleeper", sleeper);
-  must(ada_kernel_new(&k));
+  must(ada_kernel_new_lasting(&k, 30));
   run_all();
   ada_kernel_drop(&k);
   return 0;
