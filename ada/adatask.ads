@@ -87,7 +87,7 @@ package Adatask is
       No_Kernel,            --  the kernel was dropped, or memory for it was refused
       Given_Up,             --  the task, or the event, was given up
       Not_Terminated,       --  the task isn't terminated, so it can't be given up
-      No_Room,              --  what lives leaves no room in which the journal could be made shorter
+      No_Room,              --  no shorter journal was found: there is no room for helpers, mostly
       Not_Compacted,        --  for want of memory the journal wasn't made shorter; a request doesn't fit then
       No_More_Names,        --  all numbers of tasks or positions are used up
       Lives_On,             --  only a kernel that keeps everything does this
@@ -526,7 +526,7 @@ package Adatask is
 
    --  The first task with the number From or more for which T waits, or No_Such_Item: its maker, if it isn't started;
    --  those that it activates; the task that it called; the dependents of the block that it leaves, or of its own body.
-   --  It searches the journal, and is for diagnosis.
+   --  It looks at all tasks, and is for diagnosis.
    function Awaited
      (K : in out Kernel; T : Task_Number; From : Task_Number := 0; Said : access Answer := null) return Task_Number;
 

@@ -101,7 +101,7 @@ enum {
   ADA_NULL = 107,                /* a pointer is null, or there is no kernel */
   ADA_GIVEN_UP = 108,            /* the task, or the event, was given up */
   ADA_NOT_TERMINATED = 109,      /* the task isn't terminated, so it can't be given up */
-  ADA_NO_ROOM = 110,             /* what lives leaves no room in which the journal could be made shorter */
+  ADA_NO_ROOM = 110,             /* no shorter journal was found: there is no room for helpers, mostly */
   ADA_NOT_COMPACTED = 111,       /* for want of memory the journal wasn't made shorter; a request doesn't fit then */
   ADA_NO_MORE_NAMES = 112,       /* all numbers of tasks or positions below 2 to the power of 64 are used up */
   ADA_LIVES_ON = 113,            /* only a kernel that keeps everything does this */
@@ -694,7 +694,7 @@ static inline int32_t ada_reason_of(ada_kernel *k, uint64_t task, ada_reason *ou
 /*
  * The first task numbered `from` or more for which a task waits, or ADA_NO_SUCH_ITEM: its maker, if it isn't started;
  * those that it activates; the task that it called; the dependents of the block that it leaves, or of its own body. It
- * searches the journal, and is for diagnosis.
+ * looks at all tasks, and is for diagnosis.
  */
 static inline int32_t ada_awaited(ada_kernel *k, uint64_t task, uint64_t from, uint64_t *out) {
   return ada_has(k, out) ? adatask_awaited(&k->handle, task, from, out) : ADA_NULL;

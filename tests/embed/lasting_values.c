@@ -235,8 +235,10 @@ static void try_giving_up(void) {
   BAD(ADA_GIVEN_UP, ada_event_at(&k, 10, &told.event));
 }
 
-/* Events 11 to 16. A delay of 50 at moment 100 takes no tick, and is due at 150; one of 0 at moment 170 takes one. */
+/* Events 11 to 16. A delay of 50 at moment 100 takes no tick, and is due at 150; one of 0 at moment 170 takes one. Then
+   requests without a duration, to which the clock adds nothing. */
 static void try_clock(void) {
+  const uint64_t second = 2;
   ada_set_clock(&k, 100);
   AT(11, ada_delay(&k, 0, 50, &at));
   GOOD(ada_next_due(&k, &moment));
@@ -251,8 +253,14 @@ static void try_clock(void) {
   note(ada_events(&k) == 16, "a tick before it");
   clear();
   BAD(ADA_UNKNOWN_TASK, ada_open(&k, 2, &at));
+  AT(17, ada_open(&k, 0, &at));
+  AT(18, ada_close(&k, 0, &at)); /* 19 left 18 */
+  AT(20, ada_create(&k, 0, ADA_BODY, 0, NULL, 0, &at));
+  AT(21, ada_activate(&k, 0, &second, 1, &at));
+  AT(22, ada_elaborated(&k, 2, 1, &at)); /* 23 activated 21 ok */
+  AT(24, ada_abort(&k, 0, &second, 1, &at)); /* 25 halted 2, 26 gone 2 */
   ada_set_clock(&k, ADA_NO_CLOCK);
-  AT(17, ada_delay(&k, 0, 5, &at));
+  AT(27, ada_delay(&k, 0, 5, &at));
   GOOD(ada_next_due(&k, &moment));
   note(moment == 175, "a delay from the last tick");
 }
