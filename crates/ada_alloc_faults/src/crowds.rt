@@ -1,6 +1,5 @@
 //! Trials of a kernel that lives on beside 256 tasks that live, where no compaction finds room.
 
-use crate::kernels::are_same;
 use crate::lasting::{
     CLIENT, LAST, SERVER, activate, are_alike, call_of, create, show_the_same, up,
 };
@@ -155,7 +154,7 @@ impl Trial for Crowd {
             (Some(kernel), Some(other)) => {
                 are_alike(kernel, other)
                     && show_the_same(kernel, other)
-                    && are_same(kernel.present(), other.present())
+                    && kernel.keeps_the_same(other)
             }
             _ => false,
         }

@@ -191,7 +191,7 @@ impl Trial for Play {
 }
 
 /// Whether two kernels have the same journal, and answer every query alike.
-pub fn are_same(kernel: &Kernel, other: &Kernel) -> bool {
+fn are_same(kernel: &Kernel, other: &Kernel) -> bool {
     kernel.journal().as_slice() == other.journal().as_slice()
         && kernel.tasks() == other.tasks()
         && kernel.finished() == other.finished()

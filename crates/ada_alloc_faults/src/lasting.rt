@@ -1,6 +1,5 @@
 //! Trials of a kernel that lives on.
 
-use crate::kernels::are_same;
 use crate::trial::{Answer, Trial};
 use ada_compact::NotCompacted;
 use ada_events::{Choice, Choices, Entry, Families, Family, Patience, Refusal, Tail};
@@ -283,7 +282,7 @@ impl Trial for Living {
                 (Some(kernel), Some(other_kernel)) => {
                     are_alike(kernel, other_kernel)
                         && show_the_same(kernel, other_kernel)
-                        && are_same(kernel.present(), other_kernel.present())
+                        && kernel.keeps_the_same(other_kernel)
                 }
                 (None, None) => true,
                 _ => false,

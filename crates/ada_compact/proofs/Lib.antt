@@ -1,4 +1,4 @@
-mod Equal
+pub mod Equal
 mod Nesting
 mod Holding
 mod Suspended

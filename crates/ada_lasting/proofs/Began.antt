@@ -18,7 +18,8 @@ use Rattle.ada_standing.proofs.alike.Searches.{given_below, below_bound, below_f
 use Rattle.ada_standing.proofs.alike.Pairs.{live_from, active_parts}
 use Rattle.ada_standing.proofs.alike.Phases.{running_alike}
 use Rattle.ada_waiting.specs.Runnable.{before_last, began_to_run, first_runnable}
-use Rattle.ada_lasting.specs.Naming.{named_by, renaming_of}
+use Rattle.ada_lasting.specs.Naming.{renaming_of}
+use Rattle.ada_lasting.specs.internal.NamesBack.{named_by}
 use Rattle.ada_lasting.specs.Following.{Long, Follows, before_shown}
 use Rattle.ada_lasting.specs.LastRequest.{first_since, first_began, first_ended}
 use Rattle.ada_lasting.specs.Waiting.{DivideAlike}

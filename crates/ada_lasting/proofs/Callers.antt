@@ -23,7 +23,8 @@ use Rattle.ada_waiting.specs.declared.reasons.Reason.{Reason}
 use Rattle.ada_waiting.specs.declared.reasons.Reason.TheVariants as reason
 use Rattle.ada_waiting.specs.Reasons.{reason_at, reason_by, held_reason, reason_of, suspended_at}
 use Rattle.ada_waiting.proofs.Holding.{suspended_at_from}
-use Rattle.ada_lasting.specs.Naming.{found, named_by, position_of, renaming_of}
+use Rattle.ada_lasting.specs.Naming.{found, position_of, renaming_of}
+use Rattle.ada_lasting.specs.internal.NamesBack.{named_by}
 use Rattle.ada_lasting.specs.Following.{Long, Follows}
 use Rattle.ada_lasting.specs.Outcomes.{is_in_rendezvous, caller_of, told_outcome}
 use Rattle.ada_lasting.specs.Waiting.{renamed_reason}

@@ -9,7 +9,9 @@ use Rattle.ada_events.specs.declared.event.Event.{Event}
 use Rattle.ada_events.specs.Tasks.{task_count}
 use Rattle.ada_waiting.specs.Awaited.{first_awaited}
 use Rattle.ada_lasting.specs.declared.rows.Row.{Row}
-use Rattle.ada_lasting.specs.Naming.{found, named_by, renaming_of, rises_between}
+use Rattle.ada_lasting.specs.Naming.{found, renaming_of}
+use Rattle.ada_lasting.specs.internal.Keeping.{rises_between}
+use Rattle.ada_lasting.specs.internal.NamesBack.{named_by}
 use Rattle.ada_lasting.specs.Following.{Long, Follows}
 use Rattle.ada_lasting.specs.Waiting.{DivideAlike}
 use Rattle.ada_lasting.specs.internal.Awaiting.{first_name, first_there}

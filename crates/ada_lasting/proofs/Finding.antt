@@ -10,8 +10,8 @@ use Rattle.std.proofs.lemmas.List.{at_drop_more}
 use Rattle.std.proofs.lemmas.Option.{none-some, same_Some}
 use Rattle.std.proofs.lemmas.Bool.Decides.{nat_tests}
 use Rattle.ada_lasting.specs.declared.rows.Row.{Row}
-use Rattle.ada_lasting.specs.Naming.{found, rises_between}
-use Rattle.ada_lasting.specs.internal.Keeping.{name_tasks}
+use Rattle.ada_lasting.specs.Naming.{found}
+use Rattle.ada_lasting.specs.internal.Keeping.{name_tasks, rises_between}
 
 abbrev pub no_row : Row
 no_row = record { lasting = 0; present = 0 }

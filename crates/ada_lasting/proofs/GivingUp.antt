@@ -16,13 +16,13 @@ use Rattle.ada_standing.specs.Names.{Names, named, renaming_of as standing_of}
 use Rattle.ada_standing.specs.StandsIn.{StandsIn}
 use Rattle.ada_standing.proofs.alike.Pairs.{live_from}
 use Rattle.ada_compact.specs.Kept.{AreNamed}
-use Rattle.ada_lasting.specs.Naming.{Naming, AreInOrder, found, renaming_of}
+use Rattle.ada_lasting.specs.Naming.{Naming, found, renaming_of}
+use Rattle.ada_lasting.specs.internal.Keeping.{AreInOrder, grown_to}
 use Rattle.ada_lasting.specs.Meaning.{meant_master}
 use Rattle.ada_lasting.specs.Following.{Long, Follows}
 use Rattle.ada_lasting.specs.GivingUp.{MayBeGivenUp, GivesUpOnly}
 use Rattle.ada_lasting.specs.Remembering.{IsRemembered}
 use Rattle.ada_lasting.specs.declared.rows.Row.{Row}
-use Rattle.ada_lasting.specs.internal.Keeping.{grown_to}
 use Rattle.ada_lasting.specs.internal.Mastering.{IsGoneHere, IsKeptOrGone}
 use Rattle.ada_lasting.specs.internal.Moving.{moved_names}
 use Rattle.ada_lasting.specs.internal.Present.{named_next}

@@ -16,8 +16,8 @@ use Rattle.ada_laws.proofs.searching.Growing.{task_count-same}
 use Rattle.ada_laws.proofs.forced.Stepping.{forced-step}
 use Rattle.ada_standing.specs.Leading.{LedAlike}
 use Rattle.ada_lasting.specs.declared.rows.Row.{Row}
-use Rattle.ada_lasting.specs.Naming.{Naming, found, rises_between, position_of, renaming_of, length_of}
-use Rattle.ada_lasting.specs.internal.Keeping.{with_task}
+use Rattle.ada_lasting.specs.Naming.{Naming, found, position_of, renaming_of, length_of}
+use Rattle.ada_lasting.specs.internal.Keeping.{rises_between, with_task}
 use Rattle.ada_lasting.specs.Refusing.{creates}
 use Rattle.ada_lasting.proofs.MovedNames.{found_above}
 

@@ -25,3 +25,4 @@ mod Callers
 mod Shown
 mod waits
 mod Timely
+mod Compared

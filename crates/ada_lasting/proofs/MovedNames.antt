@@ -10,7 +10,8 @@ use Rattle.ada_standing.specs.declared.renaming.Place.{Place}
 use Rattle.ada_standing.specs.Names.{Names, named, placed, rises_from, renaming_of as standing_of}
 use Rattle.ada_standing.specs.Renaming.{chained}
 use Rattle.ada_lasting.specs.declared.rows.Row.{Row}
-use Rattle.ada_lasting.specs.Naming.{Naming, found, rises_between, position_of, renaming_of, length_of}
+use Rattle.ada_lasting.specs.Naming.{Naming, found, position_of, renaming_of, length_of}
+use Rattle.ada_lasting.specs.internal.Keeping.{rises_between}
 use Rattle.ada_lasting.specs.internal.Moving.{with_row, moved, later, moved_places, moved_names}
 use Rattle.ada_lasting.proofs.Finding.{no_row, first_of, if_cases}
 

@@ -4,7 +4,9 @@ use Rattle.std.specs.Prelude.{◌==◌}
 use Rattle.std.proofs.lemmas.Bool.{cases_eq, cases_lt, eqb-true, le-leb, le-ltb, lt-leb, lt-ltb, ne_eqb, eq-eqb}
 use Rattle.std.proofs.lemmas.Option.{none-some, same_Some}
 use Rattle.ada_lasting.specs.declared.rows.Row.{Row}
-use Rattle.ada_lasting.specs.Naming.{Naming, found, named_by, rises_between, position_of, lasting_of}
+use Rattle.ada_lasting.specs.Naming.{Naming, found, position_of}
+use Rattle.ada_lasting.specs.internal.Keeping.{rises_between}
+use Rattle.ada_lasting.specs.internal.NamesBack.{named_by, lasting_of}
 use Rattle.ada_lasting.proofs.Finding.{first_of, if_cases}
 use Rattle.ada_lasting.proofs.MovedNames.{found_below, found_above, position-later, position-past, position-before}
 

@@ -15,7 +15,8 @@ use Rattle.ada_standing.specs.StandsIn.{StandsIn, is_live}
 use Rattle.ada_standing.proofs.chained.Chain.{stand_ins_chain}
 use Rattle.ada_standing.proofs.chained.Quiet.{fewer_names_stand_in}
 use Rattle.ada_lasting.specs.declared.rows.Row.{Row}
-use Rattle.ada_lasting.specs.Naming.{Naming, AreInOrder, found, renaming_of, rises_between}
+use Rattle.ada_lasting.specs.Naming.{Naming, found, renaming_of}
+use Rattle.ada_lasting.specs.internal.Keeping.{AreInOrder, rises_between}
 use Rattle.ada_lasting.specs.internal.Mastering.{named_masters}
 use Rattle.ada_lasting.specs.internal.Moving.{moved_names, without, without_task}
 use Rattle.ada_lasting.specs.Following.{Long, Follows}

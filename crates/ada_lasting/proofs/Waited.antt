@@ -7,7 +7,8 @@ use Rattle.ada_laws.proofs.asking.Limitless.{lawful_unlimited}
 use Rattle.ada_waiting.specs.declared.reasons.Reason.{Reason}
 use Rattle.ada_waiting.specs.declared.reasons.Reason.TheVariants.{NotStarted, Activating, Queued, InRendezvous, Waiting, Delayed, Leaving, Completed}
 use Rattle.ada_waiting.specs.Reasons.{reason_of}
-use Rattle.ada_lasting.specs.Naming.{lasting_of, position_of, found, renaming_of}
+use Rattle.ada_lasting.specs.Naming.{position_of, found, renaming_of}
+use Rattle.ada_lasting.specs.internal.NamesBack.{lasting_of}
 use Rattle.ada_lasting.specs.Following.{Long, Follows}
 use Rattle.ada_lasting.specs.Waiting.{AllWaitAlike, renamed_reason}
 use Rattle.ada_lasting.specs.internal.Present.{IsPresent}

@@ -6,8 +6,8 @@ use Rattle.ada_events.specs.declared.event.Event.{Event}
 use Rattle.ada_standing.specs.StandsIn.{is_live}
 use Rattle.ada_standing.specs.Fewer.{AreEnough}
 use Rattle.ada_lasting.specs.declared.rows.Row.{Row}
-use Rattle.ada_lasting.specs.Naming.{Naming, found, rises_between, renaming_of}
-use Rattle.ada_lasting.specs.internal.Keeping.{name_tasks}
+use Rattle.ada_lasting.specs.Naming.{Naming, found, renaming_of}
+use Rattle.ada_lasting.specs.internal.Keeping.{name_tasks, rises_between}
 use Rattle.ada_lasting.specs.internal.Moving.{without, without_task}
 use Rattle.ada_lasting.proofs.Finding.{first_of}
 use Rattle.ada_lasting.proofs.MovedNames.{rises_from_less}

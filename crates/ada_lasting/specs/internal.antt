@@ -2,6 +2,7 @@
 pub mod Present
 pub mod Nameable
 pub mod Keeping
+pub mod NamesBack
 pub mod Causes
 pub mod Moving
 pub mod Mastering

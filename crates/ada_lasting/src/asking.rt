@@ -9,7 +9,7 @@ ghost use Rattle.ada_lasting.specs.Meaning.{meant, meant_master};
 ghost use Rattle.ada_lasting.specs.internal.Nameable.{all_noted, noted, noted_by};
 ghost use Rattle.ada_lasting.specs.Naming.{renaming_of};
 
-use crate::Names;
+use crate::names::Names;
 use crate::requests::{LastingMaster, LastingRequest, LastingTasks};
 use ada_events::{Master, Request, TaskNo, Tasks};
 

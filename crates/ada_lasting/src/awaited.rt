@@ -8,8 +8,9 @@ ghost use Rattle.ada_lasting.specs.Following.{Follows};
 ghost use Rattle.ada_lasting.specs.Naming.{found};
 ghost use Rattle.ada_lasting.specs.internal.Awaiting.{first_there};
 
+use crate::LongKernel;
+use crate::names::Names;
 use crate::rows::first_name;
-use crate::{LongKernel, Names};
 use ada_events::TaskNo;
 
 impl Names {

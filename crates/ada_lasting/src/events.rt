@@ -10,7 +10,8 @@ ghost use Rattle.ada_lasting.specs.Following.{Follows};
 ghost use Rattle.ada_lasting.specs.Meaning.{meant_master};
 ghost use Rattle.ada_lasting.specs.internal.Events as lasting;
 
-use crate::{LastingMaster, LongKernel, Names};
+use crate::names::Names;
+use crate::{LastingMaster, LongKernel};
 use ada_border::events::{PlainEvent, plain_of};
 use ada_border::lists::{PlainLengths, choices_of, dues_of, families_of, lengths_of, tasks_of};
 use ada_events::{Choice, Event, Family, Master, TaskNo};

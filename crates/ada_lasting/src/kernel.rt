@@ -20,6 +20,7 @@ ghost use Rattle.ada_lasting.specs.internal.Causes.{IsRoomless};
 ghost use Rattle.ada_lasting.specs.Naming.{AreOneToOne, found};
 ghost use Rattle.ada_lasting.specs.Refusing.{IsCause, IsMadeShorter, IsRefused, IsUncompacted, IsUncounted, IsUnreleased, creates};
 
+use crate::comparing::are_same_kernels;
 use crate::ended::{Flags, first_ended, read_ended, take_ended};
 use crate::failure::NotDone;
 use crate::masters::Masters;
@@ -350,18 +351,16 @@ impl LongKernel {
         first_ended(&self.kernel, &self.ended, from)
     }
 
-    /// What has lasting names in the present journal.
-    pub fn names(&self) -> &Names
+    // What has lasting names in the present journal.
+    pub(crate) fn names(&self) -> &Names
         ensures names { result.now ≡ self.now.names }
         ensures one { AreOneToOne result.now }
     {
         &self.names
     }
 
-    /// The kernel with the present journal. There is a journal without an end that this kernel follows: each clause
-    /// that begins with one tells of it. How many tasks and slots there are, and who began to run last, is answered of
-    /// the present journal alone; [`LongKernel::first_runnable`] tells who began to run by the last request.
-    pub fn present(&self) -> &Kernel
+    // The kernel with the present journal.
+    pub(crate) fn present(&self) -> &Kernel
         ensures present { result.now ≡ self.now.present }
         ensures follows { LivesOn self.now }
     {
@@ -424,5 +423,16 @@ impl LongKernel {
     {
         self.known();
         self.kernel.finished()
+    }
+
+    /// Whether two kernels keep the same: present journals, names, masters of tasks, and events that are shown; and
+    /// answer alike of each task of these journals. When each journal is made shorter next isn't compared.
+    pub fn keeps_the_same(&self, other: &LongKernel) -> bool
+        ensures { result ≡ true → self.now ≡ other.now }
+    {
+        are_same_kernels(&self.kernel, &other.kernel)
+            && self.names.are_same(&other.names)
+            && self.masters.are_same(&other.masters)
+            && self.group == other.group
     }
 }

@@ -6,6 +6,7 @@
 pub mod asking;
 pub mod awaited;
 pub mod clock;
+pub mod comparing;
 pub mod counting;
 pub mod ended;
 pub mod events;
@@ -28,7 +29,6 @@ pub use failure::NotDone;
 pub use kernel::LongKernel;
 pub use masters::Dependent;
 pub use moving::NotMoved;
-pub use names::Names;
 pub use outcomes::LastingOutcome;
 pub use reasons::LastingReason;
 pub use requests::{LastingMaster, LastingRequest, LastingTasks};

@@ -15,8 +15,8 @@ ghost use Rattle.ada_standing.specs.Renaming.{renamed_master};
 ghost use Rattle.ada_events.specs.Holders.{is_block};
 ghost use Rattle.ada_standing.specs.StandsIn.{is_live};
 
-use crate::Names;
 use crate::failure::NotDone;
+use crate::names::Names;
 use crate::requests::LastingMaster;
 use ada_events::{Master, Refusal, TaskNo};
 use ada_view::{View, queries};
@@ -115,6 +115,12 @@ impl Names {
     }
 }
 
+fn are_same(dependents: &[Dependent], others: &[Dependent]) -> bool
+    ensures { result ≡ true → dependents.now ≡ others.now }
+{
+    dependents == others
+}
+
 impl Masters {
     pub(crate) fn new(alloc: Global) -> Self
         ensures { result ≡ [] }
@@ -198,6 +204,13 @@ impl Masters {
             }
         }
         Ok(kept)
+    }
+
+    /// Whether these are the same masters of the same tasks.
+    pub(crate) fn are_same(&self, other: &Masters) -> bool
+        ensures { result ≡ true → self.now ≡ other.now }
+    {
+        are_same(&self.dependents, &other.dependents)
     }
 
     /// Forgets the tasks that have no names any more.

@@ -3,8 +3,9 @@
 ghost use Rattle.std.specs.Prelude.{◌≡◌, ◌≤◌, ◌<◌, ◌+◌, ◌-◌, ◌^◌, ℕ, IfOk, OnErr, OnOk};
 ghost use Rattle.std.specs.Option.{option_map};
 ghost use Rattle.ada_events.specs.declared.names.TaskNo.{TaskNo as Number};
-ghost use Rattle.ada_lasting.specs.Naming.{AreInOrder, Naming, found, lasting_of, length_of, named_by, position_of};
-ghost use Rattle.ada_lasting.specs.internal.Keeping.{first_names, grown_to, with_task};
+ghost use Rattle.ada_lasting.specs.Naming.{Naming, found, length_of, position_of};
+ghost use Rattle.ada_lasting.specs.internal.Keeping.{AreInOrder, first_names, grown_to, with_task};
+ghost use Rattle.ada_lasting.specs.internal.NamesBack.{lasting_of, named_by};
 
 use crate::rows::{Row, find, find_near, name_of};
 use ada_events::TaskNo;
@@ -13,7 +14,7 @@ use std::marker::Model;
 
 /// What has lasting names in the present journal, for the tasks and positions that may still be named.
 #[derive(Drop)]
-pub struct Names {
+pub(crate) struct Names {
     pub(crate) tasks: Vec<Row>,
     // Of positions that were before the present journal.
     pub(crate) places: Vec<Row>,
@@ -28,8 +29,8 @@ pub struct Names {
 
 impl Model for Names {
     ghost use Rattle.std.specs.Prelude.{◌≡◌, ◌≤◌, ◌<◌, ◌+◌, ◌^◌, suc, true};
-    ghost use Rattle.ada_lasting.specs.Naming.{Naming, rises_between};
-    ghost use Rattle.ada_lasting.specs.internal.Keeping.{name_tasks};
+    ghost use Rattle.ada_lasting.specs.Naming.{Naming};
+    ghost use Rattle.ada_lasting.specs.internal.Keeping.{name_tasks, rises_between};
 
     ghost Value = { Naming };
 
@@ -70,7 +71,7 @@ impl Names {
     }
 
     /// How many tasks were made ever, the main program counted.
-    pub fn made(&self) -> u64
+    pub(crate) fn made(&self) -> u64
         ensures made { result ≡ self.now.made }
         ensures order { AreInOrder self.now }
     {
@@ -78,14 +79,14 @@ impl Names {
     }
 
     /// The lasting position of the next event.
-    pub fn next_position(&self) -> u64
+    pub(crate) fn next_position(&self) -> u64
         ensures { result ≡ length_of self.now + 1 }
     {
         self.since + u64::from(self.until - self.from) + 1
     }
 
     /// The task that has a lasting name in the present journal.
-    pub fn task(&self, lasting: u64) -> Option<TaskNo>
+    pub(crate) fn task(&self, lasting: u64) -> Option<TaskNo>
         ensures { option_map (λ (t : Number). t.0) result ≡ found self.now.tasks lasting }
     {
         match find_near(&self.tasks, self.likely_row(lasting), lasting) {
@@ -102,7 +103,7 @@ impl Names {
     }
 
     /// The position that has a lasting name in the present journal.
-    pub fn position(&self, lasting: u64) -> Option<u32>
+    pub(crate) fn position(&self, lasting: u64) -> Option<u32>
         ensures { result ≡ position_of self.now lasting }
     {
         if lasting <= self.since {
@@ -117,14 +118,14 @@ impl Names {
     }
 
     /// The lasting name of a task of the present journal.
-    pub fn lasting_task(&self, task: TaskNo) -> Option<u64>
+    pub(crate) fn lasting_task(&self, task: TaskNo) -> Option<u64>
         ensures { result ≡ named_by self.now.tasks task.0 }
     {
         name_of(&self.tasks, u32::from(task.0))
     }
 
     /// The lasting name of a position of the present journal.
-    pub fn lasting_position(&self, position: u32) -> Option<u64>
+    pub(crate) fn lasting_position(&self, position: u32) -> Option<u64>
         ensures { result ≡ lasting_of self.now position }
     {
         if position <= self.from {

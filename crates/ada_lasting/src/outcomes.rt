@@ -13,7 +13,8 @@ ghost use Rattle.ada_lasting.specs.Naming.{found};
 ghost use Rattle.ada_lasting.specs.Outcomes as told;
 ghost use Rattle.ada_lasting.specs.internal.Outcomes as lasting;
 
-use crate::{LongKernel, Names};
+use crate::LongKernel;
+use crate::names::Names;
 use ada_events::{Event, Outcome, TaskNo};
 use ada_kernel::Kernel;
 use ada_waiting::{Reason, reason_in};

@@ -9,7 +9,8 @@ ghost use Rattle.ada_lasting.specs.Meaning.{meant_reason};
 ghost use Rattle.ada_lasting.specs.Naming.{found};
 ghost use Rattle.ada_lasting.specs.internal.Reasons as lasting;
 
-use crate::{LongKernel, Names};
+use crate::LongKernel;
+use crate::names::Names;
 use ada_waiting::{Reason, reason_in};
 
 /// Why a task that isn't terminated doesn't run: what it waits for, as [`Reason`](ada_waiting::Reason), with the

@@ -1,7 +1,9 @@
 //! Rows of a lasting name each, and what has it in the present journal.
 
 ghost use Rattle.std.specs.Prelude.{◌≡◌, ◌^◌, true};
-ghost use Rattle.ada_lasting.specs.Naming.{found, named_by, rises_between};
+ghost use Rattle.ada_lasting.specs.Naming.{found};
+ghost use Rattle.ada_lasting.specs.internal.Keeping.{rises_between};
+ghost use Rattle.ada_lasting.specs.internal.NamesBack.{named_by};
 ghost use Rattle.ada_lasting.specs.internal.Awaiting.{first_name};
 
 /// A lasting name, and the number in the present journal of what has it.
@@ -35,7 +37,7 @@ pub(crate) fn find_near(rows: &[Row], likely: usize, lasting: u64) -> Option<u32
 }
 
 /// The lasting name of what has this number in the present journal.
-#[tactic(auto, unfolding(crate::specs::Naming::named_by))]
+#[tactic(auto, unfolding(crate::specs::internal::NamesBack::named_by))]
 pub(crate) fn name_of(rows: &[Row], present: u32) -> Option<u64>
     ensures { result ≡ named_by rows.now present }
 {

@@ -108,8 +108,7 @@ impl Both {
 
     /// How many tasks and events the present journal has.
     pub fn present(&self) -> (u16, u32) {
-        let present = self.long.present();
-        (present.tasks(), present.journal().len())
+        (self.long.kept_tasks(), self.long.kept())
     }
 
     /// How many tasks were given up.
@@ -196,7 +195,7 @@ impl Both {
     // Notes which tasks have no names any more, before the kernel that keeps everything is asked.
     fn note_given_up(&mut self) -> Result<(), Unlike> {
         for task in 0..self.made.len() as u64 {
-            if !self.is_given_up(task) && self.long.names().task(task).is_none() {
+            if !self.is_given_up(task) && self.long.terminated(task).is_none() {
                 want(self.may_be_given_up(task), Unlike::GivenUp(task))?;
                 self.give_up(task);
             }

@@ -80,9 +80,8 @@ impl Living {
     }
 
     fn measure(&mut self) {
-        let present = self.kernel.present();
-        self.life.most_events = self.life.most_events.max(present.journal().len());
-        self.life.most_tasks = self.life.most_tasks.max(present.tasks());
+        self.life.most_events = self.life.most_events.max(self.kernel.kept());
+        self.life.most_tasks = self.life.most_tasks.max(self.kernel.kept_tasks());
     }
 
     fn make(&mut self, block: u64, first: u64, workers: u64) -> Result<(), NotDone> {

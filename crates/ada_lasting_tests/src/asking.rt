@@ -1,8 +1,10 @@
 //! Requests to a kernel that lives on, in few words, and what a test wants of their answers, a question in each
 //! function.
 
-use ada_events::{Choice, Choices, Entry, Families, Family, Patience, Refusal, Tail, TaskNo};
-use ada_lasting::{LastingMaster, LastingRequest, LastingTasks, LongKernel, NotDone};
+use ada_events::{Choice, Choices, Entry, Families, Family, Patience, Refusal, Tail};
+use ada_lasting::{
+    LastingMaster, LastingReason, LastingRequest, LastingTasks, LongKernel, NotDone,
+};
 use std::process::Abort;
 
 /// The main program, and its body as a master.
@@ -176,19 +178,30 @@ pub fn live_in_a_block<R: Abort>(rt: &R, kernel: &mut LongKernel) {
     assert_accepted(rt, kernel, LastingRequest::Close { by: MAIN }, 8);
 }
 
-/// The numbers of tasks 2 and 3 and of the call at 18 aren't those of the present journal.
+/// Why a task doesn't run.
+pub fn assert_reason<R: Abort>(
+    rt: &R,
+    kernel: &LongKernel,
+    task: u64,
+    wanted: Option<LastingReason>,
+) {
+    assert_eq!(rt; kernel.reason(task), wanted, "{task}");
+}
+
+/// How many tasks the present journal has.
+pub fn assert_kept_tasks<R: Abort>(rt: &R, kernel: &LongKernel, tasks: u16) {
+    assert_eq!(rt; kernel.kept_tasks(), tasks);
+}
+
+/// The numbers of tasks 2 and 3 and of the call at 18 aren't those of the present journal: it has three tasks, the main
+/// program and these, in their order, and fewer than 18 events.
 fn assert_moved<R: Abort>(rt: &R, kernel: &LongKernel) {
-    let names = kernel.names();
-    assert_eq!(rt; names.task(1), None);
-    for task in [2u16, 3] {
-        let present = names.task(u64::from(task));
-        assert!(rt;
-            present.is_some() && present != Some(TaskNo(task)),
-            "{present:?}"
-        );
-    }
-    let call = names.position(18);
-    assert!(rt; call.is_some() && call != Some(18), "{call:?}");
+    assert_terminated(rt, kernel, 1, None);
+    assert_terminated(rt, kernel, 2, Some(false));
+    assert_terminated(rt, kernel, 3, Some(false));
+    assert_kept_tasks(rt, kernel, 3);
+    assert_reason(rt, kernel, 3, Some(LastingReason::Queued { call: 18 }));
+    assert!(rt; kernel.kept() < 18, "{}", kernel.kept());
 }
 
 /// Task 1 lives, ends, and is given up when the journal is made shorter; by then tasks 2 and 3 are up, and task 3 has

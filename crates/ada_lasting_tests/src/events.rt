@@ -6,7 +6,7 @@ use crate::asking::{
     create, end, start_to_call,
 };
 use ada_border::events::{PlainEvent, blank};
-use ada_events::{Choice, Choices, Family, Pause, Pauses, Tail, TaskNo};
+use ada_events::{Choice, Choices, Family, Pause, Pauses, Tail};
 use ada_lasting::{LastingMaster, LastingRequest, LastingTasks, LongKernel};
 use std::process::Abort;
 use std::test::Fail;
@@ -176,18 +176,5 @@ fn a_release_shows_no_events(rt: HostRuntime) -> Result<(), Fail> {
     assert_events(&rt, &kernel, &events);
     assert_release(&rt, &mut kernel, 3, Ok(()));
     assert_no_events(&rt, &kernel);
-    Ok(())
-}
-
-#[test]
-fn what_the_present_journal_lacks_has_no_name(rt: HostRuntime) -> Result<(), Fail> {
-    let mut kernel = LongKernel::new(rt.alloc(), 4096)?;
-    start_to_call(&rt, &mut kernel);
-    let names = kernel.names();
-    let present = kernel.present();
-    assert_eq!(&rt; names.lasting_task(TaskNo(present.tasks())), None);
-    let next = present.journal().len().saturating_add(1);
-    assert_eq!(&rt; names.lasting_position(next), None);
-    assert_eq!(&rt; names.lasting_position(0), None);
     Ok(())
 }

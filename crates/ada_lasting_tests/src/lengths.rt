@@ -2,8 +2,9 @@
 //! and that entries of tasks that are gone make room.
 
 use crate::asking::{
-    MAIN, MAIN_BODY, abort, accept, activate, assert_accepted, assert_compacts, assert_refused,
-    assert_release, call, call_in_vain, complete, create, end, live_and_end, make_up, up,
+    MAIN, MAIN_BODY, abort, accept, activate, assert_accepted, assert_compacts, assert_kept_tasks,
+    assert_refused, assert_release, call, call_in_vain, complete, create, end, live_and_end,
+    make_up, up,
 };
 use ada_events::limits::MOST_TASKS;
 use ada_events::{Families, Family, Refusal};
@@ -149,10 +150,27 @@ fn what_is_gone_takes_no_event(rt: HostRuntime) -> Result<(), Fail> {
         meet_in_a_block(&rt, &mut kernel);
     }
     assert_eq!(&rt; length(&kernel), 190);
+    assert_kept_tasks(&rt, &kernel, 21);
     assert_eq!(&rt; given_up(&kernel), 0);
     assert_compacts(&rt, &mut kernel);
     assert_eq!(&rt; given_up(&kernel), 20);
+    assert_kept_tasks(&rt, &kernel, 1);
     assert_eq!(&rt; length(&kernel), 3);
+    Ok(())
+}
+
+// Task 1 has called task 2 in vain. It gets the same outcome in a shorter journal by a call of a helper, which is kept
+// beside the main program and both, and isn't one of the tasks that were made.
+#[test]
+fn a_helper_is_kept(rt: HostRuntime) -> Result<(), Fail> {
+    let mut kernel = LongKernel::new(rt.alloc(), LATE)?;
+    make_up(&rt, &mut kernel, MAIN, MAIN_BODY, 1);
+    make_up(&rt, &mut kernel, MAIN, MAIN_BODY, 5);
+    assert_done(&rt, &mut kernel, call_in_vain());
+    assert_kept_tasks(&rt, &kernel, 3);
+    assert_compacts(&rt, &mut kernel);
+    assert_kept_tasks(&rt, &kernel, 4);
+    assert_eq!(&rt; kernel.tasks(), 3);
     Ok(())
 }
 

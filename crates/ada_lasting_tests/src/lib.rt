@@ -1,6 +1,7 @@
 //! Tests of a kernel that lives on and of shorter journals: what such a kernel answers once its journal was made
-//! shorter, tasks that are given up, and limits; states that are hard to bring about again, each made by a script, with
-//! the tasks and the outcomes that a second kernel has in their place, and what it refuses; and of callers.
+//! shorter, tasks that are given up, limits, and whether two keep the same; states that are hard to bring about again,
+//! each made by a script, with the tasks and the outcomes that a second kernel has in their place, and what it refuses;
+//! and of callers.
 #![tactic(auto)]
 
 #[cfg(test)]
@@ -13,6 +14,8 @@ mod asking;
 mod callers;
 #[cfg(test)]
 mod clock;
+#[cfg(test)]
+mod comparing;
 #[cfg(test)]
 mod events;
 #[cfg(test)]

@@ -2,8 +2,8 @@
 //! that last; and what can let it go on.
 
 use crate::asking::{
-    MAIN, MAIN_BODY, accept, assert_accepted, assert_compacts, complete, end, make_up,
-    start_to_call,
+    MAIN, MAIN_BODY, accept, assert_accepted, assert_compacts, assert_reason, complete, end,
+    make_up, start_to_call,
 };
 use ada_lasting::{LastingReason, LastingRequest, LongKernel};
 use ada_waiting::Verdict;
@@ -11,10 +11,6 @@ use std::process::Abort;
 use std::test::Fail;
 
 const LATE: u32 = 4096;
-
-fn assert_reason<R: Abort>(rt: &R, kernel: &LongKernel, task: u64, wanted: Option<LastingReason>) {
-    assert_eq!(rt; kernel.reason(task), wanted, "{task}");
-}
 
 fn assert_verdict<R: Abort>(rt: &R, kernel: &LongKernel, wanted: Verdict) {
     assert_eq!(rt; kernel.verdict(), wanted);

@@ -7,7 +7,8 @@ use Rattle.ada_events.specs.declared.names.TaskNo.{TaskNo}
 use Rattle.ada_border.specs.declared.events.PlainEvent.{PlainEvent}
 use Rattle.ada_border.specs.Events.{plain_of, tasks_of}
 use Rattle.ada_standing.specs.Renaming.{Renaming, renamed_task, renamed_event}
-use Rattle.ada_lasting.specs.Naming.{Naming, named_by, lasting_of}
+use Rattle.ada_lasting.specs.Naming.{Naming}
+use Rattle.ada_lasting.specs.internal.NamesBack.{named_by, lasting_of}
 
 -- the lasting names of what is in the present journal
 abbrev pub back_of : Naming → Renaming

@@ -6,7 +6,8 @@ use Rattle.ada_events.specs.declared.outcome.Outcome.{Outcome}
 use Rattle.ada_events.specs.declared.outcome.Outcome.TheVariants.{Accepted}
 use Rattle.ada_lasting.specs.declared.outcomes.LastingOutcome.{LastingOutcome}
 use Rattle.ada_lasting.specs.declared.outcomes.LastingOutcome.TheVariants as lasting
-use Rattle.ada_lasting.specs.Naming.{Naming, named_by, lasting_of}
+use Rattle.ada_lasting.specs.Naming.{Naming}
+use Rattle.ada_lasting.specs.internal.NamesBack.{named_by, lasting_of}
 use Rattle.ada_lasting.specs.Outcomes.{caller_of, told_outcome}
 
 -- the lasting name of the caller of a call, while its rendezvous lasts

@@ -1,8 +1,8 @@
 -- What is known of the present journal.
 use Rattle.std.specs.Prelude.{◌≡◌, ℕ, Bool, if◌then◌else◌, length}
 use Rattle.ada_events.specs.Lawful.{IsLawful, IsSettled}
-use Rattle.ada_lasting.specs.Naming.{Naming, AreInOrder}
-use Rattle.ada_lasting.specs.internal.Keeping.{with_task}
+use Rattle.ada_lasting.specs.Naming.{Naming}
+use Rattle.ada_lasting.specs.internal.Keeping.{AreInOrder, with_task}
 use Rattle.ada_lasting.specs.Following.{Long}
 
 -- the present journal is lawful and settled, and the names know how long it is

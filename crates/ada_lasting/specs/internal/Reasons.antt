@@ -3,7 +3,8 @@ use Rattle.std.specs.Prelude.{Option, Some}
 use Rattle.std.specs.Option.{option_map}
 use Rattle.ada_waiting.specs.declared.reasons.Reason.{Reason}
 use Rattle.ada_waiting.specs.declared.reasons.Reason.TheVariants.{NotStarted, Activating, Queued, InRendezvous, Waiting, Delayed, Leaving, Completed}
-use Rattle.ada_lasting.specs.Naming.{Naming, lasting_of}
+use Rattle.ada_lasting.specs.Naming.{Naming}
+use Rattle.ada_lasting.specs.internal.NamesBack.{lasting_of}
 
 -- the same reason, at the lasting position of its position
 unfoldable pub lasting_reason : Naming → Reason → Option Reason

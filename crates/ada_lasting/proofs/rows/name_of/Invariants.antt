@@ -1,5 +1,5 @@
 use Rattle.std.proofs.Common.{◌≡◌, drop}
-use Rattle.ada_lasting.specs.Naming.{named_by}
+use Rattle.ada_lasting.specs.internal.NamesBack.{named_by}
 use Rattle.ada_lasting.proofs.rows.name_of.Given as goal
 
 abbrev pub invariant-loop-row : goal.invariant-loop-row

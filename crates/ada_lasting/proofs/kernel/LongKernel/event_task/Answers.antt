@@ -2,7 +2,8 @@ use Rattle.std.proofs.Common.{◌≡◌, Some, reverse, sym, ap, ◌∙◌}
 use Rattle.std.specs.Prelude.{slice_get}
 use Rattle.std.specs.Option.{option_and_then, option_copied}
 use Rattle.ada_events.specs.declared.names.TaskNo.{TaskNo}
-use Rattle.ada_lasting.specs.Naming.{Naming, named_by}
+use Rattle.ada_lasting.specs.Naming.{Naming}
+use Rattle.ada_lasting.specs.internal.NamesBack.{named_by}
 use Rattle.ada_lasting.specs.Following.{Long}
 use Rattle.ada_lasting.specs.internal.Events.{back_of, lasting_listed}
 use Rattle.ada_lasting.proofs.Shown.{listed_shown}

@@ -4,7 +4,8 @@ use Rattle.ada_events.specs.declared.event.Event.{Event}
 use Rattle.ada_events.specs.declared.names.TaskNo.{TaskNo}
 use Rattle.ada_events.specs.Tasks.{task_count}
 use Rattle.ada_waiting.specs.Awaited.{first_awaited}
-use Rattle.ada_lasting.specs.Naming.{Naming, found, named_by}
+use Rattle.ada_lasting.specs.Naming.{Naming, found}
+use Rattle.ada_lasting.specs.internal.NamesBack.{named_by}
 use Rattle.ada_lasting.specs.Following.{Long}
 use Rattle.ada_lasting.specs.internal.Awaiting.{first_there}
 use Rattle.ada_lasting.proofs.Dividing.{awaited_here}

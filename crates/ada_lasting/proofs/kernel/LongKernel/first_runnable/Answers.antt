@@ -5,7 +5,8 @@ use Rattle.ada_events.specs.declared.names.TaskNo.{TaskNo}
 use Rattle.ada_events.specs.Phases.{is_running}
 use Rattle.ada_events.specs.Tasks.{task_count}
 use Rattle.ada_waiting.specs.Runnable.{first_runnable}
-use Rattle.ada_lasting.specs.Naming.{Naming, named_by}
+use Rattle.ada_lasting.specs.Naming.{Naming}
+use Rattle.ada_lasting.specs.internal.NamesBack.{named_by}
 use Rattle.ada_lasting.specs.Following.{Long}
 use Rattle.ada_lasting.specs.internal.Awaiting.{first_there}
 use Rattle.ada_lasting.proofs.Began.{nobody_newly, began_here, none_shown, some_shown}

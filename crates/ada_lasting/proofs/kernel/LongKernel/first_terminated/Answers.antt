@@ -3,7 +3,8 @@ use Rattle.std.specs.Option.{option_map, option_and_then}
 use Rattle.ada_events.specs.declared.names.TaskNo.{TaskNo}
 use Rattle.ada_events.specs.Phases.{is_terminated}
 use Rattle.ada_events.specs.Tasks.{task_count}
-use Rattle.ada_lasting.specs.Naming.{Naming, named_by}
+use Rattle.ada_lasting.specs.Naming.{Naming}
+use Rattle.ada_lasting.specs.internal.NamesBack.{named_by}
 use Rattle.ada_lasting.specs.Following.{Long, before_shown}
 use Rattle.ada_lasting.specs.LastRequest.{first_since}
 use Rattle.ada_lasting.specs.internal.Awaiting.{first_there}

@@ -1,7 +1,8 @@
 use Rattle.std.proofs.Common.{◌≡◌, ◌+◌, ◌-◌, ℕ, suc, true, Option, List, ◌++◌, ap, subst, ◌∙◌, arith}
 use Rattle.ada_standing.specs.Names.{named, placed}
 use Rattle.ada_lasting.specs.declared.rows.Row.{Row}
-use Rattle.ada_lasting.specs.Naming.{Naming, rises_between}
+use Rattle.ada_lasting.specs.Naming.{Naming}
+use Rattle.ada_lasting.specs.internal.Keeping.{rises_between}
 use Rattle.ada_lasting.specs.internal.Moving.{moved, later}
 use Rattle.ada_lasting.proofs.MovedNames.{moved-rises, places-rise}
 use Rattle.ada_lasting.proofs.names.Names.moved.Goals as goal

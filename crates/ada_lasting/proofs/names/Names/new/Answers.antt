@@ -1,5 +1,5 @@
 use Rattle.std.proofs.Common.{refl, arith}
-use Rattle.ada_lasting.specs.Naming.{rises_between}
+use Rattle.ada_lasting.specs.internal.Keeping.{rises_between}
 use Rattle.ada_lasting.proofs.names.Names.new.Goals as goal
 
 pub invariant_of-result : goal.invariant_of-result

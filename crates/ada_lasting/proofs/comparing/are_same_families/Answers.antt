@@ -1,0 +1,6 @@
+use Rattle.std.proofs.Common.{sym, ◌∙◌}
+use Rattle.ada_compact.proofs.Equal.{pointwise_same, same_family}
+use Rattle.ada_lasting.proofs.comparing.are_same_families.Goals as goal
+
+pub returns : goal.returns
+returns c = λ same. pointwise_same same_family c.args.families.now c.args.others.now (sym c.eq.ensures ∙ same)
