@@ -26,46 +26,49 @@ package body Adatask is
    function C_Compact (K : in out Handle) return Answer
      with Import, Convention => C, External_Name => "adatask_compact";
    function C_Open
-     (K : in out Handle; Now : Milliseconds; By : Task_Number; At_Position : in out Position) return Answer
+     (K : in out Handle; Now : Milliseconds; By : Task_Number; At_Position : in out Position;
+      Runs : in out Unsigned_32) return Answer
      with Import, Convention => C, External_Name => "adatask_open";
    function C_Create
      (K : in out Handle; Now : Milliseconds; By : Task_Number; Kind : Master_Kind; Master : Unsigned_64;
-      Families : System.Address; Count : size_t; At_Position : in out Position) return Answer
+      Families : System.Address; Count : size_t; At_Position : in out Position; Runs : in out Unsigned_32) return Answer
      with Import, Convention => C, External_Name => "adatask_create";
    function C_Activate
      (K : in out Handle; Now : Milliseconds; By : Task_Number; Tasks : System.Address; Count : size_t;
-      At_Position : in out Position) return Answer
+      At_Position : in out Position; Runs : in out Unsigned_32) return Answer
      with Import, Convention => C, External_Name => "adatask_activate";
    function C_Elaborated
      (K : in out Handle; Now : Milliseconds; By : Task_Number; Ok : Unsigned_32;
-      At_Position : in out Position) return Answer
+      At_Position : in out Position; Runs : in out Unsigned_32) return Answer
      with Import, Convention => C, External_Name => "adatask_elaborated";
    function C_Call
      (K : in out Handle; Now : Milliseconds; By, Callee : Task_Number; Family : Family_Number; Index : Entry_Index;
-      Kind : Call_Kind; Length : Milliseconds; At_Position : in out Position) return Answer
+      Kind : Call_Kind; Length : Milliseconds; At_Position : in out Position; Runs : in out Unsigned_32) return Answer
      with Import, Convention => C, External_Name => "adatask_call";
    function C_Wait
      (K : in out Handle; Now : Milliseconds; By : Task_Number; Choices : System.Address; Count : size_t;
       Last : Last_Part; Delays : System.Address; Delay_Count : size_t; Pick : Pick_Number;
-      At_Position : in out Position) return Answer
+      At_Position : in out Position; Runs : in out Unsigned_32) return Answer
      with Import, Convention => C, External_Name => "adatask_wait";
    function C_Delay_Task
      (K : in out Handle; Now : Milliseconds; By : Task_Number; Length : Milliseconds;
-      At_Position : in out Position) return Answer
+      At_Position : in out Position; Runs : in out Unsigned_32) return Answer
      with Import, Convention => C, External_Name => "adatask_delay";
    function C_End_Accept
      (K : in out Handle; Now : Milliseconds; By : Task_Number; Raised : Unsigned_32;
-      At_Position : in out Position) return Answer
+      At_Position : in out Position; Runs : in out Unsigned_32) return Answer
      with Import, Convention => C, External_Name => "adatask_end";
    function C_Close
-     (K : in out Handle; Now : Milliseconds; By : Task_Number; At_Position : in out Position) return Answer
+     (K : in out Handle; Now : Milliseconds; By : Task_Number; At_Position : in out Position;
+      Runs : in out Unsigned_32) return Answer
      with Import, Convention => C, External_Name => "adatask_close";
    function C_Complete
-     (K : in out Handle; Now : Milliseconds; By : Task_Number; At_Position : in out Position) return Answer
+     (K : in out Handle; Now : Milliseconds; By : Task_Number; At_Position : in out Position;
+      Runs : in out Unsigned_32) return Answer
      with Import, Convention => C, External_Name => "adatask_complete";
    function C_Abort_All
      (K : in out Handle; Now : Milliseconds; By : Task_Number; Tasks : System.Address; Count : size_t;
-      At_Position : in out Position) return Answer
+      At_Position : in out Position; Runs : in out Unsigned_32) return Answer
      with Import, Convention => C, External_Name => "adatask_abort";
    function C_Tick (K : in out Handle; Now, Moment : Milliseconds; At_Position : in out Position) return Answer
      with Import, Convention => C, External_Name => "adatask_tick";
@@ -109,6 +112,8 @@ package body Adatask is
      with Import, Convention => C, External_Name => "adatask_board";
    function C_Event_At (K : in out Handle; At_Position : Position; E : in out Event) return Answer
      with Import, Convention => C, External_Name => "adatask_event";
+   function C_Events_From (K : in out Handle; From : Position; List : System.Address; Room : size_t) return Unsigned_64
+     with Import, Convention => C, External_Name => "adatask_events_from";
    function C_Lengths_At (K : in out Handle; At_Position : Position; Lengths : in out List_Lengths) return Answer
      with Import, Convention => C, External_Name => "adatask_lengths";
    function C_Task_At
@@ -178,6 +183,7 @@ package body Adatask is
          K.Held.Kernel := System.Null_Address;
       end if;
       K.Now := No_Clock;
+      K.Runs := 0;
    end Drop;
 
    procedure Set_Clock (K : in out Kernel; Now : Milliseconds) is
@@ -202,7 +208,7 @@ package body Adatask is
    function Open_Block (K : in out Kernel; By : Task_Number; Said : access Answer := null) return Position is
       At_Position : Position := 0;
    begin
-      Settle ((if Is_There (K) then C_Open (K.Held, K.Now, By, At_Position) else No_Kernel), Said);
+      Settle ((if Is_There (K) then C_Open (K.Held, K.Now, By, At_Position, K.Runs) else No_Kernel), Said);
       return At_Position;
    end Open_Block;
 
@@ -220,7 +226,7 @@ package body Adatask is
         ((if Is_There (K)
           then C_Create
                  (K.Held, K.Now, By, On.Kind, Number, Start (Entries'Address, Entries'Length), Entries'Length,
-                  At_Position)
+                  At_Position, K.Runs)
           else No_Kernel), Said);
       return At_Position;
    end Create_Task;
@@ -232,7 +238,7 @@ package body Adatask is
    begin
       Settle
         ((if Is_There (K)
-          then C_Activate (K.Held, K.Now, By, Start (Tasks'Address, Tasks'Length), Tasks'Length, At_Position)
+          then C_Activate (K.Held, K.Now, By, Start (Tasks'Address, Tasks'Length), Tasks'Length, At_Position, K.Runs)
           else No_Kernel), Said);
       return At_Position;
    end Activate_Tasks;
@@ -244,7 +250,7 @@ package body Adatask is
    begin
       Settle
         ((if Is_There (K)
-          then C_Elaborated (K.Held, K.Now, By, Boolean'Pos (Ok), At_Position)
+          then C_Elaborated (K.Held, K.Now, By, Boolean'Pos (Ok), At_Position, K.Runs)
           else No_Kernel), Said);
       return At_Position;
    end End_Activation;
@@ -257,7 +263,7 @@ package body Adatask is
    begin
       Settle
         ((if Is_There (K)
-          then C_Call (K.Held, K.Now, By, Callee, Item.Family, Item.Index, Kind, Length, At_Position)
+          then C_Call (K.Held, K.Now, By, Callee, Item.Family, Item.Index, Kind, Length, At_Position, K.Runs)
           else No_Kernel), Said);
       return At_Position;
    end Call_Entry;
@@ -278,7 +284,7 @@ package body Adatask is
       Settle
         ((if Is_There (K)
           then C_Wait (K.Held, K.Now, By, Start (Choices'Address, Choices'Length), Choices'Length, Last,
-                 Start (Alternatives'Address, Alternatives'Length), Alternatives'Length, Pick, At_Position)
+                 Start (Alternatives'Address, Alternatives'Length), Alternatives'Length, Pick, At_Position, K.Runs)
           else No_Kernel), Said);
       return At_Position;
    end Selective_Wait;
@@ -288,7 +294,10 @@ package body Adatask is
    is
       At_Position : Position := 0;
    begin
-      Settle ((if Is_There (K) then C_Delay_Task (K.Held, K.Now, By, Length, At_Position) else No_Kernel), Said);
+      Settle
+        ((if Is_There (K)
+          then C_Delay_Task (K.Held, K.Now, By, Length, At_Position, K.Runs)
+          else No_Kernel), Said);
       return At_Position;
    end Delay_For;
 
@@ -299,7 +308,7 @@ package body Adatask is
    begin
       Settle
         ((if Is_There (K)
-          then C_End_Accept (K.Held, K.Now, By, Boolean'Pos (Raised), At_Position)
+          then C_End_Accept (K.Held, K.Now, By, Boolean'Pos (Raised), At_Position, K.Runs)
           else No_Kernel), Said);
       return At_Position;
    end End_Rendezvous;
@@ -307,14 +316,14 @@ package body Adatask is
    function Close_Block (K : in out Kernel; By : Task_Number; Said : access Answer := null) return Position is
       At_Position : Position := 0;
    begin
-      Settle ((if Is_There (K) then C_Close (K.Held, K.Now, By, At_Position) else No_Kernel), Said);
+      Settle ((if Is_There (K) then C_Close (K.Held, K.Now, By, At_Position, K.Runs) else No_Kernel), Said);
       return At_Position;
    end Close_Block;
 
    function Complete_Task (K : in out Kernel; By : Task_Number; Said : access Answer := null) return Position is
       At_Position : Position := 0;
    begin
-      Settle ((if Is_There (K) then C_Complete (K.Held, K.Now, By, At_Position) else No_Kernel), Said);
+      Settle ((if Is_There (K) then C_Complete (K.Held, K.Now, By, At_Position, K.Runs) else No_Kernel), Said);
       return At_Position;
    end Complete_Task;
 
@@ -325,7 +334,7 @@ package body Adatask is
    begin
       Settle
         ((if Is_There (K)
-          then C_Abort_All (K.Held, K.Now, By, Start (Tasks'Address, Tasks'Length), Tasks'Length, At_Position)
+          then C_Abort_All (K.Held, K.Now, By, Start (Tasks'Address, Tasks'Length), Tasks'Length, At_Position, K.Runs)
           else No_Kernel), Said);
       return At_Position;
    end Abort_Tasks;
@@ -454,6 +463,14 @@ package body Adatask is
       Settle ((if Is_There (K) then C_Event_At (K.Held, At_Position, E) else No_Kernel), Said);
       return E;
    end Event_At;
+
+   procedure Events_From (K : in out Kernel; From : Position; List : in out Event_List; Count : out Natural) is
+   begin
+      Count :=
+        (if Is_There (K)
+         then Natural (C_Events_From (K.Held, From, Start (List'Address, List'Length), List'Length))
+         else 0);
+   end Events_From;
 
    function Lengths_At (K : in out Kernel; At_Position : Position; Said : access Answer := null) return List_Lengths is
       Lengths : List_Lengths;

@@ -436,6 +436,9 @@ package Adatask is
    --  Requests: By is the task that asks, and the result the position of its event. What it forces follows it  --
    --------------------------------------------------------------------------------------------------------------
 
+   --  Whether the task of the last accepted request ran after it; a tick is no task's.
+   function Goes_On (K : Kernel) return Boolean;
+
    --  Enters a block within what the task is in (5.6, 9.4). The block is named by the position.
    function Open_Block (K : in out Kernel; By : Task_Number; Said : access Answer := null) return Position;
 
@@ -547,6 +550,11 @@ package Adatask is
    --  The attributes of all tasks and entries (9.9), of a kernel that keeps everything.
    function Board_Of (K : in out Kernel; Said : access Answer := null) return Board;
 
+   --  The events from a position on, as many as there are and as List has room for, and how many these are: from the
+   --  position that a request was answered, all that it appended.
+   type Event_List is array (Place range <>) of Event with Convention => C;
+   procedure Events_From (K : in out Kernel; From : Position; List : in out Event_List; Count : out Natural);
+
    --  The event at a position, and what its lists have at a place. A kernel that lives on has the events that the last
    --  request appended.
    function Event_At (K : in out Kernel; At_Position : Position; Said : access Answer := null) return Event;
@@ -570,8 +578,11 @@ private
    type Kernel is new Ada.Finalization.Limited_Controlled with record
       Held : Handle;
       Now  : Milliseconds := No_Clock;
+      Runs : Interfaces.Unsigned_32 := 0;
    end record;
    overriding procedure Initialize (K : in out Kernel);
    overriding procedure Finalize (K : in out Kernel);
+
+   function Goes_On (K : Kernel) return Boolean is (Interfaces."/=" (K.Runs, 0));
 
 end Adatask;

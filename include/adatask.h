@@ -25,17 +25,18 @@ typedef struct {
   void *kernel;
 } ada_handle;
 
-/* A kernel, and the moment of its host's clock, which ada_set_clock sets. */
+/* A kernel, and what goes with its requests. */
 typedef struct {
   ada_handle handle;
-  int64_t now;
+  int64_t now;      /* the moment of its host's clock, which ada_set_clock sets */
+  uint32_t goes_on; /* whether the task of the last accepted request ran after it, 0 or 1; a tick is no task's */
 } ada_kernel;
 
 /* A host without a clock: durations count from the last tick. */
 enum { ADA_NO_CLOCK = -1 };
 
 /* What a variable begins with: no kernel. */
-#define ADA_NO_KERNEL {{NULL}, ADA_NO_CLOCK}
+#define ADA_NO_KERNEL {{NULL}, ADA_NO_CLOCK, 0}
 
 /* ---- Codes ---- */
 
@@ -425,20 +426,22 @@ int32_t adatask_kernel_new_lasting(uint32_t threshold, void **out);
 void adatask_kernel_drop(ada_handle h);
 int32_t adatask_release(ada_handle *h, uint64_t task);
 int32_t adatask_compact(ada_handle *h);
-int32_t adatask_open(ada_handle *h, int64_t now, uint64_t by, uint64_t *at);
+int32_t adatask_open(ada_handle *h, int64_t now, uint64_t by, uint64_t *at, uint32_t *goes_on);
 int32_t adatask_create(ada_handle *h, int64_t now, uint64_t by, uint32_t master_kind, uint64_t master,
-                       const ada_family *families, size_t count, uint64_t *at);
-int32_t adatask_activate(ada_handle *h, int64_t now, uint64_t by, const uint64_t *tasks, size_t count, uint64_t *at);
-int32_t adatask_elaborated(ada_handle *h, int64_t now, uint64_t by, uint32_t ok, uint64_t *at);
+                       const ada_family *families, size_t count, uint64_t *at, uint32_t *goes_on);
+int32_t adatask_activate(ada_handle *h, int64_t now, uint64_t by, const uint64_t *tasks, size_t count, uint64_t *at,
+                         uint32_t *goes_on);
+int32_t adatask_elaborated(ada_handle *h, int64_t now, uint64_t by, uint32_t ok, uint64_t *at, uint32_t *goes_on);
 int32_t adatask_call(ada_handle *h, int64_t now, uint64_t by, uint64_t callee, uint32_t family, int32_t index,
-                     uint32_t patience, int64_t duration, uint64_t *at);
+                     uint32_t patience, int64_t duration, uint64_t *at, uint32_t *goes_on);
 int32_t adatask_wait(ada_handle *h, int64_t now, uint64_t by, const ada_choice *choices, size_t count, uint32_t tail,
-                     const ada_pause *delays, size_t delay_count, uint32_t pick, uint64_t *at);
-int32_t adatask_delay(ada_handle *h, int64_t now, uint64_t by, int64_t duration, uint64_t *at);
-int32_t adatask_end(ada_handle *h, int64_t now, uint64_t by, uint32_t raised, uint64_t *at);
-int32_t adatask_close(ada_handle *h, int64_t now, uint64_t by, uint64_t *at);
-int32_t adatask_complete(ada_handle *h, int64_t now, uint64_t by, uint64_t *at);
-int32_t adatask_abort(ada_handle *h, int64_t now, uint64_t by, const uint64_t *tasks, size_t count, uint64_t *at);
+                     const ada_pause *delays, size_t delay_count, uint32_t pick, uint64_t *at, uint32_t *goes_on);
+int32_t adatask_delay(ada_handle *h, int64_t now, uint64_t by, int64_t duration, uint64_t *at, uint32_t *goes_on);
+int32_t adatask_end(ada_handle *h, int64_t now, uint64_t by, uint32_t raised, uint64_t *at, uint32_t *goes_on);
+int32_t adatask_close(ada_handle *h, int64_t now, uint64_t by, uint64_t *at, uint32_t *goes_on);
+int32_t adatask_complete(ada_handle *h, int64_t now, uint64_t by, uint64_t *at, uint32_t *goes_on);
+int32_t adatask_abort(ada_handle *h, int64_t now, uint64_t by, const uint64_t *tasks, size_t count, uint64_t *at,
+                      uint32_t *goes_on);
 int32_t adatask_tick(ada_handle *h, int64_t now, int64_t moment, uint64_t *at);
 uint64_t adatask_tasks(ada_handle *h);
 uint64_t adatask_events(ada_handle *h);
@@ -455,6 +458,7 @@ int32_t adatask_next_due(ada_handle *h, int64_t *out);
 int32_t adatask_board(ada_handle *h, ada_board *out);
 int32_t adatask_slot(ada_handle *h, uint64_t task, uint32_t family, int32_t index, uint32_t *out);
 int32_t adatask_event(ada_handle *h, uint64_t position, ada_event *out);
+uint64_t adatask_events_from(ada_handle *h, uint64_t from, ada_event *out, size_t room);
 int32_t adatask_count(ada_handle *h, uint64_t by, uint32_t family, int32_t index, uint32_t *out);
 int32_t adatask_queued(ada_handle *h, uint64_t task, uint32_t family, int32_t index, uint32_t *out);
 int32_t adatask_lengths(ada_handle *h, uint64_t position, ada_lengths *out);
@@ -505,6 +509,7 @@ void rattle_dealloc(void *where);
 static inline int32_t ada_kernel_new(ada_kernel *k) {
   if (!k) return ADA_NULL;
   k->now = ADA_NO_CLOCK;
+  k->goes_on = 0;
   return adatask_kernel_new(&k->handle.kernel);
 }
 
@@ -519,6 +524,7 @@ static inline int32_t ada_kernel_new(ada_kernel *k) {
 static inline int32_t ada_kernel_new_lasting(ada_kernel *k, uint32_t threshold) {
   if (!k) return ADA_NULL;
   k->now = ADA_NO_CLOCK;
+  k->goes_on = 0;
   return adatask_kernel_new_lasting(threshold, &k->handle.kernel);
 }
 
@@ -566,12 +572,12 @@ static inline int ada_has(const ada_kernel *k, const void *out) { return k && k-
  *
  * What is wrong with the numbers is answered before any cause, for the first number from the left that is. A duration
  * counts from the moment of the host's clock, or without one from the kernel's moment, that of the last tick; a
- * negative one counts as 0.
+ * negative one counts as 0. Accepted, `goes_on` of the kernel is written whether the task runs then.
  */
 
 /* Opens a block within what the task is in (5.6, 9.4). */
 static inline int32_t ada_open(ada_kernel *k, uint64_t by, uint64_t *at) {
-  return ada_has(k, at) ? adatask_open(&k->handle, k->now, by, at) : ADA_NULL;
+  return ada_has(k, at) ? adatask_open(&k->handle, k->now, by, at, &k->goes_on) : ADA_NULL;
 }
 
 /* Makes a task that depends on a master (9.1, 9.4), with at most 16 families. Its number is ada_tasks() - 1 then. */
@@ -579,26 +585,26 @@ static inline int32_t ada_create(ada_kernel *k, uint64_t by, uint32_t master_kin
                                  const ada_family *families, size_t count, uint64_t *at) {
   ada_family none = {0, 0};
   if (!ada_has(k, at) || (count && !families)) return ADA_NULL;
-  return adatask_create(&k->handle, k->now, by, master_kind, master, count ? families : &none, count, at);
+  return adatask_create(&k->handle, k->now, by, master_kind, master, count ? families : &none, count, at, &k->goes_on);
 }
 
 /* Starts the activation of tasks, and waits for its end (9.3). */
 static inline int32_t ada_activate(ada_kernel *k, uint64_t by, const uint64_t *tasks, size_t count, uint64_t *at) {
   uint64_t none = 0;
   if (!ada_has(k, at) || (count && !tasks)) return ADA_NULL;
-  return adatask_activate(&k->handle, k->now, by, count ? tasks : &none, count, at);
+  return adatask_activate(&k->handle, k->now, by, count ? tasks : &none, count, at, &k->goes_on);
 }
 
 /* Ends the task's own activation, by an exception if `ok` is 0 (9.3). */
 static inline int32_t ada_elaborated(ada_kernel *k, uint64_t by, uint32_t ok, uint64_t *at) {
-  return ada_has(k, at) ? adatask_elaborated(&k->handle, k->now, by, ok, at) : ADA_NULL;
+  return ada_has(k, at) ? adatask_elaborated(&k->handle, k->now, by, ok, at, &k->goes_on) : ADA_NULL;
 }
 
 /* Calls an entry (9.5, 9.7.2, 9.7.3). The duration, in milliseconds, is that of a timed call; others have none. */
 static inline int32_t ada_call(ada_kernel *k, uint64_t by, uint64_t callee, uint32_t family, int32_t index,
                                uint32_t patience, int64_t duration, uint64_t *at) {
   if (!ada_has(k, at)) return ADA_NULL;
-  return adatask_call(&k->handle, k->now, by, callee, family, index, patience, duration, at);
+  return adatask_call(&k->handle, k->now, by, callee, family, index, patience, duration, at, &k->goes_on);
 }
 
 /*
@@ -611,7 +617,7 @@ static inline int32_t ada_wait(ada_kernel *k, uint64_t by, const ada_choice *cho
   ada_pause no_delay = {0, 0};
   if (!ada_has(k, at) || (count && !choices) || (delay_count && !delays)) return ADA_NULL;
   return adatask_wait(&k->handle, k->now, by, count ? choices : &no_choice, count, tail,
-                      delay_count ? delays : &no_delay, delay_count, pick, at);
+                      delay_count ? delays : &no_delay, delay_count, pick, at, &k->goes_on);
 }
 
 /* Accepts a call of one entry: a wait with one open alternative (9.5). */
@@ -625,29 +631,29 @@ static inline int32_t ada_accept(ada_kernel *k, uint64_t by, uint32_t family, in
 
 /* Delays the task by a duration in milliseconds (9.6). */
 static inline int32_t ada_delay(ada_kernel *k, uint64_t by, int64_t duration, uint64_t *at) {
-  return ada_has(k, at) ? adatask_delay(&k->handle, k->now, by, duration, at) : ADA_NULL;
+  return ada_has(k, at) ? adatask_delay(&k->handle, k->now, by, duration, at, &k->goes_on) : ADA_NULL;
 }
 
 /* Ends the innermost accept statement, by an exception if `raised` is 1 (9.5, 11.5). */
 static inline int32_t ada_end(ada_kernel *k, uint64_t by, uint32_t raised, uint64_t *at) {
-  return ada_has(k, at) ? adatask_end(&k->handle, k->now, by, raised, at) : ADA_NULL;
+  return ada_has(k, at) ? adatask_end(&k->handle, k->now, by, raised, at, &k->goes_on) : ADA_NULL;
 }
 
 /* Leaves the innermost block, once its dependents are terminated (9.4). */
 static inline int32_t ada_close(ada_kernel *k, uint64_t by, uint64_t *at) {
-  return ada_has(k, at) ? adatask_close(&k->handle, k->now, by, at) : ADA_NULL;
+  return ada_has(k, at) ? adatask_close(&k->handle, k->now, by, at, &k->goes_on) : ADA_NULL;
 }
 
 /* Completes the task's body (9.4). */
 static inline int32_t ada_complete(ada_kernel *k, uint64_t by, uint64_t *at) {
-  return ada_has(k, at) ? adatask_complete(&k->handle, k->now, by, at) : ADA_NULL;
+  return ada_has(k, at) ? adatask_complete(&k->handle, k->now, by, at, &k->goes_on) : ADA_NULL;
 }
 
 /* Aborts tasks and their dependents (9.10). */
 static inline int32_t ada_abort(ada_kernel *k, uint64_t by, const uint64_t *tasks, size_t count, uint64_t *at) {
   uint64_t none = 0;
   if (!ada_has(k, at) || (count && !tasks)) return ADA_NULL;
-  return adatask_abort(&k->handle, k->now, by, count ? tasks : &none, count, at);
+  return adatask_abort(&k->handle, k->now, by, count ? tasks : &none, count, at, &k->goes_on);
 }
 
 /* Moves the moment, in milliseconds from the beginning. */
@@ -711,7 +717,7 @@ static inline int32_t ada_runnable(ada_kernel *k, uint64_t from, uint64_t *out) 
 
 /*
  * The first task numbered `from` or more that is terminated and wasn't before the last request that was accepted, or
- * ADA_NO_SUCH_ITEM; of a kernel that lives on, until a task is released or the journal is made shorter.
+ * ADA_NO_SUCH_ITEM. Only a kernel that lives on tells it, until a task is released or the journal is made shorter.
  */
 static inline int32_t ada_ended(ada_kernel *k, uint64_t from, uint64_t *out) {
   return ada_has(k, out) ? adatask_ended(&k->handle, from, out) : ADA_NULL;
@@ -741,6 +747,32 @@ static inline int32_t ada_slot(ada_kernel *k, uint64_t task, uint32_t family, in
 /* The event at a position, from 1. A kernel that lives on has those that the last request appended. */
 static inline int32_t ada_event_at(ada_kernel *k, uint64_t position, ada_event *out) {
   return ada_has(k, out) ? adatask_event(&k->handle, position, out) : ADA_NULL;
+}
+
+/*
+ * The events from a position on, as many as there are and as there is room for, and how many these are: from the
+ * position that a request was answered, all that it appended. A kernel that lives on has those of the last request, and
+ * none from an earlier position.
+ */
+static inline int32_t ada_events_from(ada_kernel *k, uint64_t from, ada_event *out, size_t room, uint64_t *count) {
+  if (!ada_has(k, out) || !count) return ADA_NULL;
+  *count = adatask_events_from(&k->handle, from, out, room);
+  return ADA_ACCEPTED;
+}
+
+/*
+ * The number of the task that the event at a position made, or ADA_NO_SUCH_ITEM if that made none. It looks at all later
+ * events; that of the last request to be accepted is ada_tasks() - 1.
+ */
+static inline int32_t ada_created_task(ada_kernel *k, uint64_t position, uint64_t *out) {
+  uint64_t later = 0;
+  ada_event e;
+  int32_t code = ada_has(k, out) ? ada_event_at(k, position, &e) : ADA_NULL;
+  if (code != ADA_ACCEPTED) return code;
+  if (e.kind != ADA_CREATED) return ADA_NO_SUCH_ITEM;
+  while (ada_event_at(k, ++position, &e) == ADA_ACCEPTED) later += e.kind == ADA_CREATED;
+  *out = ada_tasks(k) - 1 - later;
+  return ADA_ACCEPTED;
 }
 
 /* COUNT of an entry of the asking task's own (9.9). A refusal has the code of its cause. */

@@ -167,14 +167,14 @@ static void follow(uint64_t from) {
   for (number = 0; ada_runnable(&k, number, &number) == ADA_ACCEPTED; number++) put_ready(number);
 }
 
-/* Gives a task its turn, for one request. If it still runs it comes last: it ran before, so ada_runnable doesn't name
+/* Gives a task its turn, for one request. If it goes on it comes last: it ran before, so ada_runnable doesn't name
    it. */
 static void give_turn(uint64_t number) {
   uint64_t from = ada_events(&k) + 1;
   if (!is_running(number)) return; /* it was aborted while it was ready */
   tasks[number].body(&tasks[number]);
   follow(from);
-  if (is_running(number)) put_ready(number);
+  if (k.goes_on) put_ready(number);
 }
 
 /* Moves the clock to the next moment for which a task waits; 0 if there is none. */

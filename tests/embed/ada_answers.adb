@@ -67,7 +67,7 @@ procedure Ada_Answers is
    procedure Call is
       Now : Event;
    begin
-      Note (Call_Entry (K, Client, Server, Second, Timed, 30) = 8, "event 8");
+      Note (Call_Entry (K, Client, Server, Second, Timed, 30) = 8 and then not Goes_On (K), "event 8");
       Now := Event_At (K, 8);
       Note (Now.Kind = Called and then Now.By = Client and then Now.Callee = Server and then Now.Item = Second
             and then Call_Kind_Of (Now) = Timed and then Boolean (Now.Is_Timed) and then Now.Moment = 30
@@ -97,9 +97,26 @@ procedure Ada_Answers is
             "the server after event 11");
    end Wait;
 
+   --  The events from event 12 on, in a list with room for as many, for one, and for none.
+   procedure List_Events is
+      Room  : Event_List (1 .. 3);
+      Count : Natural := 7;
+   begin
+      Events_From (K, 12, Room, Count);
+      Note (Count = 2 and then Room (1).Kind = Waiting and then Room (2).Kind = Met and then Room (3).Kind = No_Event,
+            "events 12 and 13 at once");
+      Events_From (K, 12, Room (3 .. 3), Count);
+      Note (Count = 1 and then Room (3).Kind = Waiting, "event 12 alone");
+      Events_From (K, 12, Room (3 .. 2), Count);
+      Note (Count = 0, "no room for events");
+      Events_From (K, 14, Room, Count);
+      Note (Count = 0 and then Room (1).Kind = Waiting, "no events yet");
+   end List_Events;
+
    procedure Meet is
    begin
-      Note (Accept_Call (K, Server, Second) = 12 and then Event_At (K, 13).Kind = Met, "event 12");
+      Note (Accept_Call (K, Server, Second) = 12 and then Event_At (K, 13).Kind = Met and then Goes_On (K), "event 12");
+      List_Events;
       Note (Event_At (K, 13).Call = 8 and then Event_At (K, 13).At_Position = 12, "event 13");
       Note (Outcome_Of (K, Server) = (Has_Accepted, 0, 8, Client), "the server after event 13");
       Note (Reason_Of (K, Client) = (In_Rendezvous, 8), "why the client waits in its rendezvous");

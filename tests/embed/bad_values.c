@@ -21,6 +21,7 @@
      slot                                             task, family       entry         kernel, out
      count                                            task, family       (refusals)    kernel, out
      event_at, lengths_of                             position           event         kernel, out
+     events_from                                                                       kernel, list, out
      event_task, .._family,                           position           event, item   kernel, out
        .._choice, .._delay
      runnable                                         from               item          kernel, out
@@ -72,13 +73,14 @@ static void clear(void) {
   at = 77;
   out = 77;
   moment = 77;
+  k.goes_on = 77;
   memset(&told, 7, sizeof told);
   memset(&kept, 7, sizeof kept);
 }
 
 /* A call was answered by a code, and changed and wrote nothing. */
 static void answered(int32_t code, int32_t wanted, const char *what) {
-  int is_same = at == 77 && out == 77 && moment == 77 && !memcmp(&told, &kept, sizeof told);
+  int is_same = at == 77 && out == 77 && moment == 77 && k.goes_on == 77 && !memcmp(&told, &kept, sizeof told);
   note(code == wanted && is_same && ada_events(&k) == events, what, code);
   clear();
 }
@@ -129,6 +131,7 @@ static void try_no_kernel(void) {
   WITHOUT(ada_slot(it, 1, 0, 0, &out));
   WITHOUT(ada_count(it, 1, 0, 0, &out));
   WITHOUT(ada_event_at(it, 1, &told.event));
+  WITHOUT(ada_events_from(it, 1, &told.event, 1, &at));
   WITHOUT(ada_lengths_of(it, 1, &told.lengths));
   WITHOUT(ada_event_task(it, 1, 0, &at));
   WITHOUT(ada_event_family(it, 1, 0, &told.family));
@@ -177,6 +180,8 @@ static void try_null(void) {
   BAD(ADA_NULL, ada_slot(&k, 1, 0, 0, NULL));
   BAD(ADA_NULL, ada_count(&k, 1, 0, 0, NULL));
   BAD(ADA_NULL, ada_event_at(&k, 1, NULL));
+  BAD(ADA_NULL, ada_events_from(&k, 1, NULL, 1, &at));
+  BAD(ADA_NULL, ada_events_from(&k, 1, &told.event, 1, NULL));
   BAD(ADA_NULL, ada_lengths_of(&k, 1, NULL));
   BAD(ADA_NULL, ada_event_task(&k, 1, 0, NULL));
   BAD(ADA_NULL, ada_event_family(&k, 1, 0, NULL));
@@ -355,6 +360,34 @@ static void try_items(void) {
   BAD(ADA_NOT_RUNNING, ada_count(&k, 1, 0, 0, &out));
 }
 
+/* So many events are told from a position on, into a list with this room; the rest of it stays as it was. */
+static void tells(uint64_t from, size_t room, uint64_t wanted) {
+  ada_event list[5], old[5];
+  uint64_t count = 77;
+  size_t i;
+  memset(list, 7, sizeof list);
+  memset(old, 7, sizeof old);
+  GOOD(ada_events_from(&k, from, list, room, &count));
+  note(count == wanted, "so many events at once", (int32_t)count);
+  for (i = 0; i < count && i < 5; i++) {
+    GOOD(ada_event_at(&k, from + i, &told.event));
+    note(list[i].kind == told.event.kind && list[i].task == told.event.task, "an event among others", (int32_t)i);
+  }
+  note(!memcmp(list + i, old + i, (5 - i) * sizeof list[0]), "what lies after the events", (int32_t)i);
+}
+
+static void try_many_events(void) {
+  tells(1, 5, 4);
+  tells(1, 4, 4);
+  tells(2, 2, 2);
+  tells(3, 5, 2);
+  tells(4, 0, 0);
+  tells(5, 5, 0);
+  tells(0, 5, 0);
+  tells(MANY << 16, 5, 0);
+  tells(UINT64_MAX, 5, 0);
+}
+
 /* What is there is told. */
 static void try_answers(void) {
   uint64_t task = 0;
@@ -386,6 +419,7 @@ static void try_answers(void) {
   note(answer == 0, "no call is queued", -1);
   GOOD(ada_runnable(&k, 0, &task));
   note(task == 0, "the main program became runnable", -1);
+  try_many_events();
   note(ada_tasks(&k) == 2 && ada_finished(&k) == 0, "tasks", -1);
   clear();
 }

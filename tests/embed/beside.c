@@ -157,6 +157,28 @@ static int same_lists(uint64_t position) {
   return 1;
 }
 
+/* A kernel tells the events of the last request all at once as one by one. */
+static int same_at_once(ada_kernel *k, uint64_t from) {
+  static ada_event list[1024];
+  ada_event one;
+  uint64_t count = 0, i;
+  memset(list, 0, sizeof list);
+  if (ada_events_from(k, from, list, 1024, &count) || count != ada_events(k) + 1 - from) return wrong("so many at once");
+  for (i = 0; i < count; i++) {
+    memset(&one, 0, sizeof one);
+    if (ada_event_at(k, from + i, &one) || memcmp(&one, &list[i], sizeof one)) return wrong("an event at once");
+  }
+  return 1;
+}
+
+/* Whether the task that asked goes on. */
+static int same_going(const request *r) {
+  uint32_t runs = 7;
+  if (r->kind == ADA_TICKED) return 1;
+  if (ada_running(&whole, r->by, &runs) || whole.goes_on != runs) return wrong("whether the task goes on");
+  return lasting.goes_on == runs ? 1 : wrong("whether the task of the other kernel goes on");
+}
+
 static int same_events(uint64_t from) {
   uint64_t position;
   ada_event a, b;
@@ -169,7 +191,8 @@ static int same_events(uint64_t from) {
     if (!same_lists(position)) return 0;
   }
   if (from > 1 && ada_event_at(&lasting, from - 1, &a) != ADA_GIVEN_UP) return wrong("an event of an earlier request");
-  return ada_event_at(&lasting, position, &a) == ADA_NO_SUCH_EVENT ? 1 : wrong("an event of no request");
+  if (ada_event_at(&lasting, position, &a) != ADA_NO_SUCH_EVENT) return wrong("an event of no request");
+  return same_at_once(&whole, from) && same_at_once(&lasting, from);
 }
 
 static int same_flags(uint64_t task) {
@@ -284,7 +307,7 @@ static int try_request(int64_t *moment, uint8_t *ended) {
   if (at != also) return wrong("another position");
   if (r.kind == ADA_OPENED) blocks[block_count++] = at;
   if (r.kind == ADA_TICKED) *moment += r.duration;
-  return same_events(at) && same_runnable() && same_ended(ended);
+  return same_going(&r) && same_events(at) && same_runnable() && same_ended(ended);
 }
 
 static int try_release(void) {

@@ -3,7 +3,7 @@
    the last: gallery PATH .. The scripts are tables, which tools/script_table writes into the header that SCRIPT_TABLES
    names; no script is read here. Built with -DLASTING, it plays them on kernels that live on. */
 
-#include "adatask.h"
+#include "adatask_text.h"
 #include <stdio.h>
 #include <stdlib.h>
 #include <string.h>
@@ -105,114 +105,35 @@ static void bind(const request_row *row, uint64_t at) {
 
 static const name_row *task_row(uint64_t task) { return &script->names[name_of_task[task]]; }
 
-static const char *task_text(uint64_t task) { return task_row(task)->text; }
+static const char *task_text(void *host, uint64_t task) {
+  (void)host;
+  return task_row(task)->text;
+}
 
-static const char *master_text(uint32_t kind, uint64_t master) {
-  return kind == ADA_BODY ? task_text(master) : script->names[name_of_made[master]].text;
+static const char *family_text(void *host, uint64_t task, uint32_t family) {
+  (void)host;
+  return task_row(task)->families[family];
+}
+
+static const char *block_text(void *host, uint64_t position) {
+  (void)host;
+  return script->names[name_of_made[position]].text;
 }
 
 /* ---- Printing ---- */
 
-static void print_tasks(uint64_t position) {
-  uint64_t place, task;
-  for (place = 0; ada_event_task(&k, position, place, &task) == ADA_ACCEPTED; place++) printf(" %s", task_text(task));
-}
-
-static void print_created(uint64_t position, const ada_event *e) {
-  const name_row *made = &script->names[name_of_made[position]];
-  ada_family family;
-  uint64_t place;
-  printf(" created %s under %s", made->text, master_text(e->master_kind, e->master));
-  for (place = 0; ada_event_family(&k, position, place, &family) == ADA_ACCEPTED; place++)
-    printf("%s %s(%d..%d)", place ? "" : " with", made->families[place], (int)family.low, (int)family.high);
-}
-
-static void print_entry(uint64_t task, uint32_t family, int32_t index) {
-  printf("%s(%d)", task_row(task)->families[family], (int)index);
-}
-
-static void print_called(const ada_event *e) {
-  printf(e->form == ADA_CONDITIONAL ? " tried %s." : " called %s.", task_text(e->callee));
-  print_entry(e->callee, e->family, e->index);
-  if (e->is_timed) printf(" until %lld", (long long)e->moment);
-}
-
-static void print_delays(uint64_t position) {
-  uint64_t place;
-  ada_due due;
-  for (place = 0; ada_event_delay(&k, position, place, &due) == ADA_ACCEPTED; place++) {
-    if (due.is_open) printf(" delay %lld", (long long)due.moment);
-    else printf(" closed delay");
-  }
-}
-
-static void print_waiting(uint64_t position, const ada_event *e) {
-  static const char *const tails[] = {"", " else", "", " terminate", " closed terminate"};
-  ada_choice choice;
-  uint64_t place;
-  printf(" waits %lu", (unsigned long)e->number);
-  for (place = 0; ada_event_choice(&k, position, place, &choice) == ADA_ACCEPTED; place++) {
-    printf(choice.is_open ? " accept " : " closed accept ");
-    print_entry(e->task, choice.family, choice.index);
-  }
-  print_delays(position);
-  printf("%s", tails[e->form]);
-}
-
-static void print_passed(const ada_event *e) {
-  printf("passed %d ", (int)e->position);
-  if (e->form == ADA_BY_DELAY) printf("delay %d", (int)e->number);
-  else printf(e->form == ADA_BY_ELSE ? "else" : "program_error");
-}
-
-/* What a task did. */
-static void print_deed(uint64_t position, const ada_event *e) {
-  printf("%s", task_text(e->task));
-  switch (e->kind) {
-    case ADA_OPENED:
-      printf(" opened %s under %s", master_text(ADA_BLOCK, position), master_text(e->under_kind, e->under));
-      break;
-    case ADA_CREATED: print_created(position, e); break;
-    case ADA_STARTED: printf(" started"); print_tasks(position); break;
-    case ADA_ELABORATED: printf(e->form ? " up" : " failed"); break;
-    case ADA_CALLED: print_called(e); break;
-    case ADA_WAITING: print_waiting(position, e); break;
-    case ADA_PAUSED: printf(" paused until %lld", (long long)e->moment); break;
-    case ADA_ENDED: printf(" %s %d", e->form ? "raised" : "ended", (int)e->call); break;
-    case ADA_CLOSED: printf(" closed %s", master_text(ADA_BLOCK, e->position)); break;
-    case ADA_COMPLETED: printf(" completed"); break;
-    case ADA_ABORTED: printf(" aborted"); print_tasks(position); break;
-    default: fail("an event of no kind", (int32_t)e->kind);
-  }
-}
-
-/* What happened: a tick, or what was forced. */
-static void print_fate(const ada_event *e) {
-  switch (e->kind) {
-    case ADA_TICKED: printf("ticked %lld", (long long)e->moment); break;
-    case ADA_HALTED: printf("halted %s", task_text(e->task)); break;
-    case ADA_FAILED: printf("failed %d", (int)e->call); break;
-    case ADA_MET: printf("met %d %d", (int)e->call, (int)e->position); break;
-    case ADA_CANCELLED: printf("cancelled %d", (int)e->call); break;
-    case ADA_PASSED: print_passed(e); break;
-    case ADA_WOKEN: printf("woken %d", (int)e->position); break;
-    case ADA_ACTIVATED: printf("activated %d %s", (int)e->position, e->form ? "ok" : "failed"); break;
-    case ADA_GONE: printf("gone %s", task_text(e->task)); break;
-    case ADA_QUIT: printf("quit %s", master_text(e->master_kind, e->master)); break;
-    case ADA_LEFT: printf("left %d", (int)e->position); break;
-    default: fail("an event of no kind", (int32_t)e->kind);
-  }
-}
+/* The longest line: 256 names. */
+#define MOST_BYTES 8192
 
 static void print_events(uint64_t from) {
+  static const ada_names names = {task_text, family_text, block_text, NULL};
+  static char text[MOST_BYTES];
   uint64_t position;
-  ada_event e;
+  size_t length;
   for (position = from; position <= ada_events(&k); position++) {
-    must(ada_event_at(&k, position, &e), "an event");
-    printf("%d ", (int)position);
-    if (e.kind < ADA_TICKED) print_deed(position, &e);
-    else print_fate(&e);
-    printf("\n");
+    must(ada_event_text(&k, position, &names, text, sizeof text, &length), "an event");
+    if (length >= sizeof text) fail("a line that is too long", 0);
+    puts(text);
   }
 }
 

@@ -43,13 +43,14 @@ static void clear(void) {
   at = 77;
   out = 77;
   moment = 77;
+  k.goes_on = 77;
   memset(&told, 7, sizeof told);
   memset(&kept, 7, sizeof kept);
 }
 
 /* A call was answered by a code, and changed and wrote nothing. */
 static void answered(int32_t code, int32_t wanted, uint64_t events, const char *what) {
-  int is_same = at == 77 && out == 77 && moment == 77 && !memcmp(&told, &kept, sizeof told);
+  int is_same = at == 77 && out == 77 && moment == 77 && k.goes_on == 77 && !memcmp(&told, &kept, sizeof told);
   note(code == wanted && is_same && ada_events(&k) == events, what);
   clear();
 }
@@ -144,8 +145,23 @@ static void try_questions(void) {
   BAD(ADA_LIVES_ON, ada_board_of(&k, &told.board));
 }
 
+/* The events of the last request are told from a position on. */
+static void try_many_events(void) {
+  ada_event list[3];
+  uint64_t count = 77;
+  GOOD(ada_events_from(&k, 3, list, 3, &count));
+  note(count == 2 && list[0].kind == ADA_ELABORATED && list[1].kind == ADA_ACTIVATED, "both events");
+  GOOD(ada_events_from(&k, 4, list, 3, &count));
+  note(count == 1 && list[0].kind == ADA_ACTIVATED, "the last event");
+  GOOD(ada_events_from(&k, 2, list, 3, &count));
+  note(count == 0, "no earlier event");
+  GOOD(ada_events_from(&k, LAST, list, 3, &count));
+  note(count == 0, "no event so far on");
+}
+
 /* The last request appended events 3 and 4: an end of an activation and of another one. */
 static void try_events(void) {
+  try_many_events();
   BAD(ADA_NO_SUCH_EVENT, ada_event_at(&k, 0, &told.event));
   BAD(ADA_GIVEN_UP, ada_event_at(&k, 2, &told.event));
   BAD(ADA_NO_SUCH_EVENT, ada_event_at(&k, 5, &told.event));
@@ -183,9 +199,11 @@ static void try_null(void) {
 /* Event 5: the main program calls; 6 and 7: task 1 accepts; 8: it ends the rendezvous. */
 static void try_rendezvous(void) {
   AT(5, ada_call(&k, 0, 1, 0, 0, ADA_SIMPLE, 0, &at));
+  note(k.goes_on == 0, "a caller that waits");
   GOOD(ada_queued(&k, 1, 0, 0, &out));
   note(out == 1, "a queued call");
   AT(6, ada_accept(&k, 1, 0, 0, &at)); /* 7 met 5 6 */
+  note(k.goes_on == 1, "a server that has met it");
   GOOD(ada_queued(&k, 1, 0, 0, &out));
   note(out == 0, "no queued call");
   GOOD(ada_outcome_of(&k, 1, &told.outcome));
@@ -210,6 +228,7 @@ static void try_giving_up(void) {
   BAD(ADA_UNKNOWN_TASK, ada_release(&k, LAST));
   BAD(ADA_NO_SUCH_ITEM, ada_ended(&k, 0, &at));
   AT(9, ada_complete(&k, 1, &at)); /* 10 gone 1 */
+  note(k.goes_on == 0, "a task that is terminated");
   GOOD(ada_ended(&k, 0, &at));
   note(at == 1, "who is terminated by event 10");
   clear();
@@ -243,11 +262,14 @@ static void try_clock(void) {
   AT(11, ada_delay(&k, 0, 50, &at));
   GOOD(ada_next_due(&k, &moment));
   note(moment == 150 && ada_events(&k) == 11, "a delay at a moment of the clock");
+  note(k.goes_on == 0, "a task that is delayed");
   AT(12, ada_tick(&k, 160, &at)); /* 13 woken 11 */
+  note(k.goes_on == 0, "a tick, which is no task's");
   clear();
   BAD(ADA_MOMENT_BACK, ada_delay(&k, 0, 50, &at));
   ada_set_clock(&k, 170);
   AT(15, ada_delay(&k, 0, 0, &at)); /* after 14 ticked 170; 16 woken 15 */
+  note(k.goes_on == 1, "a task whose delay is over at once");
   GOOD(ada_event_at(&k, 15, &told.event));
   note(told.event.kind == ADA_PAUSED && told.event.moment == 170, "a delay that is over at once");
   note(ada_events(&k) == 16, "a tick before it");

@@ -7,22 +7,24 @@
 #include <stdlib.h>
 
 int32_t __real_adatask_create(ada_handle *h, int64_t now, uint64_t by, uint32_t master_kind, uint64_t master,
-                              const ada_family *families, size_t count, uint64_t *at);
+                              const ada_family *families, size_t count, uint64_t *at, uint32_t *goes_on);
 int32_t __real_adatask_activate(ada_handle *h, int64_t now, uint64_t by, const uint64_t *tasks, size_t count,
-                                uint64_t *at);
+                                uint64_t *at, uint32_t *goes_on);
 int32_t __real_adatask_wait(ada_handle *h, int64_t now, uint64_t by, const ada_choice *choices, size_t count,
-                            uint32_t tail, const ada_pause *delays, size_t delay_count, uint32_t pick, uint64_t *at);
+                            uint32_t tail, const ada_pause *delays, size_t delay_count, uint32_t pick,
+                            uint64_t *at, uint32_t *goes_on);
 int32_t __real_adatask_abort(ada_handle *h, int64_t now, uint64_t by, const uint64_t *tasks, size_t count,
-                             uint64_t *at);
+                             uint64_t *at, uint32_t *goes_on);
 
 int32_t __wrap_adatask_create(ada_handle *h, int64_t now, uint64_t by, uint32_t master_kind, uint64_t master,
-                              const ada_family *families, size_t count, uint64_t *at);
+                              const ada_family *families, size_t count, uint64_t *at, uint32_t *goes_on);
 int32_t __wrap_adatask_activate(ada_handle *h, int64_t now, uint64_t by, const uint64_t *tasks, size_t count,
-                                uint64_t *at);
+                                uint64_t *at, uint32_t *goes_on);
 int32_t __wrap_adatask_wait(ada_handle *h, int64_t now, uint64_t by, const ada_choice *choices, size_t count,
-                            uint32_t tail, const ada_pause *delays, size_t delay_count, uint32_t pick, uint64_t *at);
+                            uint32_t tail, const ada_pause *delays, size_t delay_count, uint32_t pick,
+                            uint64_t *at, uint32_t *goes_on);
 int32_t __wrap_adatask_abort(ada_handle *h, int64_t now, uint64_t by, const uint64_t *tasks, size_t count,
-                             uint64_t *at);
+                             uint64_t *at, uint32_t *goes_on);
 
 static void want(const void *list) {
   if (!list) {
@@ -32,26 +34,27 @@ static void want(const void *list) {
 }
 
 int32_t __wrap_adatask_create(ada_handle *h, int64_t now, uint64_t by, uint32_t master_kind, uint64_t master,
-                              const ada_family *families, size_t count, uint64_t *at) {
+                              const ada_family *families, size_t count, uint64_t *at, uint32_t *goes_on) {
   want(families);
-  return __real_adatask_create(h, now, by, master_kind, master, families, count, at);
+  return __real_adatask_create(h, now, by, master_kind, master, families, count, at, goes_on);
 }
 
 int32_t __wrap_adatask_activate(ada_handle *h, int64_t now, uint64_t by, const uint64_t *tasks, size_t count,
-                                uint64_t *at) {
+                                uint64_t *at, uint32_t *goes_on) {
   want(tasks);
-  return __real_adatask_activate(h, now, by, tasks, count, at);
+  return __real_adatask_activate(h, now, by, tasks, count, at, goes_on);
 }
 
 int32_t __wrap_adatask_wait(ada_handle *h, int64_t now, uint64_t by, const ada_choice *choices, size_t count,
-                            uint32_t tail, const ada_pause *delays, size_t delay_count, uint32_t pick, uint64_t *at) {
+                            uint32_t tail, const ada_pause *delays, size_t delay_count, uint32_t pick,
+                            uint64_t *at, uint32_t *goes_on) {
   want(choices);
   want(delays);
-  return __real_adatask_wait(h, now, by, choices, count, tail, delays, delay_count, pick, at);
+  return __real_adatask_wait(h, now, by, choices, count, tail, delays, delay_count, pick, at, goes_on);
 }
 
 int32_t __wrap_adatask_abort(ada_handle *h, int64_t now, uint64_t by, const uint64_t *tasks, size_t count,
-                             uint64_t *at) {
+                             uint64_t *at, uint32_t *goes_on) {
   want(tasks);
-  return __real_adatask_abort(h, now, by, tasks, count, at);
+  return __real_adatask_abort(h, now, by, tasks, count, at, goes_on);
 }

@@ -2,3 +2,4 @@ pub mod ReadBack
 pub mod AsBox
 pub mod Asking
 pub mod Told
+pub mod Listed

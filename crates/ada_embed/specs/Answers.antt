@@ -1,11 +1,12 @@
 -- What is answered to a host, by the kind of its kernel: a code, and what is written where it is 0.
-use Rattle.std.specs.Prelude.{◌≡◌, ◌⊎◌, ℕ, ℤ, pos, Bool, true, false, int_le, Result, Ok, Err, List}
+use Rattle.std.specs.Prelude.{◌≡◌, ◌≢◌, ◌⊎◌, ◌+◌, ◌<◌, ◌≤◌, ℕ, ℤ, pos, Bool, true, false, int_le, Some, Result, Ok, Err, List, length, slice_get}
 use Rattle.ada_events.specs.declared.event.Event.{Event}
 use Rattle.ada_events.specs.declared.request.Request.{Request}
 use Rattle.ada_events.specs.Lawful.{IsLawful, IsSettled}
 use Rattle.ada_border.specs.declared.bad.Bad.{Bad}
 use Rattle.ada_events.specs.Boards.{board_of}
 use Rattle.ada_border.specs.declared.boards.PlainBoard.{PlainBoard}
+use Rattle.ada_border.specs.declared.events.PlainEvent.{PlainEvent}
 use Rattle.ada_border.specs.Boards.{plain_board}
 use Rattle.ada_border.specs.Answers.{IsAnswered, IsCounted, IsTold}
 use Rattle.ada_border.specs.Codes.{bad_code}
@@ -18,8 +19,9 @@ use Rattle.ada_lasting.specs.Refusing.{IsRefused}
 use Rattle.ada_embed.specs.declared.host_kernel.HostKernel.{HostKernel}
 use Rattle.ada_embed.specs.declared.host_kernel.HostKernel.TheVariants.{Whole, Lasting}
 use Rattle.ada_embed.specs.Codes.{lasting_code, keeps_all, lives_on}
+use Rattle.ada_embed.specs.Lasting as lasts
 use Rattle.ada_embed.specs.Lasting.{IsToldOr, IsCountedOr}
-use Rattle.ada_embed.specs.Questions.{count_told}
+use Rattle.ada_embed.specs.Questions.{count_told, event_told, running_of}
 use Rattle.ada_embed.specs.Requests.{Asked}
 
 -- a host without a clock passes a negative moment
@@ -73,6 +75,12 @@ IsToldBy (Whole journal) whole lasting code was written = IsTold (whole journal)
 IsToldBy (Lasting kernel) whole lasting code was written =
     (journal : List Event) → Follows journal kernel → IsToldOr (lasting journal kernel) code was written
 
+-- whether the task of an accepted request goes on, as the question whether it is running tells afterwards
+abbrev pub IsGoingOn : HostKernel → ℕ → ℤ → ℕ → ℕ → Type 0
+IsGoingOn kernel by code was goes_on =
+    ((code ≡ pos 0) × ((told : ℤ) × IsToldBy kernel (λ journal. running_of journal by) (lasts.running_of by) told 0 goes_on))
+    ⊎ ((code ≢ pos 0) × (goes_on ≡ was))
+
 -- a question that only a kernel that keeps everything answers
 abbrev pub IsToldByWhole : {A : Type 0} → HostKernel → (List Event → Result A Bad) → ℤ → A → A → Type 0
 IsToldByWhole (Whole journal) whole code was written = IsTold (whole journal) code was written
@@ -99,6 +107,23 @@ abbrev pub IsCountedBy : HostKernel → ℕ → ℕ → ℤ → ℤ → ℕ → 
 IsCountedBy (Whole journal) by family index code was written = IsCounted (count_told journal by family index) code was written
 IsCountedBy (Lasting kernel) by family index code was written =
     (journal : List Event) → Follows journal kernel → IsCountedOr journal kernel by (entry_in family index) code was written
+
+-- the event at a position, as the question for it tells
+abbrev pub IsEventAt : HostKernel → ℕ → PlainEvent → Type 0
+IsEventAt kernel position event = IsToldBy kernel (λ journal. event_told journal position) (lasts.event_told position) (pos 0) event event
+
+-- that question tells no event
+abbrev pub IsNoEventAt : HostKernel → ℕ → Type 0
+IsNoEventAt kernel position = (why : ℤ) × (was : PlainEvent) × (written : PlainEvent) × (why ≢ pos 0)
+    × IsToldBy kernel (λ journal. event_told journal position) (lasts.event_told position) why was written
+
+-- in the places of a list stand the events from a position on, as many as there are and as fit; the other places stay as
+-- they were
+abbrev pub AreEventsFrom : HostKernel → ℕ → ℕ → List PlainEvent → List PlainEvent → Type 0
+AreEventsFrom kernel from count was written =
+    ((place : ℕ) → place < count → (event : PlainEvent) × (slice_get written place ≡ Some event) × IsEventAt kernel (from + place) event)
+    × ((place : ℕ) → count ≤ place → slice_get written place ≡ slice_get was place)
+    × ((count ≡ length was) ⊎ IsNoEventAt kernel (from + count) ⊎ (18446744073709551616 ≤ from + count))
 
 -- only a kernel that lives on changes so
 abbrev pub IsChangedBy : HostKernel → (List Event → ℤ → Long → Long → Type 0) → ℤ → HostKernel → Type 0

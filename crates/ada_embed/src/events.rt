@@ -2,7 +2,7 @@
 
 ghost use Rattle.std.specs.Prelude.{◌≡◌};
 ghost use Rattle.ada_border.specs.Events as events;
-ghost use Rattle.ada_embed.specs.Answers.{IsToldBy};
+ghost use Rattle.ada_embed.specs.Answers.{AreEventsFrom, IsToldBy};
 ghost use Rattle.ada_embed.specs.Lasting as lasts;
 ghost use Rattle.ada_embed.specs.Questions as asked;
 
@@ -11,6 +11,7 @@ use crate::handle::Handle;
 use crate::host_kernel::HostKernel;
 use crate::lasting::questions as lasting;
 use crate::whole::questions as whole;
+use ada_border::codes::ACCEPTED;
 use ada_border::events::PlainEvent;
 use ada_border::lists::{PlainDue, PlainLengths};
 use ada_border::parts::{PlainChoice, PlainFamily};
@@ -27,6 +28,25 @@ pub extern "C" fn adatask_event(h: &mut Handle, position: u64, out: &mut PlainEv
         HostKernel::Lasting(kernel) => tell_or(lasting::event(kernel, position), out),
     };
     code
+}
+
+/// The events from a position on, as many as there are and as fit, and how many these are.
+#[unsafe(no_mangle)]
+pub extern "C" fn adatask_events_from(h: &mut Handle, from: u64, out: &mut [PlainEvent]) -> u64
+    ensures told { AreEventsFrom h.old.home from result out.old out.new }
+    ensures same { h.new.home ≡ h.old.home }
+{
+    for place in 0..out.len() {
+        let Some(position) = from.checked_add(place as u64) else {
+            return place as u64;
+        };
+        let mut event = out[place];
+        if adatask_event(h, position, &mut event) != ACCEPTED {
+            return place as u64;
+        }
+        out[place] = event;
+    }
+    out.len() as u64
 }
 
 /// How many items the lists of the event at a position have.

@@ -10,6 +10,7 @@ ghost use Rattle.ada_embed.specs.Lasting.{IsCompacted, IsReleased};
 pub mod answering;
 pub mod codes;
 pub mod events;
+pub mod going_on;
 pub mod handle;
 pub mod host_kernel;
 pub mod lasting;

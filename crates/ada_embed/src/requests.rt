@@ -15,8 +15,7 @@ use ada_border::requests;
 use ada_events::Request;
 
 /// Opens a block within what the task is in (5.6, 9.4).
-#[unsafe(no_mangle)]
-pub extern "C" fn adatask_open(h: &mut Handle, now: i64, by: u64, at: &mut u64) -> i32
+pub fn open(h: &mut Handle, now: i64, by: u64, at: &mut u64) -> i32
     ensures { IsAnsweredBy h.old.home (asked.open_in by) now
         result at.old at.new h.new.home }
 {
@@ -29,8 +28,7 @@ pub extern "C" fn adatask_open(h: &mut Handle, now: i64, by: u64, at: &mut u64) 
 }
 
 /// Makes a task that depends on a master, a body (0) or a block (1), with these families of entries (9.1, 9.4, 9.5).
-#[unsafe(no_mangle)]
-pub extern "C" fn adatask_create(
+pub fn create(
     h: &mut Handle,
     now: i64,
     by: u64,
@@ -62,14 +60,7 @@ pub extern "C" fn adatask_create(
 }
 
 /// Starts the activation of tasks (9.3).
-#[unsafe(no_mangle)]
-pub extern "C" fn adatask_activate(
-    h: &mut Handle,
-    now: i64,
-    by: u64,
-    tasks: &[u64],
-    at: &mut u64,
-) -> i32
+pub fn activate(h: &mut Handle, now: i64, by: u64, tasks: &[u64], at: &mut u64) -> i32
     ensures { IsAnsweredBy h.old.home (asked.activate_in by tasks.now) now
         result at.old at.new h.new.home }
 {
@@ -89,14 +80,7 @@ pub extern "C" fn adatask_activate(
 }
 
 /// Ends the task's own activation, by an exception if `ok` is 0 (9.3).
-#[unsafe(no_mangle)]
-pub extern "C" fn adatask_elaborated(
-    h: &mut Handle,
-    now: i64,
-    by: u64,
-    ok: u32,
-    at: &mut u64,
-) -> i32
+pub fn elaborated(h: &mut Handle, now: i64, by: u64, ok: u32, at: &mut u64) -> i32
     ensures { IsAnsweredBy h.old.home (asked.elaborated_in by ok) now
         result at.old at.new h.new.home }
 {
@@ -116,8 +100,7 @@ pub extern "C" fn adatask_elaborated(
 }
 
 /// Calls an entry: simply (0), conditionally (1), or for a duration (2) (9.5, 9.7.2, 9.7.3).
-#[unsafe(no_mangle)]
-pub extern "C" fn adatask_call(
+pub fn call(
     h: &mut Handle,
     now: i64,
     by: u64,
@@ -154,8 +137,7 @@ pub extern "C" fn adatask_call(
 
 /// Waits selectively (9.7.1). The last part is nothing (0), an else part (1), delay alternatives (2), a terminate
 /// alternative (3) or a closed one (4).
-#[unsafe(no_mangle)]
-pub extern "C" fn adatask_wait(
+pub fn wait(
     h: &mut Handle,
     now: i64,
     by: u64,
@@ -183,14 +165,7 @@ pub extern "C" fn adatask_wait(
 }
 
 /// Delays the task by a duration (9.6).
-#[unsafe(no_mangle)]
-pub extern "C" fn adatask_delay(
-    h: &mut Handle,
-    now: i64,
-    by: u64,
-    duration: i64,
-    at: &mut u64,
-) -> i32
+pub fn delay(h: &mut Handle, now: i64, by: u64, duration: i64, at: &mut u64) -> i32
     ensures { IsAnsweredBy h.old.home (asked.delay_in by duration) now
         result at.old at.new h.new.home }
 {
@@ -210,8 +185,7 @@ pub extern "C" fn adatask_delay(
 }
 
 /// Ends the innermost accept statement, by an exception if `raised` is 1 (9.5, 11.5).
-#[unsafe(no_mangle)]
-pub extern "C" fn adatask_end(h: &mut Handle, now: i64, by: u64, raised: u32, at: &mut u64) -> i32
+pub fn end(h: &mut Handle, now: i64, by: u64, raised: u32, at: &mut u64) -> i32
     ensures { IsAnsweredBy h.old.home (asked.end_in by raised) now
         result at.old at.new h.new.home }
 {
@@ -226,8 +200,7 @@ pub extern "C" fn adatask_end(h: &mut Handle, now: i64, by: u64, raised: u32, at
 }
 
 /// Leaves the innermost block, once its dependents are terminated (9.4).
-#[unsafe(no_mangle)]
-pub extern "C" fn adatask_close(h: &mut Handle, now: i64, by: u64, at: &mut u64) -> i32
+pub fn close(h: &mut Handle, now: i64, by: u64, at: &mut u64) -> i32
     ensures { IsAnsweredBy h.old.home (asked.close_in by) now
         result at.old at.new h.new.home }
 {
@@ -240,8 +213,7 @@ pub extern "C" fn adatask_close(h: &mut Handle, now: i64, by: u64, at: &mut u64)
 }
 
 /// Completes the task's body (9.4).
-#[unsafe(no_mangle)]
-pub extern "C" fn adatask_complete(h: &mut Handle, now: i64, by: u64, at: &mut u64) -> i32
+pub fn complete(h: &mut Handle, now: i64, by: u64, at: &mut u64) -> i32
     ensures { IsAnsweredBy h.old.home (asked.complete_in by) now
         result at.old at.new h.new.home }
 {
@@ -256,14 +228,7 @@ pub extern "C" fn adatask_complete(h: &mut Handle, now: i64, by: u64, at: &mut u
 }
 
 /// Aborts tasks (9.10).
-#[unsafe(no_mangle)]
-pub extern "C" fn adatask_abort(
-    h: &mut Handle,
-    now: i64,
-    by: u64,
-    tasks: &[u64],
-    at: &mut u64,
-) -> i32
+pub fn abort(h: &mut Handle, now: i64, by: u64, tasks: &[u64], at: &mut u64) -> i32
     ensures { IsAnsweredBy h.old.home (asked.abort_in by tasks.now) now
         result at.old at.new h.new.home }
 {

@@ -3,7 +3,7 @@ use Rattle.ada_lasting.specs.Meaning.{meant}
 use Rattle.ada_embed.specs.Requests as asked
 use Rattle.ada_embed.specs.Requests.{read_as}
 use Rattle.ada_embed.proofs.Asking.{answered_by, answered_by_without}
-use Rattle.ada_embed.proofs.requests.adatask_close.Goals as goal
+use Rattle.ada_embed.proofs.requests.close.Goals as goal
 
 pub returns-in-Lasting : goal.returns-in-Lasting
 returns-in-Lasting c =
