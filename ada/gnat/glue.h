@@ -1,0 +1,174 @@
+/* SPDX-License-Identifier: MIT */
+/*
+ * What the files of the glue share: between the tasking operations of a program that GNAT compiled and the kernel.
+ * The bodies in Ada beside them call the functions whose names begin with adagnat_; nothing here knows of GNAT's
+ * records. All else is used under one lock, unless it is said.
+ */
+#ifndef ADATASK_GLUE_H
+#define ADATASK_GLUE_H
+
+#include "adatask.h"
+#include <pthread.h>
+#include <semaphore.h>
+#include <stdbool.h>
+#include <stdio.h>
+
+/* What an operation answers to the bodies in Ada; s-tasker.ads has the same numbers. */
+enum {
+  OK = 0,
+  GONE = 1, /* the task was aborted, or terminated with others: its thread ends */
+  RAISES_TASKING_ERROR = 2,
+  WAS_CANCELLED = 3,
+  RAISES_EXCEPTION = 4,
+  RAISES_PROGRAM_ERROR = 5,
+  TOO_MANY_TASKS = 6,
+  TOO_MANY_ENTRIES = 7,
+  TOO_DEEP = 8,
+  TOO_MANY_ALTERNATIVES = 9,
+  NESTED_ACCEPT = 10,
+  NO_MEMORY = 11,
+  NO_TASK = 12, /* a thread asks that isn't a task's */
+  REFUSED = 13  /* for a cause that the glue should never meet; standard error has it */
+};
+
+/* Why a thread stays where it is, each a bit. */
+enum {
+  HELD = 1,          /* the kernel holds its task up */
+  SERVED = 2,        /* the thread of the task that accepted its call is within the accept statement */
+  AWAITS_THREADS = 4 /* threads of tasks that depend on the master that it leaves aren't over */
+};
+
+/* What a task asked for last, as far as its outcome is told. */
+enum { A_CALL = 1, A_WAIT = 2, AN_ACTIVATION = 3, SOMETHING_ELSE = 4 };
+
+enum { MOST_FAMILIES = 16, MOST_CHOICES = 16, MOST_TASKS = 256, MOST_ENTRIES = 1024, NAME_SIZE = 17 };
+
+/* The kind of a master that the kernel doesn't know: of a task that is gone, or too deep. */
+enum { NO_MASTER = 9 };
+
+typedef struct task task;
+typedef struct master master;
+
+/* What tasks may depend on: a block, or a task's body. */
+struct master {
+  master *outer;
+  task *owner;
+  uint32_t kind;
+  uint64_t name;     /* the number of the task, or the position of the opening */
+  int level;         /* GNAT's */
+  unsigned threads;  /* how many tasks that depend on it have a thread */
+  task *dependents;  /* those whose control blocks aren't given back */
+};
+
+struct task {
+  sem_t go; /* its thread waits here */
+  void *block;
+  uint64_t number;
+  unsigned place;
+  char name[NAME_SIZE];
+  unsigned stays; /* bits; 0 if its thread may go on */
+  int answer;     /* to what it asked for last, once it isn't held */
+  int asked;
+  bool parked, gone, has_quit, is_completed, is_elaborated, is_started, has_thread, is_over, is_released, is_to_free;
+  unsigned entries, chunk; /* how many entries, how many of them make a family */
+  task *maker;
+  task *callee;            /* of its latest call, and which entry, from 1 */
+  unsigned entry;
+  void *parameters, *exception;
+  task *caller;       /* of the innermost rendezvous that it serves */
+  task *outer_caller; /* of a caller: that of the rendezvous around */
+  unsigned choices, taken;
+  struct {
+    unsigned entry, alternative; /* from 1 */
+    bool has_no_body;
+  } choice[MOST_CHOICES];
+  uint32_t tail;
+  bool is_timed;
+  int64_t due; /* when what it asked for is over, if it is timed */
+  master body, *innermost, *awaited;
+  int level; /* GNAT's, on which it depends */
+  master *on;
+  task *next_dependent, *previous_dependent;
+  task *next_numbered, *next_ready, *next_to_wake, *next_spare;
+};
+
+extern ada_kernel kernel;
+/* How many threads of tasks aren't parked here, and whether the main program has ended. */
+extern unsigned going;
+extern bool has_finished;
+/* How many tasks are parked at a terminate alternative. */
+extern unsigned at_terminate;
+/* The moment of the last tick. */
+extern int64_t moment;
+extern FILE *script, *journal;
+
+/* ---- The table of tasks: table.c ---- */
+
+extern unsigned places;
+task *new_task(void);
+void forget_task(task *t);
+task *task_at(unsigned place);
+task *task_numbered(uint64_t number);
+void set_number(task *t, uint64_t number);
+void release_task(task *t);
+bool make_room(void);
+void set_master(task *t, master *on);
+master *master_at(task *t, int level);
+
+/* ---- Masters: masters.c ---- */
+
+void await_threads(task *me, master *m);
+void give_up_unactivated(task *me, const master *m);
+int abort_one(task *me, task *t);
+
+/* ---- Who goes on: going.c ---- */
+
+void take_lock(void);
+void give_lock(void);
+void wait_with_lock(pthread_cond_t *condition, const struct timespec *until);
+task *self(void);
+void set_self(task *t);
+void release_from(task *t, unsigned reason);
+void note_abort(uint64_t at);
+void follow(task *me);
+void follow_rest(void);
+void end_innermost(task *server, bool is_raised);
+void drop_innermost(task *server);
+int stay(task *me);
+int refuse(const task *by, int32_t code, const char *what);
+void look_if_stuck(void);
+extern void (*mark_aborted)(void *block);
+
+/* ---- Time: clock.c ---- */
+
+void begin_clock(void);
+int64_t present(void);
+void tick_if_due(void);
+int64_t begin_timed(int64_t nanoseconds);
+void end_timed(task *me, int64_t duration);
+int sleep_for(int64_t nanoseconds);
+void start_helper(void *(*run)(void *));
+
+/* ---- Names and script: names.c, script.c ---- */
+
+void name_task(task *t, const char *image, int length);
+const char *name_of_master(uint32_t kind, uint64_t name);
+const char *name_of_number(uint64_t number);
+void write_asked(const task *by, const char *format, ...);
+void write_created(const task *by, const task *made, const ada_family *families, size_t count);
+void write_list(const task *by, const char *verb, task *const *list, size_t count);
+void write_call(const task *by, uint32_t patience, int64_t duration);
+void write_wait(const task *by, const ada_choice *choices, size_t count, uint32_t tail, int64_t duration);
+void write_tick(int64_t now);
+void write_delay(const task *by, int64_t duration);
+
+/* ---- Journal, files and dump: journal.c, files.c, dump.c ---- */
+
+void write_events(void);
+void open_files(void);
+void flush_files(void);
+void end_stuck(void);
+void say_all(void);
+void begin_dumps(void);
+
+#endif
