@@ -124,6 +124,17 @@ fn write_slip(message: &mut String, faulty: Faulty<'_>) -> Result<Option<Repair>
         write!(message, "no semicolon ends a statement: leave it out")?;
         return Ok(Some(Repair::Words(rest.to_string(alloc)?)));
     }
+    if let Some((name, verb)) = word.split_once('.')
+        && faulty.expected == Expected::Speaker
+        && is_name(name.as_bytes())
+        && VERBS.contains(&verb)
+    {
+        write!(
+            message,
+            "a speaker ends with a colon: write `{name}: {verb}`"
+        )?;
+        return Ok(Some(Repair::Words(format!(in alloc; "{name}: {verb}")?)));
+    }
     let is_joined = word.contains('(') || word.contains(',') || word.contains('.');
     if is_number_begun(word) || !is_joined {
         return Ok(None);
@@ -444,10 +455,35 @@ fn write_split(message: &mut String, name: &str, rest: &str) -> Result<Repair, A
     Ok(Repair::Words(format!(in alloc; "{name}: {rest}")?))
 }
 
+// Words that begin a line of an Ada text, and are no verbs here.
+const OF_ADA: [&str; 14] = [
+    "task",
+    "entry",
+    "procedure",
+    "function",
+    "package",
+    "with",
+    "use",
+    "begin",
+    "declare",
+    "loop",
+    "if",
+    "case",
+    "null",
+    "pragma",
+];
+
 // What is wrong with a word that begins a line without a colon.
 fn write_without_colon(message: &mut String, word: &str) -> Result<Repair, AllocError> {
     let alloc = *message.allocator();
-    if word.eq_ignore_ascii_case("tick") {
+    if OF_ADA.iter().any(|other| word.eq_ignore_ascii_case(other)) {
+        write!(message, "`{word}` is of an Ada text; ")?;
+        write!(
+            message,
+            "here `main: create T under main E` makes a task, and `T: accept E` is what it does"
+        )?;
+        Ok(Repair::Unknown)
+    } else if word.eq_ignore_ascii_case("tick") {
         write!(message, "case counts: write `tick`")?;
         Ok(Repair::Words("tick".to_string(alloc)?))
     } else if VERBS.contains(&word) {

@@ -10,6 +10,7 @@ pub mod nearest;
 pub mod outside;
 pub mod printing;
 pub mod review;
+pub mod shown;
 pub mod uses;
 pub mod warnings;
 pub mod words;

@@ -15,7 +15,7 @@ impl<'a> Nearest<'a> {
     pub fn to(word: &str) -> Self {
         Nearest {
             word: None,
-            distance: word.len() / 3 + 2,
+            distance: (word.len() / 3).max(1) + 1,
         }
     }
 

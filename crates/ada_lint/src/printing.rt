@@ -2,30 +2,51 @@
 
 use crate::finding::{Finding, Kind};
 use crate::review::Review;
+use crate::shown::{width_of, write_shown};
 use ada_script::cursor::Lines;
 use std::alloc::{AllocError, Global};
-use unicode_width::UnicodeWidthStr;
 
-/// The findings of a text, each as `FILE:LINE:COLUMN: error: ..` with its line and a caret beneath. Columns count
-/// bytes, from 1.
+/// The first findings of a text, so many at most, each as `FILE:LINE:COLUMN: error: ..` with its line and a caret
+/// beneath, and a line that counts the others. Columns count bytes, from 1.
 pub fn print_review(
     alloc: Global,
     file: &str,
     text: &[u8],
     review: &Review,
+    most: usize,
 ) -> Result<String, AllocError> {
     let mut printed = String::new(alloc);
+    let findings = &review.findings;
+    print_findings(
+        &mut printed,
+        file,
+        text,
+        findings.get(..most).unwrap_or(findings),
+    )?;
+    let left = findings.len().saturating_sub(most);
+    if left > 0 {
+        write!(printed, "{file}: {left} more; --all shows all\n")?;
+    }
+    Ok(printed)
+}
+
+fn print_findings(
+    printed: &mut String,
+    file: &str,
+    text: &[u8],
+    findings: &[Finding],
+) -> Result<(), AllocError> {
     let mut rest = Lines::new(text);
     let mut number = 0u32;
     let mut line: &[u8] = &[];
-    for finding in &review.findings {
+    for finding in findings {
         for _ in number..finding.line {
             line = rest.next().unwrap_or(&[]);
         }
         number = number.max(finding.line);
-        print_finding(&mut printed, file, line, finding)?;
+        print_finding(printed, file, line, finding)?;
     }
-    Ok(printed)
+    Ok(())
 }
 
 fn print_finding(
@@ -47,22 +68,18 @@ fn print_finding(
     print_place(printed, line, finding)
 }
 
-// The line, and a caret beneath the place. A tab stays one, so that the caret stands where it should.
+// The line, and a caret beneath the place.
 fn print_place(printed: &mut String, line: &[u8], finding: &Finding) -> Result<(), AllocError> {
-    let alloc = *printed.allocator();
-    let shown = String::from_utf8_lossy(alloc, line)?;
+    let mut shown = String::new(*printed.allocator());
+    write_shown(&mut shown, line)?;
     write!(printed, "  {}\n  ", shown.trim_end())?;
-    let before = line.get(..finding.place.min(line.len())).unwrap_or(&[]);
-    let before = String::from_utf8_lossy(alloc, before)?;
-    let tabs = before
-        .chars()
-        .filter(|character| *character == '\t')
-        .count();
-    print_many(printed, '\t', tabs)?;
-    print_many(printed, ' ', before.width())?;
-    print_many(printed, ' ', finding.place.saturating_sub(before.len()))?;
+    let end = finding.place.saturating_add(finding.length).min(line.len());
+    let before = line.get(..finding.place).unwrap_or(line);
+    let place = line.get(finding.place..end).unwrap_or(&[]);
+    print_many(printed, ' ', width_of(before))?;
+    print_many(printed, ' ', finding.place.saturating_sub(line.len()))?;
     printed.push('^')?;
-    print_many(printed, '~', finding.length.saturating_sub(1))?;
+    print_many(printed, '~', width_of(place).saturating_sub(1))?;
     printed.push('\n')?;
     Ok(())
 }

@@ -25,7 +25,7 @@ pub fn review_of(alloc: Global, text: &[u8]) -> Result<Review, Cause>
     match read(alloc, text) {
         Ok(script) => Ok(Review {
             fault: None,
-            findings: warnings_of(alloc, script.lines())?,
+            findings: warnings_of(alloc, text, script.lines())?,
         }),
         Err(
             ScriptFault {

@@ -38,7 +38,7 @@ fn faulty_report(
     if fault.line > LAST_LINE {
         return report_of(alloc, file, log, course).map_err(|_| RunFault::Memory);
     }
-    let (mut text, _) = check(alloc, file, log.first_lines(fault.line))?;
+    let (mut text, _) = check(alloc, file, log.first_lines(fault.line), usize::MAX)?;
     write_before(&mut text, course).map_err(|_| RunFault::Memory)?;
     Ok(text)
 }

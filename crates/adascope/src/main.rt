@@ -42,14 +42,21 @@ fn try_words(rt: &HostRuntime, words: &[String]) -> ExitCode {
     }
 }
 
-// Whether the standard output is a terminal, and nobody asks that nothing has colours.
+// Whether the standard output is a terminal that has colours, and nobody asks that nothing has them.
 fn may_be_colored(rt: &HostRuntime) -> bool {
     let asks = match env::var(rt, "NO_COLOR") {
         Ok(text) => !text.is_empty(),
         Err(VarError::NotPresent) => false,
         Err(_) => true,
     };
-    !asks && rt.stdout().is_terminal()
+    !asks && !is_dumb(rt) && rt.stdout().is_terminal()
+}
+
+fn is_dumb(rt: &HostRuntime) -> bool {
+    match env::var(rt, "TERM") {
+        Ok(terminal) => terminal.as_str() == "dumb",
+        Err(_) => false,
+    }
 }
 
 // Help, or why the words are refused.

@@ -35,13 +35,20 @@ pub fn obey<'a, R: Files + Input + Print + AllocGlobal>(
             is_strict,
         } => {
             let told = tell(rt, what, file, is_strict, is_colored);
-            told.map_err(|fault| Failure { file, fault })
+            told.map_err(|fault| failure(file, fault))
         }
         Job::Compare { first, second } => tell_difference(rt, first, second, is_colored),
-        Job::Conform { file } => {
-            tell_conformance(rt, file).map_err(|fault| Failure { file, fault })
-        }
+        Job::Conform { file } => tell_conformance(rt, file).map_err(|fault| failure(file, fault)),
     }
+}
+
+// Where the output can't be written no file is at fault.
+fn failure<'a>(file: Option<&'a str>, fault: ScopeFault) -> Failure<'a> {
+    let file = match fault {
+        ScopeFault::Run(RunFault::Write) => None,
+        _ => file,
+    };
+    Failure { file, fault }
 }
 
 // Writes a text, with colours if it has some.
@@ -86,7 +93,9 @@ fn tell<R: Files + Input + Print + AllocGlobal>(
     let text = text_of(rt, file)?;
     match what {
         What::Explanation => tell_explanation(rt, &text, is_strict, is_colored),
-        What::Faults => tell_faults(rt, file.unwrap_or(STANDARD_INPUT), &text, is_colored),
+        What::Faults(most) => {
+            tell_faults(rt, file.unwrap_or(STANDARD_INPUT), &text, most, is_colored)
+        }
         What::Picture | What::Sequence | What::Graph | What::Events => draw(rt, &text, what),
     }
 }
@@ -142,9 +151,10 @@ fn tell_faults<R: Print + AllocGlobal>(
     rt: &R,
     file: &str,
     text: &[u8],
+    most: usize,
     is_colored: bool,
 ) -> Result<Finding, ScopeFault> {
-    let (printed, finding) = check(rt.alloc(), file, text)?;
+    let (printed, finding) = check(rt.alloc(), file, text, most)?;
     print(rt, &printed, Kind::Findings, is_colored)?;
     Ok(finding)
 }

@@ -9,8 +9,8 @@ use std::convert::AsStr;
 pub enum What {
     /// Its journal, why lines were refused, and what stands still at the end.
     Explanation,
-    /// Its faulty lines.
-    Faults,
+    /// Its faulty lines, so many of the findings at most.
+    Faults(usize),
     /// A picture of its play.
     Picture,
     /// Its calls as a sequence diagram.
@@ -83,6 +83,11 @@ static EXPLAIN_HELP: &str = "Examples:
 ";
 
 static LINT: &str = "Name every faulty line, with its column and what to write instead";
+
+/// So many findings are printed if not all are asked for.
+const MOST_FINDINGS: usize = 50;
+
+static ALL: &str = "Print all findings, and not the first 50 alone";
 
 static LINT_HELP: &str = "Examples:
 
@@ -212,10 +217,15 @@ fn compare<'a>(alloc: Global) -> Result<Command<'a>, AllocError> {
 }
 
 fn lint<'a>(alloc: Global) -> Result<Command<'a>, AllocError> {
+    let all = Arg::new(alloc, "all")
+        .long("all")
+        .action(ArgAction::SetTrue)
+        .help(ALL);
     Command::new(alloc, "lint")
         .about(LINT)
         .after_help(LINT_HELP)
         .arg(file(alloc, "FILE"))?
+        .arg(all)?
         .arg(color_option(alloc))
 }
 
@@ -258,7 +268,7 @@ fn others<'a>(alloc: Global, program: Command<'a>) -> Result<Command<'a>, AllocE
 fn ordered<'a>(matches: &ArgMatches<'a>) -> Order<'a> {
     match matches.subcommand() {
         Some(("lint", found)) => Order {
-            job: tell(What::Faults, found, false),
+            job: tell(faults_in(found), found, false),
             color: color_in(found),
         },
         Some(("draw", found)) => plain(tell(picture_in(found), found, false)),
@@ -306,6 +316,15 @@ fn color_in(matches: &ArgMatches<'_>) -> Color {
         Some("never") => Color::Never,
         _ => Color::Auto,
     }
+}
+
+// How many findings are printed.
+fn faults_in(matches: &ArgMatches<'_>) -> What {
+    What::Faults(if matches.get_flag("all") {
+        usize::MAX
+    } else {
+        MOST_FINDINGS
+    })
 }
 
 // The format of a picture.
