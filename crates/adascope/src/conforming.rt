@@ -2,7 +2,7 @@
 
 use crate::input::{Log, read_log};
 use crate::obeying::STANDARD_INPUT;
-use crate::report::{report_of, write_before};
+use crate::report::{Report, report_of, write_before};
 use ada_findings::{Finding, ScopeFault, check};
 use ada_replay::output::write_output;
 use ada_replay::{Course, Judgement, RunFault, follow};
@@ -34,39 +34,45 @@ fn faulty_report(
     log: &Log,
     course: &Course,
     fault: ScriptFault,
-) -> Result<String, RunFault> {
+) -> Result<Report, RunFault> {
     if fault.line > LAST_LINE {
         return report_of(alloc, file, log, course).map_err(|_| RunFault::Memory);
     }
     let (mut text, _) = check(alloc, file, log.first_lines(fault.line), usize::MAX)?;
     write_before(&mut text, course).map_err(|_| RunFault::Memory)?;
-    Ok(text)
+    Ok(Report {
+        text,
+        stands_still: false,
+    })
 }
 
-fn text_of(alloc: Global, file: &str, log: &Log, course: &Course) -> Result<String, RunFault> {
+fn report(alloc: Global, file: &str, log: &Log, course: &Course) -> Result<Report, RunFault> {
     match &course.judgement {
         Judgement::Faulty(fault) => faulty_report(alloc, file, log, course, *fault),
         _ => report_of(alloc, file, log, course).map_err(|_| RunFault::Memory),
     }
 }
 
-// What is found in a log that is judged so.
-fn finding_of(judgement: &Judgement) -> Finding {
+// What is found in a log that is judged so; that it ends in a standstill, if this was looked for.
+fn finding_of(judgement: &Judgement, is_standstill: bool) -> Finding {
     match judgement {
+        Judgement::Conforms if is_standstill => Finding::Standstill,
         Judgement::Conforms => Finding::Nothing,
         Judgement::Refused { .. } => Finding::Refused,
         Judgement::Faulty(_) => Finding::NoLog,
     }
 }
 
-/// Checks the log that a file has, or the standard input, writes what is told of it, and says what was found.
+/// Checks the log that a file has, or the standard input, writes what is told of it, and says what was found, a
+/// standstill at its end too if this is looked for.
 pub fn tell_conformance<R: Files + Input + Print + AllocGlobal>(
     rt: &R,
     file: Option<&str>,
+    is_strict: bool,
 ) -> Result<Finding, ScopeFault> {
     let log = log_of(rt, file)?;
     let course = follow(rt.alloc(), log.lines())?;
-    let text = text_of(rt.alloc(), file.unwrap_or(STANDARD_INPUT), &log, &course)?;
-    write_output(&mut io::writer(rt), text.as_bytes())?;
-    Ok(finding_of(&course.judgement))
+    let report = report(rt.alloc(), file.unwrap_or(STANDARD_INPUT), &log, &course)?;
+    write_output(&mut io::writer(rt), report.text.as_bytes())?;
+    Ok(finding_of(&course.judgement, is_strict && report.stands_still))
 }

@@ -38,7 +38,9 @@ pub fn obey<'a, R: Files + Input + Print + AllocGlobal>(
             told.map_err(|fault| failure(file, fault))
         }
         Job::Compare { first, second } => tell_difference(rt, first, second, is_colored),
-        Job::Conform { file } => tell_conformance(rt, file).map_err(|fault| failure(file, fault)),
+        Job::Conform { file, is_strict } => {
+            tell_conformance(rt, file, is_strict).map_err(|fault| failure(file, fault))
+        }
     }
 }
 

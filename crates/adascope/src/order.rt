@@ -39,6 +39,8 @@ pub enum Job<'a> {
     /// To check a log of what tasks did.
     Conform {
         file: Option<&'a str>,
+        /// Whether a standstill at its end has a status of its own.
+        is_strict: bool,
     },
 }
 
@@ -140,6 +142,8 @@ static FILE: &str = "The file that has the script, or - for the standard input, 
 static STRICT: &str =
     "End with status 3 where a line was refused, or the end is stuck, or has a circle of tasks";
 
+static STRICT_LOG: &str = "End with status 3 where a log that conforms ends stuck, or has a circle";
+
 static COLOR: &str =
     "Whether the text has colours: on a terminal alone, if NO_COLOR isn't set, or as is said";
 
@@ -153,7 +157,7 @@ static HELP: &str = "Exit status:
   1  the input is no script: a line is faulty; of compare: the plays differ; of conform: a line is
      refused
   2  the command line is refused; of compare: an input is no script; of conform: the input is no log
-  3  with --strict: a line was refused, or something is stuck at the end
+  3  with --strict: a line of a script was refused, or something is stuck at the end
   4  a file, memory, the input or the output was refused
 ";
 
@@ -180,16 +184,19 @@ fn color_option<'a>(alloc: Global) -> Arg<'a> {
         .help(COLOR)
 }
 
-fn explain<'a>(alloc: Global) -> Result<Command<'a>, AllocError> {
-    let strict = Arg::new(alloc, "strict")
+fn strict_option<'a>(alloc: Global, help: &'a str) -> Arg<'a> {
+    Arg::new(alloc, "strict")
         .long("strict")
         .action(ArgAction::SetTrue)
-        .help(STRICT);
+        .help(help)
+}
+
+fn explain<'a>(alloc: Global) -> Result<Command<'a>, AllocError> {
     Command::new(alloc, "explain")
         .about(EXPLAIN)
         .after_help(EXPLAIN_HELP)
         .arg(file(alloc, "FILE"))?
-        .arg(strict)?
+        .arg(strict_option(alloc, STRICT))?
         .arg(color_option(alloc))
 }
 
@@ -240,7 +247,8 @@ fn conform<'a>(alloc: Global) -> Result<Command<'a>, AllocError> {
     Command::new(alloc, "conform")
         .about(CONFORM)
         .after_help(CONFORM_HELP)
-        .arg(file(alloc, "FILE"))
+        .arg(file(alloc, "FILE"))?
+        .arg(strict_option(alloc, STRICT_LOG))
 }
 
 fn program<'a>(alloc: Global) -> Result<Command<'a>, AllocError> {
@@ -282,6 +290,7 @@ fn ordered<'a>(matches: &ArgMatches<'a>) -> Order<'a> {
         },
         Some(("conform", found)) => plain(Job::Conform {
             file: file_in(found, "FILE"),
+            is_strict: found.get_flag("strict"),
         }),
         Some((_, found)) => Order {
             job: tell(What::Explanation, found, found.get_flag("strict")),

@@ -8,7 +8,15 @@ use ada_explain::standstill::write_standstill;
 use ada_replay::{Course, Judgement, Refused};
 use ada_script::cursor::Lines;
 use ada_script::{ScriptFault, Statement};
+use ada_waiting::Verdict;
 use std::alloc::{AllocError, Global};
+
+/// What is told of a log, and whether something is stuck at its end, or tasks wait for one another in a circle.
+#[derive(Drop)]
+pub struct Report {
+    pub text: String,
+    pub stands_still: bool,
+}
 
 /// What is told of a log, which is called so: the line that stops it, and why; how far it conforms; and, if it
 /// conforms and doesn't come to its end, what stands still there.
@@ -17,13 +25,14 @@ pub fn report_of(
     file: &str,
     log: &Log,
     course: &Course,
-) -> Result<String, AllocError> {
+) -> Result<Report, AllocError> {
     let mut text = String::new(alloc);
+    let mut stands_still = false;
     match &course.judgement {
         Judgement::Conforms => {
             write_conforming(&mut text, course)?;
             write_rest(&mut text, log, course)?;
-            write_end(&mut text, course)?;
+            stands_still = write_end(&mut text, course)?;
         }
         Judgement::Refused {
             line,
@@ -42,7 +51,7 @@ pub fn report_of(
             write_before(&mut text, course)?;
         }
     }
-    Ok(text)
+    Ok(Report { text, stands_still })
 }
 
 /// Appends how far a log conforms that a line stops.
@@ -92,12 +101,13 @@ fn write_rest(text: &mut String, log: &Log, course: &Course) -> Result<(), Alloc
     )
 }
 
-// What stands still, if the main program isn't terminated.
-fn write_end(text: &mut String, course: &Course) -> Result<(), AllocError> {
-    if !course.kernel.finished() {
-        write_standstill(text, Scene::of(&course.kernel, &course.names))?;
+// What stands still, if the main program isn't terminated; whether it is stuck, or has a circle.
+fn write_end(text: &mut String, course: &Course) -> Result<bool, AllocError> {
+    if course.kernel.finished() {
+        return Ok(false);
     }
-    Ok(())
+    let standstill = write_standstill(text, Scene::of(&course.kernel, &course.names))?;
+    Ok(standstill.has_circle || standstill.verdict == Verdict::Stuck)
 }
 
 fn write_why(
