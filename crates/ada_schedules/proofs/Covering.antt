@@ -1,0 +1,126 @@
+-- A closed set covers whatever a schedule comes to.
+use Rattle.std.proofs.Common.{◌≡◌, Some, None, List, ◌∙◌}
+use Rattle.ada_events.specs.declared.event.Event.{Event}
+use Rattle.ada_events.specs.declared.request.Request.{Request}
+use Rattle.ada_events.specs.declared.refusal.Refusal.{Refusal}
+use Rattle.ada_events.specs.Lawful.{IsSettled, After}
+use Rattle.ada_laws.specs.Unlimited.{IsLawfulUnlimited, refusal_but_limits}
+use Rattle.ada_laws.proofs.asking.GroupLaws.{empty_is_settled}
+use Rattle.ada_laws.proofs.asking.Limitless.{lawful_unlimited}
+use Rattle.ada_laws.proofs.asking.RequestLaws.{after-unlimited}
+use Rattle.ada_standing.specs.Renaming.{Renaming, chained}
+use Rattle.ada_standing.specs.StandsIn.{StandsIn}
+use Rattle.ada_standing.specs.Asking.{renamed_request}
+use Rattle.ada_standing.proofs.chained.Chain.{stand_ins_chain}
+use Rattle.ada_standing.proofs.asked.Refusing.{refused_alike}
+use Rattle.ada_standing.proofs.led.Leading.{leads_alike}
+use Rattle.ada_schedules.specs.Schedules.{Program, State, Acts, Reaches}
+use Rattle.ada_schedules.specs.Closed.{asked_in, went_on, was_refused, StandsFor, SpeaksInNames, Covers, IsClosed}
+use Rattle.ada_schedules.specs.Laws.{program_of, Passing, PassingBoth, ClosedSetsCoverAll, NoScheduleGetsStuck}
+use Rattle.ada_schedules.proofs.Stuck.{few_tasks, stuck_alike}
+
+-- a schedule came to the state, which is covered, lawful and settled
+record IsCovered (program : Program) (Same : Renaming → program.Rest → program.Rest → Type 0) (Within : State program.Rest → Type 0)
+    (state : State program.Rest) : Type 0 where
+  reached : Reaches program state
+  covered : Covers program Same Within state
+  lawful : IsLawfulUnlimited state.journal
+  settled : IsSettled state.journal
+
+module _ (program : Program) (Same : Renaming → program.Rest → program.Rest → Type 0) (Within : State program.Rest → Type 0)
+    (speaks : SpeaksInNames program Same) (closed : IsClosed program Same Within) where
+  -- the state that covers one stands in for it
+  stands_for : (state : State program.Rest) (known : IsCovered program Same Within state)
+      → StandsFor program Same state known.covered.by known.covered.names
+  stands_for state known = record {
+    reached = known.reached;
+    lawful = known.lawful;
+    lawful_too = closed.lawful known.covered.by known.covered.within;
+    stands = known.covered.stands;
+    same = known.covered.same;
+  }
+
+  -- what stands in for what stands in for a state covers it, too
+  cover_on : (state other : State program.Rest) (names : Renaming) → StandsIn state.journal other.journal names
+      → IsLawfulUnlimited state.journal → Same names state.rest other.rest → Covers program Same Within other → Covers program Same Within state
+  cover_on state other names stands lawful same covered = record {
+    by = covered.by;
+    within = covered.within;
+    names = chained names covered.names;
+    stands = stand_ins_chain state.journal other.journal covered.by.journal names covered.names stands covered.stands lawful;
+    same = speaks.chained names covered.names state.rest other.rest covered.by.rest same covered.same;
+  }
+
+  -- a request is refused alike by what covers a state
+  refuses_alike : (state : State program.Rest) (choice : program.Choice) (request : Request) (known : IsCovered program Same Within state)
+      → asked_in program state choice ≡ Some request
+      → refusal_but_limits known.covered.by.journal (renamed_request known.covered.names request) ≡ refusal_but_limits state.journal request
+  refuses_alike state choice request known asks =
+      let here = known.covered in
+      let within = closed.lawful here.by here.within in
+      refused_alike state.journal here.by.journal here.names request here.stands known.lawful (lawful_unlimited here.by.journal within)
+      (few_tasks here.by.journal within) (speaks.kept state here.by here.names choice request (stands_for state known) asks)
+
+  -- what an accepted request leads to is covered again
+  accepted_on : (state : State program.Rest) (choice : program.Choice) (request : Request) (journal : List Event)
+      → IsCovered program Same Within state → asked_in program state choice ≡ Some request
+      → refusal_but_limits state.journal request ≡ None → After state.journal request journal
+      → IsCovered program Same Within (went_on program state choice journal)
+  accepted_on state choice request journal known asks accepted leads =
+      let here = known.covered in
+      let there = here.by in
+      let copy = renamed_request here.names request in
+      let for = stands_for state known in
+      let also = lawful_unlimited there.journal for.lawful_too in
+      let kept = speaks.kept state there here.names choice request for asks in
+      let asks_too = speaks.asks state there here.names choice request for asks in
+      let accepted_too = refuses_alike state choice request known asks ∙ accepted in
+      let on = closed.accepted there choice copy here.within asks_too accepted_too in
+      let led = leads_alike state.journal there.journal here.names request journal on.journal here.stands known.lawful also known.settled kept
+      accepted accepted_too leads on.after in
+      let lawful_after = after-unlimited state.journal request journal known.lawful known.settled accepted leads in
+      record {
+        reached = Reaches.one_more known.reached (Acts.accepted choice request journal asks accepted leads);
+        covered = cover_on (went_on program state choice journal) (went_on program there choice on.journal) led.after led.stands lawful_after
+            (speaks.after state there here.names choice request journal on.journal for asks leads on.after led) on.covered;
+        lawful = lawful_after;
+        settled = leads.settled;
+      }
+
+  -- what a refused request leaves is covered again
+  refused_on : (state : State program.Rest) (choice : program.Choice) (request : Request) (cause : Refusal) → IsCovered program Same Within state
+      → asked_in program state choice ≡ Some request → refusal_but_limits state.journal request ≡ Some cause
+      → IsCovered program Same Within (was_refused program state choice cause)
+  refused_on state choice request cause known asks refused =
+      let here = known.covered in
+      let there = here.by in
+      let copy = renamed_request here.names request in
+      let asks_too = speaks.asks state there here.names choice request (stands_for state known) asks in
+      record {
+        reached = Reaches.one_more known.reached (Acts.refused choice request cause asks refused);
+        covered = cover_on (was_refused program state choice cause) (was_refused program there choice cause) here.names here.stands known.lawful
+            (speaks.refused here.names state.rest there.rest choice cause here.same)
+            (closed.refused there choice copy cause here.within asks_too (refuses_alike state choice request known asks ∙ refused));
+        lawful = known.lawful;
+        settled = known.settled;
+      }
+
+  acts_on : (from to : State program.Rest) → IsCovered program Same Within from → Acts program from to → IsCovered program Same Within to
+  acts_on from to known (Acts.accepted choice request journal asks accepted leads) = accepted_on from choice request journal known asks accepted leads
+  acts_on from to known (Acts.refused choice request cause asks refused) = refused_on from choice request cause known asks refused
+
+  -- whatever a schedule comes to is covered
+  all_covered : (state : State program.Rest) → Reaches program state → IsCovered program Same Within state
+  all_covered state (Reaches.begun) = record { reached = Reaches.begun; covered = closed.begun; lawful = tt; settled = empty_is_settled }
+  all_covered state (Reaches.one_more {from} {to} reaches acts) = acts_on from to (all_covered from reaches) acts
+
+pub closed_sets_cover_all : {Rest Choice : Type 0} → ClosedSetsCoverAll Rest Choice
+closed_sets_cover_all {Rest} {Choice} start asks after refused same within speaks closed state reaches =
+    (all_covered (program_of Rest Choice start asks after refused) (PassingBoth same) (Passing within) speaks closed state reaches).covered
+
+pub no_schedule_gets_stuck : {Rest Choice : Type 0} → NoScheduleGetsStuck Rest Choice
+no_schedule_gets_stuck {Rest} {Choice} start asks after refused same within speaks closed none state reaches stuck =
+    let known = all_covered (program_of Rest Choice start asks after refused) (PassingBoth same) (Passing within) speaks closed state reaches in
+    let here = known.covered in
+    none here.by here.within (stuck_alike state.journal here.by.journal here.names here.stands known.lawful
+    (closed.lawful here.by here.within) known.settled stuck)

@@ -1,0 +1,84 @@
+-- A set of states that no schedule leaves, but for names.
+use Rattle.std.specs.Prelude.{◌≡◌, true, Option, Some, None, List}
+use Rattle.ada_events.specs.declared.event.Event.{Event}
+use Rattle.ada_events.specs.declared.request.Request.{Request}
+use Rattle.ada_events.specs.declared.refusal.Refusal.{Refusal}
+use Rattle.ada_events.specs.Lawful.{IsLawful, IsSettled, After}
+use Rattle.ada_laws.specs.Unlimited.{IsLawfulUnlimited, refusal_but_limits}
+use Rattle.ada_standing.specs.Renaming.{Renaming, chained}
+use Rattle.ada_standing.specs.StandsIn.{StandsIn}
+use Rattle.ada_standing.specs.Asking.{renamed_request, names_kept}
+use Rattle.ada_standing.specs.Leading.{LedAlike}
+use Rattle.ada_schedules.specs.Schedules.{Program, State, beginning, Reaches}
+
+-- what a choice asks for in a state
+abbrev pub asked_in : (program : Program) → State program.Rest → program.Choice → Option Request
+asked_in program state choice = program.asks state.journal state.rest choice
+
+-- where a request of a choice leads, by the journal that it leads to
+abbrev pub went_on : (program : Program) → State program.Rest → program.Choice → List Event → State program.Rest
+went_on program state choice journal = record { journal = journal; rest = program.after state.journal state.rest choice journal }
+
+-- where a refused request of a choice leads
+abbrev pub was_refused : (program : Program) → State program.Rest → program.Choice → Refusal → State program.Rest
+was_refused program state choice cause = record { journal = state.journal; rest = program.refused state.rest choice cause }
+
+-- here `Same` says when what is left to do is the same but for names
+
+-- the second state stands in for the first one, to which a schedule of the program came
+pub record StandsFor (program : Program) (Same : Renaming → program.Rest → program.Rest → Type 0) (first second : State program.Rest)
+    (names : Renaming) : Type 0 where
+  pub reached : Reaches program first
+  pub lawful : IsLawfulUnlimited first.journal
+  pub lawful_too : IsLawful second.journal
+  pub stands : StandsIn first.journal second.journal names
+  pub same : Same names first.rest second.rest
+
+-- the program names tasks and blocks by their names alone: if a second state stands in for a first one, each choice asks
+-- for the same there, under its names, and names only what has a name; and what is left to do afterwards is the same
+-- again
+pub record SpeaksInNames (program : Program) (Same : Renaming → program.Rest → program.Rest → Type 0) : Type 0 where
+  pub asks : (first second : State program.Rest) (names : Renaming) (choice : program.Choice) (request : Request)
+      → StandsFor program Same first second names → asked_in program first choice ≡ Some request
+      → asked_in program second choice ≡ Some (renamed_request names request)
+  pub kept : (first second : State program.Rest) (names : Renaming) (choice : program.Choice) (request : Request)
+      → StandsFor program Same first second names → asked_in program first choice ≡ Some request
+      → names_kept names first.journal request ≡ true
+  pub after : (first second : State program.Rest) (names : Renaming) (choice : program.Choice) (request : Request) (journal other : List Event)
+      → StandsFor program Same first second names → asked_in program first choice ≡ Some request
+      → After first.journal request journal → After second.journal (renamed_request names request) other
+      → (led : LedAlike first.journal second.journal names journal other)
+      → Same led.after (went_on program first choice journal).rest (went_on program second choice other).rest
+  pub refused : (names : Renaming) (rest other : program.Rest) (choice : program.Choice) (cause : Refusal) → Same names rest other
+      → Same names (program.refused rest choice cause) (program.refused other choice cause)
+  pub chained : (names more : Renaming) (first second third : program.Rest) → Same names first second → Same more second third
+      → Same (chained names more) first third
+
+-- a state of the set stands in for this one
+pub record Covers (program : Program) (Same : Renaming → program.Rest → program.Rest → Type 0) (Within : State program.Rest → Type 0)
+    (state : State program.Rest) : Type 0 where
+  pub by : State program.Rest
+  pub within : Within by
+  pub names : Renaming
+  pub stands : StandsIn state.journal by.journal names
+  pub same : Same names state.rest by.rest
+
+-- an accepted request leads to a journal, and to what the set covers
+pub record GoesOn (program : Program) (Same : Renaming → program.Rest → program.Rest → Type 0) (Within : State program.Rest → Type 0)
+    (state : State program.Rest) (choice : program.Choice) (request : Request) : Type 0 where
+  pub journal : List Event
+  pub after : After state.journal request journal
+  pub covered : Covers program Same Within (went_on program state choice journal)
+
+-- a set of lawful, settled states, of which one covers the beginning. Whatever a choice of one of them asks for leads to
+-- what one of them covers, also if it is refused
+pub record IsClosed (program : Program) (Same : Renaming → program.Rest → program.Rest → Type 0) (Within : State program.Rest → Type 0) : Type 0 where
+  pub begun : Covers program Same Within (beginning program)
+  pub lawful : (state : State program.Rest) → Within state → IsLawful state.journal
+  pub settled : (state : State program.Rest) → Within state → IsSettled state.journal
+  pub accepted : (state : State program.Rest) (choice : program.Choice) (request : Request) → Within state
+      → asked_in program state choice ≡ Some request → refusal_but_limits state.journal request ≡ None
+      → GoesOn program Same Within state choice request
+  pub refused : (state : State program.Rest) (choice : program.Choice) (request : Request) (cause : Refusal) → Within state
+      → asked_in program state choice ≡ Some request → refusal_but_limits state.journal request ≡ Some cause
+      → Covers program Same Within (was_refused program state choice cause)

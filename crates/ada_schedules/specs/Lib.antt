@@ -1,0 +1,4 @@
+pub mod Schedules
+pub mod Closed
+pub mod Stuck
+pub mod Laws

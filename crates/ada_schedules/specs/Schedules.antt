@@ -1,0 +1,44 @@
+-- All schedules of a program over a kernel's journal: one step after another, each one that some choice makes.
+use Rattle.std.specs.Prelude.{◌≡◌, Option, Some, None, List, []}
+use Rattle.ada_events.specs.declared.event.Event.{Event}
+use Rattle.ada_events.specs.declared.request.Request.{Request}
+use Rattle.ada_events.specs.declared.refusal.Refusal.{Refusal}
+use Rattle.ada_events.specs.Lawful.{After}
+use Rattle.ada_laws.specs.Unlimited.{refusal_but_limits}
+
+-- a program: what its tasks have still to do, all of them together; which request a choice asks for, or none where that
+-- choice isn't there; and what is left to do after a choice, by the journal that its request led to, or by the cause for
+-- which it was refused
+pub record Program : Type 1 where
+  pub Rest : Type 0
+  pub Choice : Type 0
+  pub start : Rest
+  pub asks : List Event → Rest → Choice → Option Request
+  pub after : List Event → Rest → Choice → List Event → Rest
+  pub refused : Rest → Choice → Refusal → Rest
+
+-- where a schedule has come to
+pub record State (Rest : Type 0) : Type 0 where
+  pub journal : List Event
+  pub rest : Rest
+
+-- one step of a schedule: the request of a choice is accepted, and leads to the next journal; or it is refused, for a
+-- cause that is no limit of tasks, slots or events, and changes what is left to do alone
+pub data Acts (program : Program) (from : State program.Rest) : State program.Rest → Type 0 where
+  accepted : (choice : program.Choice) (request : Request) (journal : List Event)
+      → program.asks from.journal from.rest choice ≡ Some request
+      → refusal_but_limits from.journal request ≡ None → After from.journal request journal
+      → Acts program from (record { journal = journal; rest = program.after from.journal from.rest choice journal })
+  refused : (choice : program.Choice) (request : Request) (cause : Refusal)
+      → program.asks from.journal from.rest choice ≡ Some request
+      → refusal_but_limits from.journal request ≡ Some cause
+      → Acts program from (record { journal = from.journal; rest = program.refused from.rest choice cause })
+
+-- where the schedules of a program begin
+abbrev pub beginning : (program : Program) → State program.Rest
+beginning program = record { journal = []; rest = program.start }
+
+-- some schedule of the program comes to this state
+pub data Reaches (program : Program) : State program.Rest → Type 0 where
+  begun : Reaches program (beginning program)
+  one_more : {from to : State program.Rest} → Reaches program from → Acts program from to → Reaches program to
