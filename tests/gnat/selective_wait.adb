@@ -24,12 +24,14 @@ procedure Selective_Wait is
             end loop;
          or
             when Is_Open and Serve (High)'Count = 0 =>
-               accept Serve (Low);
-               Put_Line ("served: low");
+               accept Serve (Low) do
+                  Put_Line ("served: low");
+               end Serve;
          or
             when Is_Open =>
-               accept Serve (High);
-               Put_Line ("served: high," & Integer'Image (Serve (Low)'Count) & " low in the queue");
+               accept Serve (High) do
+                  Put_Line ("served: high," & Integer'Image (Serve (Low)'Count) & " low in the queue");
+               end Serve;
          or
             terminate;
          end select;
