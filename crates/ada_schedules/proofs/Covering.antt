@@ -1,5 +1,5 @@
 -- A closed set covers whatever a schedule comes to.
-use Rattle.std.proofs.Common.{◌≡◌, Some, None, List, ◌∙◌}
+use Rattle.std.proofs.Common.{◌≡◌, Some, None, List, [], ◌∷◌, ◌∙◌}
 use Rattle.ada_events.specs.declared.event.Event.{Event}
 use Rattle.ada_events.specs.declared.request.Request.{Request}
 use Rattle.ada_events.specs.declared.refusal.Refusal.{Refusal}
@@ -14,8 +14,9 @@ use Rattle.ada_standing.specs.Asking.{renamed_request}
 use Rattle.ada_standing.proofs.chained.Chain.{stand_ins_chain}
 use Rattle.ada_standing.proofs.asked.Refusing.{refused_alike}
 use Rattle.ada_standing.proofs.led.Leading.{leads_alike}
-use Rattle.ada_schedules.specs.Schedules.{Program, State, Acts, Reaches}
+use Rattle.ada_schedules.specs.Schedules.{Program, State, Acts, Comes, Reaches}
 use Rattle.ada_schedules.specs.Closed.{asked_in, went_on, was_refused, StandsFor, SpeaksInNames, Covers, IsClosed}
+use Rattle.ada_schedules.specs.Stuck.{IsStuck}
 use Rattle.ada_schedules.specs.Laws.{program_of, Passing, PassingBoth, ClosedSetsCoverAll, NoScheduleGetsStuck}
 use Rattle.ada_schedules.proofs.Stuck.{few_tasks, stuck_alike}
 
@@ -80,7 +81,7 @@ module _ (program : Program) (Same : Renaming → program.Rest → program.Rest 
       accepted accepted_too leads on.after in
       let lawful_after = after-unlimited state.journal request journal known.lawful known.settled accepted leads in
       record {
-        reached = Reaches.one_more known.reached (Acts.accepted choice request journal asks accepted leads);
+        reached = let (choices, comes) = known.reached in (choice ∷ choices, Comes.one_more choice comes (Acts.accepted request journal asks accepted leads));
         covered = cover_on (went_on program state choice journal) (went_on program there choice on.journal) led.after led.stands lawful_after
             (speaks.after state there here.names choice request journal on.journal for asks leads on.after led) on.covered;
         lawful = lawful_after;
@@ -97,7 +98,7 @@ module _ (program : Program) (Same : Renaming → program.Rest → program.Rest 
       let copy = renamed_request here.names request in
       let asks_too = speaks.asks state there here.names choice request (stands_for state known) asks in
       record {
-        reached = Reaches.one_more known.reached (Acts.refused choice request cause asks refused);
+        reached = let (choices, comes) = known.reached in (choice ∷ choices, Comes.one_more choice comes (Acts.refused request cause asks refused));
         covered = cover_on (was_refused program state choice cause) (was_refused program there choice cause) here.names here.stands known.lawful
             (speaks.refused here.names state.rest there.rest choice cause here.same)
             (closed.refused there choice copy cause here.within asks_too (refuses_alike state choice request known asks ∙ refused));
@@ -105,22 +106,32 @@ module _ (program : Program) (Same : Renaming → program.Rest → program.Rest 
         settled = known.settled;
       }
 
-  acts_on : (from to : State program.Rest) → IsCovered program Same Within from → Acts program from to → IsCovered program Same Within to
-  acts_on from to known (Acts.accepted choice request journal asks accepted leads) = accepted_on from choice request journal known asks accepted leads
-  acts_on from to known (Acts.refused choice request cause asks refused) = refused_on from choice request cause known asks refused
+  acts_on : (choice : program.Choice) (from to : State program.Rest) → IsCovered program Same Within from → Acts program choice from to
+      → IsCovered program Same Within to
+  acts_on choice from to known (Acts.accepted request journal asks accepted leads) = accepted_on from choice request journal known asks accepted leads
+  acts_on choice from to known (Acts.refused request cause asks refused) = refused_on from choice request cause known asks refused
 
   -- whatever a schedule comes to is covered
-  all_covered : (state : State program.Rest) → Reaches program state → IsCovered program Same Within state
-  all_covered state (Reaches.begun) = record { reached = Reaches.begun; covered = closed.begun; lawful = tt; settled = empty_is_settled }
-  all_covered state (Reaches.one_more {from} {to} reaches acts) = acts_on from to (all_covered from reaches) acts
+  comes_covered : (all : List program.Choice) (state : State program.Rest) → Comes program all state → IsCovered program Same Within state
+  comes_covered all state (Comes.begun) = record { reached = ([], Comes.begun); covered = closed.begun; lawful = tt; settled = empty_is_settled }
+  comes_covered all state (Comes.one_more {choices} {from} {to} choice comes acts) = acts_on choice from to (comes_covered choices from comes) acts
+
+  pub all_covered : (state : State program.Rest) → Reaches program state → Covers program Same Within state
+  all_covered state (choices, comes) = (comes_covered choices state comes).covered
+
+  -- and if none of the set is stuck, nothing is that a schedule comes to
+  pub none_stuck : ((state : State program.Rest) → Within state → IsStuck state.journal → ⊥) → (state : State program.Rest) → Reaches program state
+      → IsStuck state.journal → ⊥
+  none_stuck none state (choices, comes) stuck =
+      let known = comes_covered choices state comes in
+      let here = known.covered in
+      none here.by here.within (stuck_alike state.journal here.by.journal here.names here.stands known.lawful
+      (closed.lawful here.by here.within) known.settled stuck)
 
 pub closed_sets_cover_all : {Rest Choice : Type 0} → ClosedSetsCoverAll Rest Choice
-closed_sets_cover_all {Rest} {Choice} start asks after refused same within speaks closed state reaches =
-    (all_covered (program_of Rest Choice start asks after refused) (PassingBoth same) (Passing within) speaks closed state reaches).covered
+closed_sets_cover_all {Rest} {Choice} start asks after refused same within speaks closed =
+    all_covered (program_of Rest Choice start asks after refused) (PassingBoth same) (Passing within) speaks closed
 
 pub no_schedule_gets_stuck : {Rest Choice : Type 0} → NoScheduleGetsStuck Rest Choice
-no_schedule_gets_stuck {Rest} {Choice} start asks after refused same within speaks closed none state reaches stuck =
-    let known = all_covered (program_of Rest Choice start asks after refused) (PassingBoth same) (Passing within) speaks closed state reaches in
-    let here = known.covered in
-    none here.by here.within (stuck_alike state.journal here.by.journal here.names here.stands known.lawful
-    (closed.lawful here.by here.within) known.settled stuck)
+no_schedule_gets_stuck {Rest} {Choice} start asks after refused same within speaks closed none =
+    none_stuck (program_of Rest Choice start asks after refused) (PassingBoth same) (Passing within) speaks closed none

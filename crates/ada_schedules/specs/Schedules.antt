@@ -1,5 +1,5 @@
 -- All schedules of a program over a kernel's journal: one step after another, each one that some choice makes.
-use Rattle.std.specs.Prelude.{◌≡◌, Option, Some, None, List, []}
+use Rattle.std.specs.Prelude.{◌≡◌, Option, Some, None, List, [], ◌∷◌}
 use Rattle.ada_events.specs.declared.event.Event.{Event}
 use Rattle.ada_events.specs.declared.request.Request.{Request}
 use Rattle.ada_events.specs.declared.refusal.Refusal.{Refusal}
@@ -24,21 +24,24 @@ pub record State (Rest : Type 0) : Type 0 where
 
 -- one step of a schedule: the request of a choice is accepted, and leads to the next journal; or it is refused, for a
 -- cause that is no limit of tasks, slots or events, and changes what is left to do alone
-pub data Acts (program : Program) (from : State program.Rest) : State program.Rest → Type 0 where
-  accepted : (choice : program.Choice) (request : Request) (journal : List Event)
-      → program.asks from.journal from.rest choice ≡ Some request
+pub data Acts (program : Program) (choice : program.Choice) (from : State program.Rest) : State program.Rest → Type 0 where
+  accepted : (request : Request) (journal : List Event) → program.asks from.journal from.rest choice ≡ Some request
       → refusal_but_limits from.journal request ≡ None → After from.journal request journal
-      → Acts program from (record { journal = journal; rest = program.after from.journal from.rest choice journal })
-  refused : (choice : program.Choice) (request : Request) (cause : Refusal)
-      → program.asks from.journal from.rest choice ≡ Some request
+      → Acts program choice from (record { journal = journal; rest = program.after from.journal from.rest choice journal })
+  refused : (request : Request) (cause : Refusal) → program.asks from.journal from.rest choice ≡ Some request
       → refusal_but_limits from.journal request ≡ Some cause
-      → Acts program from (record { journal = from.journal; rest = program.refused from.rest choice cause })
+      → Acts program choice from (record { journal = from.journal; rest = program.refused from.rest choice cause })
 
 -- where the schedules of a program begin
 abbrev pub beginning : (program : Program) → State program.Rest
 beginning program = record { journal = []; rest = program.start }
 
+-- the schedule of these choices, the newest first, comes to a state
+pub data Comes (program : Program) : List program.Choice → State program.Rest → Type 0 where
+  begun : Comes program [] (beginning program)
+  one_more : {choices : List program.Choice} {from to : State program.Rest} (choice : program.Choice) → Comes program choices from
+      → Acts program choice from to → Comes program (choice ∷ choices) to
+
 -- some schedule of the program comes to this state
-pub data Reaches (program : Program) : State program.Rest → Type 0 where
-  begun : Reaches program (beginning program)
-  one_more : {from to : State program.Rest} → Reaches program from → Acts program from to → Reaches program to
+abbrev pub Reaches : (program : Program) → State program.Rest → Type 0
+Reaches program state = (choices : List program.Choice) × Comes program choices state

@@ -1,0 +1,4 @@
+mod Places
+mod Acting
+mod Paths
+mod Standstill

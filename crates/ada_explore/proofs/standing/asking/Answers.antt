@@ -1,0 +1,10 @@
+use Rattle.std.proofs.Common.{ap, ◌∙◌}
+use Rattle.std.specs.Option.{is_some}
+use Rattle.ada_explore.specs.Scripts as scripts
+use Rattle.ada_explore.proofs.Places.{keeps_more}
+use Rattle.ada_explore.proofs.standing.asking.Goals as goal
+
+pub loop-place-preserved : goal.loop-place-preserved
+loop-place-preserved c =
+    keeps_more (λ place. is_some (scripts.request_at c.args.script.now c.args.names.now place)) _ _ c.loop-place.place c.in_ok-place.place _
+    c.in_ok-place.ensures (c.is_some-asks.ensures ∙ ap is_some c.request_at.ensures) c.loop-place.invariant c.in_ok-keep.ensures

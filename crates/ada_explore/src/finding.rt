@@ -1,0 +1,72 @@
+//! What is found of all schedules of a script.
+ghost use Rattle.std.specs.Prelude.{◌≡◌, true, IfOk, IfSome};
+ghost use Rattle.ada_explore.specs.Findings.{GetsStuck};
+
+use crate::{End, Halt, Search, follow, is_stuck};
+use ada_script::Script;
+use std::alloc::Global;
+
+/// What was found of all schedules of a script.
+#[derive(Drop)]
+pub struct Finding {
+    /// A schedule that gets stuck, by the places of its lines; none that was met is shorter.
+    pub stuck: Option<Vec<u16>>,
+    /// How many states were met.
+    pub states: u64,
+    /// How many of them are stuck.
+    pub stuck_states: u32,
+    /// In how many of them no line may come, though the main program isn't terminated, and something could let it go
+    /// on.
+    pub short_states: u32,
+    /// How many steps were taken.
+    pub steps: u64,
+    pub end: End,
+}
+
+// Whether a schedule gets stuck: it is followed again.
+fn gets_stuck(alloc: Global, script: &Script, path: &[u16]) -> Result<bool, Halt>
+    ensures { IfOk result (λ stuck. stuck ≡ true → GetsStuck script.now path.now) }
+{
+    let end = follow(alloc, script, path)?;
+    Ok(is_stuck(&end.kernel))
+}
+
+// The schedule that leads to a state, if it gets stuck.
+fn stuck_path(alloc: Global, script: &Script, path: Vec<u16>) -> Result<Option<Vec<u16>>, Halt>
+    ensures { IfOk result (λ found. IfSome found (λ path. GetsStuck script.now path.items)) }
+{
+    if gets_stuck(alloc, script, &path)? {
+        Ok(Some(path))
+    } else {
+        Ok(None)
+    }
+}
+
+// The first schedule that a search met and that gets stuck.
+fn first_stuck(alloc: Global, script: &Script, search: &Search) -> Result<Option<Vec<u16>>, Halt>
+    ensures { IfOk result (λ found. IfSome found (λ path. GetsStuck script.now path.items)) }
+{
+    match search.first {
+        Some(state) => stuck_path(alloc, script, search.path(state)?),
+        None => Ok(None),
+    }
+}
+
+/// Searches all schedules of a script, up to so many states. A schedule that is told gets stuck: it is one of the
+/// script's, and nothing can let go on what it comes to. Where none is told, nothing is proved: whether states were
+/// rightly taken for the same isn't. An `Err` is want of memory, or a script with more lines than a script may have.
+pub fn explore(alloc: Global, script: &Script, most: u32) -> Result<Finding, Halt>
+    ensures { IfOk result (λ finding.
+        IfSome finding.stuck (λ path. GetsStuck script.now path.items)) }
+{
+    let search = Search::of(alloc, script, most)?;
+    let stuck = first_stuck(alloc, script, &search)?;
+    Ok(Finding {
+        stuck,
+        states: search.states() as u64,
+        stuck_states: search.stuck,
+        short_states: search.short,
+        steps: search.taken,
+        end: search.end,
+    })
+}

@@ -1,0 +1,21 @@
+//! All schedules of a script: which of its lines may come next, where a list of lines leads, whether that is stuck, and
+//! a search of all of them. The search promises nothing: what it found is followed again.
+//!
+//! Section numbers are those of the Ada 83 manual, ANSI/MIL-STD-1815A.
+#![tactic(auto)]
+
+pub mod finding;
+pub mod following;
+mod keep;
+mod key;
+pub mod played;
+pub mod search;
+pub mod standing;
+pub mod stuck;
+
+pub use finding::{Finding, explore};
+pub use following::follow;
+pub use played::{Played, play_schedule};
+pub use search::{End, Search};
+pub use standing::{Halt, Standing};
+pub use stuck::is_stuck;

@@ -1,0 +1,7 @@
+//! Tests of the search of all schedules, beside a plain one that takes no two states for the same.
+#![tactic(auto)]
+
+#[cfg(test)]
+mod finding;
+#[cfg(test)]
+mod plain;
