@@ -3,7 +3,7 @@ use Rattle.std.specs.Prelude.{ℕ, Result, Ok, Err}
 use Rattle.ada_replay.specs.declared.fault.RunFault.TheVariants.{Script}
 use Rattle.ada_findings.specs.declared.fault.Failure.{Failure}
 use Rattle.ada_findings.specs.declared.fault.Finding.{Finding}
-use Rattle.ada_findings.specs.declared.fault.Finding.TheVariants.{Nothing, Faulty, Difference, Refused, NoLog, Standstill}
+use Rattle.ada_findings.specs.declared.fault.Finding.TheVariants.{Nothing, Faulty, Difference, Refused, NoLog, Standstill, Unknown}
 use Rattle.ada_findings.specs.declared.fault.ScopeFault.{ScopeFault}
 use Rattle.ada_findings.specs.declared.fault.ScopeFault.TheVariants.{Run, Compared, TooLong}
 
@@ -21,4 +21,5 @@ status (Ok Difference) = 1
 status (Ok Refused) = 1
 status (Ok NoLog) = 2
 status (Ok Standstill) = 3
+status (Ok Unknown) = 5
 status (Err failure) = fault_status failure.fault

@@ -18,8 +18,10 @@ pub enum Finding {
     Refused,
     /// A line of a log is none of the language.
     NoLog,
-    /// A line was refused, or something is stuck at the end, and this was looked for.
+    /// A line was refused, or something is stuck at the end, and this was looked for; or some schedule gets stuck.
     Standstill,
+    /// Whether any schedule gets stuck isn't known.
+    Unknown,
 }
 
 /// Why nothing was told, or not all.
@@ -54,7 +56,7 @@ pub struct Failure<'a> {
 
 /// The exit status: 0 if nothing was found, 1 for a faulty line, a difference or a refused line of a log, 2 for a
 /// faulty line of what was to be compared or of a log, and for a log that is too long, 3 for a standstill that was
-/// looked for, and 4 where a file, memory, the input or the output was refused.
+/// looked for, 4 where a file, memory, the input or the output was refused, and 5 where nothing is known.
 pub fn status_of(outcome: &Result<Finding, Failure<'_>>) -> u8
     ensures { result ≡ status outcome.now }
 {
@@ -63,6 +65,7 @@ pub fn status_of(outcome: &Result<Finding, Failure<'_>>) -> u8
         Ok(Finding::Faulty | Finding::Difference | Finding::Refused) => 1,
         Ok(Finding::NoLog) => 2,
         Ok(Finding::Standstill) => 3,
+        Ok(Finding::Unknown) => 5,
         Err(failure) => fault_status(&failure.fault),
     }
 }

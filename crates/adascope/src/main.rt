@@ -2,6 +2,7 @@
 #![tactic(auto)]
 
 pub mod conforming;
+pub mod exploring;
 pub mod input;
 pub mod obeying;
 pub mod order;

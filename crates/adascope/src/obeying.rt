@@ -1,6 +1,7 @@
 //! How an order is obeyed.
 
 use crate::conforming::tell_conformance;
+use crate::exploring::tell_schedules;
 use crate::order::{Job, What};
 use crate::painting::{Kind, painted};
 use ada_explain::{Explanation, explain};
@@ -41,6 +42,11 @@ pub fn obey<'a, R: Files + Input + Print + AllocGlobal>(
         Job::Conform { file, is_strict } => {
             tell_conformance(rt, file, is_strict).map_err(|fault| failure(file, fault))
         }
+        Job::Explore {
+            file,
+            states,
+            script,
+        } => tell_schedules(rt, file, states, script).map_err(|fault| failure(file, fault)),
     }
 }
 
@@ -67,8 +73,8 @@ fn print<R: Print + AllocGlobal>(
     write_output(&mut io::writer(rt), text.as_bytes())
 }
 
-// The text of a file, or of the standard input.
-fn text_of<R: Files + Input + AllocGlobal>(
+/// The text of a file, or of the standard input.
+pub(crate) fn text_of<R: Files + Input + AllocGlobal>(
     rt: &R,
     file: Option<&str>,
 ) -> Result<Vec<u8>, ScopeFault> {

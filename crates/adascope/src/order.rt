@@ -1,6 +1,6 @@
 //! The command line: what its words order.
 
-use clap::{Arg, ArgAction, ArgMatches, Command, Error};
+use clap::{Arg, ArgAction, ArgMatches, Command, Error, value_parser};
 use std::alloc::{AllocError, Global};
 use std::convert::AsStr;
 
@@ -41,6 +41,14 @@ pub enum Job<'a> {
         file: Option<&'a str>,
         /// Whether a standstill at its end has a status of its own.
         is_strict: bool,
+    },
+    /// To search all schedules of a script.
+    Explore {
+        file: Option<&'a str>,
+        /// The most states that are gone on from.
+        states: u32,
+        /// Where a schedule that gets stuck is written as a script.
+        script: Option<&'a str>,
     },
 }
 
@@ -134,6 +142,22 @@ A log is a script of any length that a kernel takes. The status is 0 if it confo
 refused, and 2 if a line is none of the language, or the log has more than 16777216 bytes.
 ";
 
+static EXPLORE: &str = "Search all schedules of a script for one that gets stuck";
+
+static EXPLORE_HELP: &str = "Examples:
+
+  adascope explore design.tasks
+  adascope explore --script stuck.tasks design.tasks; adatask < stuck.tasks
+
+Each task says its lines in their order, any task that runs may go on, and a tick comes where none
+can. The first line is the verdict: 'stuck: ..' with status 3, which is proved, or 'unknown: ..' with
+status 5.
+";
+
+static STATES: &str = "The most states that are gone on from";
+
+static SCHEDULE: &str = "Write the schedule that gets stuck to this file, as a script";
+
 static FORMAT: &str =
     "svg: tasks and events; mermaid: the calls as a sequence; dot: who waits for whom at the end";
 
@@ -157,8 +181,10 @@ static HELP: &str = "Exit status:
   1  the input is no script: a line is faulty; of compare: the plays differ; of conform: a line is
      refused
   2  the command line is refused; of compare: an input is no script; of conform: the input is no log
-  3  with --strict: a line of a script was refused, or something is stuck at the end
+  3  with --strict: a line of a script was refused, or something is stuck at the end; of explore:
+     some schedule gets stuck
   4  a file, memory, the input or the output was refused
+  5  of explore: it isn't known whether any schedule gets stuck
 ";
 
 /// What the words of a command line order, of which the first is the program's name. Other words are refused, and
@@ -251,6 +277,27 @@ fn conform<'a>(alloc: Global) -> Result<Command<'a>, AllocError> {
         .arg(strict_option(alloc, STRICT_LOG))
 }
 
+fn explore<'a>(alloc: Global) -> Result<Command<'a>, AllocError> {
+    let states = Arg::new(alloc, "states")
+        .long("states")
+        .value_name("N")
+        .action(ArgAction::Set)
+        .value_parser(value_parser!(u32))
+        .default_value("1000000")
+        .help(STATES);
+    let script = Arg::new(alloc, "script")
+        .long("script")
+        .value_name("OUT")
+        .action(ArgAction::Set)
+        .help(SCHEDULE);
+    Command::new(alloc, "explore")
+        .about(EXPLORE)
+        .after_help(EXPLORE_HELP)
+        .arg(file(alloc, "FILE"))?
+        .arg(states)?
+        .arg(script)
+}
+
 fn program<'a>(alloc: Global) -> Result<Command<'a>, AllocError> {
     let program = Command::new(alloc, "adascope")
         .about(ABOUT)
@@ -269,7 +316,8 @@ fn others<'a>(alloc: Global, program: Command<'a>) -> Result<Command<'a>, AllocE
         .subcommand(draw(alloc)?)?
         .subcommand(events(alloc)?)?
         .subcommand(compare(alloc)?)?
-        .subcommand(conform(alloc)?)
+        .subcommand(conform(alloc)?)?
+        .subcommand(explore(alloc)?)
 }
 
 // What the subcommand that was met orders.
@@ -291,6 +339,11 @@ fn ordered<'a>(matches: &ArgMatches<'a>) -> Order<'a> {
         Some(("conform", found)) => plain(Job::Conform {
             file: file_in(found, "FILE"),
             is_strict: found.get_flag("strict"),
+        }),
+        Some(("explore", found)) => plain(Job::Explore {
+            file: file_in(found, "FILE"),
+            states: found.get_one::<u32>("states").unwrap_or(u32::MAX),
+            script: found.get_str("script"),
         }),
         Some((_, found)) => Order {
             job: tell(What::Explanation, found, found.get_flag("strict")),
