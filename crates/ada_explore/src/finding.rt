@@ -2,7 +2,7 @@
 ghost use Rattle.std.specs.Prelude.{◌≡◌, true, IfOk, IfSome};
 ghost use Rattle.ada_explore.specs.Findings.{GetsStuck};
 
-use crate::{End, Halt, Search, follow, is_stuck};
+use crate::{End, Halt, Refused, Search, Watch, follow, is_stuck};
 use ada_script::Script;
 use std::alloc::Global;
 
@@ -12,7 +12,7 @@ pub struct Finding {
     /// A schedule that gets stuck, by the places of its lines; none that was met is shorter.
     pub stuck: Option<Vec<u16>>,
     /// How many states were met.
-    pub states: u64,
+    pub states: u32,
     /// How many of them are stuck.
     pub stuck_states: u32,
     /// In how many of them no line may come, though the main program isn't terminated, and something could let it go
@@ -20,6 +20,8 @@ pub struct Finding {
     pub short_states: u32,
     /// How many steps were taken.
     pub steps: u64,
+    /// The lines that some schedules say in vain, the first one first.
+    pub refused: Vec<Refused>,
     pub end: End,
 }
 
@@ -55,18 +57,24 @@ fn first_stuck(alloc: Global, script: &Script, search: &Search) -> Result<Option
 /// Searches all schedules of a script, up to so many states. A schedule that is told gets stuck: it is one of the
 /// script's, and nothing can let go on what it comes to. Where none is told, nothing is proved: whether states were
 /// rightly taken for the same isn't. An `Err` is want of memory, or a script with more lines than a script may have.
-pub fn explore(alloc: Global, script: &Script, most: u32) -> Result<Finding, Halt>
+pub fn explore<W: Watch>(
+    alloc: Global,
+    script: &Script,
+    most: u32,
+    watch: &mut W,
+) -> Result<Finding, Halt>
     ensures { IfOk result (λ finding.
         IfSome finding.stuck (λ path. GetsStuck script.now path.items)) }
 {
-    let search = Search::of(alloc, script, most)?;
+    let search = Search::of(alloc, script, most, watch)?;
     let stuck = first_stuck(alloc, script, &search)?;
     Ok(Finding {
         stuck,
-        states: search.states() as u64,
+        states: search.states(),
         stuck_states: search.stuck,
         short_states: search.short,
         steps: search.taken,
+        refused: search.refused,
         end: search.end,
     })
 }

@@ -8,14 +8,14 @@ pub mod finding;
 pub mod following;
 mod keep;
 mod key;
-pub mod played;
 pub mod search;
 pub mod standing;
 pub mod stuck;
+pub mod watch;
 
 pub use finding::{Finding, explore};
 pub use following::follow;
-pub use played::{Played, play_schedule};
-pub use search::{End, Search};
+pub use search::{End, Refused, Search};
 pub use standing::{Halt, Standing};
 pub use stuck::is_stuck;
+pub use watch::{Unwatched, Watch};

@@ -2,8 +2,9 @@
 //! promised of it: what it tells is followed again.
 
 use crate::key::key_of;
-use crate::{Halt, Standing, follow, is_stuck};
-use ada_events::Refusal;
+use crate::standing::asker_at;
+use crate::{Halt, Standing, Watch, is_stuck};
+use ada_events::{Refusal, TaskNo};
 use ada_script::{Line, Script};
 use indexmap::IndexSet;
 use std::alloc::Global;
@@ -13,11 +14,28 @@ use std::alloc::Global;
 pub enum End {
     /// Each state that was met was gone on from.
     AllSeen,
-    /// There are more states than were to be met.
+    /// There are more states than were to be gone on from.
     Bound,
+    /// Whoever watched the search ended it.
+    Ended,
     /// A limit of the kernel was met: of tasks, entries or events.
     Limit(Refusal),
 }
+
+/// A line that some schedules say in vain.
+#[derive(Clone, Copy, Debug, PartialEq, Eq)]
+pub struct Refused {
+    /// Its place in the script, from 0.
+    pub place: u16,
+    pub cause: Refusal,
+    /// In how many steps it is refused for this cause.
+    pub steps: u64,
+    /// The length of the shortest schedule in which it is, with that line.
+    pub after: u32,
+}
+
+/// After so many states a search looks whether it goes on.
+const TURN: u32 = 1024;
 
 /// What a search met.
 #[derive(Drop)]
@@ -35,6 +53,8 @@ pub struct Search {
     pub short: u32,
     /// How many steps were taken.
     pub taken: u64,
+    /// The lines that were refused, the first one first.
+    pub refused: Vec<Refused>,
     pub end: End,
 }
 
@@ -45,8 +65,13 @@ struct Step {
 }
 
 impl Search {
-    /// Searches all schedules of a script, up to so many states.
-    pub fn of(alloc: Global, script: &Script, most: u32) -> Result<Self, Halt> {
+    /// Searches all schedules of a script. So many states are gone on from, at most.
+    pub fn of<W: Watch>(
+        alloc: Global,
+        script: &Script,
+        most: u32,
+        watch: &mut W,
+    ) -> Result<Self, Halt> {
         let mut search = Search {
             alloc,
             steps: Vec::new(alloc),
@@ -55,32 +80,39 @@ impl Search {
             stuck: 0,
             short: 0,
             taken: 0,
+            refused: Vec::new(alloc),
             end: End::AllSeen,
         };
-        let standing = Standing::new(alloc, script)?;
-        search.meet(
-            script.lines(),
-            &standing,
-            Step {
-                from: 0,
-                place: u16::MAX,
-            },
-        )?;
+        search.begin(script)?;
         for state in 0..most {
-            if state as usize >= search.steps.len() {
+            if state >= search.states() {
+                return Ok(search);
+            }
+            if state % TURN == 0 && !watch.goes_on(state, search.states()) {
+                search.end = End::Ended;
                 return Ok(search);
             }
             search.go_on(script, state)?;
         }
-        if search.steps.len() > most as usize {
+        if search.states() > most {
             search.end = End::Bound;
         }
         Ok(search)
     }
 
+    // Meets the beginning, to which no step leads.
+    fn begin(&mut self, script: &Script) -> Result<(), Halt> {
+        let standing = Standing::new(self.alloc, script)?;
+        let step = Step {
+            from: 0,
+            place: u16::MAX,
+        };
+        self.meet(script.lines(), &standing, step)
+    }
+
     /// How many states were met.
-    pub fn states(&self) -> usize {
-        self.steps.len()
+    pub fn states(&self) -> u32 {
+        u32::try_from(self.steps.len()).unwrap_or(u32::MAX)
     }
 
     /// The places of the lines that lead to a state.
@@ -101,39 +133,68 @@ impl Search {
         Ok(path)
     }
 
-    // Takes each step from a state.
+    // Takes each step from a state. The first one is taken where the choices were looked at.
     fn go_on(&mut self, script: &Script, state: u32) -> Result<(), Halt> {
         let path = self.path(state)?;
-        let standing = follow(self.alloc, script, &path)?;
+        let standing = play(self.alloc, script, &path)?;
         let choices = choices(self.alloc, script.lines(), &standing)?;
         if choices.is_empty() && is_short(&standing) {
             self.short = self.short.saturating_add(1);
         }
+        let after = u32::try_from(path.len()).unwrap_or(u32::MAX);
+        let mut here = Some(standing);
         for place in &choices {
-            self.taken = self.taken.saturating_add(1);
-            self.step(
-                script,
-                &path,
-                Step {
-                    from: state,
-                    place: *place,
-                },
-            )?;
+            let from = match here.take() {
+                Some(standing) => standing,
+                None => play(self.alloc, script, &path)?,
+            };
+            let step = Step {
+                from: state,
+                place: *place,
+            };
+            self.step(script, from, step, after.saturating_add(1))?;
         }
         Ok(())
     }
 
-    // Takes a step from where a path leads.
-    fn step(&mut self, script: &Script, path: &[u16], step: Step) -> Result<(), Halt> {
-        let mut standing = follow(self.alloc, script, path)?;
-        match standing.say(script.lines(), step.place) {
-            Ok(_) => self.meet(script.lines(), &standing, step),
+    // Takes a step, after which a schedule has this length.
+    fn step(
+        &mut self,
+        script: &Script,
+        from: Standing,
+        step: Step,
+        after: u32,
+    ) -> Result<(), Halt> {
+        self.taken = self.taken.saturating_add(1);
+        let mut standing = from;
+        match standing.perform(script.lines(), step.place) {
+            Ok(None) => self.meet(script.lines(), &standing, step),
+            Ok(Some(cause)) => {
+                self.note_refused(step.place, cause, after)?;
+                self.meet(script.lines(), &standing, step)
+            }
             Err(Halt::Limit(cause)) => {
                 self.end = End::Limit(cause);
                 Ok(())
             }
             Err(halt) => Err(halt),
         }
+    }
+
+    fn note_refused(&mut self, place: u16, cause: Refusal, after: u32) -> Result<(), Halt> {
+        for known in &mut self.refused {
+            if known.place == place && known.cause == cause {
+                known.steps = known.steps.saturating_add(1);
+                return Ok(());
+            }
+        }
+        let refused = Refused {
+            place,
+            cause,
+            steps: 1,
+            after,
+        };
+        self.refused.push(refused).map_err(|_| Halt::Memory)
     }
 
     // Notes a state, if it is new.
@@ -154,18 +215,61 @@ impl Search {
     }
 }
 
+// Where a path of the search leads. Each of its lines was found to come next.
+fn play(alloc: Global, script: &Script, path: &[u16]) -> Result<Standing, Halt> {
+    let mut standing = Standing::new(alloc, script)?;
+    for place in path {
+        standing.perform(script.lines(), *place)?;
+    }
+    Ok(standing)
+}
+
 // Whether the main program isn't terminated, and something could let it go on.
 fn is_short(standing: &Standing) -> bool {
     !standing.kernel.finished() && !is_stuck(&standing.kernel)
 }
 
-// The lines that may come next.
+// The lines that may come next: the next one of each task that runs, or else the first tick.
 fn choices(alloc: Global, script: &[Line], standing: &Standing) -> Result<Vec<u16>, Halt> {
     let mut choices = Vec::new(alloc);
+    let mut spoken = Spoken::new();
+    let mut tick = None;
     for place in &standing.left {
-        if standing.may_come(script, *place) {
-            choices.push(*place).map_err(|_| Halt::Memory)?;
+        match asker_at(script, &standing.names, *place) {
+            Some(task) if spoken.is_first(task) => {
+                if standing.kernel.running(task) == Some(true) {
+                    choices.push(*place).map_err(|_| Halt::Memory)?;
+                }
+            }
+            Some(_) => {}
+            None => tick = tick.or(Some(*place)),
         }
     }
+    if let (true, Some(place)) = (choices.is_empty(), tick) {
+        choices.push(place).map_err(|_| Halt::Memory)?;
+    }
     Ok(choices)
+}
+
+/// The tasks whose next line was met, a bit each.
+#[derive(Drop)]
+struct Spoken {
+    bits: [u64; 4],
+}
+
+impl Spoken {
+    fn new() -> Self {
+        Spoken { bits: [0; 4] }
+    }
+
+    // Whether a task's line is the first that was met of it.
+    fn is_first(&mut self, task: TaskNo) -> bool {
+        let Some(bits) = self.bits.get_mut(usize::from(task.0 / 64)) else {
+            return false;
+        };
+        let bit = 1 << (task.0 % 64);
+        let is_first = *bits & bit == 0;
+        *bits |= bit;
+        is_first
+    }
 }

@@ -1,11 +1,12 @@
 //! Where a schedule of a script has come to, and its next step.
 ghost use Rattle.std.specs.Prelude.{◌≡◌, ◌∷◌, ◌++◌, [], false, if◌then◌else◌};
-ghost use Rattle.std.specs.Prelude.{IfOk, OnOk, option_map};
+ghost use Rattle.std.specs.Prelude.{IfOk, OnOk, option_map, true, is_some};
 ghost use Rattle.std.specs.Option.{option_and_then};
 ghost use Rattle.ada_events.specs.declared.names.TaskNo.{TaskNo as Number};
 ghost use Rattle.ada_events.specs.Asks.{asker as asks};
 ghost use Rattle.ada_events.specs.declared.refusal.Refusal.TheVariants.{OutOfMemory};
 ghost use Rattle.ada_statements.specs.Binding.{request_of};
+ghost use Rattle.ada_statements.specs.Scope.{Scope};
 ghost use Rattle.ada_script.specs.Script.{scope_of};
 ghost use Rattle.ada_laws.specs.Unlimited.{is_limit};
 ghost use Rattle.ada_schedules.specs.Schedules.{beginning, Acts};
@@ -15,6 +16,7 @@ use ada_events::{Refusal, Request, TaskNo};
 use ada_kernel::Kernel;
 use ada_script::{Line, Names, Script, Statement, request};
 use std::alloc::Global;
+use thiserror::Error;
 
 /// Where a schedule of a script has come to.
 #[derive(Drop)]
@@ -28,15 +30,19 @@ pub struct Standing {
 }
 
 /// Why a schedule doesn't go on by a choice.
-#[derive(Clone, Copy, Debug, PartialEq, Eq)]
+#[derive(Clone, Copy, Debug, PartialEq, Eq, Error)]
 pub enum Halt {
     /// The line may not come next.
+    #[error("not the next line of a task that runs")]
     NoChoice,
     /// A limit of the kernel was reached: of tasks, entries or events.
+    #[error("{0}")]
     Limit(Refusal),
     /// The script has more lines than a script may have.
+    #[error("too many lines")]
     TooLong,
     /// Memory was refused.
+    #[error("out of memory")]
     Memory,
 }
 
@@ -71,7 +77,7 @@ fn asker(statement: &Statement, names: &Names) -> Option<TaskNo>
 }
 
 // The task that asks at a place.
-fn asker_at(script: &[Line], names: &Names, place: u16) -> Option<TaskNo>
+pub(crate) fn asker_at(script: &[Line], names: &Names, place: u16) -> Option<TaskNo>
     ensures { option_map (λ (t : Number). t.0) result
         ≡ scripts.asker_at script.now names.now place }
 {
@@ -88,6 +94,22 @@ fn request_at(script: &[Line], names: &Names, place: u16) -> Option<Request>
     match script.get(usize::from(place)) {
         Some(line) => request(&line.statement, names),
         None => None,
+    }
+}
+
+// Whether the line at a place asks for something, and shows no attribute.
+#[tactic(auto, unfolding(ada_statements::specs::Binding::is_show))]
+fn is_asking(script: &[Line], place: u16) -> bool
+    ensures { (names : Scope) → result ≡ is_some (scripts.request_at script.now names place) }
+{
+    match script.get(usize::from(place)) {
+        Some(line) => !matches!(
+            line.statement,
+            Statement::ShowCallable { .. }
+                | Statement::ShowTerminated { .. }
+                | Statement::ShowCount { .. }
+        ),
+        None => false,
     }
 }
 
@@ -212,8 +234,7 @@ fn asking(alloc: Global, script: &[Line], names: &Names) -> Result<Vec<u16>, Hal
     let mut places = Vec::new(alloc);
     for place in 0..script.len() {
         let place = short(place)?;
-        let asks = request_at(script, names, place).is_some();
-        keep(&mut places, place, asks)?;
+        keep(&mut places, place, is_asking(script, place))?;
     }
     Ok(places)
 }
@@ -240,18 +261,6 @@ fn of_the_rules(cause: Refusal) -> Result<(), Halt>
 }
 
 impl Standing {
-    // What the line at a place asks for, if it may come next.
-    fn asked(&self, script: &[Line], place: u16) -> Option<Request>
-        ensures { result ≡ (scripts.scripted script.now).asks self.now.kernel
-            (scripts.rest self.now.left.items self.now.names) place }
-    {
-        if self.may_come(script, place) {
-            request_at(script, &self.names, place)
-        } else {
-            None
-        }
-    }
-
     // Binds the names of the line at a place, whose event stands at a position.
     fn bind(&mut self, script: &[Line], place: u16, at: u32, made: TaskNo)
         ensures kernel { self.new.kernel ≡ self.old.kernel }
@@ -263,14 +272,19 @@ impl Standing {
         }
     }
 
-    /// Says the line at a place, which is accepted or refused. After an `Err` the schedule goes on from nowhere: the
-    /// line may not come next, a limit was reached, or memory was refused.
-    pub fn say(&mut self, script: &[Line], place: u16) -> Result<Option<Refusal>, Halt>
-        ensures { OnOk result (Acts (scripts.scripted script.now) place
+    // Makes the request of the line at a place. After an `Err` the schedule goes on from nowhere.
+    pub(crate) fn perform(
+        &mut self,
+        script: &[Line],
+        place: u16,
+    ) -> Result<Option<Refusal>, Halt>
+        ensures { OnOk result (scripts.may_come script.now self.old.kernel
+            (scripts.rest self.old.left.items self.old.names) place ≡ true
+            → Acts (scripts.scripted script.now) place
             (scripts.at self.old.kernel self.old.left.items self.old.names)
             (scripts.at self.new.kernel self.new.left.items self.new.names)) }
     {
-        let Some(request) = self.asked(script, place) else {
+        let Some(request) = request_at(script, &self.names, place) else {
             return Err(Halt::NoChoice);
         };
         let made = TaskNo(self.kernel.tasks());
@@ -285,6 +299,20 @@ impl Standing {
                 of_the_rules(cause)?;
                 Ok(Some(cause))
             }
+        }
+    }
+
+    /// Says the line at a place, which is accepted or refused. After an `Err` the schedule goes on from nowhere: the
+    /// line may not come next, a limit was reached, or memory was refused.
+    pub fn say(&mut self, script: &[Line], place: u16) -> Result<Option<Refusal>, Halt>
+        ensures { OnOk result (Acts (scripts.scripted script.now) place
+            (scripts.at self.old.kernel self.old.left.items self.old.names)
+            (scripts.at self.new.kernel self.new.left.items self.new.names)) }
+    {
+        if self.may_come(script, place) {
+            self.perform(script, place)
+        } else {
+            Err(Halt::NoChoice)
         }
     }
 }

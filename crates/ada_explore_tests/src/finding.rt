@@ -1,7 +1,7 @@
 //! What is found of scripts some of whose schedules get stuck.
 
 use crate::plain::shortest_stuck;
-use ada_explore::{End, Halt, explore};
+use ada_explore::{End, Halt, Unwatched, explore};
 use ada_script::read;
 use std::alloc::Global;
 use std::process::Abort;
@@ -40,7 +40,7 @@ main: complete
 // How long the shortest schedule is that gets stuck, by the search, which sees all, and by the plain one.
 fn found_in(alloc: Global, text: &[u8]) -> Result<(Option<usize>, Option<usize>), Halt> {
     let script = read(alloc, text).map_err(|_| Halt::Memory)?;
-    let found = explore(alloc, &script, u32::MAX)?;
+    let found = explore(alloc, &script, u32::MAX, &mut Unwatched)?;
     if found.end != End::AllSeen {
         return Err(Halt::TooLong);
     }

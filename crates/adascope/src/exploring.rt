@@ -1,54 +1,76 @@
 //! What is told of all schedules of a script.
 
 use crate::obeying::text_of;
+use crate::order::Exploration;
+use crate::watching::Watching;
 use ada_explain::standstill::write_standstill;
 use ada_explain::{Scene, Source};
-use ada_explore::{End, Finding as Explored, Halt, Played, explore, play_schedule};
+use ada_explore::{End, Finding as Explored, Halt, Standing, explore, follow};
 use ada_findings::{Finding, ScopeFault};
 use ada_replay::RunFault;
 use ada_replay::output::write_output;
 use ada_replay::replaying::read_script;
 use ada_script::Script;
 use std::alloc::{AllocError, Global};
-use std::io::{Input, Print};
+use std::io::{Eprint, Input, Print};
 use std::rt::Files;
+use std::time::Clock;
 use std::{fs, io};
 
-/// Searches all schedules of a script, and tells what was found; a schedule that gets stuck is written to a file, if
-/// one is named.
-pub fn tell_schedules<R: Files + Input + Print + AllocGlobal>(
+/// Searches all schedules of a script, and tells what was found. A schedule that gets stuck is written to a file, if one
+/// is named. On a terminal a line says how the search goes on, if it is watched.
+pub fn tell_schedules<R: Files + Input + Print + Eprint + Clock + AllocGlobal>(
     rt: &R,
-    file: Option<&str>,
-    states: u32,
-    script_file: Option<&str>,
+    order: &Exploration<'_>,
+    is_watched: bool,
 ) -> Result<Finding, ScopeFault> {
-    let text = text_of(rt, file)?;
+    let text = text_of(rt, order.file)?;
     let script = read_script(rt.alloc(), &text)?;
-    let found = explore(rt.alloc(), &script, states).map_err(fault_of)?;
-    let report = report_of(rt.alloc(), &script, &found)?;
+    let found = search(rt, &script, order, is_watched)?;
+    let source = Source::of(rt.alloc(), &text).map_err(|_| RunFault::Memory)?;
+    let report = report_of(rt.alloc(), &script, &source, &found)?;
     write_output(&mut io::writer(rt), report.as_bytes())?;
     let Some(path) = &found.stuck else {
         return Ok(Finding::Unknown);
     };
-    if let Some(name) = script_file {
-        write_schedule(rt, &text, &script, path, name)?;
+    if let Some(name) = order.script {
+        let lines = schedule_of(rt.alloc(), &script, &source, path)?;
+        fs::write(rt, name, lines.as_str()).map_err(|_| RunFault::Write)?;
     }
     Ok(Finding::Standstill)
 }
 
-// Of a script that was read and of a schedule that was found only want of memory comes.
-fn fault_of(_halt: Halt) -> ScopeFault {
-    ScopeFault::Run(RunFault::Memory)
+fn search<R: Eprint + Clock + AllocGlobal>(
+    rt: &R,
+    script: &Script,
+    order: &Exploration<'_>,
+    is_watched: bool,
+) -> Result<Explored, RunFault> {
+    let mut watching = Watching::new(rt, order.seconds, is_watched);
+    let found = explore(rt.alloc(), script, order.states, &mut watching);
+    watching.end();
+    found.map_err(fault_of)
 }
 
-fn report_of(alloc: Global, script: &Script, found: &Explored) -> Result<String, ScopeFault> {
+// Of a script that was read and of a schedule that was found only want of memory comes.
+fn fault_of(_halt: Halt) -> RunFault {
+    RunFault::Memory
+}
+
+fn report_of(
+    alloc: Global,
+    script: &Script,
+    source: &Source<'_>,
+    found: &Explored,
+) -> Result<String, RunFault> {
     let mut text = String::new(alloc);
-    match &found.stuck {
-        Some(path) => {
-            let end = play_schedule(alloc, script, path).map_err(fault_of)?;
-            write_stuck(&mut text, found, path.len(), &end).map_err(|_| RunFault::Memory)?;
-        }
-        None => write_unknown(&mut text, found).map_err(|_| RunFault::Memory)?,
+    write_verdict(&mut text, found).map_err(|_| RunFault::Memory)?;
+    write_short(&mut text, found).map_err(|_| RunFault::Memory)?;
+    write_refused(&mut text, script, source, found).map_err(|_| RunFault::Memory)?;
+    if let Some(path) = &found.stuck {
+        let end = follow(alloc, script, path).map_err(fault_of)?;
+        write_standstill(&mut text, Scene::of(&end.kernel, &end.names))
+            .map_err(|_| RunFault::Memory)?;
     }
     Ok(text)
 }
@@ -59,58 +81,31 @@ fn write_count(text: &mut String, count: u64, thing: &str) -> Result<(), AllocEr
     write!(text, "{count} {thing}{ending}")
 }
 
-// The verdict of a schedule that gets stuck, and who waits for whom there.
-fn write_stuck(
-    text: &mut String,
-    found: &Explored,
-    steps: usize,
-    end: &Played,
-) -> Result<(), AllocError> {
-    text.push_str("stuck: after ")?;
-    write_count(text, steps as u64, "step")?;
-    write!(text, ", in {} of ", found.stuck_states)?;
-    write_count(text, found.states, "state")?;
+// The first line.
+fn write_verdict(text: &mut String, found: &Explored) -> Result<(), AllocError> {
+    if let Some(path) = &found.stuck {
+        text.push_str("stuck: after ")?;
+        write_count(text, path.len() as u64, "step")?;
+        write!(text, ", in {} of ", found.stuck_states)?;
+        write_count(text, u64::from(found.states), "state")?;
+        return write_seen(text, found);
+    }
+    text.push_str("unknown: ")?;
+    write_count(text, u64::from(found.states), "state")?;
+    if found.end == End::AllSeen {
+        return text.push_str(" seen, and none is stuck; that these are all isn't proved\n");
+    }
     write_seen(text, found)?;
-    write_short(text, found)?;
-    write_refused(text, steps, end)?;
-    write_standstill(text, Scene::of(&end.standing.kernel, &end.standing.names))?;
-    Ok(())
+    text.push_str("None of these is stuck.\n")
 }
 
 // Says of a search that it didn't see all.
 fn write_seen(text: &mut String, found: &Explored) -> Result<(), AllocError> {
     match found.end {
         End::AllSeen => text.push_str("\n"),
-        End::Bound => text.push_str(" seen, and more are left\n"),
+        End::Bound | End::Ended => text.push_str(" seen, and more are left\n"),
         End::Limit(cause) => write!(text, " seen; some schedules meet a limit [{cause}]\n"),
     }
-}
-
-// Says how many lines of the schedule are refused.
-fn write_refused(text: &mut String, steps: usize, end: &Played) -> Result<(), AllocError> {
-    let refused = steps.saturating_sub(end.accepted.len());
-    if refused == 0 {
-        return Ok(());
-    }
-    write_count(text, refused as u64, "line")?;
-    text.push_str(" of this schedule ")?;
-    text.push_str(if refused == 1 { "is" } else { "are" })?;
-    text.push_str(" refused.\n")
-}
-
-fn write_unknown(text: &mut String, found: &Explored) -> Result<(), AllocError> {
-    text.push_str("unknown: ")?;
-    write_count(text, found.states, "state")?;
-    match found.end {
-        End::AllSeen => {
-            text.push_str(" seen, and none is stuck; that these are all isn't proved\n")?;
-        }
-        End::Bound | End::Limit(_) => {
-            write_seen(text, found)?;
-            text.push_str("None of these is stuck.\n")?;
-        }
-    }
-    write_short(text, found)
 }
 
 // Says in how many states the script stops short.
@@ -126,32 +121,39 @@ fn write_short(text: &mut String, found: &Explored) -> Result<(), AllocError> {
     text.push_str(" for a moment.\n")
 }
 
-// Writes the accepted lines of a schedule to a file.
-fn write_schedule<R: Files + AllocGlobal>(
-    rt: &R,
-    text: &[u8],
+// Says which lines some schedules say in vain.
+fn write_refused(
+    text: &mut String,
     script: &Script,
-    path: &[u16],
-    name: &str,
-) -> Result<(), ScopeFault> {
-    let end = play_schedule(rt.alloc(), script, path).map_err(fault_of)?;
-    let lines = schedule_of(rt.alloc(), text, script, &end.accepted).map_err(|_| RunFault::Memory)?;
-    fs::write(rt, name, lines.as_str()).map_err(|_| ScopeFault::Run(RunFault::Write))?;
+    source: &Source<'_>,
+    found: &Explored,
+) -> Result<(), AllocError> {
+    for refused in &found.refused {
+        let Some(line) = script.lines().get(usize::from(refused.place)) else {
+            continue;
+        };
+        write!(text, "Refused in ")?;
+        write_count(text, refused.steps, "step")?;
+        write!(text, ", first after {}: line {}, ", refused.after, line.line)?;
+        write!(text, "'{}' [{}]\n", source.line(line.line), refused.cause)?;
+    }
     Ok(())
 }
 
-// The text of the lines at these places.
+// The lines of a schedule as a script, but for the refused ones, without which it leads to the same.
 fn schedule_of(
     alloc: Global,
-    text: &[u8],
     script: &Script,
-    places: &[u16],
-) -> Result<String, AllocError> {
-    let source = Source::of(alloc, text)?;
+    source: &Source<'_>,
+    path: &[u16],
+) -> Result<String, RunFault> {
+    let mut standing = Standing::new(alloc, script).map_err(fault_of)?;
     let mut lines = String::new(alloc);
-    for place in places {
-        if let Some(line) = script.lines().get(usize::from(*place)) {
-            write!(lines, "{}\n", source.line(line.line))?;
+    for place in path {
+        let refused = standing.say(script.lines(), *place).map_err(fault_of)?;
+        let said = script.lines().get(usize::from(*place));
+        if let (None, Some(line)) = (refused, said) {
+            write!(lines, "{}\n", source.line(line.line)).map_err(|_| RunFault::Memory)?;
         }
     }
     Ok(lines)

@@ -8,12 +8,13 @@ pub mod obeying;
 pub mod order;
 pub mod painting;
 pub mod report;
+pub mod watching;
 
 use ada_findings::{Failure, Finding, ScopeFault, status_of};
 use ada_replay::RunFault;
 use clap::Error;
 use clap::error::ErrorKind;
-use obeying::obey;
+use obeying::{Terminals, obey};
 use order::order_of;
 use std::env::VarError;
 use std::io::{Eprint, IsTerminal, Print};
@@ -36,8 +37,11 @@ fn words_of(rt: &HostRuntime) -> io::Result<Vec<String>> {
 fn try_words(rt: &HostRuntime, words: &[String]) -> ExitCode {
     match order_of(rt.alloc(), words) {
         Ok(order) => {
-            let is_colored = order.is_colored(may_be_colored(rt));
-            end(rt, &obey(rt, order.job, is_colored))
+            let terminals = Terminals {
+                is_colored: order.is_colored(may_be_colored(rt)),
+                is_watched: !is_dumb(rt) && rt.stderr().is_terminal(),
+            };
+            end(rt, &obey(rt, order.job, terminals))
         }
         Err(fault) => answer(rt, &fault),
     }

@@ -16,19 +16,30 @@ use ada_replay::replaying::read_script;
 use ada_replay::{Account, RunFault, account_of};
 use ada_waiting::Verdict;
 use std::alloc::Global;
-use std::io::{Input, Print};
+use std::io::{Eprint, Input, Print};
 use std::rt::Files;
+use std::time::Clock;
 use std::{fs, io};
 
 /// How the standard input is called where a file's name would stand.
 pub(crate) static STANDARD_INPUT: &str = "<stdin>";
 
-/// Does what was ordered, with colours or without, and says what was found.
-pub fn obey<'a, R: Files + Input + Print + AllocGlobal>(
+/// What the terminals show, if there are some.
+#[derive(Clone, Copy, Debug, PartialEq, Eq)]
+pub struct Terminals {
+    /// Whether the text has colours.
+    pub is_colored: bool,
+    /// Whether a line on standard error says how a search goes on.
+    pub is_watched: bool,
+}
+
+/// Does what was ordered, and says what was found.
+pub fn obey<'a, R: Files + Input + Print + Eprint + Clock + AllocGlobal>(
     rt: &R,
     job: Job<'a>,
-    is_colored: bool,
+    terminals: Terminals,
 ) -> Result<Finding, Failure<'a>> {
+    let is_colored = terminals.is_colored;
     match job {
         Job::Tell {
             what,
@@ -42,11 +53,10 @@ pub fn obey<'a, R: Files + Input + Print + AllocGlobal>(
         Job::Conform { file, is_strict } => {
             tell_conformance(rt, file, is_strict).map_err(|fault| failure(file, fault))
         }
-        Job::Explore {
-            file,
-            states,
-            script,
-        } => tell_schedules(rt, file, states, script).map_err(|fault| failure(file, fault)),
+        Job::Explore(order) => {
+            let told = tell_schedules(rt, &order, terminals.is_watched);
+            told.map_err(|fault| failure(order.file, fault))
+        }
     }
 }
 

@@ -43,13 +43,19 @@ pub enum Job<'a> {
         is_strict: bool,
     },
     /// To search all schedules of a script.
-    Explore {
-        file: Option<&'a str>,
-        /// The most states that are gone on from.
-        states: u32,
-        /// Where a schedule that gets stuck is written as a script.
-        script: Option<&'a str>,
-    },
+    Explore(Exploration<'a>),
+}
+
+/// A search of all schedules of a script.
+#[derive(Clone, Copy, Debug, PartialEq, Eq)]
+pub struct Exploration<'a> {
+    pub file: Option<&'a str>,
+    /// The most states that are gone on from.
+    pub states: u32,
+    /// After so many seconds the search ends.
+    pub seconds: Option<u32>,
+    /// Where a schedule that gets stuck is written as a script.
+    pub script: Option<&'a str>,
 }
 
 /// When a text has colours.
@@ -155,6 +161,8 @@ status 5.
 ";
 
 static STATES: &str = "The most states that are gone on from";
+
+static SECONDS: &str = "End the search after so many seconds";
 
 static SCHEDULE: &str = "Write the schedule that gets stuck to this file, as a script";
 
@@ -285,6 +293,12 @@ fn explore<'a>(alloc: Global) -> Result<Command<'a>, AllocError> {
         .value_parser(value_parser!(u32))
         .default_value("1000000")
         .help(STATES);
+    let seconds = Arg::new(alloc, "seconds")
+        .long("seconds")
+        .value_name("N")
+        .action(ArgAction::Set)
+        .value_parser(value_parser!(u32))
+        .help(SECONDS);
     let script = Arg::new(alloc, "script")
         .long("script")
         .value_name("OUT")
@@ -295,6 +309,7 @@ fn explore<'a>(alloc: Global) -> Result<Command<'a>, AllocError> {
         .after_help(EXPLORE_HELP)
         .arg(file(alloc, "FILE"))?
         .arg(states)?
+        .arg(seconds)?
         .arg(script)
 }
 
@@ -340,11 +355,7 @@ fn ordered<'a>(matches: &ArgMatches<'a>) -> Order<'a> {
             file: file_in(found, "FILE"),
             is_strict: found.get_flag("strict"),
         }),
-        Some(("explore", found)) => plain(Job::Explore {
-            file: file_in(found, "FILE"),
-            states: found.get_one::<u32>("states").unwrap_or(u32::MAX),
-            script: found.get_str("script"),
-        }),
+        Some(("explore", found)) => plain(Job::Explore(searched(found))),
         Some((_, found)) => Order {
             job: tell(What::Explanation, found, found.get_flag("strict")),
             color: color_in(found),
@@ -354,6 +365,15 @@ fn ordered<'a>(matches: &ArgMatches<'a>) -> Order<'a> {
             file: None,
             is_strict: false,
         }),
+    }
+}
+
+fn searched<'a>(found: &ArgMatches<'a>) -> Exploration<'a> {
+    Exploration {
+        file: file_in(found, "FILE"),
+        states: found.get_one::<u32>("states").unwrap_or(u32::MAX),
+        seconds: found.get_one::<u32>("seconds"),
+        script: found.get_str("script"),
     }
 }
 
