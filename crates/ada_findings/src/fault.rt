@@ -39,6 +39,9 @@ pub enum ScopeFault {
     /// The input is longer than a log.
     #[error("more than 16777216 bytes")]
     TooLong,
+    /// Who read the output went away.
+    #[error("the reader went away")]
+    Closed,
 }
 
 impl From<RunFault> for ScopeFault {
@@ -76,6 +79,6 @@ fn fault_status(fault: &ScopeFault) -> u8
     match fault {
         ScopeFault::Run(RunFault::Script(_)) => 1,
         ScopeFault::Compared(_) | ScopeFault::TooLong => 2,
-        ScopeFault::Open | ScopeFault::Run(_) => 4,
+        ScopeFault::Open | ScopeFault::Run(_) | ScopeFault::Closed => 4,
     }
 }

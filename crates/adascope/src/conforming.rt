@@ -2,15 +2,15 @@
 
 use crate::input::{Log, read_log};
 use crate::obeying::STANDARD_INPUT;
+use crate::output::write_text;
 use crate::report::{Report, report_of, write_before};
 use ada_findings::{Finding, ScopeFault, check};
-use ada_replay::output::write_output;
 use ada_replay::{Course, Judgement, RunFault, follow};
 use ada_script::ScriptFault;
 use std::alloc::Global;
+use std::fs;
 use std::io::{Input, Print};
 use std::rt::Files;
-use std::{fs, io};
 
 /// The last line that a script has, and so the last of which `lint` can say what is wrong with it.
 const LAST_LINE: u32 = 4096;
@@ -73,6 +73,6 @@ pub fn tell_conformance<R: Files + Input + Print + AllocGlobal>(
     let log = log_of(rt, file)?;
     let course = follow(rt.alloc(), log.lines())?;
     let report = report(rt.alloc(), file.unwrap_or(STANDARD_INPUT), &log, &course)?;
-    write_output(&mut io::writer(rt), report.text.as_bytes())?;
+    write_text(rt, &report.text)?;
     Ok(finding_of(&course.judgement, is_strict && report.stands_still))
 }

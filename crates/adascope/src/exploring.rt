@@ -2,20 +2,20 @@
 
 use crate::obeying::text_of;
 use crate::order::Exploration;
+use crate::output::write_text;
 use crate::watching::Watching;
 use ada_explain::standstill::write_standstill;
 use ada_explain::{Scene, Source};
 use ada_explore::{End, Finding as Explored, Halt, Standing, explore, follow};
 use ada_findings::{Finding, ScopeFault};
 use ada_replay::RunFault;
-use ada_replay::output::write_output;
 use ada_replay::replaying::read_script;
 use ada_script::Script;
 use std::alloc::{AllocError, Global};
+use std::fs;
 use std::io::{Eprint, Input, Print};
 use std::rt::Files;
 use std::time::Clock;
-use std::{fs, io};
 
 /// Searches all schedules of a script, and tells what was found. A schedule that gets stuck is written to a file, if one
 /// is named. On a terminal a line says how the search goes on, if it is watched.
@@ -29,7 +29,7 @@ pub fn tell_schedules<R: Files + Input + Print + Eprint + Clock + AllocGlobal>(
     let found = search(rt, &script, order, is_watched)?;
     let source = Source::of(rt.alloc(), &text).map_err(|_| RunFault::Memory)?;
     let report = report_of(rt.alloc(), &script, &source, &found)?;
-    write_output(&mut io::writer(rt), report.as_bytes())?;
+    write_text(rt, &report)?;
     let Some(path) = &found.stuck else {
         return Ok(Finding::Unknown);
     };

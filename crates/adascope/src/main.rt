@@ -6,6 +6,7 @@ pub mod exploring;
 pub mod input;
 pub mod obeying;
 pub mod order;
+pub mod output;
 pub mod painting;
 pub mod report;
 pub mod watching;
@@ -16,6 +17,7 @@ use clap::Error;
 use clap::error::ErrorKind;
 use obeying::{Terminals, obey};
 use order::order_of;
+use output::refused;
 use std::env::VarError;
 use std::io::{Eprint, IsTerminal, Print};
 use std::process::ExitCode;
@@ -67,38 +69,40 @@ fn is_dumb(rt: &HostRuntime) -> bool {
 // Help, or why the words are refused.
 fn answer<R: Print + Eprint>(rt: &R, fault: &Error) -> ExitCode {
     if fault.kind() == ErrorKind::OutOfMemory {
-        return end(rt, &failed(RunFault::Memory));
+        return end(rt, &failed(ScopeFault::Run(RunFault::Memory)));
     }
-    // Where standard error can't be written, the words are refused all the same.
-    if fault.print(rt).is_ok() || fault.use_stderr() {
-        ExitCode::from(fault.exit_code() as u8)
-    } else {
-        end(rt, &failed(RunFault::Write))
+    match fault.print(rt) {
+        // Where standard error can't be written, the words are refused all the same.
+        Err(failure) if !fault.use_stderr() => end(rt, &failed(refused(&failure))),
+        _ => ExitCode::from(fault.exit_code() as u8),
     }
 }
 
 fn refuse_words<R: Eprint>(rt: &R, fault: &io::Error) -> ExitCode {
     if fault.kind() == io::ErrorKind::OutOfMemory {
-        return end(rt, &failed(RunFault::Memory));
+        return end(rt, &failed(ScopeFault::Run(RunFault::Memory)));
     }
     let _ = eprintln!(rt; "error: a word of the command line is not UTF-8 text");
     ExitCode::from(2)
 }
 
-fn failed<'a>(fault: RunFault) -> Result<Finding, Failure<'a>> {
-    Err(Failure {
-        file: None,
-        fault: ScopeFault::Run(fault),
-    })
+fn failed<'a>(fault: ScopeFault) -> Result<Finding, Failure<'a>> {
+    Err(Failure { file: None, fault })
 }
 
 fn end<R: Eprint>(rt: &R, outcome: &Result<Finding, Failure<'_>>) -> ExitCode {
     if let Err(failure) = outcome {
-        let fault = &failure.fault;
-        let _ = match failure.file {
-            Some(file) => eprintln!(rt; "adascope: {file}: {fault}"),
-            None => eprintln!(rt; "adascope: {fault}"),
-        };
+        complain(rt, failure);
     }
     ExitCode::from(status_of(outcome))
+}
+
+// A reader that went away wants no more.
+fn complain<R: Eprint>(rt: &R, failure: &Failure<'_>) {
+    let fault = &failure.fault;
+    let _ = match failure.file {
+        _ if matches!(fault, ScopeFault::Closed) => Ok(()),
+        Some(file) => eprintln!(rt; "adascope: {file}: {fault}"),
+        None => eprintln!(rt; "adascope: {fault}"),
+    };
 }

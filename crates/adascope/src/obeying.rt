@@ -3,6 +3,7 @@
 use crate::conforming::tell_conformance;
 use crate::exploring::tell_schedules;
 use crate::order::{Job, What};
+use crate::output::write_text;
 use crate::painting::{Kind, painted};
 use ada_explain::{Explanation, explain};
 use ada_findings::{Failure, Finding, ScopeFault, check};
@@ -11,15 +12,14 @@ use ada_renderings::compare::comparison::Played;
 use ada_renderings::draw::{write_graph, write_picture, write_sequence};
 use ada_renderings::json::write_events;
 use ada_replay::input::read_input;
-use ada_replay::output::write_output;
 use ada_replay::replaying::read_script;
 use ada_replay::{Account, RunFault, account_of};
 use ada_waiting::Verdict;
 use std::alloc::Global;
+use std::fs;
 use std::io::{Eprint, Input, Print};
 use std::rt::Files;
 use std::time::Clock;
-use std::{fs, io};
 
 /// How the standard input is called where a file's name would stand.
 pub(crate) static STANDARD_INPUT: &str = "<stdin>";
@@ -63,7 +63,7 @@ pub fn obey<'a, R: Files + Input + Print + Eprint + Clock + AllocGlobal>(
 // Where the output can't be written no file is at fault.
 fn failure<'a>(file: Option<&'a str>, fault: ScopeFault) -> Failure<'a> {
     let file = match fault {
-        ScopeFault::Run(RunFault::Write) => None,
+        ScopeFault::Run(RunFault::Write) | ScopeFault::Closed => None,
         _ => file,
     };
     Failure { file, fault }
@@ -75,12 +75,12 @@ fn print<R: Print + AllocGlobal>(
     text: &str,
     kind: Kind,
     is_colored: bool,
-) -> Result<(), RunFault> {
+) -> Result<(), ScopeFault> {
     if !is_colored {
-        return write_output(&mut io::writer(rt), text.as_bytes());
+        return write_text(rt, text);
     }
     let text = painted(rt.alloc(), text, kind).map_err(|_| RunFault::Memory)?;
-    write_output(&mut io::writer(rt), text.as_bytes())
+    write_text(rt, &text)
 }
 
 /// The text of a file, or of the standard input.
@@ -161,7 +161,7 @@ fn drawn(alloc: Global, text: &[u8], what: What) -> Result<String, RunFault> {
 
 fn draw<R: Print + AllocGlobal>(rt: &R, text: &[u8], what: What) -> Result<Finding, ScopeFault> {
     let drawn = drawn(rt.alloc(), text, what)?;
-    write_output(&mut io::writer(rt), drawn.as_bytes())?;
+    write_text(rt, &drawn)?;
     Ok(Finding::Nothing)
 }
 
@@ -223,10 +223,7 @@ fn compare_with<'a, R: Files + Input + Print + AllocGlobal>(
         source: &text,
         account: &account,
     };
-    write_difference(rt, one, two, is_colored).map_err(|fault| Failure {
-        file: None,
-        fault: ScopeFault::Run(fault),
-    })
+    write_difference(rt, one, two, is_colored).map_err(|fault| Failure { file: None, fault })
 }
 
 fn write_difference<R: Print + AllocGlobal>(
@@ -234,7 +231,7 @@ fn write_difference<R: Print + AllocGlobal>(
     first: Played<'_>,
     second: Played<'_>,
     is_colored: bool,
-) -> Result<Finding, RunFault> {
+) -> Result<Finding, ScopeFault> {
     let comparison = compare(rt.alloc(), first, second).map_err(|_| RunFault::Memory)?;
     print(rt, &comparison.text, Kind::Difference, is_colored)?;
     Ok(if comparison.differs {
