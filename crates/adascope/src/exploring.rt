@@ -17,8 +17,8 @@ use std::io::{Eprint, Input, Print};
 use std::rt::Files;
 use std::time::Clock;
 
-/// Searches all schedules of a script, and tells what was found. A schedule that gets stuck is written to a file, if one
-/// is named. On a terminal a line says how the search goes on, if it is watched.
+/// Searches all schedules of a script, and tells what was found. A schedule that gets stuck is written to a file, if
+/// one is named. A line on standard error says how the search goes on, if it is watched.
 pub fn tell_schedules<R: Files + Input + Print + Eprint + Clock + AllocGlobal>(
     rt: &R,
     order: &Exploration<'_>,
