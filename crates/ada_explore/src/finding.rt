@@ -1,7 +1,8 @@
 //! What is found of all schedules of a script.
 ghost use Rattle.std.specs.Prelude.{◌≡◌, true, IfOk, IfSome};
-ghost use Rattle.ada_explore.specs.Findings.{GetsStuck};
+ghost use Rattle.ada_explore.specs.Findings.{GetsStuck, NoneGetsStuck};
 
+use crate::covering::covered_by;
 use crate::{End, Halt, Refused, Search, Watch, follow, is_stuck};
 use ada_script::Script;
 use std::alloc::Global;
@@ -11,6 +12,8 @@ use std::alloc::Global;
 pub struct Finding {
     /// A schedule that gets stuck, by the places of its lines; none that was met is shorter.
     pub stuck: Option<Vec<u16>>,
+    /// How many states cover all that schedules come to, if it was found that no schedule gets stuck.
+    pub covered: Option<u32>,
     /// How many states were met.
     pub states: u32,
     /// How many of them are stuck.
@@ -54,22 +57,46 @@ fn first_stuck(alloc: Global, script: &Script, search: &Search) -> Result<Option
     }
 }
 
-/// Searches all schedules of a script, up to so many states. A schedule that is told gets stuck: it is one of the
-/// script's, and nothing can let go on what it comes to. Where none is told, nothing is proved: whether states were
-/// rightly taken for the same isn't. An `Err` is want of memory, or a script with more lines than a script may have.
+// How many states cover all that schedules of a script come to, if none that was met is stuck and none is left.
+fn covered<W: Watch>(
+    alloc: Global,
+    script: &Script,
+    search: &Search,
+    most: u32,
+    watch: &mut W,
+) -> Result<Option<u32>, Halt>
+    ensures { IfOk result (λ found. IfSome found (λ states. NoneGetsStuck script.now)) }
+{
+    if search.end != End::AllSeen || search.first.is_some() {
+        return Ok(None);
+    }
+    match covered_by(alloc, script, most, watch) {
+        Err(Halt::Limit(_)) => Ok(None),
+        found => found,
+    }
+}
+
+/// Searches all schedules of a script; so many states are gone on from, at most. A schedule that is told gets stuck: it
+/// is one of the script's, and nothing can let go on what it comes to. If it is told how many states cover all, no
+/// schedule gets stuck. If neither is told, nothing is known. An `Err` is want of memory, or a script with more lines
+/// than a script may have.
 pub fn explore<W: Watch>(
     alloc: Global,
     script: &Script,
     most: u32,
     watch: &mut W,
 ) -> Result<Finding, Halt>
-    ensures { IfOk result (λ finding.
+    ensures stuck { IfOk result (λ finding.
         IfSome finding.stuck (λ path. GetsStuck script.now path.items)) }
+    ensures none { IfOk result (λ finding.
+        IfSome finding.covered (λ states. NoneGetsStuck script.now)) }
 {
     let search = Search::of(alloc, script, most, watch)?;
     let stuck = first_stuck(alloc, script, &search)?;
+    let covered = covered(alloc, script, &search, most, watch)?;
     Ok(Finding {
         stuck,
+        covered,
         states: search.states(),
         stuck_states: search.stuck,
         short_states: search.short,

@@ -30,14 +30,21 @@ pub fn tell_schedules<R: Files + Input + Print + Eprint + Clock + AllocGlobal>(
     let source = Source::of(rt.alloc(), &text).map_err(|_| RunFault::Memory)?;
     let report = report_of(rt.alloc(), &script, &source, &found)?;
     write_text(rt, &report)?;
-    let Some(path) = &found.stuck else {
-        return Ok(Finding::Unknown);
-    };
-    if let Some(name) = order.script {
+    if let (Some(path), Some(name)) = (&found.stuck, order.script) {
         let lines = schedule_of(rt.alloc(), &script, &source, path)?;
         fs::write(rt, name, lines.as_str()).map_err(|_| RunFault::Write)?;
     }
-    Ok(Finding::Standstill)
+    Ok(finding_of(&found))
+}
+
+fn finding_of(found: &Explored) -> Finding {
+    if found.stuck.is_some() {
+        Finding::Standstill
+    } else if found.covered.is_some() {
+        Finding::Nothing
+    } else {
+        Finding::Unknown
+    }
 }
 
 fn search<R: Eprint + Clock + AllocGlobal>(
@@ -90,10 +97,15 @@ fn write_verdict(text: &mut String, found: &Explored) -> Result<(), AllocError> 
         write_count(text, u64::from(found.states), "state")?;
         return write_seen(text, found);
     }
+    if let Some(states) = found.covered {
+        text.push_str("none: no schedule gets stuck; ")?;
+        write_count(text, u64::from(states), "state")?;
+        return text.push_str("\n");
+    }
     text.push_str("unknown: ")?;
     write_count(text, u64::from(found.states), "state")?;
     if found.end == End::AllSeen {
-        return text.push_str(" seen, and none is stuck; that these are all isn't proved\n");
+        return text.push_str(" seen, and none is stuck; that these cover all wasn't found\n");
     }
     write_seen(text, found)?;
     text.push_str("None of these is stuck.\n")

@@ -156,8 +156,8 @@ static EXPLORE_HELP: &str = "Examples:
   adascope explore --script stuck.tasks design.tasks; adatask < stuck.tasks
 
 Each task says its lines in their order, any task that runs may go on, and a tick comes where none
-can. The first line is the verdict: 'stuck: ..' with status 3, which is proved, or 'unknown: ..'
-with status 5.
+can. The first line is the verdict: 'none: ..' with status 0 or 'stuck: ..' with status 3, both
+proved, or 'unknown: ..' with status 5.
 ";
 
 static STATES: &str = "The most states that are gone on from";
