@@ -2,7 +2,7 @@
 use Rattle.std.proofs.Common.{◌≡◌, ℕ, Bool, true, false, pos, Option, Some, None, List, [], ◌∷◌, map, slice_get, refl, sym, ap, ◌∙◌}
 use Rattle.std.specs.Option.{option_map, option_map_or, option_and_then, unwrap_or}
 use Rattle.std.specs.List.{list_all}
-use Rattle.std.proofs.lemmas.Bool.{and_parts, false≢true}
+use Rattle.std.proofs.lemmas.Bool.{and_parts, and_from, false≢true}
 use Rattle.ada_events.specs.declared.names.TaskNo.{TaskNo}
 use Rattle.ada_events.specs.declared.names.Master.{Master}
 use Rattle.ada_events.specs.declared.names.Master.TheVariants.{Body, Block as BlockMaster}
@@ -58,6 +58,12 @@ pub names_alike : (names : Renaming) (old new : Scope) (statement : Statement) �
 names_alike names old new statement says =
     let both = and_parts (list_all (task_alike names old new) (tasks_named statement)) (list_all (master_alike names old new) (masters_named statement)) says in
     record { tasks = both.0; masters = both.1 }
+
+pub says_from : (names : Renaming) (old new : Scope) (statement : Statement) → NamesAlike names old new statement
+    → says_alike names old new statement ≡ true
+says_from names old new statement alike =
+    and_from (list_all (task_alike names old new) (tasks_named statement)) (list_all (master_alike names old new) (masters_named statement))
+    alike.tasks alike.masters
 
 -- ---- the names of tasks, masters and entries
 
