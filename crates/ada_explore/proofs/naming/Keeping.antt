@@ -1,0 +1,180 @@
+-- What stood for the same still does once a statement is accepted in both journals.
+use Rattle.std.proofs.Common.{◌≡◌, ℕ, Bool, true, false, if◌then◌else◌, Option, Some, None, List, slice_get, refl, sym, ap, ◌∙◌}
+use Rattle.std.specs.Option.{option_map, option_map_or}
+use Rattle.std.specs.Str.{bytes_eq}
+use Rattle.std.proofs.lemmas.Bool.{false≢true}
+use Rattle.std.proofs.lemmas.Option.{none-some, same_Some}
+use Rattle.ada_events.specs.declared.names.TaskNo.{TaskNo}
+use Rattle.ada_events.specs.declared.names.Master.{Master}
+use Rattle.ada_events.specs.declared.names.Master.TheVariants.{Body, Block as BlockMaster}
+use Rattle.ada_standing.specs.Renaming.{Renaming}
+use Rattle.ada_statements.specs.declared.meaning.Meaning.{Meaning}
+use Rattle.ada_statements.specs.declared.meaning.Meaning.TheVariants.{Task, Block}
+use Rattle.ada_statements.specs.declared.statement.Statement.{Statement}
+use Rattle.ada_statements.specs.declared.statement.Statement.TheVariants.{Open, Create}
+use Rattle.ada_statements.specs.Scope.{Scope, meaning_of}
+use Rattle.ada_statements.specs.Binding.{bind, with_made, with_opened, no_task, task_in, master_in, task_of, master_of}
+use Rattle.ada_script.specs.declared.script.Line.{Line}
+use Rattle.ada_explore.specs.internal.Sameness.{stands_for, same_task, same_master, says_alike, says_alike_at, tasks_named, masters_named, shape}
+use Rattle.ada_explore.proofs.naming.Bindings.{bound_by, meaning_bound, shape_bound}
+use Rattle.ada_explore.proofs.naming.Requests.{DeclaredAlike, task_alike, master_alike, names_alike, says_from}
+use Rattle.ada_explore.proofs.naming.Chaining.{all_on}
+
+-- a statement makes a task
+abbrev pub creates : Statement → Bool
+creates (Create _ _ _ _) = true
+creates _ = false
+
+-- names of which more are known, once the second of two journals took what stands for a statement of the first one: the
+-- positions of both events, and the tasks that both made if they made any
+pub record KnowsMore (names more : Renaming) (statement : Statement) (at at_too : ℕ) (made made_too : TaskNo) : Type 0 where
+  pub tasks : (t u : TaskNo) → same_task names t u ≡ true → same_task more t u ≡ true
+  pub positions : (p q : ℕ) → stands_for names.position 0 p q ≡ true → stands_for more.position 0 p q ≡ true
+  pub new_task : creates statement ≡ true → same_task more made made_too ≡ true
+  pub new_block : stands_for more.position 0 at at_too ≡ true
+
+-- two things of one shape are both bound by a statement, or neither is
+module _ (P : Option Meaning → Option Meaning → Type 0) (first second changed changed_too : Option Meaning) where
+  either : (b : Bool) → P changed changed_too → P first second → P (if b then changed else first) (if b then changed_too else second)
+  either true here there = here
+  either false here there = there
+
+module _ (names more : Renaming) (statement : Statement) (at at_too : ℕ) (made made_too : TaskNo)
+    (known : KnowsMore names more statement at at_too made made_too) where
+  masters_kept : (m n : Master) → same_master names m n ≡ true → same_master more m n ≡ true
+  masters_kept (Body t) (Body u) same = known.tasks t u same
+  masters_kept (BlockMaster p) (BlockMaster q) same = known.positions p q same
+  masters_kept (Body t) (BlockMaster q) same = absurd (false≢true same)
+  masters_kept (BlockMaster p) (Body u) same = absurd (false≢true same)
+
+  abbrev making : Meaning → Meaning
+  making = with_made (record { task = made; at = at })
+
+  abbrev making_too : Meaning → Meaning
+  making_too = with_made (record { task = made_too; at = at_too })
+
+  -- a name becomes that of a task, where it is a task's
+  task_made : (meaning other : Option Meaning) → option_map shape meaning ≡ option_map shape other → creates statement ≡ true
+      → same_task names (task_in meaning) (task_in other) ≡ true
+      → same_task more (task_in (option_map making meaning)) (task_in (option_map making_too other)) ≡ true
+  task_made None None shapes makes same = known.tasks no_task no_task same
+  task_made (Some (Task entries before)) (Some (Task others after)) shapes makes same = known.new_task makes
+  task_made (Some (Block opened)) (Some (Block after)) shapes makes same = known.tasks no_task no_task same
+  task_made None (Some meaning) shapes makes same = absurd (none-some (shape meaning) shapes)
+  task_made (Some meaning) None shapes makes same = absurd (none-some (shape meaning) (sym shapes))
+  task_made (Some (Task entries before)) (Some (Block after)) shapes makes same = absurd (none-some entries (sym (same_Some (Some entries) None shapes)))
+  task_made (Some (Block opened)) (Some (Task others after)) shapes makes same = absurd (none-some others (same_Some None (Some others) shapes))
+
+  master_made : (meaning other : Option Meaning) → option_map shape meaning ≡ option_map shape other → creates statement ≡ true
+      → same_master names (master_in meaning) (master_in other) ≡ true
+      → same_master more (master_in (option_map making meaning)) (master_in (option_map making_too other)) ≡ true
+  master_made None None shapes makes same = known.positions 0 0 same
+  master_made (Some (Task entries before)) (Some (Task others after)) shapes makes same = known.new_task makes
+  master_made (Some (Block opened)) (Some (Block after)) shapes makes same =
+      masters_kept (master_in (Some (Block opened))) (master_in (Some (Block after))) same
+  master_made None (Some meaning) shapes makes same = absurd (none-some (shape meaning) shapes)
+  master_made (Some meaning) None shapes makes same = absurd (none-some (shape meaning) (sym shapes))
+  master_made (Some (Task entries before)) (Some (Block after)) shapes makes same = absurd (none-some entries (sym (same_Some (Some entries) None shapes)))
+  master_made (Some (Block opened)) (Some (Task others after)) shapes makes same = absurd (none-some others (same_Some None (Some others) shapes))
+
+  -- or that of a block, where it is a block's
+  task_opened : (meaning other : Option Meaning) → same_task names (task_in meaning) (task_in other) ≡ true
+      → same_task more (task_in (option_map (with_opened at) meaning)) (task_in (option_map (with_opened at_too) other)) ≡ true
+  task_opened meaning other same =
+      ap (λ t. same_task more t (task_in (option_map (with_opened at_too) other))) (no_other at meaning)
+      ∙ ap (λ t. same_task more (task_in meaning) t) (no_other at_too other)
+      ∙ known.tasks (task_in meaning) (task_in other) same
+    where
+      no_other : (position : ℕ) (m : Option Meaning) → task_in (option_map (with_opened position) m) ≡ task_in m
+      no_other position None = refl
+      no_other position (Some (Task entries before)) = refl
+      no_other position (Some (Block opened)) = refl
+
+  master_opened : (meaning other : Option Meaning) → option_map shape meaning ≡ option_map shape other
+      → same_master names (master_in meaning) (master_in other) ≡ true
+      → same_master more (master_in (option_map (with_opened at) meaning)) (master_in (option_map (with_opened at_too) other)) ≡ true
+  master_opened None None shapes same = known.positions 0 0 same
+  master_opened (Some (Task entries before)) (Some (Task others after)) shapes same =
+      masters_kept (master_in (Some (Task entries before))) (master_in (Some (Task others after))) same
+  master_opened (Some (Block opened)) (Some (Block after)) shapes same = known.new_block
+  master_opened None (Some meaning) shapes same = absurd (none-some (shape meaning) shapes)
+  master_opened (Some meaning) None shapes same = absurd (none-some (shape meaning) (sym shapes))
+  master_opened (Some (Task entries before)) (Some (Block after)) shapes same = absurd (none-some entries (sym (same_Some (Some entries) None shapes)))
+  master_opened (Some (Block opened)) (Some (Task others after)) shapes same = absurd (none-some others (same_Some None (Some others) shapes))
+
+-- ---- by the statement
+
+module _ (names more : Renaming) (at at_too : ℕ) (made made_too : TaskNo) where
+  task_bound : (statement : Statement) → KnowsMore names more statement at at_too made made_too → (name : List ℕ) (meaning other : Option Meaning)
+      → option_map shape meaning ≡ option_map shape other → same_task names (task_in meaning) (task_in other) ≡ true
+      → same_task more (task_in (bound_by statement at made name meaning)) (task_in (bound_by statement at_too made_too name other)) ≡ true
+  task_bound (Open by block) known name meaning other shapes same =
+      either (λ m n. same_task more (task_in m) (task_in n) ≡ true) meaning other (option_map (with_opened at) meaning)
+      (option_map (with_opened at_too) other) (bytes_eq name block)
+      (task_opened names more (Open by block) at at_too made made_too known meaning other same) (known.tasks (task_in meaning) (task_in other) same)
+  task_bound (Create by task under families) known name meaning other shapes same =
+      either (λ m n. same_task more (task_in m) (task_in n) ≡ true) meaning other (option_map (with_made (record { task = made; at = at })) meaning)
+      (option_map (with_made (record { task = made_too; at = at_too })) other) (bytes_eq name task)
+      (task_made names more (Create by task under families) at at_too made made_too known meaning other shapes refl same)
+      (known.tasks (task_in meaning) (task_in other) same)
+  task_bound _ known name meaning other shapes same = known.tasks (task_in meaning) (task_in other) same
+
+  master_bound : (statement : Statement) → KnowsMore names more statement at at_too made made_too → (name : List ℕ) (meaning other : Option Meaning)
+      → option_map shape meaning ≡ option_map shape other → same_master names (master_in meaning) (master_in other) ≡ true
+      → same_master more (master_in (bound_by statement at made name meaning)) (master_in (bound_by statement at_too made_too name other)) ≡ true
+  master_bound (Open by block) known name meaning other shapes same =
+      either (λ m n. same_master more (master_in m) (master_in n) ≡ true) meaning other (option_map (with_opened at) meaning)
+      (option_map (with_opened at_too) other) (bytes_eq name block)
+      (master_opened names more (Open by block) at at_too made made_too known meaning other shapes same)
+      (masters_kept names more (Open by block) at at_too made made_too known (master_in meaning) (master_in other) same)
+  master_bound (Create by task under families) known name meaning other shapes same =
+      either (λ m n. same_master more (master_in m) (master_in n) ≡ true) meaning other
+      (option_map (with_made (record { task = made; at = at })) meaning) (option_map (with_made (record { task = made_too; at = at_too })) other)
+      (bytes_eq name task) (master_made names more (Create by task under families) at at_too made made_too known meaning other shapes refl same)
+      (masters_kept names more (Create by task under families) at at_too made made_too known (master_in meaning) (master_in other) same)
+  master_bound statement known name meaning other shapes same =
+      masters_kept names more statement at at_too made made_too known (master_in meaning) (master_in other) same
+
+  module _ (statement : Statement) (known : KnowsMore names more statement at at_too made made_too) (old new : Scope) (declared : DeclaredAlike old new) where
+    -- names are declared alike again
+    pub declared_on : DeclaredAlike (bind old statement at made) (bind new statement at_too made_too)
+    declared_on = λ name.
+        ap (option_map shape) (meaning_bound old statement at made name) ∙ shape_bound statement at made name (meaning_of old name) ∙ declared name
+        ∙ sym (ap (option_map shape) (meaning_bound new statement at_too made_too name) ∙ shape_bound statement at_too made_too name (meaning_of new name))
+
+    task_on : (name : List ℕ) → task_alike names old new name ≡ true
+        → task_alike more (bind old statement at made) (bind new statement at_too made_too) name ≡ true
+    task_on name same =
+        ap (λ m. same_task more (task_in m) (task_of (bind new statement at_too made_too) name)) (meaning_bound old statement at made name)
+        ∙ ap (λ m. same_task more (task_in (bound_by statement at made name (meaning_of old name))) (task_in m))
+        (meaning_bound new statement at_too made_too name)
+        ∙ task_bound statement known name (meaning_of old name) (meaning_of new name) (declared name) same
+
+    master_on : (name : List ℕ) → master_alike names old new name ≡ true
+        → master_alike more (bind old statement at made) (bind new statement at_too made_too) name ≡ true
+    master_on name same =
+        ap (λ m. same_master more (master_in m) (master_of (bind new statement at_too made_too) name)) (meaning_bound old statement at made name)
+        ∙ ap (λ m. same_master more (master_in (bound_by statement at made name (meaning_of old name))) (master_in m))
+        (meaning_bound new statement at_too made_too name)
+        ∙ master_bound statement known name (meaning_of old name) (meaning_of new name) (declared name) same
+
+    says_on : (other : Statement) → says_alike names old new other ≡ true
+        → says_alike more (bind old statement at made) (bind new statement at_too made_too) other ≡ true
+    says_on other says =
+        let alike = names_alike names old new other says in
+        says_from more (bind old statement at made) (bind new statement at_too made_too) other (record {
+          tasks = all_on (task_alike names old new) (task_alike more (bind old statement at made) (bind new statement at_too made_too))
+              (tasks_named other) task_on alike.tasks;
+          masters = all_on (master_alike names old new) (master_alike more (bind old statement at made) (bind new statement at_too made_too))
+              (masters_named other) master_on alike.masters;
+        })
+
+    line_on : (line : Option Line) → option_map_or (λ (l : Line). says_alike names old new l.statement) line true ≡ true
+        → option_map_or (λ (l : Line). says_alike more (bind old statement at made) (bind new statement at_too made_too) l.statement) line true ≡ true
+    line_on None says = refl
+    line_on (Some line) says = says_on line.statement says
+
+    -- what a line names stands for the same again
+    pub says_at_on : (script : List Line) (place : ℕ) → says_alike_at script names old new place ≡ true
+        → says_alike_at script more (bind old statement at made) (bind new statement at_too made_too) place ≡ true
+    says_at_on script place says = line_on (slice_get script place) says
