@@ -1,5 +1,5 @@
 -- Who asks at a line, and whom it names: each of them has a name, or doesn't exist.
-use Rattle.std.proofs.Common.{◌≡◌, ℕ, ◌≤◌, Bool, true, false, not, ◌&&◌, eqb, Option, Some, None, List, [], ◌∷◌, map, slice_get, is_some, refl, sym, ap, ◌∙◌, inl, inr}
+use Rattle.std.proofs.Common.{◌≡◌, ℕ, ◌≤◌, true, not, ◌&&◌, eqb, Option, Some, None, List, [], ◌∷◌, map, slice_get, is_some, refl, sym, ap, ◌∙◌, inl, inr}
 use Rattle.std.specs.Option.{option_map_or, option_and_then}
 use Rattle.std.specs.List.{list_all}
 use Rattle.std.proofs.lemmas.Bool.{and_from, or_left, or_right, le-ltb, false≢true}
@@ -19,9 +19,10 @@ use Rattle.ada_statements.specs.Scope.{Scope}
 use Rattle.ada_statements.specs.Binding.{task_of, master_of, request_of}
 use Rattle.ada_script.specs.declared.script.Line.{Line}
 use Rattle.ada_explore.specs.Scripts.{request_at, asker_at, is_same}
-use Rattle.ada_explore.specs.internal.Sameness.{stands_for, same_task, same_master, says_alike, says_alike_at}
+use Rattle.ada_explore.specs.internal.Sameness.{stands_for, same_task, same_master, says_alike_at}
+use Rattle.ada_explore.proofs.naming.Passing.{first_passes, others_pass}
 use Rattle.ada_explore.proofs.naming.Numbers.{stands_parts, stand_apart}
-use Rattle.ada_explore.proofs.naming.Requests.{first_passes, others_pass, task_alike, master_alike, NamesAlike, names_alike}
+use Rattle.ada_explore.proofs.naming.Requests.{task_alike, master_alike, NamesAlike, names_alike, line_says}
 
 -- nobody asks in both, or the one who asks in the second stands for the one who asks in the first
 abbrev pub AskAlike : Renaming → Option ℕ → Option ℕ → Type 0
@@ -82,7 +83,7 @@ module _ (names : Renaming) (old new : Scope) where
   asker_alike (ShowTerminated by task) alike = tt
   asker_alike (ShowCount by entry) alike = tt
 
-  line_asks : (line : Option Line) → option_map_or (λ (l : Line). says_alike names old new l.statement) line true ≡ true
+  line_asks : (line : Option Line) → line_says names old new line ≡ true
       → AskAlike names (option_and_then asker (option_and_then (λ (l : Line). request_of old l.statement) line))
       (option_and_then asker (option_and_then (λ (l : Line). request_of new l.statement) line))
   line_asks None says = tt
@@ -166,7 +167,7 @@ module _ (names : Renaming) (old new : Scope) where
     statement_kept (ShowTerminated by task) alike = refl
     statement_kept (ShowCount by entry) alike = refl
 
-    line_kept : (line : Option Line) → option_map_or (λ (l : Line). says_alike names old new l.statement) line true ≡ true
+    line_kept : (line : Option Line) → line_says names old new line ≡ true
         → option_map_or (names_kept names journal) (option_and_then (λ (l : Line). request_of old l.statement) line) true ≡ true
     line_kept None says = refl
     line_kept (Some line) says = statement_kept line.statement (names_alike names old new line.statement says)

@@ -4,18 +4,14 @@ use Rattle.std.specs.Cmp.Lexicographic.{bytes_decides}
 use Rattle.std.specs.Map.{lookup}
 use Rattle.std.specs.Option.{option_map}
 use Rattle.std.specs.Str.{bytes_eq}
-use Rattle.std.proofs.lemmas.Option.{none-some, same_Some}
 use Rattle.ada_events.specs.declared.names.TaskNo.{TaskNo}
-use Rattle.ada_events.specs.declared.names.Master.{Master}
-use Rattle.ada_events.specs.declared.names.Master.TheVariants.{Body, Block as BlockMaster}
-use Rattle.ada_standing.specs.Renaming.{Renaming}
 use Rattle.ada_statements.specs.declared.meaning.Meaning.{Meaning}
 use Rattle.ada_statements.specs.declared.meaning.Meaning.TheVariants.{Task, Block}
 use Rattle.ada_statements.specs.declared.statement.Statement.{Statement}
 use Rattle.ada_statements.specs.declared.statement.Statement.TheVariants.{Open, Create}
 use Rattle.ada_statements.specs.Scope.{Scope, meaning_of}
-use Rattle.ada_statements.specs.Binding.{bind, with_meaning, with_made, with_opened, no_task, task_in, master_in}
-use Rattle.ada_explore.specs.internal.Sameness.{same_task, same_master, shape}
+use Rattle.ada_statements.specs.Binding.{bind, with_meaning, with_made, with_opened}
+use Rattle.ada_explore.specs.internal.Sameness.{shape}
 
 -- ---- another meaning of one name
 

@@ -1,8 +1,7 @@
 -- What is left of a script: the same again under names that follow others, and without one more line.
-use Rattle.std.proofs.Common.{◌≡◌, ℕ, Bool, true, false, not, ◌==◌, cond, Option, Some, None, List, [], ◌∷◌, filter, slice_get, refl, ap, ◌∙◌}
-use Rattle.std.specs.Option.{option_map_or}
+use Rattle.std.proofs.Common.{◌≡◌, ℕ, true, not, ◌==◌, Option, Some, None, List, slice_get, refl, ap, ◌∙◌}
 use Rattle.std.specs.List.{list_all}
-use Rattle.std.proofs.lemmas.Bool.{and_parts, and_from, false≢true}
+use Rattle.std.proofs.lemmas.Bool.{false≢true}
 use Rattle.ada_events.specs.declared.names.TaskNo.{TaskNo}
 use Rattle.ada_events.specs.declared.names.Master.{Master}
 use Rattle.ada_events.specs.declared.names.Master.TheVariants.{Body, Block}
@@ -13,34 +12,9 @@ use Rattle.ada_statements.specs.Binding.{task_of, master_of}
 use Rattle.ada_script.specs.declared.script.Line.{Line}
 use Rattle.ada_explore.specs.Scripts.{Rest, rest, without}
 use Rattle.ada_explore.specs.internal.Sameness.{same_task, same_master, says_alike, says_alike_at, tasks_named, masters_named, SameRest}
+use Rattle.ada_explore.proofs.naming.Passing.{all_both, all_kept}
 use Rattle.ada_explore.proofs.naming.Numbers.{stands_along}
-use Rattle.ada_explore.proofs.naming.Requests.{task_alike, master_alike, NamesAlike, names_alike, says_from}
-
--- ---- lists of which each passes
-
-module _ {X : Type 0} where
-  -- what passes two tests passes a third one
-  pub all_both : (a b c : X → Bool) (xs : List X) → ((x : X) → a x ≡ true → b x ≡ true → c x ≡ true) → list_all a xs ≡ true → list_all b xs ≡ true
-      → list_all c xs ≡ true
-  all_both a b c [] both first second = refl
-  all_both a b c (x ∷ xs) both first second =
-      let one = and_parts (a x) (list_all a xs) first in
-      let other = and_parts (b x) (list_all b xs) second in
-      and_from (c x) (list_all c xs) (both x one.0 other.0) (all_both a b c xs both one.1 other.1)
-
-  pub all_on : (a b : X → Bool) (xs : List X) → ((x : X) → a x ≡ true → b x ≡ true) → list_all a xs ≡ true → list_all b xs ≡ true
-  all_on a b xs on all = all_both a a b xs (λ x passes _. on x passes) all all
-
-  -- and so does each of those that are kept
-  pub all_kept : (test keep : X → Bool) (xs : List X) → list_all test xs ≡ true → list_all test (filter keep xs) ≡ true
-  all_kept test keep [] all = refl
-  all_kept test keep (x ∷ xs) all =
-      let both = and_parts (test x) (list_all test xs) all in
-      by (keep x) both.0 (all_kept test keep xs both.1)
-    where
-      by : (k : Bool) → test x ≡ true → list_all test (filter keep xs) ≡ true → list_all test (cond k (x ∷ filter keep xs) (filter keep xs)) ≡ true
-      by true here later = and_from (test x) (list_all test (filter keep xs)) here later
-      by false here later = later
+use Rattle.ada_explore.proofs.naming.Requests.{task_alike, master_alike, names_alike, says_from, line_says}
 
 -- ---- chained names
 
@@ -68,9 +42,9 @@ module _ (names more : Renaming) where
             (λ name. same_master_along (master_of a name) (master_of b name) (master_of c name)) one.masters other.masters;
       })
 
-  line_along : (a b c : Scope) (line : Option Line) → option_map_or (λ (l : Line). says_alike names a b l.statement) line true ≡ true
-      → option_map_or (λ (l : Line). says_alike more b c l.statement) line true ≡ true
-      → option_map_or (λ (l : Line). says_alike (chained names more) a c l.statement) line true ≡ true
+  line_along : (a b c : Scope) (line : Option Line) → line_says names a b line ≡ true
+      → line_says more b c line ≡ true
+      → line_says (chained names more) a c line ≡ true
   line_along a b c None first second = refl
   line_along a b c (Some line) first second = says_along a b c line.statement first second
 

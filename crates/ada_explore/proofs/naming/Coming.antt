@@ -1,8 +1,8 @@
 -- The same lines may come next, where names stand for the same.
-use Rattle.std.proofs.Common.{◌≡◌, ℕ, ◌≤◌, Bool, true, false, not, ◌&&◌, ◌||◌, cond, if◌then◌else◌, Option, Some, None, List, [], ◌∷◌, find, is_some, refl, sym, ap, ◌∙◌, inl, inr}
-use Rattle.std.specs.List.{list_all, list_any}
+use Rattle.std.proofs.Common.{◌≡◌, ℕ, ◌≤◌, Bool, true, false, not, ◌&&◌, cond, if◌then◌else◌, Option, Some, None, List, is_some, refl, sym, ap, ◌∙◌, inl, inr}
+use Rattle.std.specs.List.{list_all}
 use Rattle.std.proofs.lemmas.Bool.{and_parts, le-ltb}
-use Rattle.std.proofs.lemmas.Option.{none-some, same_Some}
+use Rattle.std.proofs.lemmas.Option.{none-some}
 use Rattle.ada_events.specs.declared.event.Event.{Event}
 use Rattle.ada_events.specs.declared.request.Request.{Request}
 use Rattle.ada_events.specs.Tasks.{has_task, task_count}
@@ -15,34 +15,9 @@ use Rattle.ada_statements.specs.Scope.{Scope}
 use Rattle.ada_script.specs.declared.script.Line.{Line}
 use Rattle.ada_explore.specs.Scripts.{Rest, rest, scripted, request_at, asker_at, is_same, next_of, is_next, runs, may_say, all_silent, may_come}
 use Rattle.ada_explore.specs.internal.Sameness.{says_alike_at}
+use Rattle.ada_explore.proofs.naming.Passing.{find_alike, any_alike, found_within}
 use Rattle.ada_explore.proofs.naming.Numbers.{stands_parts, is_that}
 use Rattle.ada_explore.proofs.naming.Askers.{AskAlike, AreApart, some_alike, same_alike, asker_at_alike}
-
--- ---- two tests of numbers that all pass a third one, at which they agree
-
-module _ (test other within : ℕ → Bool) (agree : (n : ℕ) → within n ≡ true → test n ≡ other n) where
-  find_alike : (ns : List ℕ) → list_all within ns ≡ true → find test ns ≡ find other ns
-  find_alike [] all = refl
-  find_alike (n ∷ ns) all =
-      let both = and_parts (within n) (list_all within ns) all in
-      ap (λ b. cond b (Some n) (find test ns)) (agree n both.0) ∙ ap (cond (other n) (Some n)) (find_alike ns both.1)
-
-  any_alike : (ns : List ℕ) → list_all within ns ≡ true → list_any test ns ≡ list_any other ns
-  any_alike [] all = refl
-  any_alike (n ∷ ns) all =
-      let both = and_parts (within n) (list_all within ns) all in
-      ap (λ b. b || list_any test ns) (agree n both.0) ∙ ap (λ b. other n || b) (any_alike ns both.1)
-
--- what is found is one of those that pass
-found_within : (test within : ℕ → Bool) (ns : List ℕ) (n : ℕ) → find test ns ≡ Some n → list_all within ns ≡ true → within n ≡ true
-found_within test within [] n found all = absurd (none-some n found)
-found_within test within (m ∷ ns) n found all =
-    let both = and_parts (within m) (list_all within ns) all in
-    by (test m) both.0 (λ later. found_within test within ns n later both.1) found
-  where
-    by : (b : Bool) → within m ≡ true → (find test ns ≡ Some n → within n ≡ true) → cond b (Some m) (find test ns) ≡ Some n → within n ≡ true
-    by true here later is = ap within (sym (same_Some m n is)) ∙ here
-    by false here later is = later is
 
 -- ---- what comes
 

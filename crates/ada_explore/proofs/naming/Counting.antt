@@ -1,10 +1,8 @@
 -- A schedule makes no more tasks than its script has lines.
-use Rattle.std.proofs.Common.{◌≡◌, ℕ, suc, ◌+◌, ◌<◌, ◌≤◌, Bool, true, false, not, ◌==◌, eqb, cond, Option, Some, None, List, [], ◌∷◌, length, filter, find}
-use Rattle.std.proofs.Common.{is_some, refl, sym, ap, ◌∙◌, arith}
+use Rattle.std.proofs.Common.{◌≡◌, ℕ, suc, ◌+◌, ◌<◌, ◌≤◌, Option, Some, None, List, [], ◌∷◌, length}
+use Rattle.std.proofs.Common.{is_some, refl, ◌∙◌, arith}
 use Rattle.std.specs.Option.{option_len}
 use Rattle.std.specs.List.{range_with_len}
-use Rattle.std.proofs.lemmas.Bool.{eq-eqb, false≢true}
-use Rattle.std.proofs.lemmas.Option.{none-some, same_Some}
 use Rattle.std.proofs.lemmas.List.FromFn.{length-range_with_len}
 use Rattle.ada_events.specs.declared.event.Event.{Event}
 use Rattle.ada_events.specs.declared.request.Request.{Request}
@@ -22,6 +20,7 @@ use Rattle.ada_script.specs.declared.script.Line.{Line}
 use Rattle.ada_script.specs.Script.{scope_of}
 use Rattle.ada_schedules.specs.Schedules.{State, Acts, Comes}
 use Rattle.ada_explore.specs.Scripts.{Rest, scripted, request_at, asker_at, is_same, without, asking}
+use Rattle.ada_explore.proofs.naming.Passing.{fewer_kept, less_left}
 use Rattle.ada_explore.proofs.naming.Coming.{asked_parts, coming_found}
 
 -- ---- tasks and events after a request
@@ -72,32 +71,6 @@ longer_after old request new after =
     omega (arith, longer)
 
 -- ---- lines that are left
-
-fewer_kept : (keep : ℕ → Bool) (ns : List ℕ) → length (filter keep ns) ≤ length ns
-fewer_kept keep [] = omega arith
-fewer_kept keep (n ∷ ns) = by (keep n) (fewer_kept keep ns)
-  where
-    by : (b : Bool) → length (filter keep ns) ≤ length ns → length (cond b (n ∷ filter keep ns) (filter keep ns)) ≤ suc (length ns)
-    by true later = omega (arith, later)
-    by false later = omega (arith, later)
-
--- without one that is found there is one less
-less_left : (test : ℕ → Bool) (ns : List ℕ) (n : ℕ) → find test ns ≡ Some n → length (without n ns) < length ns
-less_left test [] n found = absurd (none-some n found)
-less_left test (m ∷ ns) n found = by (test m) (less_left test ns n) found
-  where
-    here : (b : Bool) → b ≡ true → length (cond (not b) (m ∷ without n ns) (without n ns)) < suc (length ns)
-    here true is = let fewer = fewer_kept (λ q. not (q == n)) ns in omega (arith, fewer)
-    here false is = absurd (false≢true is)
-
-    there : (b : Bool) → length (without n ns) < length ns → length (cond b (m ∷ without n ns) (without n ns)) < suc (length ns)
-    there true later = omega (arith, later)
-    there false later = omega (arith, later)
-
-    by : (b : Bool) → (find test ns ≡ Some n → length (without n ns) < length ns) → cond b (Some m) (find test ns) ≡ Some n
-        → length (without n (m ∷ ns)) < suc (length ns)
-    by true later is = here (eqb m n) (eq-eqb m n (same_Some m n is))
-    by false later is = there (not (eqb m n)) (later is)
 
 -- what asks is taken out
 pub asked_less : (script : List Line) (journal : List Event) (r : Rest) (place : ℕ) (request : Request)

@@ -1,5 +1,5 @@
 -- What stood for the same still does once a statement is accepted in both journals.
-use Rattle.std.proofs.Common.{◌≡◌, ℕ, Bool, true, false, if◌then◌else◌, Option, Some, None, List, slice_get, refl, sym, ap, ◌∙◌}
+use Rattle.std.proofs.Common.{◌≡◌, ℕ, Bool, true, false, not, ◌==◌, if◌then◌else◌, Option, Some, None, List, slice_get, refl, sym, ap, subst, ◌∙◌}
 use Rattle.std.specs.Option.{option_map, option_map_or}
 use Rattle.std.specs.Str.{bytes_eq}
 use Rattle.std.proofs.lemmas.Bool.{false≢true}
@@ -15,18 +15,19 @@ use Rattle.ada_statements.specs.declared.statement.Statement.TheVariants.{Open, 
 use Rattle.ada_statements.specs.Scope.{Scope, meaning_of}
 use Rattle.ada_statements.specs.Binding.{bind, with_made, with_opened, no_task, task_in, master_in, task_of, master_of}
 use Rattle.ada_script.specs.declared.script.Line.{Line}
-use Rattle.ada_explore.specs.internal.Sameness.{stands_for, same_task, same_master, says_alike, says_alike_at, tasks_named, masters_named, shape}
+use Rattle.ada_explore.specs.Scripts.{Rest, rest, without, bound_so}
+use Rattle.ada_explore.specs.internal.Sameness.{stands_for, same_task, same_master, says_alike, says_alike_at, tasks_named, masters_named, shape, SameRest}
+use Rattle.ada_explore.proofs.naming.Passing.{all_on, all_kept}
 use Rattle.ada_explore.proofs.naming.Bindings.{bound_by, meaning_bound, shape_bound}
-use Rattle.ada_explore.proofs.naming.Requests.{DeclaredAlike, task_alike, master_alike, names_alike, says_from}
-use Rattle.ada_explore.proofs.naming.Chaining.{all_on}
+use Rattle.ada_explore.proofs.naming.Requests.{DeclaredAlike, task_alike, master_alike, names_alike, says_from, line_says}
 
 -- a statement makes a task
 abbrev pub creates : Statement → Bool
 creates (Create _ _ _ _) = true
 creates _ = false
 
--- names of which more are known, once the second of two journals took what stands for a statement of the first one: the
--- positions of both events, and the tasks that both made if they made any
+-- what both journals know once they took a statement: what stood for the same still does, and so do the tasks that it made,
+-- if it makes one, and the positions of its events
 pub record KnowsMore (names more : Renaming) (statement : Statement) (at at_too : ℕ) (made made_too : TaskNo) : Type 0 where
   pub tasks : (t u : TaskNo) → same_task names t u ≡ true → same_task more t u ≡ true
   pub positions : (p q : ℕ) → stands_for names.position 0 p q ≡ true → stands_for more.position 0 p q ≡ true
@@ -169,8 +170,8 @@ module _ (names more : Renaming) (at at_too : ℕ) (made made_too : TaskNo) wher
               (masters_named other) master_on alike.masters;
         })
 
-    line_on : (line : Option Line) → option_map_or (λ (l : Line). says_alike names old new l.statement) line true ≡ true
-        → option_map_or (λ (l : Line). says_alike more (bind old statement at made) (bind new statement at_too made_too) l.statement) line true ≡ true
+    line_on : (line : Option Line) → line_says names old new line ≡ true
+        → line_says more (bind old statement at made) (bind new statement at_too made_too) line ≡ true
     line_on None says = refl
     line_on (Some line) says = says_on line.statement says
 
@@ -178,3 +179,24 @@ module _ (names more : Renaming) (at at_too : ℕ) (made made_too : TaskNo) wher
     pub says_at_on : (script : List Line) (place : ℕ) → says_alike_at script names old new place ≡ true
         → says_alike_at script more (bind old statement at made) (bind new statement at_too made_too) place ≡ true
     says_at_on script place says = line_on (slice_get script place) says
+
+-- the same is left again without the line at a place, and with what it binds
+pub same_on : (script : List Line) (names more : Renaming) (place at at_too : ℕ) (made made_too : TaskNo) (line : Line) (one other : Rest)
+    → slice_get script place ≡ Some line → SameRest script names one other → KnowsMore names more line.statement at at_too made made_too
+    → SameRest script more (rest (without place one.left) (bound_so script one.names place at made))
+    (rest (without place other.left) (bound_so script other.names place at_too made_too))
+same_on script names more place at at_too made made_too line one other is same known =
+    let said = line.statement in
+    let old = bind one.names said at made in
+    let new = bind other.names said at_too made_too in
+    let within = says_alike_at script names one.names other.names in
+    subst (λ (o : Option Line).
+    SameRest script more (rest (without place one.left) (option_map_or (λ (l : Line). bind one.names l.statement at made) o one.names))
+    (rest (without place other.left) (option_map_or (λ (l : Line). bind other.names l.statement at_too made_too) o other.names))) (sym is)
+    (record {
+      left = ap (without place) same.left;
+      declared = declared_on names more at at_too made made_too said known one.names other.names same.declared;
+      alike = all_on within (says_alike_at script more old new) (without place one.left)
+          (says_at_on names more at at_too made made_too said known one.names other.names same.declared script)
+          (all_kept within (λ q. not (q == place)) one.left same.alike);
+    })

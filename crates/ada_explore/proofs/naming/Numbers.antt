@@ -1,9 +1,8 @@
 -- Numbers that stand for others, where one number is free: it stands for nothing, and nothing stands for it.
-use Rattle.std.proofs.Common.{◌≡◌, ◌≢◌, ℕ, Bool, true, false, not, eqb, eqb-true, Option, Some, None, refl, sym, ap, ◌∙◌, ◌⊎◌, inl, inr, is_some}
+use Rattle.std.proofs.Common.{◌≡◌, ◌≢◌, ℕ, true, not, eqb, eqb-true, Option, Some, None, refl, sym, ap, ◌∙◌, ◌⊎◌, inl, inr, is_some}
 use Rattle.std.specs.Option.{option_and_then, unwrap_or}
-use Rattle.std.proofs.lemmas.Bool.{and_parts, true≢false, false≢true, eq-eqb, ne_eqb}
+use Rattle.std.proofs.lemmas.Bool.{and_parts, false≢true, eq-eqb, ne_eqb}
 use Rattle.std.proofs.lemmas.Bool.Decides.{eqb_tells}
-use Rattle.std.proofs.lemmas.Option.{same_Some}
 use Rattle.ada_explore.specs.Scripts.{is_same}
 use Rattle.ada_explore.specs.internal.Sameness.{stands_for}
 
@@ -56,14 +55,14 @@ module _ (names : ℕ → Option ℕ) (free old new : ℕ) where
         | inr is ↦ ap (λ o. unwrap_or o free) is.named
       ]
 
-  -- under more names
-  pub stands_on : (more : ℕ → Option ℕ) → (names free ≡ None → more free ≡ None) → ((u v : ℕ) → names u ≡ Some v → more u ≡ Some v)
-      → stands_for names free old new ≡ true → stands_for more free old new ≡ true
-  stands_on more none kept stands =
-      elim (stands_parts stands) [
-        | inl is ↦ rw (eq-eqb old free is.same, eq-eqb new free is.same_too, none is.none) refl
-        | inr is ↦ rw (ne_eqb old free is.bound, ne_eqb new free is.bound_too, kept old new is.named, eq-eqb new new refl) refl
-      ]
+-- what stands for a number still does under more names
+pub stands_on : (names more : ℕ → Option ℕ) (free old new : ℕ) → (names free ≡ None → more free ≡ None) → ((u v : ℕ) → names u ≡ Some v → more u ≡ Some v)
+    → stands_for names free old new ≡ true → stands_for more free old new ≡ true
+stands_on names more free old new none kept stands =
+    elim (stands_parts names free old new stands) [
+      | inl is ↦ both_free more free old new (record { same = is.same; same_too = is.same_too; none = none is.none })
+      | inr is ↦ one_named more free old new (record { bound = is.bound; bound_too = is.bound_too; named = kept old new is.named })
+    ]
 
 -- what stands for what stands for a number stands for it
 pub stands_along : (names more : ℕ → Option ℕ) (free a b c : ℕ) → stands_for names free a b ≡ true → stands_for more free b c ≡ true
@@ -71,17 +70,17 @@ pub stands_along : (names more : ℕ → Option ℕ) (free a b c : ℕ) → stan
 stands_along names more free a b c first second =
     elim (stands_parts names free a b first) [
       | inl is ↦ elim (stands_parts more free b c second) [
-          | inl also ↦
-              both_free (λ u. option_and_then more (names u)) free a c
-              (record { same = is.same; same_too = also.same_too; none = ap (option_and_then more) is.none })
-          | inr also ↦ absurd (also.bound is.same_too)
-        ]
+        | inl also ↦
+            both_free (λ u. option_and_then more (names u)) free a c
+            (record { same = is.same; same_too = also.same_too; none = ap (option_and_then more) is.none })
+        | inr also ↦ absurd (also.bound is.same_too)
+      ]
       | inr is ↦ elim (stands_parts more free b c second) [
-          | inl also ↦ absurd (is.bound_too also.same)
-          | inr also ↦
-              one_named (λ u. option_and_then more (names u)) free a c
-              (record { bound = is.bound; bound_too = also.bound_too; named = ap (option_and_then more) is.named ∙ also.named })
-        ]
+        | inl also ↦ absurd (is.bound_too also.same)
+        | inr also ↦
+            one_named (λ u. option_and_then more (names u)) free a c
+            (record { bound = is.bound; bound_too = also.bound_too; named = ap (option_and_then more) is.named ∙ also.named })
+      ]
     ]
 
 -- numbers are the same where those that stand for them are, if names are apart
@@ -90,13 +89,13 @@ pub stand_apart : (names : ℕ → Option ℕ) (free s t u v : ℕ) → (names s
 stand_apart names free s t u v apart first second =
     elim (stands_parts names free s u first) [
       | inl is ↦ elim (stands_parts names free t v second) [
-          | inl also ↦ eq-eqb s t (is.same ∙ sym also.same) ∙ sym (eq-eqb u v (is.same_too ∙ sym also.same_too))
-          | inr also ↦
-              ne_eqb s t (λ same. also.bound (sym same ∙ is.same)) ∙ sym (ne_eqb u v (λ same. also.bound_too (sym same ∙ is.same_too)))
-        ]
+        | inl also ↦ eq-eqb s t (is.same ∙ sym also.same) ∙ sym (eq-eqb u v (is.same_too ∙ sym also.same_too))
+        | inr also ↦
+            ne_eqb s t (λ same. also.bound (sym same ∙ is.same)) ∙ sym (ne_eqb u v (λ same. also.bound_too (sym same ∙ is.same_too)))
+      ]
       | inr is ↦ elim (stands_parts names free t v second) [
-          | inl also ↦
-              ne_eqb s t (λ same. is.bound (same ∙ also.same)) ∙ sym (ne_eqb u v (λ same. is.bound_too (same ∙ also.same_too)))
-          | inr also ↦ apart is.named also.named
-        ]
+        | inl also ↦
+            ne_eqb s t (λ same. is.bound (same ∙ also.same)) ∙ sym (ne_eqb u v (λ same. is.bound_too (same ∙ also.same_too)))
+        | inr also ↦ apart is.named also.named
+      ]
     ]

@@ -9,7 +9,6 @@ use Rattle.ada_events.specs.declared.names.Master.TheVariants.{Body, Block as Bl
 use Rattle.ada_events.specs.declared.names.Entry.{Entry}
 use Rattle.ada_events.specs.declared.names.Choice.{Choice}
 use Rattle.ada_events.specs.declared.names.Patience.{Patience}
-use Rattle.ada_events.specs.declared.request.Request.{Request}
 use Rattle.ada_events.specs.declared.request.Request.TheVariants as requests
 use Rattle.ada_events.specs.declared.request.Tail.TheVariants as tails
 use Rattle.ada_events.specs.declared.names.Patience.TheVariants as patiences
@@ -28,14 +27,8 @@ use Rattle.ada_statements.specs.Binding.{task_of, master_of, place_of, entry_of,
 use Rattle.ada_script.specs.declared.script.Line.{Line}
 use Rattle.ada_explore.specs.Scripts.{request_at}
 use Rattle.ada_explore.specs.internal.Sameness.{same_task, same_master, says_alike, says_alike_at, tasks_named, masters_named, shape}
+use Rattle.ada_explore.proofs.naming.Passing.{first_passes, others_pass}
 use Rattle.ada_explore.proofs.naming.Numbers.{asked_so}
-
--- what each of a list passes, its first one does, and so do those behind
-pub first_passes : {X : Type 0} (test : X → Bool) (x : X) (xs : List X) → list_all test (x ∷ xs) ≡ true → test x ≡ true
-first_passes test x xs all = (and_parts (test x) (list_all test xs) all).0
-
-pub others_pass : {X : Type 0} (test : X → Bool) (x : X) (xs : List X) → list_all test (x ∷ xs) ≡ true → list_all test xs ≡ true
-others_pass test x xs all = (and_parts (test x) (list_all test xs) all).1
 
 -- names are declared alike
 abbrev pub DeclaredAlike : Scope → Scope → Type 0
@@ -65,9 +58,13 @@ says_from names old new statement alike =
     and_from (list_all (task_alike names old new) (tasks_named statement)) (list_all (master_alike names old new) (masters_named statement))
     alike.tasks alike.masters
 
+-- and so does what a line names, if there is one
+abbrev pub line_says : Renaming → Scope → Scope → Option Line → Bool
+line_says names old new line = option_map_or (λ (l : Line). says_alike names old new l.statement) line true
+
 -- ---- the names of tasks, masters and entries
 
-pub asked_same : (names : Renaming) (t u : TaskNo) → same_task names t u ≡ true → u ≡ asked_task names t
+asked_same : (names : Renaming) (t u : TaskNo) → same_task names t u ≡ true → u ≡ asked_task names t
 asked_same names t u same = sym (ap task_no (asked_so names.task 65535 t.0 u.0 same))
 
 master_same : (names : Renaming) (m n : Master) → same_master names m n ≡ true → n ≡ asked_master names m
@@ -161,7 +158,7 @@ module _ (names : Renaming) (old new : Scope) (declared : DeclaredAlike old new)
   request_alike (ShowCount by entry) alike = refl
 
   -- the line at a place asks for what the same line asks for under the first names, renamed
-  line_alike : (line : Option Line) → option_map_or (λ (l : Line). says_alike names old new l.statement) line true ≡ true
+  line_alike : (line : Option Line) → line_says names old new line ≡ true
       → option_and_then (λ (l : Line). request_of new l.statement) line
       ≡ option_map (renamed_request names) (option_and_then (λ (l : Line). request_of old l.statement) line)
   line_alike None says = refl
