@@ -4,7 +4,9 @@ use Rattle.std.specs.Cmp.Lexicographic.{bytes_decides}
 use Rattle.std.specs.Map.{lookup}
 use Rattle.std.specs.Option.{option_map}
 use Rattle.std.specs.Str.{bytes_eq}
+use Rattle.std.proofs.lemmas.Option.{none-some, same_Some}
 use Rattle.ada_events.specs.declared.names.TaskNo.{TaskNo}
+use Rattle.ada_statements.specs.declared.meaning.Made.{Made}
 use Rattle.ada_statements.specs.declared.meaning.Meaning.{Meaning}
 use Rattle.ada_statements.specs.declared.meaning.Meaning.TheVariants.{Task, Block}
 use Rattle.ada_statements.specs.declared.statement.Statement.{Statement}
@@ -89,3 +91,20 @@ shape_bound (Open _ block) at made name meaning =
 shape_bound (Create _ task _ _) at made name meaning =
     either_shape (bytes_eq name task) (option_map (with_made (record { task = made; at = at })) meaning) meaning (made_shape at made meaning)
 shape_bound _ at made name meaning = refl
+
+-- ---- by its shape
+
+-- two names of which neither is declared, or both are those of tasks, or of blocks
+pub data AreOfOneShape : Option Meaning → Option Meaning → Type 0 where
+  neither : AreOfOneShape None None
+  tasks : (entries others : List (List ℕ)) (made made_too : Option Made) → AreOfOneShape (Some (Task entries made)) (Some (Task others made_too))
+  blocks : (opened opened_too : Option ℕ) → AreOfOneShape (Some (Block opened)) (Some (Block opened_too))
+
+pub one_shape : (meaning other : Option Meaning) → option_map shape meaning ≡ option_map shape other → AreOfOneShape meaning other
+one_shape None None shapes = AreOfOneShape.neither
+one_shape (Some (Task entries made)) (Some (Task others made_too)) shapes = AreOfOneShape.tasks entries others made made_too
+one_shape (Some (Block opened)) (Some (Block opened_too)) shapes = AreOfOneShape.blocks opened opened_too
+one_shape None (Some meaning) shapes = absurd (none-some (shape meaning) shapes)
+one_shape (Some meaning) None shapes = absurd (none-some (shape meaning) (sym shapes))
+one_shape (Some (Task entries made)) (Some (Block opened)) shapes = absurd (none-some entries (sym (same_Some (Some entries) None shapes)))
+one_shape (Some (Block opened)) (Some (Task others made)) shapes = absurd (none-some others (same_Some None (Some others) shapes))

@@ -3,7 +3,6 @@ use Rattle.std.proofs.Common.{◌≡◌, ℕ, Bool, true, false, not, ◌==◌, 
 use Rattle.std.specs.Option.{option_map, option_map_or}
 use Rattle.std.specs.Str.{bytes_eq}
 use Rattle.std.proofs.lemmas.Bool.{false≢true}
-use Rattle.std.proofs.lemmas.Option.{none-some, same_Some}
 use Rattle.ada_events.specs.declared.names.TaskNo.{TaskNo}
 use Rattle.ada_events.specs.declared.names.Master.{Master}
 use Rattle.ada_events.specs.declared.names.Master.TheVariants.{Body, Block as BlockMaster}
@@ -18,7 +17,7 @@ use Rattle.ada_script.specs.declared.script.Line.{Line}
 use Rattle.ada_explore.specs.Scripts.{Rest, rest, without, bound_so}
 use Rattle.ada_explore.specs.internal.Sameness.{stands_for, same_task, same_master, says_alike, says_alike_at, tasks_named, masters_named, shape, SameRest}
 use Rattle.ada_explore.proofs.naming.Passing.{all_on, all_kept}
-use Rattle.ada_explore.proofs.naming.Bindings.{bound_by, meaning_bound, shape_bound}
+use Rattle.ada_explore.proofs.naming.Bindings.{AreOfOneShape, one_shape, bound_by, meaning_bound, shape_bound}
 use Rattle.ada_explore.proofs.naming.Requests.{DeclaredAlike, task_alike, master_alike, names_alike, says_from, line_says}
 
 -- a statement makes a task
@@ -34,7 +33,7 @@ pub record KnowsMore (names more : Renaming) (statement : Statement) (at at_too 
   pub new_task : creates statement ≡ true → same_task more made made_too ≡ true
   pub new_block : stands_for more.position 0 at at_too ≡ true
 
--- two things of one shape are both bound by a statement, or neither is
+-- what holds of two things, and of what they become, holds whether they become it or not
 module _ (P : Option Meaning → Option Meaning → Type 0) (first second changed changed_too : Option Meaning) where
   either : (b : Bool) → P changed changed_too → P first second → P (if b then changed else first) (if b then changed_too else second)
   either true here there = here
@@ -55,64 +54,46 @@ module _ (names more : Renaming) (statement : Statement) (at at_too : ℕ) (made
   making_too = with_made (record { task = made_too; at = at_too })
 
   -- a name becomes that of a task, where it is a task's
-  task_made : (meaning other : Option Meaning) → option_map shape meaning ≡ option_map shape other → creates statement ≡ true
+  task_made : (meaning other : Option Meaning) → AreOfOneShape meaning other → creates statement ≡ true
       → same_task names (task_in meaning) (task_in other) ≡ true
       → same_task more (task_in (option_map making meaning)) (task_in (option_map making_too other)) ≡ true
-  task_made None None shapes makes same = known.tasks no_task no_task same
-  task_made (Some (Task entries before)) (Some (Task others after)) shapes makes same = known.new_task makes
-  task_made (Some (Block opened)) (Some (Block after)) shapes makes same = known.tasks no_task no_task same
-  task_made None (Some meaning) shapes makes same = absurd (none-some (shape meaning) shapes)
-  task_made (Some meaning) None shapes makes same = absurd (none-some (shape meaning) (sym shapes))
-  task_made (Some (Task entries before)) (Some (Block after)) shapes makes same = absurd (none-some entries (sym (same_Some (Some entries) None shapes)))
-  task_made (Some (Block opened)) (Some (Task others after)) shapes makes same = absurd (none-some others (same_Some None (Some others) shapes))
+  task_made meaning other (AreOfOneShape.neither) makes same = known.tasks no_task no_task same
+  task_made meaning other (AreOfOneShape.tasks entries others before after) makes same = known.new_task makes
+  task_made meaning other (AreOfOneShape.blocks opened after) makes same = known.tasks no_task no_task same
 
-  master_made : (meaning other : Option Meaning) → option_map shape meaning ≡ option_map shape other → creates statement ≡ true
+  master_made : (meaning other : Option Meaning) → AreOfOneShape meaning other → creates statement ≡ true
       → same_master names (master_in meaning) (master_in other) ≡ true
       → same_master more (master_in (option_map making meaning)) (master_in (option_map making_too other)) ≡ true
-  master_made None None shapes makes same = known.positions 0 0 same
-  master_made (Some (Task entries before)) (Some (Task others after)) shapes makes same = known.new_task makes
-  master_made (Some (Block opened)) (Some (Block after)) shapes makes same =
+  master_made meaning other (AreOfOneShape.neither) makes same = known.positions 0 0 same
+  master_made meaning other (AreOfOneShape.tasks entries others before after) makes same = known.new_task makes
+  master_made meaning other (AreOfOneShape.blocks opened after) makes same =
       masters_kept (master_in (Some (Block opened))) (master_in (Some (Block after))) same
-  master_made None (Some meaning) shapes makes same = absurd (none-some (shape meaning) shapes)
-  master_made (Some meaning) None shapes makes same = absurd (none-some (shape meaning) (sym shapes))
-  master_made (Some (Task entries before)) (Some (Block after)) shapes makes same = absurd (none-some entries (sym (same_Some (Some entries) None shapes)))
-  master_made (Some (Block opened)) (Some (Task others after)) shapes makes same = absurd (none-some others (same_Some None (Some others) shapes))
 
   -- or that of a block, where it is a block's
-  task_opened : (meaning other : Option Meaning) → same_task names (task_in meaning) (task_in other) ≡ true
+  task_opened : (meaning other : Option Meaning) → AreOfOneShape meaning other → same_task names (task_in meaning) (task_in other) ≡ true
       → same_task more (task_in (option_map (with_opened at) meaning)) (task_in (option_map (with_opened at_too) other)) ≡ true
-  task_opened meaning other same =
-      ap (λ t. same_task more t (task_in (option_map (with_opened at_too) other))) (no_other at meaning)
-      ∙ ap (λ t. same_task more (task_in meaning) t) (no_other at_too other)
-      ∙ known.tasks (task_in meaning) (task_in other) same
-    where
-      no_other : (position : ℕ) (m : Option Meaning) → task_in (option_map (with_opened position) m) ≡ task_in m
-      no_other position None = refl
-      no_other position (Some (Task entries before)) = refl
-      no_other position (Some (Block opened)) = refl
+  task_opened meaning other (AreOfOneShape.neither) same = known.tasks no_task no_task same
+  task_opened meaning other (AreOfOneShape.tasks entries others before after) same =
+      known.tasks (task_in (Some (Task entries before))) (task_in (Some (Task others after))) same
+  task_opened meaning other (AreOfOneShape.blocks opened after) same = known.tasks no_task no_task same
 
-  master_opened : (meaning other : Option Meaning) → option_map shape meaning ≡ option_map shape other
-      → same_master names (master_in meaning) (master_in other) ≡ true
+  master_opened : (meaning other : Option Meaning) → AreOfOneShape meaning other → same_master names (master_in meaning) (master_in other) ≡ true
       → same_master more (master_in (option_map (with_opened at) meaning)) (master_in (option_map (with_opened at_too) other)) ≡ true
-  master_opened None None shapes same = known.positions 0 0 same
-  master_opened (Some (Task entries before)) (Some (Task others after)) shapes same =
+  master_opened meaning other (AreOfOneShape.neither) same = known.positions 0 0 same
+  master_opened meaning other (AreOfOneShape.tasks entries others before after) same =
       masters_kept (master_in (Some (Task entries before))) (master_in (Some (Task others after))) same
-  master_opened (Some (Block opened)) (Some (Block after)) shapes same = known.new_block
-  master_opened None (Some meaning) shapes same = absurd (none-some (shape meaning) shapes)
-  master_opened (Some meaning) None shapes same = absurd (none-some (shape meaning) (sym shapes))
-  master_opened (Some (Task entries before)) (Some (Block after)) shapes same = absurd (none-some entries (sym (same_Some (Some entries) None shapes)))
-  master_opened (Some (Block opened)) (Some (Task others after)) shapes same = absurd (none-some others (same_Some None (Some others) shapes))
+  master_opened meaning other (AreOfOneShape.blocks opened after) same = known.new_block
 
 -- ---- by the statement
 
 module _ (names more : Renaming) (at at_too : ℕ) (made made_too : TaskNo) where
   task_bound : (statement : Statement) → KnowsMore names more statement at at_too made made_too → (name : List ℕ) (meaning other : Option Meaning)
-      → option_map shape meaning ≡ option_map shape other → same_task names (task_in meaning) (task_in other) ≡ true
+      → AreOfOneShape meaning other → same_task names (task_in meaning) (task_in other) ≡ true
       → same_task more (task_in (bound_by statement at made name meaning)) (task_in (bound_by statement at_too made_too name other)) ≡ true
   task_bound (Open by block) known name meaning other shapes same =
       either (λ m n. same_task more (task_in m) (task_in n) ≡ true) meaning other (option_map (with_opened at) meaning)
       (option_map (with_opened at_too) other) (bytes_eq name block)
-      (task_opened names more (Open by block) at at_too made made_too known meaning other same) (known.tasks (task_in meaning) (task_in other) same)
+      (task_opened names more (Open by block) at at_too made made_too known meaning other shapes same) (known.tasks (task_in meaning) (task_in other) same)
   task_bound (Create by task under families) known name meaning other shapes same =
       either (λ m n. same_task more (task_in m) (task_in n) ≡ true) meaning other (option_map (with_made (record { task = made; at = at })) meaning)
       (option_map (with_made (record { task = made_too; at = at_too })) other) (bytes_eq name task)
@@ -121,7 +102,7 @@ module _ (names more : Renaming) (at at_too : ℕ) (made made_too : TaskNo) wher
   task_bound _ known name meaning other shapes same = known.tasks (task_in meaning) (task_in other) same
 
   master_bound : (statement : Statement) → KnowsMore names more statement at at_too made made_too → (name : List ℕ) (meaning other : Option Meaning)
-      → option_map shape meaning ≡ option_map shape other → same_master names (master_in meaning) (master_in other) ≡ true
+      → AreOfOneShape meaning other → same_master names (master_in meaning) (master_in other) ≡ true
       → same_master more (master_in (bound_by statement at made name meaning)) (master_in (bound_by statement at_too made_too name other)) ≡ true
   master_bound (Open by block) known name meaning other shapes same =
       either (λ m n. same_master more (master_in m) (master_in n) ≡ true) meaning other (option_map (with_opened at) meaning)
@@ -149,7 +130,8 @@ module _ (names more : Renaming) (at at_too : ℕ) (made made_too : TaskNo) wher
         ap (λ m. same_task more (task_in m) (task_of (bind new statement at_too made_too) name)) (meaning_bound old statement at made name)
         ∙ ap (λ m. same_task more (task_in (bound_by statement at made name (meaning_of old name))) (task_in m))
         (meaning_bound new statement at_too made_too name)
-        ∙ task_bound statement known name (meaning_of old name) (meaning_of new name) (declared name) same
+        ∙ task_bound statement known name (meaning_of old name) (meaning_of new name)
+        (one_shape (meaning_of old name) (meaning_of new name) (declared name)) same
 
     master_on : (name : List ℕ) → master_alike names old new name ≡ true
         → master_alike more (bind old statement at made) (bind new statement at_too made_too) name ≡ true
@@ -157,7 +139,8 @@ module _ (names more : Renaming) (at at_too : ℕ) (made made_too : TaskNo) wher
         ap (λ m. same_master more (master_in m) (master_of (bind new statement at_too made_too) name)) (meaning_bound old statement at made name)
         ∙ ap (λ m. same_master more (master_in (bound_by statement at made name (meaning_of old name))) (master_in m))
         (meaning_bound new statement at_too made_too name)
-        ∙ master_bound statement known name (meaning_of old name) (meaning_of new name) (declared name) same
+        ∙ master_bound statement known name (meaning_of old name) (meaning_of new name)
+        (one_shape (meaning_of old name) (meaning_of new name) (declared name)) same
 
     says_on : (other : Statement) → says_alike names old new other ≡ true
         → says_alike more (bind old statement at made) (bind new statement at_too made_too) other ≡ true
