@@ -2,3 +2,4 @@ mod Places
 mod Acting
 mod Paths
 mod Standstill
+pub mod naming

@@ -1,0 +1,110 @@
+-- A schedule makes no more tasks than its script has lines.
+use Rattle.std.proofs.Common.{◌≡◌, ℕ, suc, ◌+◌, ◌<◌, ◌≤◌, Option, Some, None, List, [], ◌∷◌, length}
+use Rattle.std.proofs.Common.{is_some, refl, ◌∙◌, arith}
+use Rattle.std.specs.Option.{option_len}
+use Rattle.std.specs.List.{range_with_len}
+use Rattle.std.proofs.lemmas.List.FromFn.{length-range_with_len}
+use Rattle.ada_events.specs.declared.event.Event.{Event}
+use Rattle.ada_events.specs.declared.request.Request.{Request}
+use Rattle.ada_events.specs.declared.request.Request.TheVariants as requests
+use Rattle.ada_events.specs.declared.names.TaskNo.{TaskNo}
+use Rattle.ada_events.specs.declared.names.Master.{Master}
+use Rattle.ada_events.specs.declared.names.Family.{Family}
+use Rattle.ada_events.specs.Says.{Creation, creation_in}
+use Rattle.ada_events.specs.Tasks.{task_count}
+use Rattle.ada_events.specs.Asks.{asked_event}
+use Rattle.ada_events.specs.Lawful.{After, Forces}
+use Rattle.ada_laws.proofs.searching.Growing.{task_count-same}
+use Rattle.ada_laws.proofs.forced.Stepping.{forced-step}
+use Rattle.ada_script.specs.declared.script.Line.{Line}
+use Rattle.ada_script.specs.Script.{scope_of}
+use Rattle.ada_schedules.specs.Schedules.{State, Acts, Comes}
+use Rattle.ada_explore.specs.Scripts.{Rest, scripted, request_at, asker_at, is_same, without, asking}
+use Rattle.ada_explore.proofs.naming.Passing.{fewer_kept, less_left}
+use Rattle.ada_explore.proofs.naming.Coming.{asked_parts, coming_found}
+
+-- ---- tasks and events after a request
+
+forced_count : (from to : List Event) → Forces from to → task_count to ≡ task_count from
+forced_count from to (Forces.nothing) = refl
+forced_count from to (Forces.one_more {journal = journal} {event = event} before step) =
+    task_count-same event journal (forced-step journal event step).makes_none ∙ forced_count from journal before
+
+forced_length : (from to : List Event) → Forces from to → length from ≤ length to
+forced_length from to (Forces.nothing) = omega arith
+forced_length from to (Forces.one_more {journal = journal} {event = event} before step) =
+    let longer = forced_length from journal before in
+    omega (arith, longer)
+
+at_most_one : (o : Option Creation) (n : ℕ) → option_len o + n ≤ suc n
+at_most_one None n = omega arith
+at_most_one (Some c) n = omega arith
+
+one_task_more : (event : Event) (journal : List Event) → task_count (event ∷ journal) ≤ suc (task_count journal)
+unfolding task_count
+one_task_more event journal = at_most_one (creation_in event) (task_count journal)
+
+-- a request makes at most one task
+pub few_more : (old : List Event) (request : Request) (new : List Event) → After old request new → task_count new ≤ suc (task_count old)
+few_more old request new after =
+    let same = forced_count (asked_event old request ∷ old) new after.forces in
+    let one = one_task_more (asked_event old request) old in
+    omega (arith, same, one)
+
+created_count : (journal : List Event) (by : TaskNo) (master : Master) (families : List Family)
+    → task_count (asked_event journal (requests.Create by master families) ∷ journal) ≡ suc (task_count journal)
+unfolding task_count asked_event creation_in
+created_count journal by master families = omega arith
+
+-- and a creation makes one
+pub one_made : (old : List Event) (by : TaskNo) (master : Master) (families : List Family) (new : List Event)
+    → After old (requests.Create by master families) new → task_count old < task_count new
+one_made old by master families new after =
+    let same = forced_count (asked_event old (requests.Create by master families) ∷ old) new after.forces in
+    let one = created_count old by master families in
+    omega (arith, same, one)
+
+-- there is an event more
+pub longer_after : (old : List Event) (request : Request) (new : List Event) → After old request new → length old < length new
+longer_after old request new after =
+    let longer = forced_length (asked_event old request ∷ old) new after.forces in
+    omega (arith, longer)
+
+-- ---- lines that are left
+
+-- what asks is taken out
+pub asked_less : (script : List Line) (journal : List Event) (r : Rest) (place : ℕ) (request : Request)
+    → (scripted script).asks journal r place ≡ Some request → length (without place r.left) < length r.left
+asked_less script journal r place request asks =
+    less_left (λ q. is_same (asker_at script r.names q) (asker_at script r.names place)) r.left place
+    (coming_found script journal r place (asked_parts script journal r place request asks).0)
+
+-- ---- schedules
+
+begun_few : (script : List Line) → task_count [] + length (asking script) ≤ suc (length script)
+unfolding task_count
+begun_few script =
+    let fewer = fewer_kept (λ place. is_some (request_at script (scope_of script) place)) (range_with_len 0 (length script)) in
+    let all = length-range_with_len 0 (length script) in
+    omega (arith, fewer, all)
+
+module _ (script : List Line) where
+  acts_few : (place : ℕ) (from to : State Rest) → task_count from.journal + length from.rest.left ≤ suc (length script)
+      → Acts (scripted script) place from to → task_count to.journal + length to.rest.left ≤ suc (length script)
+  acts_few place from to few (Acts.accepted request journal asks accepted leads) =
+      let more = few_more from.journal request journal leads in
+      let less = asked_less script from.journal from.rest place request asks in
+      omega (arith, few, more, less)
+  acts_few place from to few (Acts.refused request cause asks refused) =
+      let less = asked_less script from.journal from.rest place request asks in
+      omega (arith, few, less)
+
+  comes_few : (places : List ℕ) (state : State Rest) → Comes (scripted script) places state
+      → task_count state.journal + length state.rest.left ≤ suc (length script)
+  comes_few places state (Comes.begun) = begun_few script
+  comes_few places state (Comes.one_more {choices} {from} {to} place comes acts) =
+      acts_few place from to (comes_few choices from comes) acts
+
+  -- a short script makes few tasks
+  pub reaches_few : (places : List ℕ) (state : State Rest) → Comes (scripted script) places state → length script ≤ 4096 → task_count state.journal ≤ 4097
+  reaches_few places state comes short = let few = comes_few places state comes in omega (arith, few, short)

@@ -1,0 +1,146 @@
+-- A script speaks in names.
+use Rattle.std.proofs.Common.{◌≡◌, ℕ, suc, ◌+◌, ◌<◌, ◌≤◌, true, cond, Option, Some, None, List, length, slice_get, refl, sym, ap, subst, ◌∙◌, arith}
+use Rattle.std.specs.Option.{option_map}
+use Rattle.std.proofs.lemmas.Bool.{false≢true, ltb-true}
+use Rattle.std.proofs.lemmas.Option.{same_Some}
+use Rattle.ada_events.specs.declared.event.Event.{Event}
+use Rattle.ada_events.specs.declared.request.Request.{Request}
+use Rattle.ada_events.specs.declared.names.TaskNo.{TaskNo}
+use Rattle.ada_events.specs.Tasks.{task_count}
+use Rattle.ada_events.specs.Forced.{task_no}
+use Rattle.ada_events.specs.Lawful.{After}
+use Rattle.ada_laws.proofs.asking.LimitLaws.{tasks_are_few}
+use Rattle.ada_laws.proofs.searching.Searching.{option_and_then-some}
+use Rattle.ada_standing.specs.Renaming.{Renaming}
+use Rattle.ada_standing.specs.StandsIn.{StandsIn}
+use Rattle.ada_standing.specs.Asking.{renamed_request, names_kept}
+use Rattle.ada_standing.specs.Leading.{LedAlike}
+use Rattle.ada_statements.specs.declared.statement.Statement.{Statement}
+use Rattle.ada_statements.specs.declared.statement.Statement.TheVariants.{Create}
+use Rattle.ada_statements.specs.Scope.{Scope}
+use Rattle.ada_statements.specs.Binding.{request_of}
+use Rattle.ada_script.specs.declared.script.Line.{Line}
+use Rattle.ada_schedules.specs.Schedules.{State}
+use Rattle.ada_schedules.specs.Closed.{asked_in, went_on, StandsFor, SpeaksInNames}
+use Rattle.ada_schedules.proofs.Stuck.{few_tasks}
+use Rattle.ada_explore.specs.Scripts.{Rest, rest, scripted, request_at, may_come}
+use Rattle.ada_explore.specs.internal.Sameness.{says_alike_at, same_task, SameRest}
+use Rattle.ada_explore.proofs.naming.Numbers.{one_named, stands_on}
+use Rattle.ada_explore.proofs.naming.Requests.{request_at_alike}
+use Rattle.ada_explore.proofs.naming.Chaining.{same_along, same_less}
+use Rattle.ada_explore.proofs.naming.Askers.{request_kept}
+use Rattle.ada_explore.proofs.naming.Coming.{asked_parts, coming_within, are_apart, runs_alike, may_come_alike}
+use Rattle.ada_explore.proofs.naming.Counting.{few_more, one_made, longer_after, reaches_few}
+use Rattle.ada_explore.proofs.naming.Keeping.{creates, KnowsMore, same_on}
+
+-- ---- what more names are known once both journals took a line
+
+-- a number that no task has has no name
+no_name : (old new : List Event) (names : Renaming) (u : ℕ) → StandsIn old new names → task_count old ≤ u → names.task u ≡ None
+no_name old new names u stands few = by (names.task u) refl
+  where
+    by : (o : Option ℕ) → names.task u ≡ o → names.task u ≡ None
+    by None is = is
+    by (Some v) is =
+        let below : u < task_count old = ltb-true u (task_count old) (stands.same u v is).existed in
+        absurd (omega (arith, below, few))
+
+-- a line that makes a task made one
+makes_more : (names : Scope) (statement : Statement) (request : Request) (old new : List Event) → request_of names statement ≡ Some request
+    → creates statement ≡ true → After old request new → task_count old < task_count new
+makes_more names (Create by task under families) request old new asks makes after =
+    one_made old _ _ _ new (subst (λ r. After old r new) (sym (same_Some _ request asks)) after)
+makes_more names _ request old new asks makes after = absurd (false≢true makes)
+
+module _ (old new : List Event) (names : Renaming) (request : Request) (journal other : List Event) (few : task_count old ≤ 4097)
+    (few_too : task_count new ≤ 256) (after : After old request journal) (led : LedAlike old new names journal other) where
+  task_after : (t u : TaskNo) → same_task names t u ≡ true → same_task led.after t u ≡ true
+  task_after t u same =
+      let more = few_more old request journal after in
+      let none = no_name journal other led.after 65535 led.stands (omega (arith, few, more)) in
+      stands_on names.task led.after.task 65535 t.0 u.0 (λ _. none) led.kept.tasks same
+
+  made_after : task_count old < task_count journal → same_task led.after (task_no (task_count old)) (task_no (task_count new)) ≡ true
+  made_after grew =
+      let here : task_count old ≡ 0 + task_count old = omega arith in
+      let there : 0 + task_count new ≡ task_count new = omega arith in
+      one_named led.after.task 65535 (task_count old) (task_count new) (record {
+        bound = λ same. omega (arith, few, same);
+        bound_too = λ same. omega (arith, few_too, same);
+        named = ap led.after.task here ∙ led.tasks 0 (omega (arith, grew)) ∙ ap Some there;
+      })
+
+  pub knows_more : (scope : Scope) (statement : Statement) → request_of scope statement ≡ Some request
+      → KnowsMore names led.after statement (length old + 1) (length new + 1) (task_no (task_count old)) (task_no (task_count new))
+  knows_more scope statement asks =
+      let longer = longer_after old request journal after in
+      let here : length old + 1 ≡ suc (0 + length old) = omega arith in
+      let there : suc (0 + length new) ≡ length new + 1 = omega arith in
+      record {
+        tasks = task_after;
+        positions = λ p q same.
+            stands_on names.position led.after.position 0 p q (λ none. led.old_positions 0 (omega arith) ∙ none) led.kept.positions same;
+        new_task = λ makes. made_after (makes_more scope statement request old journal asks makes after);
+        new_block = one_named led.after.position 0 (length old + 1) (length new + 1) (record {
+          bound = λ same. omega (arith, same);
+          bound_too = λ same. omega (arith, same);
+          named = ap led.after.position here ∙ led.positions 0 (omega (arith, longer)) ∙ ap Some there;
+        });
+      }
+
+-- ---- the script
+
+module _ (script : List Line) (short : length script ≤ 4096) (first second : State Rest) (names : Renaming) (place : ℕ) (request : Request)
+    (for : StandsFor (scripted script) (SameRest script) first second names) (asks : asked_in (scripted script) first place ≡ Some request) where
+  few : task_count first.journal ≤ 4097
+  few = let (places, comes) = for.reached in reaches_few script places first comes short
+
+  says : says_alike_at script names first.rest.names second.rest.names place ≡ true
+  says =
+      coming_within script first.journal first.rest place (says_alike_at script names first.rest.names second.rest.names) for.same.alike
+      (asked_parts script first.journal first.rest place request asks).0
+
+  comes_too : may_come script second.journal second.rest place ≡ true
+  comes_too =
+      let here = few in
+      let there = few_tasks second.journal for.lawful_too in
+      let same : second.rest ≡ rest first.rest.left second.rest.names = ap (λ left. rest left second.rest.names) (sym for.same.left) in
+      ap (λ r. may_come script second.journal r place) same
+      ∙ sym (may_come_alike script names first.rest.names second.rest.names first.rest.left (are_apart first.journal second.journal names for.stands)
+      for.same.alike first.journal second.journal
+      (λ o n alike. runs_alike first.journal second.journal names o n for.stands (omega (arith, here)) there alike) place says)
+      ∙ (asked_parts script first.journal first.rest place request asks).0
+
+  pub asks_too : asked_in (scripted script) second place ≡ Some (renamed_request names request)
+  asks_too =
+      ap (λ b. cond b (request_at script second.rest.names place) None) comes_too
+      ∙ request_at_alike names first.rest.names second.rest.names for.same.declared script place says
+      ∙ ap (option_map (renamed_request names)) (asked_parts script first.journal first.rest place request asks).1
+
+  pub kept_names : names_kept names first.journal request ≡ true
+  kept_names =
+      let here = few in
+      request_kept names first.rest.names second.rest.names first.journal (omega (arith, here)) script place request says
+      (asked_parts script first.journal first.rest place request asks).1
+
+  pub same_after : (journal other : List Event) → After first.journal request journal
+      → (led : LedAlike first.journal second.journal names journal other)
+      → SameRest script led.after (went_on (scripted script) first place journal).rest (went_on (scripted script) second place other).rest
+  same_after journal other after led =
+      let (line, at, is) = option_and_then-some (λ (l : Line). request_of first.rest.names l.statement) (slice_get script place) request
+      (asked_parts script first.journal first.rest place request asks).1 in
+      same_on script names led.after place (length first.journal + 1) (length second.journal + 1) (task_no (task_count first.journal))
+      (task_no (task_count second.journal)) line first.rest second.rest at for.same
+      (knows_more first.journal second.journal names request journal other few (tasks_are_few second.journal for.lawful_too) after led
+      first.rest.names line.statement is)
+
+-- a script of at most 4,096 lines names tasks and blocks by their names alone
+pub scripts_speak : (script : List Line) → length script ≤ 4096 → SpeaksInNames (scripted script) (SameRest script)
+scripts_speak script short = record {
+  asks = λ first second names place request for asks. asks_too script short first second names place request for asks;
+  kept = λ first second names place request for asks. kept_names script short first second names place request for asks;
+  after = λ first second names place request journal other for asks after copied led.
+      same_after script short first second names place request for asks journal other after led;
+  refused = λ names one other place cause same. same_less script names one other place same;
+  chained = λ names more one other third same also. same_along names more script one other third same also;
+}
