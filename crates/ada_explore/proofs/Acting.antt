@@ -1,5 +1,5 @@
 -- The answer of a kernel to a line is a step of the script's schedules.
-use Rattle.std.proofs.Common.{◌≡◌, ℕ, Bool, true, false, cond, Option, Some, None, List, [], ◌∷◌, filter, refl, sym, subst, ◌∙◌, inl, inr}
+use Rattle.std.proofs.Common.{◌≡◌, ℕ, Bool, true, false, cond, Option, Some, None, List, [], ◌∷◌, filter, refl, sym, ap, subst, ◌∙◌, inl, inr}
 use Rattle.std.specs.Option.{option_or}
 use Rattle.std.proofs.lemmas.Bool.{true≢false}
 use Rattle.std.proofs.lemmas.Option.{none-some, same_Some}
@@ -17,7 +17,7 @@ use Rattle.ada_laws.proofs.asking.Limitless.{accepted_without_limits, limits_ref
 use Rattle.ada_statements.specs.Scope.{Scope}
 use Rattle.ada_script.specs.declared.script.Line.{Line}
 use Rattle.ada_schedules.specs.Schedules.{Acts}
-use Rattle.ada_explore.specs.Scripts.{scripted, rest, at as state, without, bound_so}
+use Rattle.ada_explore.specs.Scripts.{scripted, rest, at as state, request_at, may_come, without, bound_so}
 
 -- of limits alone the first cause is a limit
 first_limit : (cs : List Cause) (cause : Refusal) → first_cause (filter (λ (c : Cause). is_limit c.name) cs) ≡ Some cause → is_limit cause ≡ true
@@ -46,6 +46,12 @@ no_limit journal request cause other refused =
         → refusal_but_limits journal request ≡ Some cause
     by None is limit = absurd (true≢false (sym (first_limit (causes journal request) cause limit) ∙ other))
     by (Some c) is same = is ∙ same
+
+-- what a line asks for that may come
+pub may_ask : (script : List Line) (journal : List Event) (left : List ℕ) (names : Scope) (place : ℕ) (request : Request)
+    → may_come script journal (rest left names) place ≡ true → request_at script names place ≡ Some request
+    → (scripted script).asks journal (rest left names) place ≡ Some request
+may_ask script journal left names place request may is = ap (λ b. cond b (request_at script names place) None) may ∙ is
 
 -- a line that a kernel accepted is a step
 pub accepts_line : (script : List Line) (journal new : List Event) (left left_after : List ℕ) (names names_after : Scope) (place position : ℕ) (made : TaskNo)

@@ -1,4 +1,3 @@
-use Rattle.std.proofs.Common.{ap, ◌∙◌}
 use Rattle.std.specs.Option.{is_some}
 use Rattle.ada_explore.specs.Scripts as scripts
 use Rattle.ada_explore.proofs.Places.{keeps_more}
@@ -7,4 +6,4 @@ use Rattle.ada_explore.proofs.standing.asking.Goals as goal
 pub loop-place-preserved : goal.loop-place-preserved
 loop-place-preserved c =
     keeps_more (λ place. is_some (scripts.request_at c.args.script.now c.args.names.now place)) _ _ c.loop-place.place c.in_ok-place.place _
-    c.in_ok-place.ensures (c.is_some-asks.ensures ∙ ap is_some c.request_at.ensures) c.loop-place.invariant c.in_ok-keep.ensures
+    c.in_ok-place.ensures (c.is_asking.ensures c.args.names.now) c.loop-place.invariant c.in_ok-keep.ensures
