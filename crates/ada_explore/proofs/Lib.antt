@@ -2,3 +2,8 @@ mod Places
 mod Acting
 mod Paths
 mod Standstill
+mod Once
+mod Shapes
+mod Closing
+mod Free
+mod Steps

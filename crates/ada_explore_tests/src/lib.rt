@@ -2,6 +2,8 @@
 #![tactic(auto)]
 
 #[cfg(test)]
+mod covering;
+#[cfg(test)]
 mod finding;
 #[cfg(test)]
 mod plain;
