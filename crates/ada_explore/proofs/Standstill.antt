@@ -38,7 +38,7 @@ tick_meets_none : (journal : List Event) (now : ℤ) → is_full journal ≡ fal
 unfolding limit_refusal causes first_cause makes_too_many_tasks makes_too_many_slots
 tick_meets_none journal now room = rw room refl
 
-tick_lawful : (journal : List Event) (now : ℤ) → IsLawful journal → IsSettled journal → is_full journal ≡ false
+pub tick_lawful : (journal : List Event) (now : ℤ) → IsLawful journal → IsSettled journal → is_full journal ≡ false
     → refusal_but_limits journal (Tick now) ≡ None → IsLawful (Ticked now ∷ journal)
 unfolding asked_event
 tick_lawful journal now lawful settled room accepted =

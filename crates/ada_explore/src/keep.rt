@@ -175,6 +175,11 @@ impl Kept {
             None => u16::MAX,
         }
     }
+
+    /// The task at a place among those that are kept.
+    pub(crate) fn task_at(&self, place: u16) -> Option<TaskNo> {
+        self.tasks.get(usize::from(place)).copied()
+    }
 }
 
 // The tasks that aren't terminated, or that a line names that is left.

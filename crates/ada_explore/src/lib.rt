@@ -4,15 +4,20 @@
 //! Section numbers are those of the Ada 83 manual, ANSI/MIL-STD-1815A.
 #![tactic(auto)]
 
+mod alike;
+pub mod covering;
 pub mod finding;
 pub mod following;
+mod guess;
 mod keep;
 mod key;
 pub mod search;
 pub mod standing;
+mod states;
 pub mod stuck;
 pub mod watch;
 
+pub use covering::covered_by;
 pub use finding::{Finding, explore};
 pub use following::follow;
 pub use search::{End, Refused, Search};

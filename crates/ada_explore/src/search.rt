@@ -3,6 +3,7 @@
 
 use crate::key::key_of;
 use crate::standing::asker_at;
+use crate::watch::TURN;
 use crate::{Halt, Standing, Watch, is_stuck};
 use ada_events::{Refusal, TaskNo};
 use ada_script::{Line, Script};
@@ -33,9 +34,6 @@ pub struct Refused {
     /// The length of the shortest schedule in which it is, with that line.
     pub after: u32,
 }
-
-/// After so many states a search looks whether it goes on.
-const TURN: u32 = 1024;
 
 /// What a search met.
 #[derive(Drop)]

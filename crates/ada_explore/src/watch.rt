@@ -1,5 +1,8 @@
 //! Who watches a search, and may end it.
 
+/// After so many states a search looks whether it goes on.
+pub(crate) const TURN: u32 = 1024;
+
 /// Who watches a search.
 pub trait Watch {
     /// Is told that so many of the states that were met were gone on from, and answers whether the search goes on.

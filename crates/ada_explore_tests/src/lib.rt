@@ -4,6 +4,8 @@
 #[cfg(test)]
 mod counting;
 #[cfg(test)]
+mod covering;
+#[cfg(test)]
 mod finding;
 #[cfg(test)]
 mod plain;

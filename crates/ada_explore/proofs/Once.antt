@@ -1,0 +1,46 @@
+-- A schedule leads to one state.
+use Rattle.std.proofs.Common.{◌≡◌, List, [], ◌∷◌, refl, sym, ap, subst, ◌∙◌}
+use Rattle.std.proofs.lemmas.Option.{none-some, same_Some}
+use Rattle.ada_events.specs.declared.request.Request.{Request}
+use Rattle.ada_events.specs.Lawful.{After}
+use Rattle.ada_laws.specs.Unlimited.{refusal_but_limits}
+use Rattle.ada_laws.proofs.asking.RequestLaws.{leads_to_one_journal}
+use Rattle.ada_schedules.specs.Schedules.{Program, State, Acts, Comes, beginning}
+use Rattle.ada_schedules.specs.Closed.{went_on, was_refused}
+
+-- a choice leads to one state: it asks for one request, which is accepted or refused
+pub acts_once : (program : Program) (choice : program.Choice) (from a b : State program.Rest) → Acts program choice from a → Acts program choice from b
+    → a ≡ b
+acts_once program choice from _ _ (Acts.accepted request journal asks accepted after) (Acts.accepted other next too also leads) =
+    let same : other ≡ request = same_Some other request (sym too ∙ asks) in
+    let one : journal ≡ next
+    = leads_to_one_journal from.journal request journal next after (subst (λ (r : Request). After from.journal r next) same leads) in
+    ap (went_on program from choice) one
+acts_once program choice from _ _ (Acts.accepted request journal asks accepted after) (Acts.refused other cause too refused) =
+    let same : other ≡ request = same_Some other request (sym too ∙ asks) in
+    absurd (none-some cause (sym accepted ∙ sym (ap (refusal_but_limits from.journal) same) ∙ refused))
+acts_once program choice from _ _ (Acts.refused request cause asks refused) (Acts.accepted other next too accepted leads) =
+    let same : other ≡ request = same_Some other request (sym too ∙ asks) in
+    absurd (none-some cause (sym accepted ∙ ap (refusal_but_limits from.journal) same ∙ refused))
+acts_once program choice from _ _ (Acts.refused request cause asks refused) (Acts.refused other reason too also) =
+    let same : other ≡ request = same_Some other request (sym too ∙ asks) in
+    let one : cause ≡ reason = same_Some cause reason (sym refused ∙ sym (ap (refusal_but_limits from.journal) same) ∙ also) in
+    ap (was_refused program from choice) one
+
+-- the step before the last one of a schedule
+abbrev Came : (program : Program) → List program.Choice → State program.Rest → Type 0
+Came program [] to = to ≡ beginning program
+Came program (choice ∷ choices) to = (from : State program.Rest) × Comes program choices from × Acts program choice from to
+
+came : (program : Program) (choices : List program.Choice) (to : State program.Rest) → Comes program choices to → Came program choices to
+came program choices to (Comes.begun) = refl
+came program choices to (Comes.one_more {choices = before} {from} {to = end} choice comes acts) = (from, comes, acts)
+
+pub comes_once : (program : Program) (choices : List program.Choice) (a b : State program.Rest) → Comes program choices a → Comes program choices b
+    → a ≡ b
+comes_once program [] a b first second = came program [] a first ∙ sym (came program [] b second)
+comes_once program (choice ∷ choices) a b first second =
+    let (from, comes, acts) = came program (choice ∷ choices) a first in
+    let (other, too, also) = came program (choice ∷ choices) b second in
+    let same : from ≡ other = comes_once program choices from other comes too in
+    acts_once program choice other a b (subst (λ (s : State program.Rest). Acts program choice s a) same acts) also

@@ -1,0 +1,6 @@
+use Rattle.ada_explore.specs.internal.Covering.{AreDone}
+use Rattle.ada_explore.proofs.covering.cover_all.Given as goal
+
+-- each state before it is gone on from
+abbrev pub invariant-loop-state : goal.invariant-loop-state
+invariant-loop-state l = AreDone l.script l.states l.state

@@ -1,0 +1,8 @@
+use Rattle.ada_explore.proofs.Steps.{ok_then, stepped}
+use Rattle.ada_explore.proofs.covering.cover_step.Goals as goal
+
+pub returns : goal.returns
+returns c =
+    ok_then c.cover.result _ _
+    (λ covered known yes. stepped c.args.script.now c.lines.result.now c.args.states.now c.cover.new.states c.args.path.now c.in_ok-schedule.schedule
+    c.args.place _ _ c.lines.ensures c.in_ok-schedule.ensures c.in_ok-said.ensures c.in_ok-say.ensures (known yes)) c.cover.ensures

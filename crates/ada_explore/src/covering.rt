@@ -1,0 +1,294 @@
+//! The check that no schedule of a script gets stuck: a search in breadth first whose merging is checked. A state is
+//! taken for one that was met only where that stands in for it, so what was met at the end covers whatever any
+//! schedule comes to.
+
+ghost use Rattle.std.specs.Prelude.{◌≡◌, ◌+◌, true, length, reverse, IfOk, IfSome};
+ghost use Rattle.ada_standing.specs.Names.{renaming_of};
+ghost use Rattle.ada_standing.specs.Renaming.{Renaming as Naming};
+ghost use Rattle.ada_schedules.specs.Schedules.{Comes, Reaches};
+ghost use Rattle.ada_explore.specs.Scripts as scripts;
+ghost use Rattle.ada_explore.specs.Findings.{NoneGetsStuck};
+ghost use Rattle.ada_explore.specs.internal.Covering.{AreCovered, AreCovering, AreDone, AreKept, IsAlike, IsDone, LeadsOnAfter};
+
+use crate::alike::Scopes;
+use crate::guess::guess;
+use crate::key::key_of;
+use crate::states::{Schedule, States};
+use crate::stuck::is_free;
+use crate::watch::TURN;
+use crate::{Halt, Standing, Watch, follow};
+use ada_compact::stands_in;
+use ada_script::{Line, Script};
+use ada_standing::Renaming;
+use std::alloc::Global;
+
+/// So many lines a script has at most.
+const MOST_LINES: usize = 4096;
+
+// Whether the second standing stands in for the first one, with these names.
+fn is_alike_by(script: &[Line], old: &Standing, new: &Standing, names: &Renaming) -> bool
+    ensures { result ≡ true → IsAlike script.now
+        (scripts.at old.now.kernel old.now.left.items old.now.names)
+        (scripts.at new.now.kernel new.now.left.items new.now.names) (renaming_of names.now) }
+{
+    let scopes = Scopes {
+        old: &old.names,
+        new: &new.names,
+        names,
+    };
+    old.left == new.left
+        && scopes.say_alike(script, &old.left)
+        && stands_in(&old.kernel, &new.kernel, names)
+}
+
+// Whether the second standing stands in for the first one.
+fn is_alike(alloc: Global, script: &[Line], old: &Standing, new: &Standing) -> Result<bool, Halt>
+    ensures { IfOk result (λ alike. alike ≡ true → (names : Naming) × IsAlike script.now
+        (scripts.at old.now.kernel old.now.left.items old.now.names)
+        (scripts.at new.now.kernel new.now.left.items new.now.names) names) }
+{
+    match guess(alloc, script, old, new).map_err(|_| Halt::Memory)? {
+        Some(names) => Ok(is_alike_by(script, old, new, &names)),
+        None => Ok(false),
+    }
+}
+
+// Whether a state that was met stands in for a standing.
+fn is_covered_by(
+    alloc: Global,
+    script: &Script,
+    states: &States,
+    said: &Standing,
+    state: usize,
+) -> Result<bool, Halt>
+    ensures { IfOk result (λ covered. covered ≡ true
+        → Reaches (scripts.scripted script.now)
+        (scripts.at said.now.kernel said.now.left.items said.now.names)
+        → AreCovering script.now states.now
+        (scripts.at said.now.kernel said.now.left.items said.now.names)) }
+{
+    match states.schedule(state) {
+        Some(schedule) => {
+            let other = follow(alloc, script, schedule.places())?;
+            is_alike(alloc, script.lines(), said, &other)
+        }
+        None => Ok(false),
+    }
+}
+
+// Whether the state that a key names stands in for a standing.
+fn is_covered(
+    alloc: Global,
+    script: &Script,
+    states: &States,
+    said: &Standing,
+    key: &Vec<u8>,
+) -> Result<bool, Halt>
+    ensures { IfOk result (λ covered. covered ≡ true
+        → Reaches (scripts.scripted script.now)
+        (scripts.at said.now.kernel said.now.left.items said.now.names)
+        → AreCovering script.now states.now
+        (scripts.at said.now.kernel said.now.left.items said.now.names)) }
+{
+    match states.with_key(key) {
+        Some(state) => is_covered_by(alloc, script, states, said, state),
+        None => Ok(false),
+    }
+}
+
+// Meets a standing to which a schedule leads. It stands in for itself, or that isn't found.
+fn meet(
+    alloc: Global,
+    script: &Script,
+    states: &mut States,
+    said: &Standing,
+    schedule: Schedule,
+    key: Vec<u8>,
+) -> Result<bool, Halt>
+    ensures { IfOk result (λ met. met ≡ true
+        → Comes (scripts.scripted script.now) (reverse schedule)
+        (scripts.at said.now.kernel said.now.left.items said.now.names)
+        → AreKept states.old states.new × AreCovering script.now states.new
+        (scripts.at said.now.kernel said.now.left.items said.now.names)) }
+{
+    if !is_alike(alloc, script.lines(), said, said)? {
+        return Ok(false);
+    }
+    states.meet(schedule, key)?;
+    Ok(true)
+}
+
+// Whether a state that was met stands in for a standing to which a schedule leads: if none does, that is met.
+fn cover(
+    alloc: Global,
+    script: &Script,
+    states: &mut States,
+    said: &Standing,
+    schedule: Schedule,
+) -> Result<bool, Halt>
+    ensures { IfOk result (λ covered. covered ≡ true
+        → Comes (scripts.scripted script.now) (reverse schedule)
+        (scripts.at said.now.kernel said.now.left.items said.now.names)
+        → AreKept states.old states.new × AreCovering script.now states.new
+        (scripts.at said.now.kernel said.now.left.items said.now.names)) }
+{
+    let key = key_of(alloc, script.lines(), said).map_err(|_| Halt::Memory)?;
+    if is_covered(alloc, script, states, said, &key)? {
+        return Ok(true);
+    }
+    meet(alloc, script, states, said, schedule, key)
+}
+
+// Whether the line at a place, after a schedule, leads to what is covered.
+fn cover_step(
+    alloc: Global,
+    script: &Script,
+    states: &mut States,
+    path: &[u16],
+    place: u16,
+) -> Result<bool, Halt>
+    ensures { IfOk result (λ covered. covered ≡ true → AreKept states.old states.new
+        × LeadsOnAfter script.now states.new path.now place) }
+{
+    let mut said = follow(alloc, script, path)?;
+    said.say(script.lines(), place)?;
+    let schedule = Schedule::longer(alloc, path, place)?;
+    cover(alloc, script, states, &said, schedule)
+}
+
+// The same, if the line may come in a standing.
+fn cover_choice(
+    alloc: Global,
+    script: &Script,
+    states: &mut States,
+    path: &[u16],
+    standing: &Standing,
+    place: u16,
+) -> Result<bool, Halt>
+    ensures { IfOk result (λ covered. covered ≡ true → AreKept states.old states.new
+        × (scripts.may_come script.now standing.now.kernel
+        (scripts.rest standing.now.left.items standing.now.names) place ≡ true
+        → LeadsOnAfter script.now states.new path.now place)) }
+{
+    if !standing.may_come(script.lines(), place) {
+        return Ok(true);
+    }
+    cover_step(alloc, script, states, path, place)
+}
+
+// Whether each line that may come in a standing leads to what is covered, after a schedule.
+fn cover_choices(
+    alloc: Global,
+    script: &Script,
+    states: &mut States,
+    path: &[u16],
+    standing: &Standing,
+) -> Result<bool, Halt>
+    ensures { IfOk result (λ covered. covered ≡ true
+        → AreCovered script.now states.old states.new path.now
+        (scripts.at standing.now.kernel standing.now.left.items standing.now.names)
+        (length standing.now.left.items)) }
+{
+    for place in &standing.left {
+        if !cover_choice(alloc, script, states, path, standing, *place)? {
+            return Ok(false);
+        }
+    }
+    Ok(true)
+}
+
+// Whether what a schedule leads to isn't stuck, and each line that may come leads to what is covered.
+fn go_on(alloc: Global, script: &Script, states: &mut States, path: &[u16]) -> Result<bool, Halt>
+    ensures { IfOk result (λ done. done ≡ true → AreKept states.old states.new
+        × IsDone script.now states.new path.now) }
+{
+    let standing = follow(alloc, script, path)?;
+    if !is_free(&standing.kernel)? {
+        return Ok(false);
+    }
+    cover_choices(alloc, script, states, path, &standing)
+}
+
+// The same of the schedule of a state.
+fn go_on_from(
+    alloc: Global,
+    script: &Script,
+    states: &mut States,
+    state: usize,
+) -> Result<bool, Halt>
+    ensures { IfOk result (λ done. done ≡ true → AreDone script.now states.old state
+        → AreDone script.now states.new (state + 1)) }
+{
+    let Some(schedule) = states.schedule(state) else {
+        return Ok(false);
+    };
+    let path = schedule.copy(alloc)?;
+    go_on(alloc, script, states, path.places())
+}
+
+// The beginning alone, if it stands in for itself.
+fn begin(alloc: Global, script: &Script) -> Result<Option<States>, Halt>
+    ensures { IfOk result (λ begun. IfSome begun (λ states. AreDone script.now states 0)) }
+{
+    let mut states = States::new(alloc);
+    let standing = Standing::new(alloc, script)?;
+    let schedule = Schedule::new(alloc);
+    if cover(alloc, script, &mut states, &standing, schedule)? {
+        Ok(Some(states))
+    } else {
+        Ok(None)
+    }
+}
+
+/// How many states cover all that schedules of a script come to, where none of them is stuck: then no schedule gets
+/// stuck, however long. None where that isn't found: a state is stuck, there are more states than so many, or whoever
+/// watches ends the search. An `Err` is a limit of the kernel, want of memory, or a script with more lines than a script
+/// may have.
+pub fn covered_by<W: Watch>(
+    alloc: Global,
+    script: &Script,
+    most: u32,
+    watch: &mut W,
+) -> Result<Option<u32>, Halt>
+    ensures { IfOk result (λ found. IfSome found (λ states. NoneGetsStuck script.now)) }
+{
+    if script.lines().len() > MOST_LINES {
+        return Err(Halt::TooLong);
+    }
+    let Some(mut states) = begin(alloc, script)? else {
+        return Ok(None);
+    };
+    cover_all(alloc, script, &mut states, most, watch)
+}
+
+// Goes on from each state that is met, in their order, up to so many.
+fn cover_all<W: Watch>(
+    alloc: Global,
+    script: &Script,
+    states: &mut States,
+    most: u32,
+    watch: &mut W,
+) -> Result<Option<u32>, Halt>
+    requires short { length script.now ≤ 4096 }
+    requires begun { AreDone script.now states.old 0 }
+    ensures { IfOk result (λ found. IfSome found (λ states. NoneGetsStuck script.now)) }
+{
+    for state in 0..most {
+        if state as usize >= states.count() {
+            return Ok(Some(state));
+        }
+        if is_ended(states, state, watch) || !go_on_from(alloc, script, states, state as usize)? {
+            return Ok(None);
+        }
+    }
+    if states.count() <= most as usize {
+        return Ok(Some(most));
+    }
+    Ok(None)
+}
+
+// Whether whoever watches ends the search, before it goes on from a state.
+fn is_ended<W: Watch>(states: &States, state: u32, watch: &mut W) -> bool {
+    let met = u32::try_from(states.count()).unwrap_or(u32::MAX);
+    state % TURN == 0 && !watch.goes_on(state, met)
+}

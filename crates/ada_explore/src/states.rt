@@ -1,0 +1,123 @@
+//! The states of a script that were met, each by a schedule that leads to it.
+
+ghost use Rattle.std.specs.Prelude.{◌≡◌, ◌∷◌, ◌++◌, [], length, slice_get, IfOk, OnOk, option_map};
+ghost use Rattle.std.specs.Option.{option_copied};
+
+use crate::Halt;
+use indexmap::IndexMap;
+use std::alloc::Global;
+use std::marker::Model;
+
+/// A schedule, by the places of its lines.
+#[derive(Drop)]
+pub(crate) struct Schedule {
+    places: Vec<u16>,
+}
+
+impl Model for Schedule {
+    ghost use Rattle.std.specs.Prelude.{ℕ, List};
+
+    ghost Value = { List ℕ };
+
+    ghost view = { λ s. s.places.items };
+}
+
+impl Schedule {
+    /// Of no lines.
+    pub(crate) fn new(alloc: Global) -> Self
+        ensures { result ≡ [] }
+    {
+        Schedule {
+            places: Vec::new(alloc),
+        }
+    }
+
+    /// The places of the lines, in their order.
+    pub(crate) fn places(&self) -> &[u16]
+        ensures { result.now ≡ self.now }
+    {
+        &self.places
+    }
+
+    /// The same schedule.
+    pub(crate) fn copy(&self, alloc: Global) -> Result<Self, Halt>
+        ensures { IfOk result (λ copy. copy ≡ self.now) }
+    {
+        let places = Vec::from_slice(alloc, &self.places).map_err(|_| Halt::Memory)?;
+        Ok(Schedule { places })
+    }
+
+    /// A schedule that says one line more than these.
+    pub(crate) fn longer(alloc: Global, places: &[u16], place: u16) -> Result<Self, Halt>
+        ensures { IfOk result (λ longer. longer ≡ places.now ++ place ∷ []) }
+    {
+        let mut longer = Vec::from_slice(alloc, places).map_err(|_| Halt::Memory)?;
+        longer.push(place).map_err(|_| Halt::Memory)?;
+        Ok(Schedule { places: longer })
+    }
+}
+
+/// The states that were met. Contracts see them as the schedules that lead to them.
+#[derive(Drop)]
+pub(crate) struct States {
+    schedules: Vec<Schedule>,
+    /// Which of them has a key. Nothing is promised of it: whether that state stands in for another is checked.
+    keys: IndexMap<Vec<u8>, u32>,
+}
+
+impl Model for States {
+    ghost use Rattle.std.specs.Prelude.{ℕ, List};
+
+    ghost Value = { List (List ℕ) };
+
+    ghost view = { λ s. s.schedules.items };
+}
+
+impl States {
+    /// No states.
+    pub(crate) fn new(alloc: Global) -> Self
+        ensures { result ≡ [] }
+    {
+        States {
+            schedules: Vec::new(alloc),
+            keys: IndexMap::new(alloc),
+        }
+    }
+
+    /// How many there are.
+    pub(crate) fn count(&self) -> usize
+        ensures { result ≡ length self.now }
+    {
+        self.schedules.len()
+    }
+
+    /// The schedule that leads to a state.
+    pub(crate) fn schedule(&self, state: usize) -> Option<&Schedule>
+        ensures { option_copied result ≡ slice_get self.now state }
+    {
+        self.schedules.get(state)
+    }
+
+    /// The state that may have this key.
+    pub(crate) fn with_key(&self, key: &Vec<u8>) -> Option<usize> {
+        self.keys.get(key).map(|state| *state as usize)
+    }
+
+    // Notes that the state that is met next has this key.
+    fn note(&mut self, key: Vec<u8>) -> Result<(), Halt>
+        ensures { self.new ≡ self.old }
+    {
+        let next = u32::try_from(self.schedules.len()).map_err(|_| Halt::Memory)?;
+        self.keys.insert(key, next).map_err(|_| Halt::Memory)?;
+        Ok(())
+    }
+
+    /// Meets a state, to which a schedule leads, and which has this key.
+    pub(crate) fn meet(&mut self, schedule: Schedule, key: Vec<u8>) -> Result<(), Halt>
+        ensures { OnOk result (self.new ≡ self.old ++ schedule ∷ []) }
+    {
+        self.note(key)?;
+        self.schedules.push(schedule).map_err(|_| Halt::Memory)?;
+        Ok(())
+    }
+}

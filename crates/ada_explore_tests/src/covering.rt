@@ -1,0 +1,135 @@
+//! Whether no schedule of a script gets stuck, of scripts whose schedules were gone through by hand.
+
+use ada_explore::{Halt, Unwatched, covered_by};
+use ada_script::read;
+use std::alloc::Global;
+use std::test::Fail;
+
+// Seven states: the beginning; then main has made Ann; then it waits for her activation; then she is up. Then each may
+// complete before the other, and both orders come to the same.
+static TWO_ENDS: &[u8] = b"main: create Ann under main
+main: activate Ann
+Ann: up
+Ann: complete
+main: complete
+";
+
+// Both take the left fork first, so whoever has it gets the right one, too.
+static IN_ORDER: &[u8] = b"main: create Left under main Take Put
+main: create Right under main Take Put
+main: create Ann under main
+main: create Bob under main
+main: activate Left Right Ann Bob
+Left: up
+Right: up
+Ann: up
+Bob: up
+main: complete
+Left: accept Take
+Left: end
+Left: accept Put
+Left: end
+Left: accept Take
+Left: end
+Left: accept Put
+Left: end
+Left: complete
+Right: accept Take
+Right: end
+Right: accept Put
+Right: end
+Right: accept Take
+Right: end
+Right: accept Put
+Right: end
+Right: complete
+Ann: call Left Take
+Ann: call Right Take
+Ann: call Right Put
+Ann: call Left Put
+Ann: complete
+Bob: call Left Take
+Bob: call Right Take
+Bob: call Right Put
+Bob: call Left Put
+Bob: complete
+";
+
+// Ann takes Left and Bob takes Right; then each waits for the other's fork.
+static CROSSWISE: &[u8] = b"main: create Left under main Take Put
+main: create Right under main Take Put
+main: create Ann under main
+main: create Bob under main
+main: activate Left Right Ann Bob
+Left: up
+Right: up
+Ann: up
+Bob: up
+main: complete
+Left: accept Take
+Left: end
+Left: accept Put
+Left: end
+Left: accept Take
+Left: end
+Left: accept Put
+Left: end
+Left: complete
+Right: accept Take
+Right: end
+Right: accept Put
+Right: end
+Right: accept Take
+Right: end
+Right: accept Put
+Right: end
+Right: complete
+Ann: call Left Take
+Ann: call Right Take
+Ann: call Right Put
+Ann: call Left Put
+Ann: complete
+Bob: call Right Take
+Bob: call Left Take
+Bob: call Left Put
+Bob: call Right Put
+Bob: complete
+";
+
+// Five states, one for each line that was said and the beginning: while main waits for the moment, a tick may come.
+static DELAYED: &[u8] = b"main: delay 5
+tick 3
+tick 5
+main: complete
+";
+
+fn covered_in(alloc: Global, text: &[u8], most: u32) -> Result<Option<u32>, Halt> {
+    let script = read(alloc, text).map_err(|_| Halt::Memory)?;
+    covered_by(alloc, &script, most, &mut Unwatched)
+}
+
+#[test]
+fn counts_states(rt: HostRuntime) -> Result<(), Fail> {
+    assert_eq!(&rt; covered_in(rt.alloc(), TWO_ENDS, 7), Ok(Some(7)));
+    assert_eq!(&rt; covered_in(rt.alloc(), TWO_ENDS, 6), Ok(None));
+    Ok(())
+}
+
+#[test]
+fn waits_for_ticks(rt: HostRuntime) -> Result<(), Fail> {
+    assert_eq!(&rt; covered_in(rt.alloc(), DELAYED, 100), Ok(Some(5)));
+    Ok(())
+}
+
+#[test]
+fn covers_philosophers_in_order(rt: HostRuntime) -> Result<(), Fail> {
+    let covered = covered_in(rt.alloc(), IN_ORDER, 100_000);
+    assert!(rt; matches!(covered, Ok(Some(_))));
+    Ok(())
+}
+
+#[test]
+fn finds_philosophers_stuck(rt: HostRuntime) -> Result<(), Fail> {
+    assert_eq!(&rt; covered_in(rt.alloc(), CROSSWISE, 100_000), Ok(None));
+    Ok(())
+}
