@@ -1,7 +1,6 @@
 -- What isn't stuck for `ada_waiting` isn't stuck, provided that the first moment for which a task waits may come.
-use Rattle.std.proofs.Common.{◌≡◌, ℕ, ◌<◌, ℤ, Bool, true, false, not, Option, Some, None, List, ◌∷◌, refl, sym, ap, ◌∙◌, inl, inr, rules, int_le, int_lt}
+use Rattle.std.proofs.Common.{◌≡◌, ℤ, true, false, not, Option, Some, None, List, refl, sym, ap, ◌∙◌, inl, inr, rules, int_le, int_lt}
 use Rattle.std.proofs.lemmas.Bool.{true≢false, not-false, cases_Bool}
-use Rattle.std.proofs.lemmas.Option.{same_Some}
 use Rattle.ada_events.specs.declared.event.Event.{Event}
 use Rattle.ada_events.specs.declared.request.Request.TheVariants.{Tick}
 use Rattle.ada_events.specs.declared.limits.TheConstants.{LAST_MOMENT}
@@ -11,7 +10,7 @@ use Rattle.ada_events.specs.Refusals.{causes, first_cause, names_unknown_task, a
 use Rattle.ada_events.specs.Refusals.{is_not_your_master, has_empty_list, is_not_your_task, has_no_accept, names_no_family, breaks_constraint}
 use Rattle.ada_events.specs.Refusals.{nests_same_family, terminates_in_accept, is_not_in_accept, has_no_block, is_still_nested, aborts_main}
 use Rattle.ada_events.specs.Tasks.{task_count, moment}
-use Rattle.ada_events.specs.Phases.{is_running, is_terminated}
+use Rattle.ada_events.specs.Phases.{is_running}
 use Rattle.ada_events.specs.Search.{all_below}
 use Rattle.ada_events.specs.Waits.{is_due}
 use Rattle.ada_events.specs.Lawful.{IsLawful, IsSettled}
@@ -19,8 +18,7 @@ use Rattle.ada_laws.specs.Unlimited.{refusal_but_limits, causes_but_limits}
 use Rattle.ada_laws.proofs.asking.Accepting.{running_live}
 use Rattle.ada_laws.proofs.searching.Searching.{all_below-fails}
 use Rattle.ada_standing.proofs.alike.Pairs.{live_from, active_parts}
-use Rattle.ada_waiting.specs.declared.standstill.Verdict.{Verdict}
-use Rattle.ada_waiting.specs.declared.standstill.Verdict.TheVariants.{Finished, GoesOn, WaitsForTick, Stuck}
+use Rattle.ada_waiting.specs.declared.standstill.Verdict.TheVariants.{Finished, GoesOn, WaitsForTick}
 use Rattle.ada_waiting.specs.Standstill.{first_due, nobody_runs, by_first_due, verdict_of}
 use Rattle.ada_waiting.proofs.Ticking.{ticks_force_from_the_first_moment}
 use Rattle.ada_schedules.specs.Stuck.{IsStuck}

@@ -51,7 +51,8 @@ opened_keeps : (at : ℕ) (m : Meaning) → shape (with_opened at m) ≡ shape m
 opened_keeps at (Task entries old) = refl
 opened_keeps at (Block old) = refl
 
-bind_keeps : (names : Scope) (statement : Statement) (at : ℕ) (made : TaskNo) (name : List ℕ) → shape_in (bind names statement at made) name ≡ shape_in names name
+bind_keeps : (names : Scope) (statement : Statement) (at : ℕ) (made : TaskNo) (name : List ℕ)
+    → shape_in (bind names statement at made) name ≡ shape_in names name
 bind_keeps names (Open by block) at made name = changed names block name (with_opened at) (opened_keeps at)
 bind_keeps names (Create by task under families) at made name =
     changed names task name (with_made (record { task = made; at = at })) (made_keeps (record { task = made; at = at }))

@@ -10,7 +10,7 @@ use Rattle.ada_statements.specs.Scope.{Scope}
 use Rattle.ada_script.specs.declared.script.Line.{Line}
 use Rattle.ada_schedules.specs.Schedules.{State, Acts, Comes, Reaches, beginning}
 use Rattle.ada_schedules.specs.Stuck.{IsStuck}
-use Rattle.ada_explore.specs.Scripts.{Rest, scripted, rest, at as state, may_come}
+use Rattle.ada_explore.specs.Scripts.{Rest, scripted, at as state, may_come}
 use Rattle.ada_explore.specs.internal.Covering.{IsAlike, AreCovering, AreKept, LeadsOnAfter, AreCovered, IsDone, AreDone}
 use Rattle.ada_explore.proofs.Paths.{begins}
 use Rattle.ada_explore.proofs.Closing.{kept_all, kept_on, after_more, alike_covers, one_longer, all_steps, one_more_done}

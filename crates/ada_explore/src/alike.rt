@@ -65,7 +65,8 @@ impl Scopes<'_> {
     // The same of some names.
     fn name_same_tasks(&self, names: &[Name]) -> bool
         ensures { result ≡ list_all
-            (covering.names_same_task (renaming_of self.now.names.now) self.now.old.now self.now.new.now)
+            (covering.names_same_task (renaming_of self.now.names.now) self.now.old.now
+            self.now.new.now)
             names.now }
     {
         names.iter().all(|name| self.names_same_task(name))
@@ -82,7 +83,8 @@ impl Scopes<'_> {
     // Whether the tasks that a statement names are alike.
     fn says_same_tasks(&self, statement: &Statement) -> bool
         ensures { result ≡ list_all
-            (covering.names_same_task (renaming_of self.now.names.now) self.now.old.now self.now.new.now)
+            (covering.names_same_task (renaming_of self.now.names.now) self.now.old.now
+            self.now.new.now)
             (sameness.tasks_named statement.now) }
     {
         match statement {
@@ -115,7 +117,8 @@ impl Scopes<'_> {
     // Whether the masters under which a statement makes a task are alike.
     fn says_same_master(&self, statement: &Statement) -> bool
         ensures { result ≡ list_all
-            (covering.names_same_master (renaming_of self.now.names.now) self.now.old.now self.now.new.now)
+            (covering.names_same_master (renaming_of self.now.names.now) self.now.old.now
+            self.now.new.now)
             (sameness.masters_named statement.now) }
     {
         match statement {

@@ -2,7 +2,7 @@
 //! taken for one that was met only where that stands in for it, so what was met at the end covers whatever any
 //! schedule comes to.
 
-ghost use Rattle.std.specs.Prelude.{◌≡◌, ◌+◌, true, length, reverse, IfOk, IfSome};
+ghost use Rattle.std.specs.Prelude.{◌≡◌, ◌+◌, ◌≤◌, true, length, reverse, IfOk, IfSome};
 ghost use Rattle.ada_standing.specs.Names.{renaming_of};
 ghost use Rattle.ada_standing.specs.Renaming.{Renaming as Naming};
 ghost use Rattle.ada_schedules.specs.Schedules.{Comes, Reaches};
@@ -241,9 +241,9 @@ fn begin(alloc: Global, script: &Script) -> Result<Option<States>, Halt>
 }
 
 /// How many states cover all that schedules of a script come to, where none of them is stuck: then no schedule gets
-/// stuck, however long. None where that isn't found: a state is stuck, there are more states than so many, or whoever
-/// watches ends the search. An `Err` is a limit of the kernel, want of memory, or a script with more lines than a script
-/// may have.
+/// stuck, however long. None if that isn't found: a state is stuck, there are more states than so many, or whoever
+/// watches ends the search. An `Err` is a limit of the kernel, want of memory, or a script with more lines than a
+/// script may have.
 pub fn covered_by<W: Watch>(
     alloc: Global,
     script: &Script,

@@ -1,4 +1,4 @@
-use Rattle.std.proofs.Common.{sym, ◌∙◌}
+use Rattle.std.proofs.Common.{sym}
 use Rattle.ada_explore.proofs.Steps.{ok_then, covered_there}
 use Rattle.ada_explore.proofs.covering.is_covered_by.Goals as goal
 

@@ -18,6 +18,7 @@ returns-in-WaitsForTick-clause-free c = λ yes.
     let until = c.in-WaitsForTick.until in
     let fits = rw c.in-WaitsForTick.is at c.verdict_in.type_inv in
     let unrefused : refusal_but_limits c.args.kernel.now (Tick until) ≡ None
-    = subst (λ (n : ℤ). refusal_but_limits c.args.kernel.now (Tick n) ≡ None) (to_z-of_z w64 until (record { sfits = assumption fits })) (c.may_tick.ensures yes) in
+    = subst (λ (n : ℤ). refusal_but_limits c.args.kernel.now (Tick n) ≡ None) (to_z-of_z w64 until (record { sfits = assumption fits }))
+    (c.may_tick.ensures yes) in
     waiting_free c.args.kernel.now until known.lawful known.settled
     (not-true _ (sym c.has_room.ensures ∙ c.if-not-has_room.false)) (sym c.verdict_in.ensures ∙ c.in-WaitsForTick.is) unrefused
