@@ -17,17 +17,18 @@ package Tasking_Trace is
    Bad_Line : exception;
 
    --  Begins a log, whose main program is the calling task, at the moment 0. What the file held is lost. If Dump_After
-   --  isn't 0, a task of the package's own calls Dump whenever no line was written and none announced for so many
-   --  seconds, and once when the main program is over. It ends with the log, or a tenth of a second after the main
-   --  program (Ada 95, 10.2).
+   --  isn't 0, a task of the package's own calls Dump once nothing was written and nothing announced for so many
+   --  seconds, and when the main program is over, unless there is nothing new to dump. It ends with the log, or a tenth
+   --  of a second after the main program (Ada 95, 10.2), and is no task of the log.
    procedure Open (File_Name : String; Dump_After : Duration := 0.0);
 
    --  Ends it; what comes later isn't written.
    procedure Close;
 
-   --  Writes the calls and waits that are announced and not over, in the order of their announcements, behind the mark
-   --  "#?". These are comments of the script language; `adascope conform` plays those that stand last in a log. So the
-   --  log of a program that hangs says who waits for whom. Of the first 256 tasks at most; of no aborted task.
+   --  Writes the calls (9.5, 9.7.2, 9.7.3) and waits (9.5, 9.7.1) that are announced and not over, of up to 256 tasks
+   --  that aren't aborted, in the order of their announcements, each behind the mark "#?". For the script language
+   --  these are comments; `adascope conform` plays those that stand last in a log. So the log of a program that hangs
+   --  says who waits for whom.
    procedure Dump;
 
    -----------------------------------------------------------------------------
@@ -107,7 +108,7 @@ package Tasking_Trace is
    --  terminate alternative (9.7.1).
    type Last_Wait is limited private;
 
-   --  Both are declared, and not named again.
+   --  Objects of these types are declared, and not named again.
    pragma Unreferenced_Objects (Activation);
    pragma Unreferenced_Objects (Last_Wait);
 

@@ -10,7 +10,7 @@ procedure Trace_Hang is
 
    Way : constant String := Argument (2);
 
-   Silence : constant Duration := 2.0;
+   Silence : constant Duration := 1.0;
 
    function Own_Process return Integer with Import, Convention => C, External_Name => "getpid";
    function Send (Process, Signal : Integer) return Integer with Import, Convention => C, External_Name => "kill";
