@@ -49,7 +49,7 @@ fn count_marked(lines: &[u8]) -> u32 {
     count
 }
 
-// The lines of a log, in which those after the first have no mark.
+// The lines of a log, without the marks of those that come after so many.
 fn made(alloc: Global, log: &Log, first: u32) -> Result<Vec<u8>, AllocError> {
     let mut made = Vec::new(alloc);
     made.extend_from_slice(log.first_lines(first))?;
