@@ -12,6 +12,13 @@ package body Tasking_Trace is
 
    Most_Characters : constant := 200;
    Most_Masters    : constant := 4_096;
+   Most_Announced  : constant := 256;
+
+   --  What a line begins with that was announced and isn't over: a comment of the script language.
+   Mark : constant String := "#? ";
+
+   --  How often the watching task looks whether the main program is over.
+   Look_Every : constant Duration := 0.1;
 
    --  A name, with blanks after it.
    subtype Name_Text is String (1 .. 16);
@@ -46,11 +53,29 @@ package body Tasking_Trace is
       Is_Aborted      : Boolean := False;
    end record;
 
+   --  What a task announced, and isn't over.
+   type Announcement is record
+      Speaker   : Name_Text := No_Name;
+      Statement : Statement_Text := No_Statement;
+   end record;
+
+   --  Dumps after a silence; it is there only if it is asked for.
+   task type Watcher;
+   type Watcher_Access is access Watcher;
+
    File    : Ada.Text_IO.File_Type;
    Began   : Ada.Real_Time.Time;
    Moment  : Natural := 0;
    Masters : array (1 .. Most_Masters) of Master;
    Made    : Natural := 0;
+
+   --  Oldest first; when these or the log changed last, and whether they were dumped since.
+   Announcements : array (1 .. Most_Announced) of Announcement;
+   Announced     : Natural := 0;
+   Changed       : Ada.Real_Time.Time;
+   Is_Dumped     : Boolean := False;
+   Watching      : Watcher_Access;
+   Patience      : Duration := 0.0;
 
    ----------------
    --  The lock  --
@@ -136,22 +161,69 @@ package body Tasking_Trace is
    --  Lines  --
    -------------
 
-   --  Writes a line, if there is one; the lock is held.
-   procedure Put (Line : String) is
+   procedure Check_Length (Line : String) is
    begin
       if Line'Length > Most_Characters then
          raise Bad_Line with "more than 200 characters: " & Line (Line'First .. Line'First + 20);
-      elsif Line /= "" and then Ada.Text_IO.Is_Open (File) then
+      end if;
+   end Check_Length;
+
+   procedure Note_Change is
+   begin
+      Changed := Ada.Real_Time.Clock;
+      Is_Dumped := False;
+   end Note_Change;
+
+   --  Writes a line, if there is one; the lock is held.
+   procedure Put (Line : String) is
+   begin
+      Check_Length (Line);
+      if Line /= "" and then Ada.Text_IO.Is_Open (File) then
          Ada.Text_IO.Put_Line (File, Line);
          Ada.Text_IO.Flush (File);
+         Note_Change;
       end if;
    end Put;
+
+   --  What a task announced is over; the lock is held.
+   procedure Forget (Speaker : Name_Text) is
+      Kept : Natural := 0;
+   begin
+      for A of Announcements (1 .. Announced) loop
+         if A.Speaker /= Speaker then
+            Kept := Kept + 1;
+            Announcements (Kept) := A;
+         end if;
+      end loop;
+      Announced := Kept;
+   end Forget;
+
+   --  A task has a name from the end of its activation on.
+   procedure Announce (Speaker : Name_Text; Statement : Statement_Text) is
+      Hold : Holder;
+      pragma Unreferenced (Hold);
+   begin
+      Check_Length (Mark & Line_Of (Speaker, Statement));
+      Forget (Speaker);
+      if Announced < Most_Announced and then Speaker /= No_Name then
+         Announced := Announced + 1;
+         Announcements (Announced) := (Speaker, Statement);
+         Note_Change;
+      end if;
+   end Announce;
+
+   --  Writes a line of the calling task, which has gone on; the lock is held.
+   procedure Put_Own (Line : String) is
+   begin
+      Put (Line);
+      Forget (Doings.Value.Own_Name);
+   end Put_Own;
 
    procedure Write (Line : String) is
       Hold : Holder;
       pragma Unreferenced (Hold);
    begin
-      Put (Line);
+      Put_Own (Line);
    end Write;
 
    --  Writes a line that makes a master.
@@ -162,7 +234,7 @@ package body Tasking_Trace is
       if Made = Most_Masters then
          raise Bad_Line with "there are 4,096 tasks and blocks";
       end if;
-      Put (Line);
+      Put_Own (Line);
       Made := Made + 1;
       Masters (Made) := (Made_Name, Under, Is_Aborted => False);
    end Write_Master;
@@ -198,21 +270,77 @@ package body Tasking_Trace is
       Doings.Set_Value (Now);
    end Begin_Doing;
 
-   procedure Open (File_Name : String) is
+   procedure Open (File_Name : String; Dump_After : Duration := 0.0) is
    begin
       Ada.Text_IO.Create (File, Ada.Text_IO.Out_File, File_Name);
       Began := Ada.Real_Time.Clock;
       Moment := 0;
       Made := 0;
+      Announced := 0;
       Begin_Doing ("main");
+      if Dump_After > 0.0 then
+         Patience := Dump_After;
+         Watching := new Watcher;
+      end if;
    end Open;
 
+   --  The watching task is aborted under the lock, and so never while it holds it.
    procedure Close is
       Hold : Holder;
       pragma Unreferenced (Hold);
    begin
       Ada.Text_IO.Close (File);
+      if Watching /= null then
+         abort Watching.all;
+         Watching := null;
+      end if;
    end Close;
+
+   -------------
+   --  Dumps  --
+   -------------
+
+   --  The comment parts it from an earlier dump, which counts no more; the lock is held.
+   procedure Put_Announced is
+   begin
+      Put ("# Announced, and not over:");
+      for A of Announcements (1 .. Announced) loop
+         if not Is_Aborted (A.Speaker) then
+            Put (Mark & Line_Of (A.Speaker, A.Statement));
+         end if;
+      end loop;
+      Is_Dumped := True;
+   end Put_Announced;
+
+   procedure Dump is
+      Hold : Holder;
+      pragma Unreferenced (Hold);
+   begin
+      Put_Announced;
+   end Dump;
+
+   --  Dumps what is announced if so long nothing has changed, and it wasn't dumped yet.
+   procedure Dump_Once (Silence : Duration) is
+      use type Ada.Real_Time.Time;
+      Hold : Holder;
+      pragma Unreferenced (Hold);
+   begin
+      if Announced > 0 and then not Is_Dumped
+        and then Ada.Real_Time.To_Duration (Ada.Real_Time.Clock - Changed) >= Silence
+      then
+         Put_Announced;
+      end if;
+   end Dump_Once;
+
+   --  The program ends only after this task, so it goes on no longer than the main program.
+   task body Watcher is
+   begin
+      while Ada.Task_Identification.Is_Callable (Ada.Task_Identification.Environment_Task) loop
+         delay Look_Every;
+         Dump_Once (Patience);
+      end loop;
+      Dump_Once (0.0);
+   end Watcher;
 
    ------------------------------
    --  Lines of the task's own --
@@ -234,6 +362,12 @@ package body Tasking_Trace is
       Begin_Doing (Name);
       Write (Own_Line ("up"));
    end End_Activation;
+
+   function Up (Name : String) return Activation is
+   begin
+      End_Activation (Name);
+      return (null record);
+   end Up;
 
    procedure Fail_Activation (Name : String) is
    begin
@@ -295,7 +429,7 @@ package body Tasking_Trace is
       Hold : Holder;
       pragma Unreferenced (Hold);
    begin
-      Put (Line);
+      Put_Own (Line);
       Mark_Aborted (Names);
       Act.all;
    end Abort_Tasks;
@@ -324,6 +458,7 @@ package body Tasking_Trace is
       else
          Now.Call := Text_Of (Call);
          Now.Failing := Text_Of (if Kind = Timed then "call " & Target & " within 0" else Call);
+         Announce (Now.Own_Name, Now.Call);
       end if;
       Doings.Set_Value (Now);
    end Will_Call;
@@ -335,6 +470,7 @@ package body Tasking_Trace is
          Write (Own_Line (Statement));
       else
          Now.Wait := Text_Of (Statement);
+         Announce (Now.Own_Name, Now.Wait);
          Doings.Set_Value (Now);
       end if;
    end Will_Wait;
@@ -355,6 +491,8 @@ package body Tasking_Trace is
          Put (if Theirs.Is_Try then Wait else Call);
          Put (if Theirs.Is_Try then Call else Wait);
       end if;
+      Forget (Theirs.Own_Name);
+      Forget (Mine.Own_Name);
       Theirs.Call := No_Statement;
       Doings.Set_Value (Theirs, Caller);
       Mine.Wait := No_Statement;
@@ -393,6 +531,7 @@ package body Tasking_Trace is
       if not Is_Aborted (Now.Own_Name) then
          Put (Line_Of (Now.Own_Name, Now.Wait));
       end if;
+      Forget (Now.Own_Name);
    end Finalize;
 
 end Tasking_Trace;

@@ -5,9 +5,9 @@
 --
 --  Each line is written for the task that calls, under one lock, and flushed. A task, a block or an entry has a name of
 --  the script language: a letter, then letters, digits and underscores, 16 in all; no task or block has the name of
---  another, or `main`. A name that is none, and a line of more than 200 characters, raise Bad_Line, and nothing is
---  written. The package is Ada 2012; it needs task attributes and the caller of an entry (Ada 95, Annex C), controlled
---  types (Ada 95), and a procedure as a parameter (Ada 2005).
+--  another, or `main`. A name that is none, and a line of more than 200 characters, 197 if it is announced, raise
+--  Bad_Line, and nothing is written. The package is Ada 2012; it needs task attributes and the caller of an entry (Ada
+--  95, Annex C), controlled types (Ada 95), a procedure as a parameter (Ada 2005), and the environment task (Ada 2012).
 
 private with Ada.Finalization;
 with Ada.Task_Identification;
@@ -16,11 +16,20 @@ package Tasking_Trace is
 
    Bad_Line : exception;
 
-   --  Begins a log, whose main program is the calling task, at the moment 0. What the file held is lost.
-   procedure Open (File_Name : String);
+   --  Begins a log, whose main program is the calling task, at the moment 0. What the file held is lost. If Dump_After
+   --  isn't 0, a task of the package's own calls Dump once nothing was written and nothing announced for so many
+   --  seconds, and when the main program is over, unless there is nothing new to dump. It ends with the log, or a tenth
+   --  of a second after the main program (Ada 95, 10.2), and is no task of the log.
+   procedure Open (File_Name : String; Dump_After : Duration := 0.0);
 
    --  Ends it; what comes later isn't written.
    procedure Close;
+
+   --  Writes the calls (9.5, 9.7.2, 9.7.3) and waits (9.5, 9.7.1) that are announced and not over, of up to 256 tasks
+   --  that aren't aborted, in the order of their announcements, each behind the mark "#?". For the script language
+   --  these are comments; `adascope conform` plays those that stand last in a log. So the log of a program that hangs
+   --  says who waits for whom.
+   procedure Dump;
 
    -----------------------------------------------------------------------------
    --  Lines of the task's own: each is called directly before what it tells  --
@@ -36,6 +45,10 @@ package Tasking_Trace is
    --  `up`: the task's own activation ends (9.3). From here on the calling task has this name. Call it last in the
    --  declarative part of the body: after the `begin` the activator may go on first.
    procedure End_Activation (Name : String);
+
+   --  The same as a declaration: "Started : constant Activation := Up (Name);".
+   type Activation is limited private;
+   function Up (Name : String) return Activation;
 
    --  `fail`: it ends by an exception (9.3).
    procedure Fail_Activation (Name : String);
@@ -76,6 +89,10 @@ package Tasking_Trace is
    --  The task is about to wait (9.5, 9.7.1): "accept Put", or "select 0 accept Put or closed accept Get or terminate".
    procedure Will_Wait (Statement : String; At_Once : Boolean := False);
 
+   --  An alternative of a selective wait with its guard (9.7.1), as Guarded (In_Use > 0, "accept Get").
+   function Guarded (Is_Open : Boolean; Alternative : String) return String is
+     ((if Is_Open then "" else "closed ") & Alternative);
+
    --  First in the accept statement, with the attribute CALLER of the entry: the caller's call, and the wait.
    procedure Begin_Rendezvous (Caller : Ada.Task_Identification.Task_Id);
 
@@ -91,7 +108,13 @@ package Tasking_Trace is
    --  terminate alternative (9.7.1).
    type Last_Wait is limited private;
 
+   --  Objects of these types are declared, and not named again.
+   pragma Unreferenced_Objects (Activation);
+   pragma Unreferenced_Objects (Last_Wait);
+
 private
+
+   type Activation is limited null record;
 
    type Last_Wait is new Ada.Finalization.Limited_Controlled with null record;
    overriding procedure Finalize (Object : in out Last_Wait);

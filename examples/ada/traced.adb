@@ -71,9 +71,6 @@ procedure Traced is
          In_Use  : Natural := 0;
          Started : constant Boolean := Is_Up ("Store");
 
-         function Guarded (Is_Open : Boolean; Text : String) return String is
-           ((if Is_Open then "" else "closed ") & Text);
-
          procedure Announce is
          begin
             Will_Wait

@@ -39,6 +39,15 @@ procedure Trace_Lines is
          Note (True, What);
    end Try_Statement;
 
+   procedure Try_Announced (Words, What : String) is
+   begin
+      Will_Wait (Words);
+      Note (False, What & " is taken for a line");
+   exception
+      when Bad_Line =>
+         Note (True, What);
+   end Try_Announced;
+
    --  Tasks go on in a known order: who awaits a stage goes on once another one has reached it.
    protected Stages is
       procedure Reach (Stage : Positive);
@@ -88,6 +97,7 @@ procedure Trace_Lines is
          Will_Wait ("accept Ask 2");
          accept Ask (2) do
             Begin_Rendezvous (Ask'Caller);
+            Dump;
             End_Rendezvous;
          end Ask;
          Will_Wait ("select 0 accept Stop else");
@@ -103,9 +113,9 @@ procedure Trace_Lines is
             delay 0.001;
             Wait_Is_Over ("select 0 accept Stop or delay 0");
          end select;
+         Will_Wait ("select 0 accept Ask 1 or terminate");
          Stages.Reach (7);
          loop
-            Will_Wait ("select 0 accept Ask 1 or terminate");
             select
                accept Ask (1) do
                   Stages.Reach (9);
@@ -113,6 +123,7 @@ procedure Trace_Lines is
                   Begin_Rendezvous (Ask'Caller);
                   End_Rendezvous;
                end Ask;
+               Will_Wait ("select 0 accept Ask 1 or terminate");
             or
                terminate;
             end select;
@@ -135,9 +146,17 @@ procedure Trace_Lines is
             task body Inner is
                Last : Last_Wait;
                Up   : constant Boolean := Is_Up ("Inner", Stage => 5);
-               pragma Unreferenced (Last, Up);
+
+               --  Owner, the activator, goes on only after this.
+               function Announce return Boolean is
+               begin
+                  Will_Wait ("select 0 accept Call or terminate");
+                  return True;
+               end Announce;
+
+               Is_Announced : constant Boolean := Announce;
+               pragma Unreferenced (Last, Up, Is_Announced);
             begin
-               Will_Wait ("select 0 accept Call or terminate");
                select
                   accept Call;
                or
@@ -202,7 +221,9 @@ procedure Trace_Lines is
          delay 0.001;
       end loop;
       Stages.Await (9);
+      Dump;
       Abort_Tasks ("Doomed", Abort_Doomed'Access);
+      Dump;
       Stages.Reach (10);
       Will_Call ("Server", "Stop", Timed, 0.010);
       select
@@ -230,7 +251,11 @@ begin
    Try_Name ("A.B", "a point");
    Try_Name ("Seventeen_letters", "a name of 17 characters");
    Try_Statement ("select 0 " & (1 .. 190 => 'x'), "a line of more than 200 characters");
+   Try_Announced ((1 .. 192 => 'x'), "an announced line of more than 197 characters");
+   Will_Wait ((1 .. 191 => 'x'));
+   Dump;
    Complete_Task;
+   Dump;
    Close;
    Create_Task ("Later");
    Put_Line (Passed'Image (2 .. Passed'Image'Last) & " passed," & Failed'Image & " failed");

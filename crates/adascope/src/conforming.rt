@@ -1,5 +1,6 @@
 //! How a log is checked.
 
+use crate::announced::announced_of;
 use crate::input::{Log, read_log};
 use crate::obeying::STANDARD_INPUT;
 use crate::output::write_text;
@@ -36,7 +37,7 @@ fn faulty_report(
     fault: ScriptFault,
 ) -> Result<Report, RunFault> {
     if fault.line > LAST_LINE {
-        return report_of(alloc, file, log, course).map_err(|_| RunFault::Memory);
+        return report_of(alloc, file, log, course, None).map_err(|_| RunFault::Memory);
     }
     let (mut text, _) = check(alloc, file, log.first_lines(fault.line), usize::MAX)?;
     write_before(&mut text, course).map_err(|_| RunFault::Memory)?;
@@ -46,10 +47,23 @@ fn faulty_report(
     })
 }
 
+fn conforming_report(
+    alloc: Global,
+    file: &str,
+    log: &Log,
+    course: &Course,
+) -> Result<Report, RunFault> {
+    let announced = announced_of(alloc, log, course)?;
+    report_of(alloc, file, log, course, announced.as_ref()).map_err(|_| RunFault::Memory)
+}
+
 fn report(alloc: Global, file: &str, log: &Log, course: &Course) -> Result<Report, RunFault> {
     match &course.judgement {
+        Judgement::Conforms => conforming_report(alloc, file, log, course),
         Judgement::Faulty(fault) => faulty_report(alloc, file, log, course, *fault),
-        _ => report_of(alloc, file, log, course).map_err(|_| RunFault::Memory),
+        Judgement::Refused { .. } => {
+            report_of(alloc, file, log, course, None).map_err(|_| RunFault::Memory)
+        }
     }
 }
 

@@ -42,6 +42,12 @@ impl Log {
         &lines[..end_of_lines(lines, count)]
     }
 
+    /// The complete lines after the first, of which there are so many at least.
+    pub fn lines_after(&self, count: u32) -> &[u8] {
+        let lines = self.lines();
+        &lines[end_of_lines(lines, count)..]
+    }
+
     /// What stands after the last line feed, which may be cut off.
     pub fn rest(&self) -> &[u8] {
         &self.bytes[self.complete..]

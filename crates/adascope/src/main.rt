@@ -1,6 +1,7 @@
 //! Explains and checks a script of requests to the tasking kernel: what a command line orders, and how it is obeyed.
 #![tactic(auto)]
 
+pub mod announced;
 pub mod conforming;
 pub mod exploring;
 pub mod input;

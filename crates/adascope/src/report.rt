@@ -1,5 +1,6 @@
 //! What is told of a log.
 
+use crate::announced::{Announced, write_announced};
 use crate::input::Log;
 use ada_events::Refusal;
 use ada_explain::Scene;
@@ -19,12 +20,13 @@ pub struct Report {
 }
 
 /// What is told of a log, which is called so: the line that stops it, and why; how far it conforms; and, if it
-/// conforms and doesn't come to its end, what stands still there.
+/// conforms and doesn't come to its end, what stands still there, with what was announced.
 pub fn report_of(
     alloc: Global,
     file: &str,
     log: &Log,
     course: &Course,
+    announced: Option<&Announced>,
 ) -> Result<Report, AllocError> {
     let mut text = String::new(alloc);
     let mut stands_still = false;
@@ -32,7 +34,10 @@ pub fn report_of(
         Judgement::Conforms => {
             write_conforming(&mut text, course)?;
             write_rest(&mut text, log, course)?;
-            stands_still = write_end(&mut text, course)?;
+            stands_still = match announced {
+                Some(announced) => write_announced(&mut text, announced, course)?,
+                None => write_end(&mut text, course)?,
+            };
         }
         Judgement::Refused {
             line,
@@ -61,8 +66,8 @@ pub fn write_before(text: &mut String, course: &Course) -> Result<(), AllocError
     text.push_str(".\n")
 }
 
-// A number of things, as `1 line` or `2 lines`.
-fn write_count(text: &mut String, count: u32, thing: &str) -> Result<(), AllocError> {
+/// Appends a number of things, as `1 line` or `2 lines`.
+pub fn write_count(text: &mut String, count: u32, thing: &str) -> Result<(), AllocError> {
     let ending = if count == 1 { "" } else { "s" };
     write!(text, "{count} {thing}{ending}")
 }
@@ -101,8 +106,8 @@ fn write_rest(text: &mut String, log: &Log, course: &Course) -> Result<(), Alloc
     )
 }
 
-// What stands still, if the main program isn't terminated; whether it is stuck, or has a circle.
-fn write_end(text: &mut String, course: &Course) -> Result<bool, AllocError> {
+/// Appends what stands still, if the main program isn't terminated; whether it is stuck, or has a circle.
+pub fn write_end(text: &mut String, course: &Course) -> Result<bool, AllocError> {
     if course.kernel.finished() {
         return Ok(false);
     }
@@ -110,7 +115,8 @@ fn write_end(text: &mut String, course: &Course) -> Result<bool, AllocError> {
     Ok(standstill.has_circle || standstill.verdict == Verdict::Stuck)
 }
 
-fn write_why(
+/// Appends why a line is refused, and its cause.
+pub fn write_why(
     text: &mut String,
     course: &Course,
     statement: &Statement,
@@ -136,8 +142,8 @@ fn write_fault(text: &mut String, file: &str, fault: ScriptFault) -> Result<(), 
     )
 }
 
-// The line of a number, from 1.
-fn write_line(text: &mut String, log: &Log, number: u32) -> Result<(), AllocError> {
+/// Appends the line of a number, from 1.
+pub fn write_line(text: &mut String, log: &Log, number: u32) -> Result<(), AllocError> {
     let mut rest = Lines::new(log.lines());
     let mut line: &[u8] = &[];
     for _ in 0..number {
