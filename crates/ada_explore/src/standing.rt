@@ -273,11 +273,7 @@ impl Standing {
     }
 
     // Makes the request of the line at a place. After an `Err` the schedule goes on from nowhere.
-    pub(crate) fn perform(
-        &mut self,
-        script: &[Line],
-        place: u16,
-    ) -> Result<Option<Refusal>, Halt>
+    pub(crate) fn perform(&mut self, script: &[Line], place: u16) -> Result<Option<Refusal>, Halt>
         ensures { OnOk result (scripts.may_come script.now self.old.kernel
             (scripts.rest self.old.left.items self.old.names) place ≡ true
             → Acts (scripts.scripted script.now) place

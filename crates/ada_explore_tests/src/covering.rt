@@ -14,17 +14,14 @@ Ann: complete
 main: complete
 ";
 
-// Both take the left fork first, so whoever has it gets the right one, too.
+// Both philosophers, main and Bob, take the left fork first, so whoever has it gets the right one, too.
 static IN_ORDER: &[u8] = b"main: create Left under main Take Put
 main: create Right under main Take Put
-main: create Ann under main
 main: create Bob under main
-main: activate Left Right Ann Bob
+main: activate Left Right Bob
 Left: up
 Right: up
-Ann: up
 Bob: up
-main: complete
 Left: accept Take
 Left: end
 Left: accept Put
@@ -43,11 +40,11 @@ Right: end
 Right: accept Put
 Right: end
 Right: complete
-Ann: call Left Take
-Ann: call Right Take
-Ann: call Right Put
-Ann: call Left Put
-Ann: complete
+main: call Left Take
+main: call Right Take
+main: call Right Put
+main: call Left Put
+main: complete
 Bob: call Left Take
 Bob: call Right Take
 Bob: call Right Put
@@ -55,17 +52,14 @@ Bob: call Left Put
 Bob: complete
 ";
 
-// Ann takes Left and Bob takes Right; then each waits for the other's fork.
+// Main takes Left and Bob takes Right; then each waits for the other's fork.
 static CROSSWISE: &[u8] = b"main: create Left under main Take Put
 main: create Right under main Take Put
-main: create Ann under main
 main: create Bob under main
-main: activate Left Right Ann Bob
+main: activate Left Right Bob
 Left: up
 Right: up
-Ann: up
 Bob: up
-main: complete
 Left: accept Take
 Left: end
 Left: accept Put
@@ -84,11 +78,11 @@ Right: end
 Right: accept Put
 Right: end
 Right: complete
-Ann: call Left Take
-Ann: call Right Take
-Ann: call Right Put
-Ann: call Left Put
-Ann: complete
+main: call Left Take
+main: call Right Take
+main: call Right Put
+main: call Left Put
+main: complete
 Bob: call Right Take
 Bob: call Left Take
 Bob: call Left Put
@@ -123,13 +117,13 @@ fn waits_for_ticks(rt: HostRuntime) -> Result<(), Fail> {
 
 #[test]
 fn covers_philosophers_in_order(rt: HostRuntime) -> Result<(), Fail> {
-    let covered = covered_in(rt.alloc(), IN_ORDER, 100_000);
+    let covered = covered_in(rt.alloc(), IN_ORDER, 10_000);
     assert!(rt; matches!(covered, Ok(Some(_))));
     Ok(())
 }
 
 #[test]
 fn finds_philosophers_stuck(rt: HostRuntime) -> Result<(), Fail> {
-    assert_eq!(&rt; covered_in(rt.alloc(), CROSSWISE, 100_000), Ok(None));
+    assert_eq!(&rt; covered_in(rt.alloc(), CROSSWISE, 10_000), Ok(None));
     Ok(())
 }

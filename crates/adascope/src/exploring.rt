@@ -76,8 +76,9 @@ fn report_of(
     write_refused(&mut text, script, source, found).map_err(|_| RunFault::Memory)?;
     if let Some(path) = &found.stuck {
         let end = follow(alloc, script, path).map_err(fault_of)?;
-        write_standstill(&mut text, Scene::of(&end.kernel, &end.names))
-            .map_err(|_| RunFault::Memory)?;
+        write_standstill(&mut text, Scene::of(&end.kernel, &end.names)).map_err(
+            |_| RunFault::Memory,
+        )?;
     }
     Ok(text)
 }
@@ -146,7 +147,11 @@ fn write_refused(
         };
         write!(text, "Refused in ")?;
         write_count(text, refused.steps, "step")?;
-        write!(text, ", first after {}: line {}, ", refused.after, line.line)?;
+        write!(
+            text,
+            ", first after {}: line {}, ",
+            refused.after, line.line
+        )?;
         write!(text, "'{}' [{}]\n", source.line(line.line), refused.cause)?;
     }
     Ok(())

@@ -6,7 +6,8 @@ use std::io::{Error, ErrorKind, Print};
 
 /// Writes a text whole.
 pub(crate) fn write_text<R: Print>(rt: &R, text: &str) -> Result<(), ScopeFault> {
-    rt.write_all(text.as_bytes()).map_err(|fault| refused(&fault))
+    rt.write_all(text.as_bytes())
+        .map_err(|fault| refused(&fault))
 }
 
 /// Why a text wasn't written. That its reader went away is nobody's fault.

@@ -45,8 +45,8 @@ impl<'a, R: Eprint + Clock> Watching<'a, R> {
         let seconds = elapsed.as_secs();
         let rate = u64::from(met) / seconds.max(1);
         let left = met.saturating_sub(done);
-        let _ = eprint!(
-            self.rt; "\r\x1b[K{met} states, {rate} a second, {left} of them to go on from"
+        let _ = eprint!(self.rt;
+            "\r\x1b[K{met} states, {rate} a second, {left} of them to go on from"
         );
     }
 }
