@@ -34,10 +34,6 @@ get_more [] ys i x is = absurd (none-some x is)
 get_more (y ∷ xs) ys zero x is = is
 get_more (y ∷ xs) ys (suc i) x is = get_more xs ys i x is
 
-get_last : (xs : List (List ℕ)) (y : List ℕ) → slice_get (xs ++ y ∷ []) (length xs) ≡ Some y
-get_last [] y = refl
-get_last (x ∷ xs) y = get_last xs y
-
 pub kept_more : (old new : List (List ℕ)) (path : List ℕ) → new ≡ old ++ path ∷ [] → AreKept old new
 kept_more old new path grows i other is = ap (λ (ps : List (List ℕ)). slice_get ps i) grows ∙ get_more old (path ∷ []) i other is
 
@@ -46,16 +42,6 @@ kept_all paths i path is = is
 
 pub kept_on : (first second third : List (List ℕ)) → AreKept first second → AreKept second third → AreKept first third
 kept_on first second third kept more i path is = more i path (kept i path is)
-
--- the schedule that comes last leads to its state
-pub met_last : (script : List Line) (old new : List (List ℕ)) (path : List ℕ) (state : State Rest) → new ≡ old ++ path ∷ []
-    → Comes (scripted script) (reverse path) state → IsWithin script new state
-met_last script old new path state grows comes = record {
-  at = length old;
-  path = path;
-  is = ap (λ (ps : List (List ℕ)). slice_get ps (length old)) grows ∙ get_last old path;
-  comes = comes;
-}
 
 within_more : (script : List Line) (old new : List (List ℕ)) (state : State Rest) → AreKept old new → IsWithin script old state → IsWithin script new state
 within_more script old new state kept within = record { at = within.at; path = within.path; is = kept within.at within.path within.is; comes = within.comes }

@@ -13,7 +13,7 @@ use Rattle.ada_schedules.specs.Stuck.{IsStuck}
 use Rattle.ada_explore.specs.Scripts.{Rest, scripted, at as state, may_come}
 use Rattle.ada_explore.specs.internal.Covering.{IsAlike, AreCovering, AreKept, LeadsOnAfter, AreCovered, IsDone, AreDone}
 use Rattle.ada_explore.proofs.Paths.{begins}
-use Rattle.ada_explore.proofs.Closing.{kept_all, kept_on, after_more, alike_covers, one_longer, all_steps, one_more_done}
+use Rattle.ada_explore.proofs.Closing.{kept_on, after_more, alike_covers, one_longer, all_steps, one_more_done}
 
 -- what follows from what a result says
 pub ok_then : {T E : Type 0} (r : Result T E) (P Q : T → Type 0) → ((t : T) → P t → Q t) → IfOk r P → IfOk r Q
@@ -51,9 +51,6 @@ stepped script lines before paths path schedule place from to same longer comes 
     (kept, record { from = from; comes = comes; leads = record { to = to; acts = here; covered = covered } })
 
 -- ---- one line after another
-
-pub none_covered : (script : List Line) (paths : List (List ℕ)) (path : List ℕ) (here : State Rest) → AreCovered script paths paths path here 0
-none_covered script paths path here = record { kept = kept_all paths; leads = λ k place below is may. absurd (omega arith) }
 
 pub one_more_covered : (script : List Line) (first old new : List (List ℕ)) (path : List ℕ) (here : State Rest) (count place : ℕ)
     → slice_get here.rest.left count ≡ Some place → AreCovered script first old path here count
