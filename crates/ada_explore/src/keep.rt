@@ -79,12 +79,12 @@ fn names_task(statement: &Statement, names: &Names, task: TaskNo) -> bool {
     }
 }
 
-// The position of the block under which a statement makes a task.
+// The position of the block under which a statement makes a task, if that is opened: there is no position 0.
 fn block_under(statement: &Statement, names: &Names) -> Option<u32> {
     match statement {
         Statement::Create { under, .. } => match names.master(under) {
+            Master::Block(0) | Master::Body(_) => None,
             Master::Block(at) => Some(at),
-            Master::Body(_) => None,
         },
         _ => None,
     }

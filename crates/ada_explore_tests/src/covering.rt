@@ -97,6 +97,13 @@ tick 5
 main: complete
 ";
 
+// Five states, one for each line that was said and the beginning. Ann is never activated, and goes with her block.
+static IN_A_BLOCK: &[u8] = b"main: open Block
+main: create Ann under Block
+main: close
+main: complete
+";
+
 fn covered_in(alloc: Global, text: &[u8], most: u32) -> Result<Option<u32>, Halt> {
     let script = read(alloc, text).map_err(|_| Halt::Memory)?;
     covered_by(alloc, &script, most, &mut Unwatched)
@@ -112,6 +119,12 @@ fn counts_states(rt: HostRuntime) -> Result<(), Fail> {
 #[test]
 fn waits_for_ticks(rt: HostRuntime) -> Result<(), Fail> {
     assert_eq!(&rt; covered_in(rt.alloc(), DELAYED, 100), Ok(Some(5)));
+    Ok(())
+}
+
+#[test]
+fn covers_tasks_of_blocks(rt: HostRuntime) -> Result<(), Fail> {
+    assert_eq!(&rt; covered_in(rt.alloc(), IN_A_BLOCK, 100), Ok(Some(5)));
     Ok(())
 }
 
