@@ -26,7 +26,7 @@ package Tasking_Trace is
    procedure Close;
 
    --  Writes the calls (9.5, 9.7.2, 9.7.3) and waits (9.5, 9.7.1) that are announced and not over, of up to 256 tasks
-   --  that aren't aborted, in the order of their announcements, each behind the mark "#?". For the script language
+   --  that aren't aborted, in the order of their announcements, each after the mark "#?". For the script language
    --  these are comments; `adascope conform` plays those that stand last in a log. So the log of a program that hangs
    --  says who waits for whom.
    procedure Dump;

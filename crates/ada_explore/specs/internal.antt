@@ -1,2 +1,3 @@
+-- What only private contracts and proofs cite: no caller meets it.
 pub mod Sameness
 pub mod Covering

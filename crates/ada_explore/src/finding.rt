@@ -3,7 +3,8 @@ ghost use Rattle.std.specs.Prelude.{◌≡◌, true, IfOk, IfSome};
 ghost use Rattle.ada_explore.specs.Findings.{GetsStuck, NoneGetsStuck};
 
 use crate::covering::covered_by;
-use crate::{End, Halt, Refused, Search, Watch, follow, is_stuck};
+use crate::search::Search;
+use crate::{End, Halt, Refused, Watch, follow, is_stuck};
 use ada_script::Script;
 use std::alloc::Global;
 

@@ -1,5 +1,5 @@
 //! What of a standing may still matter: tasks in the order of their numbers, and positions of calls, waits, delays,
-//! starts, closes and blocks. Nothing is promised of it: a search tells standings apart by it, and nothing else.
+//! starts, closes and blocks. Nothing is promised of it: searches tell standings apart by it, and guess names by it.
 
 ghost use Rattle.std.specs.Prelude.{◌<◌};
 ghost use Rattle.ada_events.specs.Tasks.{task_count};
@@ -155,7 +155,7 @@ impl Kept {
         Ok(())
     }
 
-    /// How many positions of the same kind stand before this one; 255 of a position that doesn't matter.
+    /// How many positions of the same kind stand before this one; 65,535 of a position that doesn't matter.
     pub(crate) fn rank(&self, kind: Kind, at: u32) -> u16 {
         let mut before: u16 = 0;
         let mut is_here = false;

@@ -1,5 +1,6 @@
 //! All schedules of a script: which of its lines may come next, where a list of lines leads, whether that is stuck, and
-//! a search of all of them. The search promises nothing: what it found is followed again.
+//! a search of all of them. The search promises nothing: what it found is followed again, and that none gets stuck is
+//! found by a second search, whose merging is checked.
 //!
 //! Section numbers are those of the Ada 83 manual, ANSI/MIL-STD-1815A.
 #![tactic(auto)]
@@ -11,7 +12,7 @@ pub mod following;
 mod guess;
 mod keep;
 mod key;
-pub mod search;
+mod search;
 pub mod standing;
 mod states;
 pub mod stuck;
@@ -20,7 +21,7 @@ pub mod watch;
 pub use covering::covered_by;
 pub use finding::{Finding, explore};
 pub use following::follow;
-pub use search::{End, Refused, Search};
+pub use search::{End, Refused};
 pub use standing::{Halt, Standing};
 pub use stuck::is_stuck;
 pub use watch::{Unwatched, Watch};

@@ -37,23 +37,23 @@ pub struct Refused {
 
 /// What a search met.
 #[derive(Drop)]
-pub struct Search {
+pub(crate) struct Search {
     alloc: Global,
     /// How each state was come to: from which one, and by the line at which place.
     steps: Vec<Step>,
     /// What tells states apart.
     keys: IndexSet<Vec<u8>>,
     /// The first stuck state.
-    pub first: Option<u32>,
+    pub(crate) first: Option<u32>,
     /// How many states are stuck.
-    pub stuck: u32,
+    pub(crate) stuck: u32,
     /// In how many no line may come, though the main program isn't terminated, and something could let it go on.
-    pub short: u32,
+    pub(crate) short: u32,
     /// How many steps were taken.
-    pub taken: u64,
+    pub(crate) taken: u64,
     /// The lines that were refused, the first one first.
-    pub refused: Vec<Refused>,
-    pub end: End,
+    pub(crate) refused: Vec<Refused>,
+    pub(crate) end: End,
 }
 
 #[derive(Clone, Copy, Debug, PartialEq, Eq)]
@@ -64,7 +64,7 @@ struct Step {
 
 impl Search {
     /// Searches all schedules of a script. So many states are gone on from, at most.
-    pub fn of<W: Watch>(
+    pub(crate) fn of<W: Watch>(
         alloc: Global,
         script: &Script,
         most: u32,
@@ -109,12 +109,12 @@ impl Search {
     }
 
     /// How many states were met.
-    pub fn states(&self) -> u32 {
+    pub(crate) fn states(&self) -> u32 {
         u32::try_from(self.steps.len()).unwrap_or(u32::MAX)
     }
 
     /// The places of the lines that lead to a state.
-    pub fn path(&self, state: u32) -> Result<Vec<u16>, Halt> {
+    pub(crate) fn path(&self, state: u32) -> Result<Vec<u16>, Halt> {
         let mut path = Vec::new(self.alloc);
         let mut at = state;
         for _ in 0..=u16::MAX {

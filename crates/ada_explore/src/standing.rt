@@ -215,7 +215,7 @@ fn short(place: usize) -> Result<u16, Halt>
     u16::try_from(place).map_err(|_| Halt::TooLong)
 }
 
-// Puts a place behind others, if it is to be kept.
+// Puts a place after others, if it is to be kept.
 fn keep(places: &mut Vec<u16>, place: u16, is_kept: bool) -> Result<(), Halt>
     ensures { OnOk result (places.new.items
         ≡ places.old.items ++ (if is_kept then place ∷ [] else [])) }

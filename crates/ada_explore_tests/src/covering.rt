@@ -2,7 +2,7 @@
 
 use ada_explore::{Halt, Unwatched, covered_by};
 use ada_script::read;
-use std::alloc::Global;
+use std::alloc::{AllocError, Global};
 use std::test::Fail;
 
 // Seven states: the beginning; then main has made Ann; then it waits for her activation; then she is up. Then each may
@@ -14,8 +14,8 @@ Ann: complete
 main: complete
 ";
 
-// Both philosophers, main and Bob, take the left fork first, so whoever has it gets the right one, too.
-static IN_ORDER: &[u8] = b"main: create Left under main Take Put
+// Two philosophers, main and Bob, of whom main takes the left fork first; Bob's lines come after these.
+static DINNER: &[u8] = b"main: create Left under main Take Put
 main: create Right under main Take Put
 main: create Bob under main
 main: activate Left Right Bob
@@ -45,7 +45,10 @@ main: call Right Take
 main: call Right Put
 main: call Left Put
 main: complete
-Bob: call Left Take
+";
+
+// Bob takes it first, too, so whoever has it gets the right one.
+static IN_ORDER: &[u8] = b"Bob: call Left Take
 Bob: call Right Take
 Bob: call Right Put
 Bob: call Left Put
@@ -53,37 +56,7 @@ Bob: complete
 ";
 
 // Main takes Left and Bob takes Right; then each waits for the other's fork.
-static CROSSWISE: &[u8] = b"main: create Left under main Take Put
-main: create Right under main Take Put
-main: create Bob under main
-main: activate Left Right Bob
-Left: up
-Right: up
-Bob: up
-Left: accept Take
-Left: end
-Left: accept Put
-Left: end
-Left: accept Take
-Left: end
-Left: accept Put
-Left: end
-Left: complete
-Right: accept Take
-Right: end
-Right: accept Put
-Right: end
-Right: accept Take
-Right: end
-Right: accept Put
-Right: end
-Right: complete
-main: call Left Take
-main: call Right Take
-main: call Right Put
-main: call Left Put
-main: complete
-Bob: call Right Take
+static CROSSWISE: &[u8] = b"Bob: call Right Take
 Bob: call Left Take
 Bob: call Left Put
 Bob: call Right Put
@@ -103,6 +76,12 @@ main: create Ann under Block
 main: close
 main: complete
 ";
+
+fn dinner_with(alloc: Global, bob: &[u8]) -> Result<Vec<u8>, AllocError> {
+    let mut text = Vec::from_slice(alloc, DINNER)?;
+    text.extend_from_slice(bob)?;
+    Ok(text)
+}
 
 fn covered_in(alloc: Global, text: &[u8], most: u32) -> Result<Option<u32>, Halt> {
     let script = read(alloc, text).map_err(|_| Halt::Memory)?;
@@ -130,13 +109,15 @@ fn covers_tasks_of_blocks(rt: HostRuntime) -> Result<(), Fail> {
 
 #[test]
 fn covers_philosophers_in_order(rt: HostRuntime) -> Result<(), Fail> {
-    let covered = covered_in(rt.alloc(), IN_ORDER, 10_000);
+    let text = dinner_with(rt.alloc(), IN_ORDER)?;
+    let covered = covered_in(rt.alloc(), &text, 10_000);
     assert!(rt; matches!(covered, Ok(Some(_))));
     Ok(())
 }
 
 #[test]
 fn finds_philosophers_stuck(rt: HostRuntime) -> Result<(), Fail> {
-    assert_eq!(&rt; covered_in(rt.alloc(), CROSSWISE, 10_000), Ok(None));
+    let text = dinner_with(rt.alloc(), CROSSWISE)?;
+    assert_eq!(&rt; covered_in(rt.alloc(), &text, 10_000), Ok(None));
     Ok(())
 }
