@@ -7,6 +7,7 @@ use Rattle.ada_events.specs.Phases.{has_ended, is_running}
 use Rattle.ada_events.specs.Tasks.{has_task}
 use Rattle.ada_lasting.specs.Following.{Long, before_shown}
 use Rattle.ada_threads.specs.declared.thread.Thread.{Thread}
+use Rattle.ada_threads.specs.declared.going.Stay.{Stay}
 use Rattle.ada_threads.specs.Table.{Table, innermost_master, is_served, is_thread_on}
 
 -- the kernel holds the task up: it doesn't run, and hasn't ended
@@ -17,11 +18,19 @@ is_held_up journal task = has_task journal task && (not (is_running journal task
 abbrev pub awaits_threads : Table → ℕ → Thread → Bool
 awaits_threads table place thread = thread.leaves && list_any (is_thread_on (innermost_master table place)) table.threads
 
--- the thread at a place may go on: the kernel doesn't hold its task up, no thread is within the accept statement that
--- began with its call, and it doesn't await threads of tasks that depend on the master that it leaves
+-- why the thread at a place has to stay: the kernel holds its task up, a thread is within the accept statement that began
+-- with its call, or it awaits threads of tasks that depend on the master that it leaves
+abbrev pub stay_of : List Event → Table → ℕ → Thread → Stay
+stay_of journal table place thread = record {
+  is_held_up = is_held_up journal thread.task;
+  is_served = is_served table.servings place;
+  awaits_threads = awaits_threads table place thread;
+}
+
+-- the thread at a place may go on: for none of these reasons it has to stay
 abbrev pub may_go_on : List Event → Table → ℕ → Thread → Bool
 may_go_on journal table place thread =
-    not (is_held_up journal thread.task) && (not (is_served table.servings place) && not (awaits_threads table place thread))
+    not (is_served table.servings place) && (not (awaits_threads table place thread) && not (is_held_up journal thread.task))
 
 -- whoever is marked as held up is held up by the kernel
 abbrev pub AreHeldRightly : List Event → List Thread → Type 0
@@ -34,10 +43,6 @@ KeepsMarks old new = (journal : List Event) → AreHeldRightly journal old.threa
 -- the event ends tasks: it completes or terminates them (9.4)
 abbrev pub ends : Event → Bool
 ends event = is_some (completed_in event) || (is_some (gone_in event) || is_some (quit_in event))
-
--- the task runs, and didn't before the last request
-abbrev pub has_begun : List Event → Long → ℕ → Bool
-has_begun journal kernel task = is_running journal task && not (is_running (before_shown journal kernel) task)
 
 -- no thread that waits may go on
 abbrev pub AllStay : List Event → Table → Type 0
@@ -58,19 +63,6 @@ abbrev pub IsFreed : List Event → Table → ℕ → Type 0
 IsFreed journal table place = (thread : Thread) × (slice_get table.threads place ≡ Some thread) × (thread.is_parked ≡ true)
     × (may_go_on journal table place thread ≡ true)
 
--- the thread at a place, if it waits, may not go on
-abbrev pub Stays : List Event → Table → ℕ → Type 0
-Stays journal table place = (thread : Thread) → slice_get table.threads place ≡ Some thread → thread.is_parked ≡ true
-    → may_go_on journal table place thread ≡ false
-
 -- a thread that isn't over and doesn't wait
 abbrev pub goes : Thread → Bool
 goes thread = thread.has_thread && not thread.is_parked
-
--- marked only if its task is held up
-abbrev pub marked_anew : List Event → Thread → Thread
-marked_anew journal thread = record thread { is_held = thread.is_held && is_held_up journal thread.task }
-
--- no thread is marked of whose task this is so
-abbrev pub AreUnmarked : (ℕ → Bool) → List Thread → Type 0
-AreUnmarked is_so threads = All (λ (t : Thread). t.is_held ≡ true → is_so t.task ≡ false) threads

@@ -61,9 +61,7 @@ fn depends_on(master: Option<LastingMaster>, on: Option<LastingMaster>) -> bool
 pub(crate) fn has_thread_on(threads: &[Thread], master: Option<LastingMaster>) -> bool
     ensures { result ≡ list_any (table.is_thread_on master) threads.now }
 {
-    threads
-        .iter()
-        .any(|thread| thread.has_thread && depends_on(master, thread.on))
+    threads.iter().any(|thread| thread.has_thread && depends_on(master, thread.on))
 }
 
 // The first place, of one or more, of a task that depends on a master.
@@ -122,11 +120,19 @@ impl Threads {
         master: Option<LastingMaster>,
     ) -> Result<(), AllocError>
         ensures ok { OnOk result (self.new ≡ record self.old {
-            entered = record { by = place; level = level; master = master } ∷ self.old.entered }) }
+          entered = record { by = place; level = level; master = master } ∷ self.old.entered;
+        }) }
         ensures err { OnErr result (self.new ≡ self.old) }
         ensures marks { KeepsMarks self.old self.new }
     {
-        self.entered.insert(0, Entered { by: place, level, master })?;
+        self.entered.insert(
+            0,
+            Entered {
+                by: place,
+                level,
+                master,
+            },
+        )?;
         Ok(())
     }
 
@@ -152,7 +158,8 @@ impl Threads {
     pub fn left(&mut self, place: u32)
         ensures left { self.new ≡ table.with_changed place (λ t. record t { leaves = false })
             (record self.old {
-            entered = table.without_first (table.is_within place) self.old.entered }) }
+              entered = table.without_first (table.is_within place) self.old.entered;
+            }) }
         ensures marks { KeepsMarks self.old self.new }
     {
         if let Some(at) = self.entered.iter().position(|entered| entered.by == place) {

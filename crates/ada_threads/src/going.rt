@@ -1,13 +1,14 @@
 //! Which threads may go on.
 
-ghost use Rattle.std.specs.Prelude.{◌≡◌, ℕ, true, false, not, IfNone, IfSome, List, is_some, slice_get};
+ghost use Rattle.std.specs.Prelude.{◌≡◌, ℕ, if◌then◌else◌, true, false, IfNone, IfSome, List, Some, slice_get};
 ghost use Rattle.std.specs.List.{list_any};
+ghost use Rattle.std.specs.Option.{option_map, unwrap_or};
 ghost use Rattle.ada_events.specs.Phases as phases;
-ghost use Rattle.ada_events.specs.Tasks.{has_task};
 ghost use Rattle.ada_events.specs.declared.event.Event.{Event as Happening};
 ghost use Rattle.ada_lasting.specs.Following.{Follows};
-ghost use Rattle.ada_threads.specs.declared.thread.Thread.{Thread as Kept};
+ghost use Rattle.ada_lasting.specs.Naming.{found};
 ghost use Rattle.ada_threads.specs.Going as going;
+ghost use Rattle.ada_threads.specs.internal.Settling as settling;
 ghost use Rattle.ada_threads.specs.Table.{with_changed};
 
 use crate::entered::has_thread_on;
@@ -15,16 +16,30 @@ use crate::serving::is_served;
 use crate::{Thread, Threads};
 use ada_lasting::{LastingReason, LongKernel};
 
-// Whether a task is completed or terminated. It has a name.
-fn has_ended(kernel: &LongKernel, task: u64) -> bool
-    ensures { (journal : List Happening) → Follows journal kernel.now
-        → is_some (found kernel.now.names.tasks task) ≡ true
-        → result ≡ phases.has_ended journal task }
-{
-    kernel.terminated(task) == Some(true) || kernel.reason(task) == Some(LastingReason::Completed)
+/// Why a thread has to stay where it is.
+#[derive(Clone, Copy, Debug, PartialEq, Eq)]
+pub struct Stay {
+    /// The kernel holds its task up.
+    pub is_held_up: bool,
+    /// A thread is within the accept statement that began with its call (9.5).
+    pub is_served: bool,
+    /// Threads of tasks that depend on the master that it leaves aren't over (9.4).
+    pub awaits_threads: bool,
 }
 
-/// Whether the kernel holds a task up: it doesn't run, and hasn't ended (9.3 to 9.7, 9.10).
+// Whether a task that has a name is completed or terminated.
+#[tactic(auto, unfolding(crate::specs::internal::Settling::is_completed_reason), using(crate::proofs::Ended::ended_told, crate::proofs::Ended::named_made))]
+fn has_ended(kernel: &LongKernel, task: u64) -> bool
+    ensures { (journal : List Happening) (v : ℕ) → Follows journal kernel.now
+        → found kernel.now.names.tasks task ≡ Some v
+        → result ≡ phases.has_ended journal task }
+{
+    kernel.terminated(task) == Some(true)
+        || matches!(kernel.reason(task), Some(LastingReason::Completed))
+}
+
+/// Whether the kernel holds a task up: it doesn't run, and hasn't ended (9.3 to 9.7, 9.10). It was made.
+#[tactic(auto, using(crate::proofs::Ended::named_made, crate::proofs::Ended::nameless_free))]
 pub(crate) fn is_held_up(kernel: &LongKernel, task: u64) -> bool
     ensures { (journal : List Happening) → Follows journal kernel.now
         → result ≡ going.is_held_up journal task }
@@ -50,6 +65,20 @@ impl Threads {
             && !is_held_up(kernel, thread.task)
     }
 
+    /// Why the thread at a place has to stay.
+    pub fn why(&self, kernel: &LongKernel, place: u32) -> Option<Stay>
+        ensures { (journal : List Happening) → Follows journal kernel.now
+            → result ≡ option_map (going.stay_of journal self.now place)
+            (slice_get self.now.threads place) }
+    {
+        let thread = self.thread(place)?;
+        Some(Stay {
+            is_held_up: is_held_up(kernel, thread.task),
+            is_served: is_served(&self.servings, place),
+            awaits_threads: self.awaits_threads(place, thread),
+        })
+    }
+
     /// Has the thread at a place wait, unless it may go on: whether it does. There is no answer for a place without a
     /// thread.
     pub fn stay(&mut self, kernel: &LongKernel, place: u32) -> Option<bool>
@@ -59,7 +88,9 @@ impl Threads {
         ensures parks { (journal : List Happening) → Follows journal kernel.now
             → self.new ≡ (if unwrap_or result true then self.old else
             with_changed place (λ t. record t {
-            is_parked = true; is_held = going.is_held_up journal t.task }) self.old) }
+              is_parked = true;
+              is_held = going.is_held_up journal t.task;
+            }) self.old) }
         ensures marks { (journal : List Happening) → Follows journal kernel.now
             → going.AreHeldRightly journal self.old.threads
             → going.AreHeldRightly journal self.new.threads }
@@ -86,7 +117,7 @@ impl Threads {
             → going.IsFreed journal self.now place }
         ensures no { result ≡ false → (journal : List Happening) → Follows journal kernel.now
             → going.AreHeldRightly journal self.now.threads
-            → going.Stays journal self.now place }
+            → settling.Stays journal self.now place }
     {
         match self.thread(place) {
             Some(thread) if thread.is_parked && !thread.is_held => {

@@ -11,6 +11,7 @@ pub mod thread;
 pub mod threads;
 
 pub use entered::Entered;
+pub use going::Stay;
 pub use serving::Serving;
 pub use thread::Thread;
 pub use threads::Threads;

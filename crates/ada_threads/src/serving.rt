@@ -36,7 +36,8 @@ impl Threads {
     /// for want of memory alone.
     pub fn serve(&mut self, server: u32, caller: u32) -> Result<(), AllocError>
         ensures ok { OnOk result (self.new ≡ record self.old {
-            servings = record { server = server; caller = caller } ∷ self.old.servings }) }
+          servings = record { server = server; caller = caller } ∷ self.old.servings;
+        }) }
         ensures err { OnErr result (self.new ≡ self.old) }
         ensures marks { KeepsMarks self.old self.new }
     {
@@ -48,7 +49,8 @@ impl Threads {
     pub fn serve_no_more(&mut self, server: u32) -> Option<u32>
         ensures caller { result ≡ table.innermost_caller self.old.servings server }
         ensures left { self.new ≡ record self.old {
-            servings = table.without_first (table.is_by server) self.old.servings } }
+          servings = table.without_first (table.is_by server) self.old.servings;
+        } }
         ensures marks { KeepsMarks self.old self.new }
     {
         let at = innermost_at(&self.servings, server)?;

@@ -1,22 +1,23 @@
 //! Whom the last request to the kernel let go on.
 
-ghost use Rattle.std.specs.Prelude.{◌≡◌, ℕ, ◌==◌, ◌&&◌, if◌then◌else◌, true, false, List, map, length, take};
+ghost use Rattle.std.specs.Prelude.{◌≡◌, ℕ, true, List, map};
 ghost use Rattle.std.specs.List.{list_any};
 ghost use Rattle.ada_events.specs.declared.event.Event.{Event as Happening};
 ghost use Rattle.ada_events.specs.declared.request.Request.{Request as Asked};
 ghost use Rattle.ada_lasting.specs.Events.{shown};
 ghost use Rattle.ada_lasting.specs.Following.{Follows, IsStepped, before_shown};
-ghost use Rattle.ada_threads.specs.declared.thread.Thread.{Thread as Kept};
 ghost use Rattle.ada_threads.specs.Going as going;
+ghost use Rattle.ada_threads.specs.internal.Settling as settling;
 
 use crate::going::is_held_up;
 use crate::{Thread, Threads};
+use ada_border::events::PlainEvent;
 use ada_lasting::LongKernel;
 
 // Whether an event of a kind ends tasks: an elaboration that failed, a completion, and what an abort or the end of all
 // dependents forces.
 fn is_end(event: &PlainEvent) -> bool
-    ensures { result ≡ going.is_plain_end event.now }
+    ensures { result ≡ settling.is_plain_end event.now }
 {
     match event.kind {
         4 => event.form == 0,
@@ -42,8 +43,7 @@ fn has_ended_any(kernel: &LongKernel) -> bool
 
 // Takes the mark from the threads of a task.
 fn unmark(threads: &mut [Thread], task: u64)
-    ensures { threads.new ≡ map (λ (t : Kept). if t.task == task then going.unmarked t else t)
-        threads.old }
+    ensures { threads.new ≡ map (settling.unmarked_of task) threads.old }
 {
     for thread in threads.iter_mut() {
         if thread.task == task {
@@ -54,8 +54,9 @@ fn unmark(threads: &mut [Thread], task: u64)
 
 // Takes the mark from whoever isn't held up.
 fn mark_anew(threads: &mut [Thread], kernel: &LongKernel)
-    ensures { (journal : List Happening) → Follows journal kernel.now
-        → threads.new ≡ map (going.marked_anew journal) threads.old }
+    ensures marks { (journal : List Happening) → Follows journal kernel.now
+        → threads.new ≡ map (settling.marked_anew journal) threads.old }
+    ensures others { map going.unmarked threads.new ≡ map going.unmarked threads.old }
 {
     for thread in threads.iter_mut() {
         if thread.is_held {
@@ -68,7 +69,7 @@ impl Threads {
     // Takes the mark from whoever began to run by the last request: whether all of them were found.
     fn unmark_begun(&mut self, kernel: &LongKernel) -> bool
         ensures begun { result ≡ true → (journal : List Happening) → Follows journal kernel.now
-            → going.AreUnmarked (going.has_begun journal kernel.now) self.new.threads }
+            → settling.AreUnmarked (settling.has_begun journal kernel.now) self.new.threads }
         ensures marks { (journal : List Happening) → going.AreHeldRightly journal self.old.threads
             → going.AreHeldRightly journal self.new.threads }
         ensures others { going.DifferInMarks self.old self.new }

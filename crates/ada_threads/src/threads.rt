@@ -67,7 +67,8 @@ impl Threads {
     ) -> Result<(), AllocError>
         requires { place ≤ length self.old.threads }
         ensures ok { OnOk result (self.new ≡ record self.old {
-            threads = with_thread place (thread_of task on) self.old.threads }) }
+          threads = with_thread place (thread_of task on) self.old.threads;
+        }) }
         ensures err { OnErr result (self.new ≡ self.old) }
         ensures marks { KeepsMarks self.old self.new }
     {
