@@ -72,12 +72,15 @@ int refuse(const task *by, int32_t code, const char *what) {
   return REFUSED;
 }
 
-/* Whether the task was aborted, or terminated with others: it has ended, and didn't ask for that. Who was given up was
-   terminated. */
-bool is_gone(task *t) {
+/* Whether the task has ended, though it didn't ask for that; a number that was given up is that of one. */
+static bool has_been_ended(const task *t) {
   uint32_t is_callable = 0;
-  if (t->gone || t->is_completed) return t->gone;
-  t->gone = ada_callable(&kernel, t->number, &is_callable) || !is_callable;
+  return !t->is_completed && (ada_callable(&kernel, t->number, &is_callable) || !is_callable);
+}
+
+/* Whether the task was aborted, or terminated with others; without an abort only at a terminate alternative. */
+bool is_gone(task *t) {
+  if (has_aborted && !t->gone) t->gone = has_been_ended(t);
   return t->gone;
 }
 
@@ -169,9 +172,12 @@ static void take_outcome(task *t) {
   int asked = t->asked;
   ada_outcome outcome;
   t->asked = NOTHING;
+  if (asked == A_WAIT && t->tail == ADA_TERMINATE && has_been_ended(t)) {
+    t->gone = true;
+    t->has_quit = !t->was_halted;
+  }
   if (is_gone(t)) {
     t->answer = GONE;
-    if (asked == A_WAIT && t->tail == ADA_TERMINATE && !t->was_halted) t->has_quit = true;
   } else if (asked != NOTHING && !ada_outcome_of(&kernel, t->number, &outcome)) {
     t->answer = OK;
     if (asked == A_CALL) t->answer = answer_to_call(outcome.kind);

@@ -22,8 +22,8 @@ use Rattle.ada_lasting.specs.Events.{shown, shown_at}
 use Rattle.ada_lasting.specs.Following.{IsStepped, Long, before_shown}
 use Rattle.ada_lasting.specs.Naming.{renaming_of}
 use Rattle.ada_threads.specs.declared.thread.Thread.{Thread}
-use Rattle.ada_threads.specs.Going.{AreHeldRightly, ends, is_held_up}
-use Rattle.ada_threads.specs.internal.Settling.{AreUnmarked, has_begun, is_end_at, is_plain_end, marked_anew}
+use Rattle.ada_threads.specs.Going.{AreHeldRightly, is_held_up}
+use Rattle.ada_threads.specs.internal.Settling.{AreUnmarked, ends, has_begun, is_end_at, is_plain_end, marked_anew}
 
 record EndsNobody (e : Event) : Type 0 where
   completes : completed_in e ≡ None

@@ -1,8 +1,7 @@
 -- Which threads may go on.
-use Rattle.std.specs.Prelude.{◌≡◌, ℕ, Bool, true, false, not, ◌&&◌, ◌||◌, Some, is_some, List, map, slice_get}
+use Rattle.std.specs.Prelude.{◌≡◌, ℕ, Bool, true, false, not, ◌&&◌, Some, List, map, slice_get}
 use Rattle.std.specs.List.{All, list_any}
 use Rattle.ada_events.specs.declared.event.Event.{Event}
-use Rattle.ada_events.specs.Says.{completed_in, gone_in, quit_in}
 use Rattle.ada_events.specs.Phases.{has_ended, is_running}
 use Rattle.ada_events.specs.Tasks.{has_task}
 use Rattle.ada_threads.specs.declared.thread.Thread.{Thread}
@@ -38,10 +37,6 @@ AreHeldRightly journal threads = All (λ (t : Thread). t.is_held ≡ true → is
 -- if that was so in a journal, it still is
 abbrev pub KeepsMarks : Table → Table → Type 0
 KeepsMarks old new = (journal : List Event) → AreHeldRightly journal old.threads → AreHeldRightly journal new.threads
-
--- the event ends tasks: it completes or terminates them (9.4)
-abbrev pub ends : Event → Bool
-ends event = is_some (completed_in event) || (is_some (gone_in event) || is_some (quit_in event))
 
 -- no thread that waits may go on
 abbrev pub AllStay : List Event → Table → Type 0

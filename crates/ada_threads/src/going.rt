@@ -102,10 +102,10 @@ impl Threads {
             → going.AreHeldRightly journal self.new.threads }
     {
         let thread = self.thread(place)?;
-        if self.may_go_on(kernel, place, thread) {
+        let is_held = is_held_up(kernel, thread.task);
+        if !is_held && !is_served(&self.servings, place) && !self.awaits_threads(place, thread) {
             return Some(true);
         }
-        let is_held = is_held_up(kernel, thread.task);
         self.set(
             place,
             Thread {

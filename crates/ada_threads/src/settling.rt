@@ -49,7 +49,7 @@ fn ends_at(kernel: &LongKernel, at: usize) -> bool
 // Whether the last request ended any task.
 fn has_ended_any(kernel: &LongKernel) -> bool
     ensures { (journal : List Happening) → Follows journal kernel.now
-        → result ≡ list_any going.ends (shown journal kernel.now) }
+        → result ≡ list_any settling.ends (shown journal kernel.now) }
 {
     for at in 0..kernel.events() {
         if ends_at(kernel, at) {

@@ -1,9 +1,10 @@
 -- Whom the last request let go on.
-use Rattle.std.specs.Prelude.{◌≡◌, ℕ, Bool, true, false, ◌==◌, ◌&&◌, ◌||◌, not, nat_lt, Option, Some, List, slice_get}
+use Rattle.std.specs.Prelude.{◌≡◌, ℕ, Bool, true, false, ◌==◌, ◌&&◌, ◌||◌, not, nat_lt, Option, Some, List, slice_get, is_some}
 use Rattle.std.specs.List.{All}
 use Rattle.std.specs.Option.{option_map, unwrap_or}
 use Rattle.ada_events.specs.declared.event.Event.{Event}
 use Rattle.ada_events.specs.Phases.{is_running}
+use Rattle.ada_events.specs.Says.{completed_in, gone_in, quit_in}
 use Rattle.ada_events.specs.Tasks.{has_task}
 use Rattle.ada_border.specs.declared.events.PlainEvent.{PlainEvent}
 use Rattle.ada_lasting.specs.declared.reasons.LastingReason.{LastingReason}
@@ -11,8 +12,12 @@ use Rattle.ada_lasting.specs.declared.reasons.LastingReason.TheVariants.{Complet
 use Rattle.ada_lasting.specs.Events.{shown_at}
 use Rattle.ada_lasting.specs.Following.{Long, before_shown}
 use Rattle.ada_threads.specs.declared.thread.Thread.{Thread}
-use Rattle.ada_threads.specs.Going.{ends, is_held_up, may_go_on}
+use Rattle.ada_threads.specs.Going.{is_held_up, may_go_on}
 use Rattle.ada_threads.specs.Table.{Table}
+
+-- the event ends tasks: it completes or terminates them (9.4)
+abbrev pub ends : Event → Bool
+ends event = is_some (completed_in event) || (is_some (gone_in event) || is_some (quit_in event))
 
 -- the kinds of events that end tasks: an elaboration that failed, a completion, and what an abort or the end of all
 -- dependents forces
