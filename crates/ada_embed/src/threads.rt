@@ -1,6 +1,6 @@
-//! What C calls for the threads of tasks. A table and a kernel are each used as a kernel is. A function answers 0, or
-//! the code of what is wrong with the numbers, of wanting memory, or of the other kind of kernel. It writes only where
-//! it answers 0, and changes the table only then.
+//! What C calls for the threads of tasks. A table is used as a kernel is, by one thread at a time. A function answers
+//! 0, or the code of what is wrong with the numbers, of wanting memory, or of a kernel that keeps everything. It writes
+//! only where it answers 0, and changes the table only then.
 
 ghost use Rattle.std.specs.Prelude.{◌≡◌, ◌⊎◌, None, OnErr, OnOk, false, option_map, pos, true};
 ghost use Rattle.std.specs.List.{list_any};
