@@ -1,5 +1,5 @@
 -- What is kept of the threads of tasks: whom each serves, and which masters it is within.
-use Rattle.std.specs.Prelude.{ℕ, Bool, false, ◌==◌, ◌&&◌, nat_le, nat_lt, if◌then◌else◌, Option, Some, None, List, [], ◌∷◌, ◌++◌, length, slice_get, slice_set, position, remove, filter, drop, ◌+◌}
+use Rattle.std.specs.Prelude.{ℕ, Bool, false, ◌==◌, ◌&&◌, nat_le, nat_lt, if◌then◌else◌, Option, Some, None, List, [], ◌∷◌, ◌++◌, length, slice_get, slice_set, position, remove, drop, ◌+◌, ◌-◌}
 use Rattle.std.specs.List.{list_any}
 use Rattle.std.specs.Option.{option_map, option_and_then}
 use Rattle.ada_lasting.specs.declared.requests.LastingMaster.{LastingMaster}
@@ -55,8 +55,10 @@ abbrev pub innermost_caller : List Serving → ℕ → Option ℕ
 innermost_caller servings server = option_map (λ (s : Serving). s.caller) (first_of (is_by server) servings)
 
 -- the caller of the one at a depth, that of the innermost one being 0
-abbrev pub caller_at : List Serving → ℕ → ℕ → Option ℕ
-caller_at servings server depth = option_map (λ (s : Serving). s.caller) (slice_get (filter (is_by server) servings) depth)
+unfoldable pub caller_at : List Serving → ℕ → ℕ → Option ℕ
+caller_at [] server depth = None
+caller_at (s ∷ rest) server depth =
+    if s.server == server then (if depth == 0 then Some s.caller else caller_at rest server (depth - 1)) else caller_at rest server depth
 
 -- ---- masters (9.4)
 
@@ -89,11 +91,15 @@ unfoldable pub depends_on : Option LastingMaster → Option LastingMaster → Bo
 depends_on (Some master) (Some on) = is_master master on
 depends_on _ _ = false
 
--- the thread isn't over, and its task depends on the master
+-- the thread's task depends on the master
+abbrev pub is_on : Option LastingMaster → Thread → Bool
+is_on master thread = depends_on master thread.on
+
+-- and it isn't over
 abbrev pub is_thread_on : Option LastingMaster → Thread → Bool
-is_thread_on master thread = thread.has_thread && depends_on master thread.on
+is_thread_on master thread = thread.has_thread && is_on master thread
 
 -- the first place, of one or more, of a task that depends on the master
 abbrev pub dependent_from : List Thread → Option LastingMaster → ℕ → Option ℕ
 dependent_from threads master from =
-    option_map (λ at. from + at) (position (λ (t : Thread). depends_on master t.on) (drop from threads))
+    option_map (λ at. from + at) (position (is_on master) (drop from threads))

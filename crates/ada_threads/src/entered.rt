@@ -1,7 +1,8 @@
 //! The masters that threads are within (9.4).
 
-ghost use Rattle.std.specs.Prelude.{◌≡◌, ◌∷◌, false, OnErr, OnOk};
+ghost use Rattle.std.specs.Prelude.{◌≡◌, ◌≤◌, ◌^◌, ◌∷◌, true, false, length, OnErr, OnOk, position, slice_get};
 ghost use Rattle.std.specs.List.{list_any};
+ghost use Rattle.std.specs.Option.{option_and_then};
 ghost use Rattle.ada_threads.specs.Going.{KeepsMarks};
 ghost use Rattle.ada_threads.specs.Table as table;
 
@@ -18,22 +19,30 @@ pub struct Entered {
     pub master: Option<LastingMaster>,
 }
 
-// The last one that a thread entered.
-fn latest(entered: &[Entered], place: u32) -> Option<Entered>
-    ensures { result ≡ table.first_of (table.is_within place) entered.now }
+// Where the last one stands that a thread entered.
+fn latest_at(entered: &[Entered], place: u32) -> Option<usize>
+    ensures { result ≡ position (table.is_within place) entered.now }
 {
-    let at = entered.iter().position(|entered| entered.by == place)?;
-    Some(entered[at])
+    entered.iter().position(|entered| entered.by == place)
 }
 
-// The last one of a level or a lower one.
-fn latest_up_to(entered: &[Entered], place: u32, level: u32) -> Option<Entered>
-    ensures { result ≡ table.first_of (table.is_within_level place level) entered.now }
+// Where the last one stands of a level or a lower one.
+fn latest_up_to_at(entered: &[Entered], place: u32, level: u32) -> Option<usize>
+    ensures { result ≡ position (table.is_within_level place level) entered.now }
 {
-    let at = entered
+    entered
         .iter()
-        .position(|entered| entered.by == place && entered.level <= level)?;
-    Some(entered[at])
+        .position(|entered| entered.by == place && entered.level <= level)
+}
+
+// The one that stands at a place, if any does.
+fn entered_at(entered: &[Entered], at: Option<usize>) -> Option<Entered>
+    ensures { result ≡ option_and_then (slice_get entered.now) at }
+{
+    match at {
+        Some(at) => entered.get(at).copied(),
+        None => None,
+    }
 }
 
 #[tactic(auto, unfolding(crate::specs::Table::is_master))]
@@ -64,16 +73,26 @@ pub(crate) fn has_thread_on(threads: &[Thread], master: Option<LastingMaster>) -
     threads.iter().any(|thread| thread.has_thread && depends_on(master, thread.on))
 }
 
+// Where the first thread stands of a task that depends on a master.
+fn dependent_at(threads: &[Thread], master: Option<LastingMaster>) -> Option<usize>
+    ensures { result ≡ position (table.is_on master) threads.now }
+{
+    threads
+        .iter()
+        .position(|thread| depends_on(master, thread.on))
+}
+
 // The first place, of one or more, of a task that depends on a master.
 fn dependent_from(threads: &[Thread], master: Option<LastingMaster>, from: u32) -> Option<u32>
-    requires { length threads.now < 2 ^ 32 }
+    requires { length threads.now ≤ 2 ^ 32 }
     ensures { result ≡ table.dependent_from threads.now master from }
 {
-    let later = threads.get(from as usize..)?;
-    let at = later
-        .iter()
-        .position(|thread| depends_on(master, thread.on))?;
-    Some(from + at as u32)
+    let from = from as usize;
+    if from >= threads.len() {
+        return None;
+    }
+    let at = dependent_at(&threads[from..], master)?;
+    Some((from + at) as u32)
 }
 
 impl Threads {
@@ -93,14 +112,16 @@ impl Threads {
     pub fn innermost_master(&self, place: u32) -> Option<LastingMaster>
         ensures { result ≡ table.innermost_master self.now place }
     {
-        self.master_of(place, latest(&self.entered, place))
+        let at = latest_at(&self.entered, place);
+        self.master_of(place, entered_at(&self.entered, at))
     }
 
     /// The kernel's name of the last one of those of a level or a lower one.
     pub fn master_at(&self, place: u32, level: u32) -> Option<LastingMaster>
         ensures { result ≡ table.master_at self.now place level }
     {
-        self.master_of(place, latest_up_to(&self.entered, place, level))
+        let at = latest_up_to_at(&self.entered, place, level);
+        self.master_of(place, entered_at(&self.entered, at))
     }
 
     /// The first place, of one or more, of a task that depends on the master that the thread at a place entered last
@@ -154,6 +175,17 @@ impl Threads {
         }
     }
 
+    // Forgets the master that a thread entered last.
+    fn forget_latest(&mut self, place: u32)
+        ensures { self.new ≡ record self.old {
+          entered = table.without_first (table.is_within place) self.old.entered;
+        } }
+    {
+        if let Some(at) = latest_at(&self.entered, place) {
+            self.entered.remove(at);
+        }
+    }
+
     /// The thread at a place has left the master that it entered last.
     pub fn left(&mut self, place: u32)
         ensures left { self.new ≡ table.with_changed place (λ t. record t { leaves = false })
@@ -162,9 +194,7 @@ impl Threads {
             }) }
         ensures marks { KeepsMarks self.old self.new }
     {
-        if let Some(at) = self.entered.iter().position(|entered| entered.by == place) {
-            self.entered.remove(at);
-        }
+        self.forget_latest(place);
         if let Some(thread) = self.thread(place) {
             self.set(
                 place,

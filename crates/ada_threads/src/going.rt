@@ -27,24 +27,30 @@ pub struct Stay {
     pub awaits_threads: bool,
 }
 
+#[tactic(auto, unfolding(crate::specs::internal::Settling::is_completed_reason))]
+fn is_completed(reason: Option<LastingReason>) -> bool
+    ensures { result ≡ settling.is_completed_reason reason }
+{
+    matches!(reason, Some(LastingReason::Completed))
+}
+
 // Whether a task that has a name is completed or terminated.
-#[tactic(auto, unfolding(crate::specs::internal::Settling::is_completed_reason), using(crate::proofs::Ended::ended_told, crate::proofs::Ended::named_made))]
+#[tactic(auto, using(crate::proofs::Ended::ended_if_terminated, crate::proofs::Ended::ended_if_completed))]
 fn has_ended(kernel: &LongKernel, task: u64) -> bool
     ensures { (journal : List Happening) (v : ℕ) → Follows journal kernel.now
         → found kernel.now.names.tasks task ≡ Some v
         → result ≡ phases.has_ended journal task }
 {
-    kernel.terminated(task) == Some(true)
-        || matches!(kernel.reason(task), Some(LastingReason::Completed))
+    kernel.terminated(task).unwrap_or(false) || is_completed(kernel.reason(task))
 }
 
-/// Whether the kernel holds a task up: it doesn't run, and hasn't ended (9.3 to 9.7, 9.10). It was made.
-#[tactic(auto, using(crate::proofs::Ended::named_made, crate::proofs::Ended::nameless_free))]
+/// Whether the kernel holds a task up: it doesn't run, and hasn't ended (9.3 to 9.7, 9.10).
+#[tactic(auto, using(crate::proofs::Ended::free_if, crate::proofs::Ended::held_if))]
 pub(crate) fn is_held_up(kernel: &LongKernel, task: u64) -> bool
     ensures { (journal : List Happening) → Follows journal kernel.now
         → result ≡ going.is_held_up journal task }
 {
-    kernel.running(task) == Some(false) && !has_ended(kernel, task)
+    !kernel.running(task).unwrap_or(true) && !has_ended(kernel, task)
 }
 
 impl Threads {
@@ -135,9 +141,9 @@ impl Threads {
             → going.AreHeldRightly journal self.now.threads
             → going.AllStay journal self.now) }
     {
-        for place in 0..self.threads.len() as u32 {
-            if self.is_to_wake(kernel, place) {
-                return Some(place);
+        for place in 0..self.threads.len() {
+            if self.is_to_wake(kernel, place as u32) {
+                return Some(place as u32);
             }
         }
         None

@@ -24,6 +24,23 @@ fn innermost_at(servings: &[Serving], server: u32) -> Option<usize>
     servings.iter().position(|serving| serving.server == server)
 }
 
+// The caller of the one at a depth.
+#[tactic(auto, unfolding(crate::specs::Table::caller_at))]
+fn caller_at(servings: &[Serving], server: u32, depth: usize) -> Option<u32>
+    ensures { result ≡ table.caller_at servings.now server depth }
+{
+    let mut depth = depth;
+    for serving in servings {
+        if serving.server == server {
+            if depth == 0 {
+                return Some(serving.caller);
+            }
+            depth -= 1;
+        }
+    }
+    None
+}
+
 /// Whether a thread is within the accept statement that began with the call of the task at a place.
 pub(crate) fn is_served(servings: &[Serving], place: u32) -> bool
     ensures { result ≡ table.is_served servings.now place }
@@ -62,10 +79,6 @@ impl Threads {
     pub fn caller(&self, server: u32, depth: usize) -> Option<u32>
         ensures { result ≡ table.caller_at self.now.servings server depth }
     {
-        self.servings
-            .iter()
-            .filter(|serving| serving.server == server)
-            .nth(depth)
-            .map(|serving| serving.caller)
+        caller_at(&self.servings, server, depth)
     }
 }

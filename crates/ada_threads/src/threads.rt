@@ -20,6 +20,7 @@ pub struct Threads {
 }
 
 impl Model for Threads {
+    ghost use Rattle.std.specs.Prelude.{◌≤◌, ◌^◌, length};
     ghost use Rattle.ada_threads.specs.Table.{Table};
 
     ghost Value = { Table };
@@ -29,6 +30,8 @@ impl Model for Threads {
       servings = t.servings.items;
       entered = t.entered.items;
     } };
+
+    ghost invariant = { λ t. length t.threads.items ≤ 2 ^ 32 };
 }
 
 impl Threads {
