@@ -1,11 +1,10 @@
 -- Which threads may go on.
-use Rattle.std.specs.Prelude.{◌≡◌, ℕ, Bool, true, false, not, ◌&&◌, ◌||◌, Option, Some, None, is_some, List, map, slice_get}
+use Rattle.std.specs.Prelude.{◌≡◌, ℕ, Bool, true, false, not, ◌&&◌, ◌||◌, Some, is_some, List, map, slice_get}
 use Rattle.std.specs.List.{All, list_any}
 use Rattle.ada_events.specs.declared.event.Event.{Event}
 use Rattle.ada_events.specs.Says.{completed_in, gone_in, quit_in}
 use Rattle.ada_events.specs.Phases.{has_ended, is_running}
 use Rattle.ada_events.specs.Tasks.{has_task}
-use Rattle.ada_lasting.specs.Following.{Long, before_shown}
 use Rattle.ada_threads.specs.declared.thread.Thread.{Thread}
 use Rattle.ada_threads.specs.declared.going.Stay.{Stay}
 use Rattle.ada_threads.specs.Table.{Table, innermost_master, is_served, is_thread_on}

@@ -1,9 +1,6 @@
 //! Accept statements that threads are within (9.5).
 
-ghost use Rattle.std.specs.Prelude.{◌≡◌, ◌∷◌, OnErr, OnOk, position, slice_get};
-ghost use Rattle.std.specs.Option.{option_and_then, option_map};
-ghost use Rattle.std.specs.List.{filter};
-ghost use Rattle.ada_threads.specs.declared.serving.Serving.{Serving as Kept};
+ghost use Rattle.std.specs.Prelude.{◌≡◌, ◌∷◌, OnErr, OnOk, position};
 ghost use Rattle.ada_threads.specs.Going.{KeepsMarks};
 ghost use Rattle.ada_threads.specs.Table as table;
 

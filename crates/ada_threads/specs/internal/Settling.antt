@@ -1,5 +1,5 @@
 -- Whom the last request let go on.
-use Rattle.std.specs.Prelude.{◌≡◌, ℕ, Bool, true, false, ◌==◌, ◌&&◌, ◌||◌, if◌then◌else◌, not, nat_lt, Option, Some, List, slice_get}
+use Rattle.std.specs.Prelude.{◌≡◌, ℕ, Bool, true, false, ◌==◌, ◌&&◌, ◌||◌, not, nat_lt, Option, Some, List, slice_get}
 use Rattle.std.specs.List.{All}
 use Rattle.std.specs.Option.{option_map, unwrap_or}
 use Rattle.ada_events.specs.declared.event.Event.{Event}
@@ -11,7 +11,7 @@ use Rattle.ada_lasting.specs.declared.reasons.LastingReason.TheVariants.{Complet
 use Rattle.ada_lasting.specs.Events.{shown_at}
 use Rattle.ada_lasting.specs.Following.{Long, before_shown}
 use Rattle.ada_threads.specs.declared.thread.Thread.{Thread}
-use Rattle.ada_threads.specs.Going.{ends, is_held_up, may_go_on, unmarked}
+use Rattle.ada_threads.specs.Going.{ends, is_held_up, may_go_on}
 use Rattle.ada_threads.specs.Table.{Table}
 
 -- the kinds of events that end tasks: an elaboration that failed, a completion, and what an abort or the end of all

@@ -1,4 +1,4 @@
-use Rattle.std.proofs.Common.{◌≡◌, List, ◌++◌, drop, length, sym, ap, subst, ◌∙◌}
+use Rattle.std.proofs.Common.{List, drop, length, sym, ap, subst, ◌∙◌}
 use Rattle.std.proofs.lemmas.List.{take_at}
 use Rattle.ada_events.specs.declared.event.Event.{Event}
 use Rattle.ada_lasting.specs.Following.{before_shown}
