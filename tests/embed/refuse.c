@@ -236,6 +236,41 @@ static void try_questions(void) {
   ada_kernel_drop(&k);
 }
 
+/* A thread is in a block on which its task depends, and serves itself: all else that is asked of the table. */
+static void try_table(void) {
+  ada_kernel k = ADA_NO_KERNEL;
+  ada_threads t = ADA_NO_THREADS;
+  ada_stay stay;
+  uint64_t master;
+  uint32_t out;
+  left = -1;
+  ANSWERS(ada_kernel_new_lasting(&k, 100));
+  ANSWERS(ada_threads_new(&t));
+  ANSWERS(ada_threads_put(&t, 0, 0, ADA_BLOCK, 7));
+  ANSWERS(ada_threads_enter(&t, 0, 4, ADA_BLOCK, 7));
+  ANSWERS(ada_threads_serve(&t, 0, 0));
+  left = 0;
+  asked = 0;
+  ANSWERS(ada_threads_begin(&t, 0));
+  ANSWERS(ada_threads_settle(&t, &k));
+  ANSWERS(ada_threads_stay(&t, &k, 0, &out));
+  ANSWERS(ada_threads_why(&t, &k, 0, &stay));
+  ANSWERS(ada_threads_caller(&t, 0, 0, &out));
+  ANSWERS(ada_threads_master(&t, 0, ADA_ANY_LEVEL, &out, &master));
+  ANSWERS(ada_threads_dependent(&t, 0, 0, &out));
+  ANSWERS(ada_threads_serve_no_more(&t, 0, &out));
+  ANSWERS(ada_threads_next(&t, &k, &out));
+  ANSWERS(ada_threads_leave(&t, 0));
+  ANSWERS(ada_threads_left(&t, 0));
+  ANSWERS(ada_threads_detach(&t, 0));
+  ANSWERS(ada_threads_end(&t, 0));
+  note(!ada_threads_anyone_goes(&t), "nobody goes", left);
+  note(asked == 0, "nothing else that is asked of a table takes memory", asked);
+  left = -1;
+  ada_threads_drop(&t);
+  ada_kernel_drop(&k);
+}
+
 int main(void) {
   long growth = 0;
   while (play(growth, 0)) growth++;
@@ -246,6 +281,7 @@ int main(void) {
   for (growth = 0; fill(growth); growth++) continue;
   note(growth > 6, "growths of a table are met", growth);
   try_questions();
+  try_table();
   printf("%d passed, %d failed\n", passed, failed);
   return failed != 0;
 }
