@@ -51,7 +51,7 @@ static void tick_to(int64_t now) {
   }
   moment = now;
   write_tick(now);
-  follow(NULL);
+  follow();
 }
 
 /* The first moment for which a task waits. */
@@ -131,12 +131,12 @@ void start_helper(void *(*run)(void *)) {
   pthread_sigmask(SIG_SETMASK, &old, NULL);
 }
 
-/* After such a request: the thread may have to look earlier. */
-void end_timed(task *me, int64_t duration) {
+/* After such a request: the thread may have to look earlier, unless the task goes on. */
+void end_timed(task *me, int64_t duration, bool goes_on) {
   int64_t due = kernel.now + duration;
   ada_set_clock(&kernel, ADA_NO_CLOCK);
   me->due = due;
-  if (!(me->stays & HELD) || due >= bound) return;
+  if (goes_on || due >= bound) return;
   bound = due;
   if (!has_thread) {
     has_thread = true;

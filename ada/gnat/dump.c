@@ -74,9 +74,11 @@ static void say_wait(const task *t, uint64_t position) {
 
 /* The thread of a task that the kernel doesn't hold up. */
 static void say_thread(const task *t) {
-  if (t->stays & SERVED) {
+  ada_stay why = {0, 0, 0};
+  ada_threads_why(&threads, &kernel, t->place, &why);
+  if (why.is_served) {
     fputs(" goes on when the accept statement with its call is left", stderr);
-  } else if (t->stays & AWAITS_THREADS) {
+  } else if (why.awaits_threads) {
     fputs(" goes on when the threads of its dependents are over", stderr);
   } else if (t->gone) {
     fputs(" was aborted, and its thread goes on to its next tasking operation", stderr);

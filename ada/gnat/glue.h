@@ -7,7 +7,7 @@
 #ifndef ADATASK_GLUE_H
 #define ADATASK_GLUE_H
 
-#include "adatask.h"
+#include "adatask_threads.h"
 #include <pthread.h>
 #include <semaphore.h>
 #include <stdbool.h>
@@ -31,34 +31,12 @@ enum {
   REFUSED = 13  /* for a cause that the glue should never meet; standard error has it */
 };
 
-/* Why a thread stays where it is, each a bit. */
-enum {
-  HELD = 1,          /* the kernel holds its task up */
-  SERVED = 2,        /* the thread of the task that accepted its call is within the accept statement */
-  AWAITS_THREADS = 4 /* threads of tasks that depend on the master that it leaves aren't over */
-};
-
-/* What a task asked for last, as far as its outcome is told. */
-enum { A_CALL = 1, A_WAIT = 2, AN_ACTIVATION = 3, SOMETHING_ELSE = 4 };
+/* What a task asked for last, if it wasn't told yet what became of that. */
+enum { NOTHING = 0, A_CALL = 1, A_WAIT = 2, AN_ACTIVATION = 3 };
 
 enum { MOST_FAMILIES = 16, MOST_CHOICES = 16, MOST_TASKS = 256, MOST_ENTRIES = 1024, NAME_SIZE = 17 };
 
-/* The kind of a master that the kernel doesn't know: of a task that is gone, or too deep. */
-enum { NO_MASTER = 9 };
-
 typedef struct task task;
-typedef struct master master;
-
-/* What tasks may depend on: a block, or a task's body. */
-struct master {
-  master *outer;
-  task *owner;
-  uint32_t kind;
-  uint64_t name;     /* the number of the task, or the position of the opening */
-  int level;         /* GNAT's */
-  unsigned threads;  /* how many tasks that depend on it have a thread */
-  task *dependents;  /* those whose control blocks aren't given back */
-};
 
 struct task {
   sem_t go; /* its thread waits here */
@@ -66,17 +44,17 @@ struct task {
   uint64_t number;
   unsigned place;
   char name[NAME_SIZE];
-  unsigned stays; /* bits; 0 if its thread may go on */
-  int answer;     /* to what it asked for last, once it isn't held */
+  int answer; /* to what it asked for last, once it goes on */
   int asked;
-  bool parked, gone, has_quit, is_completed, is_elaborated, is_started, has_thread, is_over, is_released, is_to_free;
+  bool gone, was_halted, has_quit, is_completed, is_elaborated, is_started, has_thread, is_over, is_released, is_to_free;
+  bool is_server;          /* one of the run time's own */
   unsigned entries, chunk; /* how many entries, how many of them make a family */
   task *maker;
-  task *callee;            /* of its latest call, and which entry, from 1 */
+  uint32_t master_kind; /* the master on which it depends, as the kernel names it */
+  uint64_t master;
+  task *callee; /* of its latest call, and which entry, from 1 */
   unsigned entry;
   void *parameters, *exception;
-  task *caller;       /* of the innermost rendezvous that it serves */
-  task *outer_caller; /* of a caller: that of the rendezvous around */
   unsigned choices, taken;
   struct {
     unsigned entry, alternative; /* from 1 */
@@ -85,19 +63,14 @@ struct task {
   uint32_t tail;
   bool is_timed;
   int64_t due; /* when what it asked for is over, if it is timed */
-  master body, *innermost, *awaited;
-  int level; /* GNAT's, on which it depends */
-  master *on;
-  task *next_dependent, *previous_dependent;
-  task *next_numbered, *next_ready, *next_to_wake, *next_spare;
+  task *next_numbered, *next_to_wake, *next_spare;
 };
 
 extern ada_kernel kernel;
-/* How many threads of tasks aren't parked here, and whether the main program has ended. */
-extern unsigned going;
+/* Which threads may go on, whose calls they serve, and which masters they are within. */
+extern ada_threads threads;
+/* Whether the main program has ended. */
 extern bool has_finished;
-/* How many tasks are parked at a terminate alternative. */
-extern unsigned at_terminate;
 /* The moment of the last tick. */
 extern int64_t moment;
 extern FILE *script, *journal;
@@ -112,13 +85,10 @@ task *task_numbered(uint64_t number);
 void set_number(task *t, uint64_t number);
 void release_task(task *t);
 bool make_room(void);
-void set_master(task *t, master *on);
-master *master_at(task *t, int level);
 
 /* ---- Masters: masters.c ---- */
 
-void await_threads(task *me, master *m);
-void give_up_unactivated(task *me, const master *m);
+void give_up_unactivated(task *me);
 int abort_one(task *me, task *t);
 
 /* ---- Who goes on: going.c ---- */
@@ -128,12 +98,13 @@ void give_lock(void);
 void wait_with_lock(pthread_cond_t *condition, const struct timespec *until);
 task *self(void);
 void set_self(task *t);
-void release_from(task *t, unsigned reason);
+bool is_gone(task *t);
 void note_abort(uint64_t at);
-void follow(task *me);
-void follow_rest(void);
+void follow(void);
+void let_go(void);
+task *caller_of(const task *server, unsigned depth);
 void end_innermost(task *server, bool is_raised);
-void drop_innermost(task *server);
+void leave_innermost(task *server);
 int stay(task *me);
 int refuse(const task *by, int32_t code, const char *what);
 void look_if_stuck(void);
@@ -145,7 +116,7 @@ void begin_clock(void);
 int64_t present(void);
 void tick_if_due(void);
 int64_t begin_timed(int64_t nanoseconds);
-void end_timed(task *me, int64_t duration);
+void end_timed(task *me, int64_t duration, bool goes_on);
 int sleep_for(int64_t nanoseconds);
 void start_helper(void *(*run)(void *));
 

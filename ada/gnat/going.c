@@ -1,18 +1,19 @@
 /* SPDX-License-Identifier: MIT */
-/* Who goes on. One lock guards the kernel and the table. Whoever asks something of the kernel finds out whom that
-   lets go on, and fills in what they are answered; so a thread that is woken needs no lock. */
+/* Who goes on, as the table of threads says. One lock guards the kernel and the tables. Whoever asks something of the
+   kernel wakes those who may go on after that, and fills in what they are answered; so a thread that is woken needs no
+   lock. */
 
 #define _POSIX_C_SOURCE 200809L
 #include "glue.h"
 #include <sched.h>
+#include <stdlib.h>
 
 /* How often a thread that has to stay looks whether it may go on, before it sleeps. */
 enum { LOOKS = 4 };
 
 ada_kernel kernel = ADA_NO_KERNEL;
-unsigned going = 1;
+ada_threads threads = ADA_NO_THREADS;
 bool has_finished;
-unsigned at_terminate;
 void (*mark_aborted)(void *block);
 
 static pthread_mutex_t lock = PTHREAD_MUTEX_INITIALIZER;
@@ -23,8 +24,6 @@ static task *to_wake;
    for whom it completed. */
 static bool has_aborted;
 static uint64_t looked;
-/* Those whom the kernel lets go on, and to whom it isn't told yet, in order. */
-static task *ready, **last_ready = &ready;
 
 task *self(void) { return own; }
 void set_self(task *t) { own = t; }
@@ -55,48 +54,6 @@ void wait_with_lock(pthread_cond_t *condition, const struct timespec *until) {
   pthread_cond_timedwait(condition, &lock, until);
 }
 
-/* There is one reason less for a thread to stay. */
-void release_from(task *t, unsigned reason) {
-  t->stays &= ~reason;
-  if (t->stays || !t->parked) return;
-  t->parked = false;
-  going++;
-  t->next_to_wake = to_wake;
-  to_wake = t;
-}
-
-/* Who is to let a thread go on often does so at once, and to sleep and be woken costs both more than a few looks. */
-static void await_go(task *me) {
-  int looks;
-  for (looks = 0; looks < LOOKS; looks++) {
-    sched_yield();
-    if (!sem_trywait(&me->go)) return;
-  }
-  while (sem_wait(&me->go)) continue;
-}
-
-/* Gives the lock, and stays here as long as there is a reason: what was asked is answered then. */
-int stay(task *me) {
-  int answer = me->answer;
-  if (me->stays) {
-    me->parked = true;
-    going--;
-    look_if_stuck();
-    give_lock();
-    await_go(me);
-    return me->answer;
-  }
-  give_lock();
-  return answer;
-}
-
-/* Nobody goes on, nobody is about to, and no moment will come. */
-void look_if_stuck(void) {
-  int64_t due;
-  if (going || to_wake || has_finished || !ada_next_due(&kernel, &due)) return;
-  end_stuck();
-}
-
 /* The limits of the kernel have answers of their own. A want of memory is one of them; other causes are no program's
    fault. */
 int refuse(const task *by, int32_t code, const char *what) {
@@ -115,13 +72,16 @@ int refuse(const task *by, int32_t code, const char *what) {
   return REFUSED;
 }
 
-/* A task that is gone is told so; its thread goes on to its end. */
-static void end_task(task *t) {
-  t->gone = true;
-  if (t->asked == A_WAIT && (t->stays & HELD) && t->tail == ADA_TERMINATE) at_terminate--;
-  if (!(t->stays & HELD)) return;
-  t->answer = GONE;
-  release_from(t, HELD);
+/* Whether the task has ended, though it didn't ask for that; a number that was given up is that of one. */
+static bool has_been_ended(const task *t) {
+  uint32_t is_callable = 0;
+  return !t->is_completed && (ada_callable(&kernel, t->number, &is_callable) || !is_callable);
+}
+
+/* Whether the task was aborted, or terminated with others; without an abort only at a terminate alternative. */
+bool is_gone(task *t) {
+  if (has_aborted && !t->gone) t->gone = has_been_ended(t);
+  return t->gone;
 }
 
 /* An abort was asked for, by the event at a position. */
@@ -131,7 +91,7 @@ void note_abort(uint64_t at) {
 }
 
 /* Whom an abort completed: with it, or with the end of a rendezvous in which such a task had called. */
-static void find_those_halted(void) {
+static void mark_those_halted(void) {
   uint64_t last = ada_events(&kernel);
   for (; looked < last; looked++) {
     ada_event event;
@@ -139,73 +99,62 @@ static void find_those_halted(void) {
     if (ada_event_at(&kernel, looked + 1, &event) || event.kind != ADA_HALTED) continue;
     t = task_numbered(event.task);
     if (!t) continue;
+    t->was_halted = true;
     if (t->block && t->has_thread) mark_aborted(t->block);
-    end_task(t);
   }
 }
 
-/* Those who waited at a terminate alternative and are terminated. */
-static void find_those_that_quit(void) {
-  uint64_t number;
-  for (number = 0; !ada_ended(&kernel, number, &number); number++) {
-    task *t = task_numbered(number);
-    if (!t || t->gone || t->is_completed || !(t->stays & HELD)) continue;
-    t->has_quit = true;
-    end_task(t);
-  }
-}
-
-/* Whom the last request lets go on. */
-static void gather(void) {
-  uint64_t number;
+/* After a request that was accepted. */
+static void settle(void) {
   write_events();
-  for (number = 0; !ada_runnable(&kernel, number, &number); number++) {
-    task *t = task_numbered(number);
-    if (!t || !(t->stays & HELD)) continue;
-    t->next_ready = NULL;
-    *last_ready = t;
-    last_ready = &t->next_ready;
-  }
-  if (has_aborted) find_those_halted();
-  if (at_terminate) find_those_that_quit();
+  ada_threads_settle(&threads, &kernel);
+  if (has_aborted) mark_those_halted();
+}
+
+/* The place of whose call began the accept statement of a depth, the innermost being 0; a null pointer if there is
+   none. */
+task *caller_of(const task *server, unsigned depth) {
+  uint32_t place;
+  return ada_threads_caller(&threads, server->place, depth, &place) ? NULL : task_at(place);
 }
 
 /* The caller goes on only after the thread of the accept statement, which uses its parameters. */
 static void begin_rendezvous(task *server, task *caller) {
-  caller->stays |= SERVED;
-  caller->outer_caller = server->caller;
-  server->caller = caller;
+  if (!ada_threads_serve(&threads, server->place, caller->place)) return;
+  fputs("adatask: there is no memory for a rendezvous\n", stderr);
+  abort();
 }
 
-void drop_innermost(task *server) {
-  task *caller = server->caller;
-  if (!caller) return;
-  server->caller = caller->outer_caller;
-  release_from(caller, SERVED);
+/* The thread has left its innermost accept statement, if it is within one. */
+void leave_innermost(task *server) {
+  uint32_t caller;
+  ada_threads_serve_no_more(&threads, server->place, &caller);
 }
 
 /* Asks for the end of the innermost rendezvous. */
 void end_innermost(task *server, bool is_raised) {
   uint64_t at;
   int32_t code = ada_end(&kernel, server->number, is_raised, &at);
+  leave_innermost(server);
   if (code) {
     server->answer = refuse(server, code, "the end of a rendezvous");
   } else {
     write_asked(server, is_raised ? "raise" : "end");
+    settle();
   }
-  drop_innermost(server);
-  if (!code) gather();
 }
 
 /* An accept statement without statements ends with the request that began it: no thread has to be woken for that. */
 static void take_wait(task *t, const ada_outcome *outcome) {
   unsigned number = outcome->number;
+  task *caller;
   t->taken = 0;
   if (outcome->kind == ADA_GOT_PROGRAM_ERROR) t->answer = RAISES_PROGRAM_ERROR;
   if (outcome->kind != ADA_HAS_ACCEPTED) return;
+  caller = task_numbered(outcome->caller);
   t->taken = t->choice[number].alternative;
-  begin_rendezvous(t, task_numbered(outcome->caller));
-  t->parameters = t->caller->parameters;
+  begin_rendezvous(t, caller);
+  t->parameters = caller->parameters;
   if (t->choice[number].has_no_body) end_innermost(t, false);
 }
 
@@ -218,35 +167,73 @@ static int answer_to_call(uint32_t kind) {
   }
 }
 
-/* What a task that isn't held up any more is answered. */
+/* What a task that goes on is answered. */
 static void take_outcome(task *t) {
+  int asked = t->asked;
   ada_outcome outcome;
-  t->answer = OK;
-  if (t->asked == SOMETHING_ELSE || ada_outcome_of(&kernel, t->number, &outcome)) return;
-  if (t->asked == A_CALL) t->answer = answer_to_call(outcome.kind);
-  if (t->asked == A_WAIT) take_wait(t, &outcome);
-  if (t->asked == AN_ACTIVATION && outcome.kind == ADA_ACTIVATION_FAILED) t->answer = RAISES_TASKING_ERROR;
-}
-
-/* Tells those whom the requests let go on what they are answered; accept statements without statements make more. */
-void follow_rest(void) {
-  while (ready) {
-    task *t = ready;
-    ready = t->next_ready;
-    if (!ready) last_ready = &ready;
-    if (t->asked == A_WAIT && t->tail == ADA_TERMINATE) at_terminate--;
-    take_outcome(t);
-    release_from(t, HELD);
+  t->asked = NOTHING;
+  if (asked == A_WAIT && t->tail == ADA_TERMINATE && has_been_ended(t)) {
+    t->gone = true;
+    t->has_quit = !t->was_halted;
+  }
+  if (is_gone(t)) {
+    t->answer = GONE;
+  } else if (asked != NOTHING && !ada_outcome_of(&kernel, t->number, &outcome)) {
+    t->answer = OK;
+    if (asked == A_CALL) t->answer = answer_to_call(outcome.kind);
+    if (asked == A_WAIT) take_wait(t, &outcome);
+    if (asked == AN_ACTIVATION && outcome.kind == ADA_ACTIVATION_FAILED) t->answer = RAISES_TASKING_ERROR;
   }
 }
 
-/* After a request that was accepted: `me` asked for it, if anybody did whom it may hold up. */
-void follow(task *me) {
-  bool is_held = me && !me->gone && !kernel.goes_on;
-  if (is_held) me->stays |= HELD;
-  if (is_held && me->asked == A_WAIT && me->tail == ADA_TERMINATE) at_terminate++;
-  gather();
-  if (me && !is_held) take_outcome(me);
-  if (me && me->gone) me->answer = GONE;
-  follow_rest();
+/* Wakes those who may go on; accept statements without statements make more of them. */
+void let_go(void) {
+  uint32_t place;
+  while (!ada_threads_next(&threads, &kernel, &place)) {
+    task *t = task_at(place);
+    t->next_to_wake = to_wake;
+    to_wake = t;
+    take_outcome(t);
+  }
+}
+
+/* After a request that was accepted: whom it lets go on, but for who asked for it. */
+void follow(void) {
+  settle();
+  let_go();
+}
+
+/* Who is to let a thread go on often does so at once, and to sleep and be woken costs both more than a few looks. */
+static void await_go(task *me) {
+  int looks;
+  for (looks = 0; looks < LOOKS; looks++) {
+    sched_yield();
+    if (!sem_trywait(&me->go)) return;
+  }
+  while (sem_wait(&me->go)) continue;
+}
+
+/* Gives the lock, and stays here until the thread may go on: what was asked is answered then. */
+int stay(task *me) {
+  uint32_t goes_on = 1;
+  int answer;
+  ada_threads_stay(&threads, &kernel, me->place, &goes_on);
+  if (!goes_on) {
+    look_if_stuck();
+    give_lock();
+    await_go(me);
+    return me->answer;
+  }
+  take_outcome(me);
+  let_go();
+  answer = me->answer;
+  give_lock();
+  return answer;
+}
+
+/* Nobody goes on, nobody is about to, and no moment will come. */
+void look_if_stuck(void) {
+  int64_t due;
+  if (has_finished || ada_threads_anyone_goes(&threads) || !ada_next_due(&kernel, &due)) return;
+  end_stuck();
 }

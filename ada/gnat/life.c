@@ -10,9 +10,6 @@
 /* The kernel makes its journal shorter when it has so many events. */
 enum { THRESHOLD = 4096 };
 
-/* The environment task is within the levels of GNAT's up to this one, the library's. */
-enum { LIBRARY_LEVEL = 3 };
-
 /* How often the end of the run time's own servers is looked at, and how long is waited between. */
 enum { LOOKS = 20, MICROSECONDS = 1000 };
 
@@ -23,14 +20,16 @@ static unsigned servers;
    memory there is no program. */
 unsigned adagnat_begin(void *block, void (*mark)(void *)) {
   environment = new_task();
-  if (!environment || ada_kernel_new_lasting(&kernel, THRESHOLD)) {
+  if (!environment || ada_kernel_new_lasting(&kernel, THRESHOLD) || ada_threads_new(&threads) ||
+      ada_threads_put(&threads, 0, 0, ADA_NO_MASTER, 0) ||
+      ada_threads_put(&threads, environment->place, 0, ADA_NO_MASTER, 0)) {
     fputs("adatask: there is no memory for a kernel\n", stderr);
     abort();
   }
   mark_aborted = mark;
   environment->block = block;
   environment->is_elaborated = environment->has_thread = true;
-  environment->level = environment->body.level = LIBRARY_LEVEL;
+  ada_threads_begin(&threads, environment->place);
   strcpy(environment->name, "main");
   set_number(environment, 0);
   set_self(environment);
@@ -55,27 +54,28 @@ static size_t families_of(task *t, unsigned entries, ada_family *families) {
   return count;
 }
 
-static int32_t ask_for_task(const task *me, const master *m, const ada_family *families, size_t count) {
+static int32_t ask_for_task(const task *me, const task *t, const ada_family *families, size_t count) {
   uint64_t at;
-  int32_t code = ada_create(&kernel, me->number, m->kind, m->name, families, count, &at);
+  int32_t code = ada_create(&kernel, me->number, t->master_kind, t->master, families, count, &at);
   if ((code == ADA_TOO_MANY_TASKS || code == ADA_TOO_MANY_SLOTS) && make_room()) {
-    code = ada_create(&kernel, me->number, m->kind, m->name, families, count, &at);
+    code = ada_create(&kernel, me->number, t->master_kind, t->master, families, count, &at);
   }
   return code;
 }
 
-static int create(task *me, task *t, master *m, unsigned entries, const char *image, int length) {
+/* The table of threads has room for the task before it is made. */
+static int create(task *me, task *t, unsigned entries, const char *image, int length) {
   ada_family families[MOST_FAMILIES];
   size_t count = families_of(t, entries, families);
-  int32_t code = ask_for_task(me, m, families, count);
+  int32_t code = ada_threads_put(&threads, t->place, ada_tasks(&kernel), t->master_kind, t->master);
+  if (!code) code = ask_for_task(me, t, families, count);
   if (code) return refuse(me, code, "the creation of a task");
   set_number(t, ada_tasks(&kernel) - 1);
-  set_master(t, m);
   t->maker = me;
   name_task(t, image, length);
   if (t->number == 1) begin_dumps();
   write_created(me, t, families, count);
-  follow(NULL);
+  follow();
   return OK;
 }
 
@@ -88,41 +88,41 @@ static void give_record(task *t) {
 int adagnat_create(unsigned parent, int level, unsigned entries, void *block, const char *image, int length,
                    unsigned *place) {
   task *me = self(), *t;
-  master *m;
+  uint32_t kind = ADA_NO_MASTER;
+  uint64_t master = 0;
   int answer;
   if (!me || !parent) return NO_TASK;
   if (entries > MOST_ENTRIES) return TOO_MANY_ENTRIES;
   take_lock();
   tick_if_due();
-  m = master_at(task_at(parent), level);
-  t = me->gone || m->kind == NO_MASTER ? NULL : new_task();
+  ada_threads_master(&threads, parent, (uint32_t)level, &kind, &master);
+  t = is_gone(me) || kind == ADA_NO_MASTER ? NULL : new_task();
   if (t) {
     t->block = block;
-    t->level = level;
-    t->body.level = level + 1;
-    answer = create(me, t, m, entries, image, length);
+    t->master_kind = kind;
+    t->master = master;
+    answer = create(me, t, entries, image, length);
     *place = t->place;
     if (answer) give_record(t);
   } else {
-    answer = me->gone ? GONE : m->kind == NO_MASTER ? TOO_DEEP : NO_MEMORY;
+    answer = is_gone(me) ? GONE : kind == ADA_NO_MASTER ? TOO_DEEP : NO_MEMORY;
   }
   give_lock();
   return answer;
 }
 
-static void count_thread(task *t) {
+static void begin_thread(task *t) {
   t->has_thread = true;
-  t->on->threads++;
-  going++;
+  ada_threads_begin(&threads, t->place);
 }
 
 /* A thread of the task won't be, or is over. */
 static void end_thread(task *t) {
-  master *m = t->on;
   t->has_thread = false;
   t->is_over = true;
-  going--;
-  if (m && m->threads && !--m->threads && m->owner->awaited == m) release_from(m->owner, AWAITS_THREADS);
+  if (t->is_server) servers--;
+  ada_threads_end(&threads, t->place);
+  let_go();
 }
 
 /* Starts an activation; `go` says of each task whether a thread is to be made. A task that was aborted has none. */
@@ -140,19 +140,19 @@ int adagnat_activate(unsigned count, const unsigned *those, int *go) {
     list[i] = task_at(those[i]);
     numbers[i] = list[i]->number;
   }
-  code = me->gone ? 0 : ada_activate(&kernel, me->number, numbers, count, &at);
-  me->answer = me->gone ? GONE : code ? refuse(me, code, "an activation") : OK;
+  code = is_gone(me) ? 0 : ada_activate(&kernel, me->number, numbers, count, &at);
+  me->answer = is_gone(me) ? GONE : code ? refuse(me, code, "an activation") : OK;
   if (!me->answer) {
     write_list(me, "activate", list, count);
     me->asked = AN_ACTIVATION;
     for (i = 0; i < count; i++) {
       uint32_t runs = 0;
       go[i] = !ada_running(&kernel, numbers[i], &runs) && runs;
-      if (go[i]) count_thread(list[i]);
+      if (go[i]) begin_thread(list[i]);
       list[i]->is_over = !go[i];
       list[i]->is_started = true;
     }
-    follow(me);
+    follow();
   }
   answer = me->answer;
   give_lock();
@@ -165,10 +165,10 @@ void adagnat_no_thread(unsigned place) {
   uint64_t at;
   take_lock();
   t = task_at(place);
-  if (!t->gone && !ada_elaborated(&kernel, t->number, 0, &at)) {
+  if (!is_gone(t) && !ada_elaborated(&kernel, t->number, 0, &at)) {
     write_asked(t, "fail");
     t->is_completed = true;
-    follow(NULL);
+    follow();
   }
   t->is_completed = true;
   end_thread(t);
@@ -197,15 +197,15 @@ int adagnat_elaborated(void) {
   if (!me) return NO_TASK;
   take_lock();
   tick_if_due();
-  answer = me->gone ? GONE : OK;
-  if (!me->gone && !me->is_elaborated) {
+  answer = is_gone(me) ? GONE : OK;
+  if (!answer && !me->is_elaborated) {
     int32_t code = ada_elaborated(&kernel, me->number, 1, &at);
     if (code) {
       answer = refuse(me, code, "the end of an activation");
     } else {
       write_asked(me, "up");
       me->is_elaborated = true;
-      follow(NULL);
+      follow();
     }
   }
   give_lock();
@@ -218,8 +218,8 @@ int adagnat_elaborated(void) {
 static void ask_for_completion(task *me) {
   uint64_t at;
   int32_t code;
-  if (me->gone || me->is_completed) return;
-  give_up_unactivated(me, &me->body);
+  if (is_gone(me) || me->is_completed) return;
+  give_up_unactivated(me);
   tick_if_due();
   code = me->is_elaborated ? ada_complete(&kernel, me->number, &at) : ada_elaborated(&kernel, me->number, 0, &at);
   me->is_completed = true;
@@ -228,7 +228,7 @@ static void ask_for_completion(task *me) {
     return;
   }
   write_asked(me, me->is_elaborated ? "complete" : "fail");
-  follow(NULL);
+  follow();
 }
 
 /* Completes a task's body: returns when the threads of all that depends on it are over. It may be asked twice. */
@@ -238,8 +238,9 @@ void adagnat_complete(void) {
   take_lock();
   ask_for_completion(me);
   me->is_completed = true;
-  while (me->caller) drop_innermost(me);
-  await_threads(me, &me->body);
+  while (caller_of(me, 0)) leave_innermost(me);
+  ada_threads_leave(&threads, me->place);
+  let_go();
   stay(me);
 }
 
@@ -294,16 +295,15 @@ int adagnat_abort(unsigned count, const unsigned *those) {
     numbers[n] = list[n]->number;
     n++;
   }
-  me->answer = me->gone ? GONE : OK;
-  if (n && !me->gone) {
+  me->answer = OK;
+  if (n && !is_gone(me)) {
     code = ada_abort(&kernel, me->number, numbers, n, &at);
-    me->asked = SOMETHING_ELSE;
     if (code) {
       me->answer = refuse(me, code, "an abort");
     } else {
       write_list(me, "abort", list, n);
       note_abort(at);
-      follow(me);
+      follow();
     }
   }
   return stay(me);
@@ -314,13 +314,13 @@ int abort_one(task *me, task *t) {
   uint64_t at;
   int32_t code;
   t->is_over = true;
-  if (me->gone || t->is_released) return OK;
+  if (is_gone(me) || t->is_released) return OK;
   tick_if_due();
   code = ada_abort(&kernel, me->number, &t->number, 1, &at);
   if (code) return refuse(me, code, "an abort");
   write_list(me, "abort", &t, 1);
   note_abort(at);
-  follow(NULL);
+  follow();
   return OK;
 }
 
@@ -344,11 +344,12 @@ void adagnat_abort_servers(unsigned count, const unsigned *those) {
   take_lock();
   for (i = 0; i < count; i++) {
     task *t = task_at(those[i]);
-    if (!t || !t->on || !t->has_thread) continue;
-    t->on->threads--;
-    t->on = NULL;
+    if (!t || !t->has_thread || t->is_server) continue;
+    ada_threads_detach(&threads, t->place);
+    t->is_server = true;
+    servers++;
   }
-  servers = count;
+  let_go();
   give_lock();
   adagnat_abort(count, those);
 }
@@ -363,7 +364,7 @@ void adagnat_finish(void) {
   for (looks = 0; servers && looks < LOOKS; looks++) {
     bool is_any_left;
     take_lock();
-    is_any_left = going > 1;
+    is_any_left = servers > 0;
     give_lock();
     if (!is_any_left) break;
     usleep(MICROSECONDS);

@@ -3,7 +3,6 @@
 
 #define _GNU_SOURCE
 #include "glue.h"
-#include <stdlib.h>
 #include <unwind.h>
 
 static const void *thread_begins;
@@ -33,97 +32,98 @@ static bool is_body_of_task(const void *caller) {
   return s.is_body;
 }
 
+/* Whether the task has left all that it entered. */
+static bool is_in_its_body(const task *me) {
+  uint32_t kind = ADA_NO_MASTER;
+  uint64_t name;
+  return !ada_threads_master(&threads, me->place, ADA_ANY_LEVEL, &kind, &name) && kind == ADA_BODY;
+}
+
 /* A task body with dependents of its own enters a master too, and so does a function that its declarations call. For
    the kernel the former is the task's body, and no block. */
 static bool is_own_body(const task *me, const void *caller) {
-  return !me->is_elaborated && me->innermost == &me->body && is_body_of_task(caller);
+  return !me->is_elaborated && is_in_its_body(me) && is_body_of_task(caller);
 }
 
-static int open_block(task *me, master *m) {
-  uint64_t at;
+/* Opens a block, if the task can be in one. One that lies too deep for the kernel is found out once a task is made. */
+static int open_block(task *me, uint32_t *kind, uint64_t *name) {
   int32_t code;
-  m->kind = NO_MASTER;
-  if (me->gone || me->is_completed) return OK;
+  *kind = ADA_NO_MASTER;
+  *name = 0;
+  if (is_gone(me) || me->is_completed) return OK;
   tick_if_due();
-  code = ada_open(&kernel, me->number, &at);
+  code = ada_open(&kernel, me->number, name);
   if (code) return code == ADA_TOO_DEEP ? OK : refuse(me, code, "the opening of a block");
-  m->kind = ADA_BLOCK;
-  m->name = at;
-  write_asked(me, "open %s", name_of_master(ADA_BLOCK, at));
-  follow(NULL);
+  *kind = ADA_BLOCK;
+  write_asked(me, "open %s", name_of_master(ADA_BLOCK, *name));
+  follow();
   return OK;
 }
 
-/* A master that lies too deep for the kernel, or in a thread that isn't a task's, is found out once a task is made. */
-int adagnat_enter_master(const void *caller) {
+/* Enters a master of a level of GNAT's. */
+int adagnat_enter_master(int level, const void *caller) {
   task *me = self();
-  master *m;
+  uint32_t kind;
+  uint64_t name;
   int answer = OK;
   if (!me) return OK;
-  if (is_own_body(me, caller)) {
-    me->body.level++;
-    return OK;
-  }
-  m = calloc(1, sizeof *m);
-  if (!m) return NO_MEMORY;
-  m->owner = me;
-  m->level = me->innermost->level + 1;
   take_lock();
-  answer = open_block(me, m);
-  m->outer = me->innermost;
-  me->innermost = m;
+  if (!is_own_body(me, caller)) {
+    answer = open_block(me, &kind, &name);
+    if (ada_threads_enter(&threads, me->place, (uint32_t)level, kind, name)) answer = NO_MEMORY;
+  }
   give_lock();
   return answer;
 }
 
-/* A thread of a dependent may still compute after its task was aborted, with what lies in the master's frame. */
-void await_threads(task *me, master *m) {
-  if (!m->threads) return;
-  me->awaited = m;
-  me->stays |= AWAITS_THREADS;
-}
-
 /* Declarations that failed leave tasks that nobody will activate, so no thread of theirs will be over. */
-void give_up_unactivated(task *me, const master *m) {
-  task *t;
-  for (t = m->dependents; t; t = t->next_dependent) {
+void give_up_unactivated(task *me) {
+  uint32_t place;
+  for (place = 0; !ada_threads_dependent(&threads, me->place, place, &place); place++) {
+    task *t = task_at(place);
     if (t->maker == me && !t->is_started && !t->is_over) abort_one(me, t);
   }
 }
 
-/* Closes the innermost block, once what depends on it is over. */
+/* Closes the innermost block, once what depends on it is over. A thread of a dependent may still compute after its task
+   was aborted, with what lies in the master's frame. */
 void adagnat_complete_master(void) {
   task *me = self();
-  master *m = me ? me->innermost : NULL;
-  uint64_t at;
-  if (!me || m == &me->body) return;
+  uint32_t kind = ADA_NO_MASTER;
+  uint64_t name, at;
+  if (!me) return;
   take_lock();
-  give_up_unactivated(me, m);
-  if (m->kind == ADA_BLOCK && !me->gone) {
+  if (ada_threads_master(&threads, me->place, ADA_ANY_LEVEL, &kind, &name) || kind == ADA_BODY) {
+    give_lock();
+    return;
+  }
+  give_up_unactivated(me);
+  if (kind == ADA_BLOCK && !is_gone(me)) {
     int32_t code;
     tick_if_due();
     code = ada_close(&kernel, me->number, &at);
-    me->asked = SOMETHING_ELSE;
     if (code) {
       refuse(me, code, "the end of a block");
     } else {
       write_asked(me, "close");
-      follow(me);
+      follow();
     }
   }
-  await_threads(me, m);
+  ada_threads_leave(&threads, me->place);
   stay(me);
 }
 
 /* The control block of a dependent of the innermost master, or of the body if there is none, which isn't needed any
    more; a null pointer at the end. */
 void *adagnat_next_over(void) {
-  task *me = self(), *t;
+  task *me = self();
+  uint32_t place;
   void *block = NULL;
   if (!me) return NULL;
   take_lock();
-  for (t = me->innermost->dependents; t && !t->is_over; t = t->next_dependent) continue;
-  if (t) {
+  for (place = 0; !block && !ada_threads_dependent(&threads, me->place, place, &place); place++) {
+    task *t = task_at(place);
+    if (!t->is_over) continue;
     block = t->block;
     forget_task(t);
   }
@@ -133,12 +133,15 @@ void *adagnat_next_over(void) {
 
 /* The innermost master is left; who depends on it and was never activated depends on nothing any more. */
 void adagnat_leave_master(void) {
-  task *me = self(), *t;
-  master *m = me ? me->innermost : NULL;
-  if (!me || m == &me->body) return;
+  task *me = self();
+  uint32_t place;
+  if (!me) return;
   take_lock();
-  for (t = m->dependents; t; t = t->next_dependent) t->on = NULL;
-  me->innermost = m->outer;
+  if (!is_in_its_body(me)) {
+    for (place = 0; !ada_threads_dependent(&threads, me->place, place, &place); place++) {
+      ada_threads_detach(&threads, place);
+    }
+    ada_threads_left(&threads, me->place);
+  }
   give_lock();
-  free(m);
 }

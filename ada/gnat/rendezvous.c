@@ -19,21 +19,23 @@ static int call(task *me, uint32_t patience, int64_t nanoseconds) {
   uint64_t at;
   int64_t duration = 0;
   int32_t code;
+  bool goes_on;
   if (patience == ADA_TIMED) {
     duration = begin_timed(nanoseconds);
   } else {
     tick_if_due();
   }
-  me->asked = A_CALL;
   me->is_timed = patience == ADA_TIMED;
   code = ada_call(&kernel, me->number, callee->number, family_of(callee, me->entry), index_of(callee, me->entry),
                   patience, duration, &at);
+  goes_on = code || kernel.goes_on;
   if (!code) {
+    me->asked = A_CALL;
     write_call(me, patience, duration);
-    follow(me);
+    follow();
   }
-  if (patience == ADA_TIMED) end_timed(me, duration);
-  return code ? refuse(me, code, "a call") : me->answer;
+  if (patience == ADA_TIMED) end_timed(me, duration, goes_on);
+  return code ? refuse(me, code, "a call") : OK;
 }
 
 /* Calls an entry; the parameters lie at an address until the call is over. */
@@ -42,7 +44,7 @@ int adagnat_call(unsigned place, unsigned entry, uint32_t patience, int64_t nano
   if (!me || !place) return NO_TASK;
   take_lock();
   callee = task_at(place);
-  if (me->gone || me->is_completed) {
+  if (is_gone(me) || me->is_completed) {
     me->answer = GONE;
   } else if (callee->is_released) {
     me->answer = RAISES_TASKING_ERROR;
@@ -88,20 +90,21 @@ static int wait(task *me, const ada_choice *choices, int64_t nanoseconds) {
   ada_pause pause = {0, 1};
   uint64_t at;
   int32_t code;
-  bool is_timed = me->tail == ADA_DELAYS;
+  bool is_timed = me->tail == ADA_DELAYS, goes_on;
   if (is_timed) {
     pause.duration = begin_timed(nanoseconds);
   } else {
     tick_if_due();
   }
-  me->asked = A_WAIT;
   code = ada_wait(&kernel, me->number, choices, count, me->tail, &pause, is_timed, 0, &at);
+  goes_on = code || kernel.goes_on;
   if (!code) {
+    me->asked = A_WAIT;
     write_wait(me, choices, count, me->tail, pause.duration);
-    follow(me);
+    follow();
   }
-  if (is_timed) end_timed(me, pause.duration);
-  return code ? refuse(me, code, "a wait") : me->answer;
+  if (is_timed) end_timed(me, pause.duration, goes_on);
+  return code ? refuse(me, code, "a wait") : OK;
 }
 
 /* Waits selectively. `taken` is set to the place of the alternative that was taken, from 1, or to 0. */
@@ -115,7 +118,7 @@ int adagnat_wait(unsigned count, const alternative *those, uint32_t tail, int64_
   if (!me) return NO_TASK;
   take_lock();
   me->taken = 0;
-  if (me->gone || me->is_completed) {
+  if (is_gone(me) || me->is_completed) {
     me->answer = GONE;
   } else if (!take_alternatives(me, those, count, choices)) {
     me->answer = TOO_MANY_ALTERNATIVES;
@@ -133,20 +136,19 @@ int adagnat_wait(unsigned count, const alternative *those, uint32_t tail, int64_
    kernel has ended it already, and the caller goes on now. If only the accept statement is aborted, by an
    asynchronous select around it, the caller has no exception of its own. */
 int adagnat_end(void *exception, int is_by_abort) {
-  task *me = self();
+  task *me = self(), *caller;
   if (!me) return NO_TASK;
   take_lock();
   me->answer = OK;
-  if (me->gone) {
-    drop_innermost(me);
-    me->answer = GONE;
-  } else if (me->caller) {
+  caller = caller_of(me, 0);
+  if (is_gone(me)) {
+    leave_innermost(me);
+  } else if (caller) {
     tick_if_due();
-    me->caller->exception = is_by_abort ? NULL : exception;
-    me->asked = SOMETHING_ELSE;
+    caller->exception = is_by_abort ? NULL : exception;
     end_innermost(me, exception != NULL);
-    follow_rest();
   }
+  let_go();
   return stay(me);
 }
 
@@ -158,26 +160,23 @@ int adagnat_delay(int64_t nanoseconds) {
   uint64_t at;
   int64_t duration;
   int32_t code;
+  bool goes_on;
   if (!me) return sleep_for(nanoseconds);
   take_lock();
-  if (me->gone) {
-    me->answer = GONE;
-    return stay(me);
-  }
+  if (is_gone(me)) return stay(me);
   if (me->is_completed) {
     give_lock();
     return sleep_for(nanoseconds);
   }
   duration = begin_timed(nanoseconds);
-  me->asked = SOMETHING_ELSE;
   code = ada_delay(&kernel, me->number, duration, &at);
-  if (code) {
-    me->answer = refuse(me, code, "a delay");
-  } else {
+  goes_on = code || kernel.goes_on;
+  me->answer = code ? refuse(me, code, "a delay") : OK;
+  if (!code) {
     write_delay(me, duration);
-    follow(me);
+    follow();
   }
-  end_timed(me, duration);
+  end_timed(me, duration, goes_on);
   return stay(me);
 }
 
@@ -202,7 +201,7 @@ int adagnat_is_terminated(unsigned place) {
   t = task_at(place);
   is_terminated = t != NULL;
   if (t && !t->is_released) ada_terminated(&kernel, t->number, &is_terminated);
-  if (t && t->on && t->has_thread) is_terminated = 0;
+  if (t && t->has_thread && !t->is_server) is_terminated = 0;
   give_lock();
   return (int)is_terminated;
 }
@@ -220,8 +219,11 @@ int adagnat_count(unsigned entry) {
 
 /* The control block of the caller of a rendezvous that the task serves, the innermost being 0; or a null pointer. */
 void *adagnat_caller(unsigned depth) {
-  task *caller = self() ? self()->caller : NULL;
-  while (caller && depth--) caller = caller->outer_caller;
+  const task *caller;
+  if (!self()) return NULL;
+  take_lock();
+  caller = caller_of(self(), depth);
+  give_lock();
   return caller ? caller->block : NULL;
 }
 

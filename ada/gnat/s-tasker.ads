@@ -73,7 +73,7 @@ package System.Tasking.Kernel is
 
    procedure Threads_Begin_At (Code : System.Address)
      with Import, Convention => C, External_Name => "adagnat_threads_begin_at";
-   function Enter_Master (Caller : System.Address) return int
+   function Enter_Master (Level : int; Caller : System.Address) return int
      with Import, Convention => C, External_Name => "adagnat_enter_master";
    procedure Complete_Master with Import, Convention => C, External_Name => "adagnat_complete_master";
    function Next_Over return System.Address with Import, Convention => C, External_Name => "adagnat_next_over";

@@ -54,7 +54,7 @@ package body System.Tasking.Stages is
    procedure Enter_Master is
       Caller  : constant System.Address := Return_Address;
       Self_Id : constant Task_Id := STPO.Self;
-      Said    : constant int := Kernel.Enter_Master (Caller);
+      Said    : constant int := Kernel.Enter_Master (int (Self_Id.Master_Within) + 1, Caller);
    begin
       if Said /= Kernel.Ok then
          Kernel.Raise_Refused (Said);

@@ -28,7 +28,7 @@ static void write_entry(const task *of, uint32_t family, int32_t index) {
 void write_created(const task *by, const task *made, const ada_family *families, size_t count) {
   size_t i;
   if (!script) return;
-  fprintf(script, "%s: create %s under %s", by->name, made->name, name_of_master(made->on->kind, made->on->name));
+  fprintf(script, "%s: create %s under %s", by->name, made->name, name_of_master(made->master_kind, made->master));
   for (i = 0; i < count; i++) {
     fprintf(script, " E%u", (unsigned)i * made->chunk + 1);
     if (made->chunk > 1) fprintf(script, " 0 %d", (int)families[i].high);

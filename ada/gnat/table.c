@@ -8,7 +8,7 @@
 
 enum { BUCKETS = 256 };
 
-/* Places count from 1; a control block that has 0 isn't a task's. */
+/* Places count from 1; a control block that has 0 isn't a task's, and the table of threads has nobody there. */
 unsigned places = 1;
 static unsigned room;
 static task **table;
@@ -54,8 +54,6 @@ task *new_task(void) {
   place = t->place;
   memset((char *)t + kept, 0, sizeof *t - kept);
   t->place = place;
-  t->body.owner = t;
-  t->innermost = &t->body;
   return t;
 }
 
@@ -64,8 +62,6 @@ task *task_at(unsigned place) { return place && place < places ? table[place] : 
 void set_number(task *t, uint64_t number) {
   task **bucket = &numbered[number % BUCKETS];
   t->number = number;
-  t->body.kind = ADA_BODY;
-  t->body.name = number;
   t->next_numbered = *bucket;
   *bucket = t;
 }
@@ -103,39 +99,13 @@ bool make_room(void) {
   return has_any;
 }
 
-void set_master(task *t, master *on) {
-  t->on = on;
-  t->previous_dependent = NULL;
-  t->next_dependent = on->dependents;
-  if (on->dependents) on->dependents->previous_dependent = t;
-  on->dependents = t;
-}
-
-static void leave_master(task *t) {
-  if (!t->on) return;
-  if (t->previous_dependent) {
-    t->previous_dependent->next_dependent = t->next_dependent;
-  } else {
-    t->on->dependents = t->next_dependent;
-  }
-  if (t->next_dependent) t->next_dependent->previous_dependent = t->previous_dependent;
-  t->on = NULL;
-}
-
 /* Its control block is given back, so nobody can name it. */
 void forget_task(task *t) {
-  leave_master(t);
+  ada_threads_end(&threads, t->place);
+  ada_threads_detach(&threads, t->place);
   if (!t->is_released) remove_number(t);
   t->is_released = true;
   t->block = NULL;
   t->next_spare = spare;
   spare = t;
-}
-
-/* The master of a level of GNAT's: one of the blocks that a task is in, or its body, which is its own level and the
-   next. */
-master *master_at(task *t, int level) {
-  master *m = t->innermost;
-  while (m != &t->body && m->level > level) m = m->outer;
-  return m;
 }

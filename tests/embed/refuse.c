@@ -1,9 +1,9 @@
 /* SPDX-License-Identifier: MIT */
 /* Gives the library memory of its own, and refuses one growth after another: each call that needs it answers 23, and
-   the kernel stays as it was. Questions take no memory, so none is asked for while all is refused. Prints what fails;
-   the last line is 'N passed, M failed'. */
+   the kernel or the table of threads stays as it was. Questions take no memory, so none is asked for while all is
+   refused. Prints what fails; the last line is 'N passed, M failed'. */
 
-#include "adatask.h"
+#include "adatask_threads.h"
 #include <stdio.h>
 #include <stdlib.h>
 
@@ -128,6 +128,51 @@ static int compact(long growth) {
   return code != ADA_ACCEPTED;
 }
 
+/* Call number `i` that makes a table grow: a task gets a place, and its thread enters a master and serves a caller. */
+static int32_t grow(ada_threads *t, uint32_t i) {
+  switch (i % 3) {
+    case 0: return ada_threads_put(t, i / 3, i / 3, ADA_NO_MASTER, 0);
+    case 1: return ada_threads_enter(t, i / 3, 4, ADA_BLOCK, 7);
+    default: return ada_threads_serve(t, i / 3, 0);
+  }
+}
+
+/* What that call makes isn't there. */
+static int is_missing(ada_threads *t, uint32_t i) {
+  uint32_t out = 77;
+  uint64_t master = 77;
+  switch (i % 3) {
+    case 0: return ada_threads_begin(t, i / 3) == ADA_NO_SUCH_TASK;
+    case 1: return !ada_threads_master(t, i / 3, ADA_ANY_LEVEL, &out, &master) && out == ADA_BODY && master == i / 3;
+    default: return ada_threads_caller(t, i / 3, 0, &out) == ADA_NO_SUCH_ITEM;
+  }
+}
+
+/* Fills a table with one growth refused; whether one was. */
+static int fill(long growth) {
+  ada_threads t = ADA_NO_THREADS;
+  int32_t code;
+  uint32_t i;
+  left = growth;
+  code = ada_threads_new(&t);
+  if (code != ADA_ACCEPTED) {
+    note(code == ADA_OUT_OF_MEMORY && t.table == NULL, "a table", growth);
+    return 1;
+  }
+  for (i = 0; i < 60; i++) {
+    code = grow(&t, i);
+    if (code != ADA_ACCEPTED) {
+      left = -1;
+      note(code == ADA_OUT_OF_MEMORY && is_missing(&t, i), "a refused growth of a table", growth);
+      note(grow(&t, i) == ADA_ACCEPTED && !is_missing(&t, i), "the same call afterwards", growth);
+      ada_threads_drop(&t);
+      return 1;
+    }
+  }
+  ada_threads_drop(&t);
+  return 0;
+}
+
 /* An answer that took no memory. */
 #define ANSWERS(question) note((question) == ADA_ACCEPTED, #question, left)
 
@@ -191,6 +236,41 @@ static void try_questions(void) {
   ada_kernel_drop(&k);
 }
 
+/* A thread is in a block on which its task depends, and serves itself: all else that is asked of the table. */
+static void try_table(void) {
+  ada_kernel k = ADA_NO_KERNEL;
+  ada_threads t = ADA_NO_THREADS;
+  ada_stay stay;
+  uint64_t master;
+  uint32_t out;
+  left = -1;
+  ANSWERS(ada_kernel_new_lasting(&k, 100));
+  ANSWERS(ada_threads_new(&t));
+  ANSWERS(ada_threads_put(&t, 0, 0, ADA_BLOCK, 7));
+  ANSWERS(ada_threads_enter(&t, 0, 4, ADA_BLOCK, 7));
+  ANSWERS(ada_threads_serve(&t, 0, 0));
+  left = 0;
+  asked = 0;
+  ANSWERS(ada_threads_begin(&t, 0));
+  ANSWERS(ada_threads_settle(&t, &k));
+  ANSWERS(ada_threads_stay(&t, &k, 0, &out));
+  ANSWERS(ada_threads_why(&t, &k, 0, &stay));
+  ANSWERS(ada_threads_caller(&t, 0, 0, &out));
+  ANSWERS(ada_threads_master(&t, 0, ADA_ANY_LEVEL, &out, &master));
+  ANSWERS(ada_threads_dependent(&t, 0, 0, &out));
+  ANSWERS(ada_threads_serve_no_more(&t, 0, &out));
+  ANSWERS(ada_threads_next(&t, &k, &out));
+  ANSWERS(ada_threads_leave(&t, 0));
+  ANSWERS(ada_threads_left(&t, 0));
+  ANSWERS(ada_threads_detach(&t, 0));
+  ANSWERS(ada_threads_end(&t, 0));
+  note(!ada_threads_anyone_goes(&t), "nobody goes", left);
+  note(asked == 0, "nothing else that is asked of a table takes memory", asked);
+  left = -1;
+  ada_threads_drop(&t);
+  ada_kernel_drop(&k);
+}
+
 int main(void) {
   long growth = 0;
   while (play(growth, 0)) growth++;
@@ -198,7 +278,10 @@ int main(void) {
   for (growth = 0; growth < 400; growth++) play(growth, 1);
   for (growth = 0; compact(growth); growth++) continue;
   note(growth > 10, "growths of a compaction are met", growth);
+  for (growth = 0; fill(growth); growth++) continue;
+  note(growth > 6, "growths of a table are met", growth);
   try_questions();
+  try_table();
   printf("%d passed, %d failed\n", passed, failed);
   return failed != 0;
 }

@@ -6,4 +6,6 @@ pub mod Questions
 pub mod Reasons
 pub mod Requests
 pub mod Sealed
+pub mod SealedThreads
+pub mod Threads
 pub mod internal

@@ -18,6 +18,8 @@ pub mod parts;
 pub mod questions;
 pub mod reasons;
 pub mod requests;
+pub mod threads;
+pub mod threads_handle;
 pub mod whole;
 
 use ada_border::codes::{ACCEPTED, refusal_code};

@@ -1,0 +1,28 @@
+-- The seal and its parts own what a box at the same types owns.
+use mir.Syntax.{impl, tnil, dnil}
+use mathlib.Core.List.{[]}
+use denote.Signature.{Slot, plain}
+use Rattle.std_alloc.proofs.BoxSteps.Form.{Bx}
+use Rattle.std_heap.specs.contracts.Global as Heap
+use Rattle.std_heap.specs.contracts.GlobalAllocator.TheImpl.{ghosts, dict}
+use Rattle.std_heap.proofs.Global.TheLaws as heap
+use Rattle.ada_embed.specs.SealedThreads.{threads_row}
+use Rattle.ada_threads.proofs.threads.Threads.TheLaws as home
+use Rattle.ada_embed.specs.contracts.threads_handle.ThreadsHandle as Sealed
+
+abbrev pub E : Bx
+E = record {
+  row = threads_row;
+  laws = home.the_row_laws;
+  al = record {
+    row = Heap.the_row;
+    laws = heap.the_row_laws;
+    g = ghosts;
+    d = dict;
+    drops = impl []
+        tnil dnil;
+  };
+}
+
+abbrev pub FromSeal : Slot 0
+FromSeal = plain (λ _. Sealed.the_row)

@@ -1,0 +1,4 @@
+pub mod Ending
+pub mod Ended
+pub mod Mapping
+pub mod Beginners
