@@ -76,13 +76,18 @@ impl Checker {
     // A line that is refused before its words are read.
     fn find_outside(&mut self, number: u32, line: &[u8], cause: Cause) -> Result<(), Cause> {
         let mut message = String::new(self.alloc);
-        let (place, length) = write_outside(&mut message, line, cause)?;
+        let outside = write_outside(&mut message, line, cause)?;
+        let repair = match outside.repair {
+            Some(repair) => Some(repair.to_string(self.alloc)?),
+            None => None,
+        };
         self.findings.push(Finding {
             kind: Kind::Fault(cause),
             line: number,
-            place,
-            length,
+            place: outside.place,
+            length: outside.length,
             message,
+            repair,
         })?;
         Ok(())
     }
@@ -117,6 +122,7 @@ impl Checker {
             place,
             length,
             message,
+            repair: instead_of(self.alloc, &repair)?,
         })?;
         self.repair(number, &words, fault, repair)
     }
@@ -262,6 +268,14 @@ fn is_full(words: &[Word<'_>], place: usize, cause: Cause) -> bool {
             Expected::Duration => is_number,
             _ => false,
         }
+}
+
+// What to write in place of a faulty word, if it is known.
+fn instead_of(alloc: Global, repair: &Repair) -> Result<Option<String>, AllocError> {
+    match repair {
+        Repair::Words(instead) => Ok(Some(instead.trim().to_string(alloc)?)),
+        Repair::Cut | Repair::Joined | Repair::Unknown => Ok(None),
+    }
 }
 
 // Where a word begins, and how long it is; where the line ends too early, the place after its last word.

@@ -168,22 +168,26 @@ fn plain_number(word: &str) -> &str {
 }
 
 fn write_number(message: &mut String, faulty: Faulty<'_>) -> Result<Repair, AllocError> {
+    let alloc = *message.allocator();
     let word = faulty.word();
     let unsigned = word.strip_prefix('+').unwrap_or(word);
     let digits = unsigned.strip_prefix('-').unwrap_or(unsigned);
     let is_whole = !digits.is_empty() && digits.bytes().all(|byte| byte.is_ascii_digit());
     if faulty.expected == Expected::Pick && is_name(word.as_bytes()) {
         write!(message, "the pick comes first, a number: write `0 {word}`")?;
-    } else if is_whole && (digits.starts_with('0') || word.starts_with('+')) {
+        return Ok(Repair::Words(format!(in alloc; "0 {word}")?));
+    }
+    if is_whole && (digits.starts_with('0') || word.starts_with('+')) {
+        let plain = plain_number(word);
+        let is_negative = word.starts_with('-') && plain != "0";
+        let sign = if is_negative { "-" } else { "" };
         write!(
             message,
-            "a number has no plus sign and no zero in front: write `"
+            "a number has no plus sign and no zero in front: write `{sign}{plain}`"
         )?;
-        if word.starts_with('-') && plain_number(word) != "0" {
-            write!(message, "-")?;
-        }
-        write!(message, "{}`", plain_number(word))?;
-    } else if is_whole {
+        return Ok(Repair::Words(format!(in alloc; "{sign}{plain}")?));
+    }
+    if is_whole {
         write!(
             message,
             "`{word}` is out of range: {}",

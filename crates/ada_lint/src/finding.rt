@@ -11,7 +11,8 @@ pub enum Kind {
     Warning,
 }
 
-/// A finding: its line from 1, the place in it from 0 and how many bytes it concerns, and what it says.
+/// A finding: its line from 1, the place in it from 0 and how many bytes it concerns, what it says, and what to write
+/// in place of these bytes, if that is known.
 #[derive(Debug, Drop)]
 pub struct Finding {
     pub kind: Kind,
@@ -19,4 +20,5 @@ pub struct Finding {
     pub place: usize,
     pub length: usize,
     pub message: String,
+    pub repair: Option<String>,
 }

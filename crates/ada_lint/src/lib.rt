@@ -6,6 +6,7 @@ pub mod declared;
 pub mod expected;
 pub mod faults;
 pub mod finding;
+pub mod json;
 pub mod nearest;
 pub mod outside;
 pub mod printing;
@@ -16,5 +17,6 @@ pub mod warnings;
 pub mod words;
 
 pub use finding::{Finding, Kind};
+pub use json::write_review;
 pub use printing::print_review;
 pub use review::{Review, review_of};

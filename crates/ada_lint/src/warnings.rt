@@ -49,6 +49,7 @@ fn push(
         place,
         length,
         message,
+        repair: None,
     })?;
     Ok(())
 }

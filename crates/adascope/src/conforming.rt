@@ -5,7 +5,7 @@ use crate::input::{Log, read_log};
 use crate::obeying::STANDARD_INPUT;
 use crate::output::write_text;
 use crate::report::{Report, report_of, write_before};
-use ada_findings::{Finding, ScopeFault, check};
+use ada_findings::{Finding, Form, ScopeFault, check};
 use ada_replay::{Course, Judgement, RunFault, follow};
 use ada_script::ScriptFault;
 use std::alloc::Global;
@@ -39,7 +39,12 @@ fn faulty_report(
     if fault.line > LAST_LINE {
         return report_of(alloc, file, log, course, None).map_err(|_| RunFault::Memory);
     }
-    let (mut text, _) = check(alloc, file, log.first_lines(fault.line), usize::MAX)?;
+    let (mut text, _) = check(
+        alloc,
+        Form::Text(file),
+        log.first_lines(fault.line),
+        usize::MAX,
+    )?;
     write_before(&mut text, course).map_err(|_| RunFault::Memory)?;
     Ok(Report {
         text,

@@ -6,7 +6,7 @@ use crate::order::{Job, What};
 use crate::output::write_text;
 use crate::painting::{Kind, painted};
 use ada_explain::{Explanation, explain};
-use ada_findings::{Failure, Finding, ScopeFault, check};
+use ada_findings::{Failure, Finding, Form, ScopeFault, check};
 use ada_renderings::compare::compare;
 use ada_renderings::compare::comparison::Played;
 use ada_renderings::draw::{write_graph, write_picture, write_sequence};
@@ -112,8 +112,10 @@ fn tell<R: Files + Input + Print + AllocGlobal>(
     match what {
         What::Explanation => tell_explanation(rt, &text, is_strict, is_colored),
         What::Faults(most) => {
-            tell_faults(rt, file.unwrap_or(STANDARD_INPUT), &text, most, is_colored)
+            let form = Form::Text(file.unwrap_or(STANDARD_INPUT));
+            tell_faults(rt, form, &text, most, is_colored)
         }
+        What::FaultRecords(most) => tell_faults(rt, Form::Json, &text, most, false),
         What::Picture | What::Sequence | What::Graph | What::Events => draw(rt, &text, what),
     }
 }
@@ -167,13 +169,13 @@ fn draw<R: Print + AllocGlobal>(rt: &R, text: &[u8], what: What) -> Result<Findi
 
 fn tell_faults<R: Print + AllocGlobal>(
     rt: &R,
-    file: &str,
+    form: Form<'_>,
     text: &[u8],
     most: usize,
     is_colored: bool,
 ) -> Result<Finding, ScopeFault> {
-    let (printed, finding) = check(rt.alloc(), file, text, most)?;
-    print(rt, &printed, Kind::Findings, is_colored)?;
+    let (told, finding) = check(rt.alloc(), form, text, most)?;
+    print(rt, &told, Kind::Findings, is_colored)?;
     Ok(finding)
 }
 

@@ -11,6 +11,8 @@ pub enum What {
     Explanation,
     /// Its faulty lines, so many of the findings at most.
     Faults(usize),
+    /// The same as JSON.
+    FaultRecords(usize),
     /// A picture of its play.
     Picture,
     /// Its calls as a sequence diagram.
@@ -105,10 +107,15 @@ const MOST_FINDINGS: usize = 50;
 
 static ALL: &str = "Print all findings, and not the first 50 alone";
 
+static LIST_FORMAT: &str = "text: as editors read it; json: a line of JSON for each finding";
+
+static LIST_FORMATS: [&str; 2] = ["text", "json"];
+
 static LINT_HELP: &str = "Examples:
 
   adascope lint design.tasks
   adascope lint < design.tasks
+  adascope lint --format json design.tasks | jq -r .message
 ";
 
 static DRAW: &str = "Draw the play: tasks and events as SVG, or another format";
@@ -262,11 +269,18 @@ fn lint<'a>(alloc: Global) -> Result<Command<'a>, AllocError> {
         .long("all")
         .action(ArgAction::SetTrue)
         .help(ALL);
+    let format = Arg::new(alloc, "format")
+        .long("format")
+        .action(ArgAction::Set)
+        .value_parser(LIST_FORMATS.as_slice())
+        .default_value("text")
+        .help(LIST_FORMAT);
     Command::new(alloc, "lint")
         .about(LINT)
         .after_help(LINT_HELP)
         .arg(file(alloc, "FILE"))?
         .arg(all)?
+        .arg(format)?
         .arg(color_option(alloc))
 }
 
@@ -400,13 +414,17 @@ fn color_in(matches: &ArgMatches<'_>) -> Color {
     }
 }
 
-// How many findings are printed.
+// How many findings are printed, and in which format.
 fn faults_in(matches: &ArgMatches<'_>) -> What {
-    What::Faults(if matches.get_flag("all") {
+    let most = if matches.get_flag("all") {
         usize::MAX
     } else {
         MOST_FINDINGS
-    })
+    };
+    match matches.get_str("format") {
+        Some("json") => What::FaultRecords(most),
+        _ => What::Faults(most),
+    }
 }
 
 // The format of a picture.
