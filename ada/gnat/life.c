@@ -357,16 +357,16 @@ void adagnat_abort_servers(unsigned count, const unsigned *those) {
 /* All is over but such servers, which get a moment to end. */
 void adagnat_finish(void) {
   unsigned looks;
+  bool is_any_left;
   take_lock();
   has_finished = true;
   flush_files();
+  is_any_left = servers > 0;
   give_lock();
-  for (looks = 0; servers && looks < LOOKS; looks++) {
-    bool is_any_left;
+  for (looks = 0; is_any_left && looks < LOOKS; looks++) {
+    usleep(MICROSECONDS);
     take_lock();
     is_any_left = servers > 0;
     give_lock();
-    if (!is_any_left) break;
-    usleep(MICROSECONDS);
   }
 }
