@@ -60,6 +60,20 @@ static int open_block(task *me, uint32_t *kind, uint64_t *name) {
   return OK;
 }
 
+/* Asks for the end of the innermost block. */
+static void close_block(task *me) {
+  uint64_t at;
+  int32_t code;
+  tick_if_due();
+  code = ada_close(&kernel, me->number, &at);
+  if (code) {
+    refuse(me, code, "the end of a block");
+  } else {
+    write_asked(me, "close");
+    follow();
+  }
+}
+
 /* Enters a master of a level of GNAT's. */
 int adagnat_enter_master(int level, const void *caller) {
   task *me = self();
@@ -70,7 +84,10 @@ int adagnat_enter_master(int level, const void *caller) {
   take_lock();
   if (!is_own_body(me, caller)) {
     answer = open_block(me, &kind, &name);
-    if (ada_threads_enter(&threads, me->place, (uint32_t)level, kind, name)) answer = NO_MEMORY;
+    if (ada_threads_enter(&threads, me->place, (uint32_t)level, kind, name)) {
+      answer = NO_MEMORY;
+      if (kind == ADA_BLOCK) close_block(me);
+    }
   }
   give_lock();
   return answer;
@@ -90,7 +107,7 @@ void give_up_unactivated(task *me) {
 void adagnat_complete_master(void) {
   task *me = self();
   uint32_t kind = ADA_NO_MASTER;
-  uint64_t name, at;
+  uint64_t name;
   if (!me) return;
   take_lock();
   if (ada_threads_master(&threads, me->place, ADA_ANY_LEVEL, &kind, &name) || kind == ADA_BODY) {
@@ -98,17 +115,7 @@ void adagnat_complete_master(void) {
     return;
   }
   give_up_unactivated(me);
-  if (kind == ADA_BLOCK && !is_gone(me)) {
-    int32_t code;
-    tick_if_due();
-    code = ada_close(&kernel, me->number, &at);
-    if (code) {
-      refuse(me, code, "the end of a block");
-    } else {
-      write_asked(me, "close");
-      follow();
-    }
-  }
+  if (kind == ADA_BLOCK && !is_gone(me)) close_block(me);
   ada_threads_leave(&threads, me->place);
   stay(me);
 }
