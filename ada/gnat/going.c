@@ -72,7 +72,7 @@ int refuse(const task *by, int32_t code, const char *what) {
   return REFUSED;
 }
 
-/* Whether the task has ended, though it didn't ask for that; a number that was given up is that of one. */
+/* Whether the task has ended, though it didn't ask for that. One that was given up has. */
 static bool has_been_ended(const task *t) {
   uint32_t is_callable = 0;
   return !t->is_completed && (ada_callable(&kernel, t->number, &is_callable) || !is_callable);
@@ -111,8 +111,7 @@ static void settle(void) {
   if (has_aborted) mark_those_halted();
 }
 
-/* The place of whose call began the accept statement of a depth, the innermost being 0; a null pointer if there is
-   none. */
+/* The task whose call began the accept statement of a depth, the innermost being 0; a null pointer if there is none. */
 task *caller_of(const task *server, unsigned depth) {
   uint32_t place;
   return ada_threads_caller(&threads, server->place, depth, &place) ? NULL : task_at(place);
