@@ -1,11 +1,11 @@
 -- What was met and gone on from covers whatever a schedule comes to.
 use Rattle.std.proofs.Common.{◌≡◌, ℕ, zero, suc, ◌+◌, ◌<◌, ◌≤◌, Bool, true, false, cond, ◌&&◌, Option, Some, None}
-use Rattle.std.proofs.Common.{List, [], ◌∷◌, ◌++◌, length, reverse, find, slice_get, get_or, refl, sym, ap, subst, ◌∙◌, inl, inr, arith, ◌⊎◌}
+use Rattle.std.proofs.Common.{Vec, Global, List, [], ◌∷◌, ◌++◌, length, reverse, find, slice_get, get_or, refl, sym, ap, subst, ◌∙◌, inl, inr, arith, ◌⊎◌}
 use Rattle.std.specs.Option.{is_some}
-use Rattle.std.specs.List.{position_or_len}
+use Rattle.std.specs.List.{list_all, list_any, position_or_len}
 use Rattle.std.proofs.lemmas.Bool.{true≢false, eqb-true, and_parts, cases_eq}
 use Rattle.std.proofs.lemmas.Option.{none-some, same_Some, slice_get_within, slice_get-get_or}
-use Rattle.std.proofs.lemmas.List.{reverse-append}
+use Rattle.std.proofs.lemmas.List.{append-nil, reverse-append}
 use Rattle.std.proofs.lemmas.List.Folds.{find_at}
 use Rattle.ada_events.specs.declared.event.Event.{Event}
 use Rattle.ada_events.specs.declared.request.Request.{Request}
@@ -15,15 +15,17 @@ use Rattle.ada_laws.specs.Unlimited.{refusal_but_limits}
 use Rattle.ada_standing.specs.Renaming.{Renaming}
 use Rattle.ada_statements.specs.Scope.{Scope}
 use Rattle.ada_script.specs.declared.script.Line.{Line}
-use Rattle.ada_schedules.specs.Schedules.{State, Acts, Comes, Reaches, beginning}
+use Rattle.ada_schedules.specs.Schedules.{State, Acts, Comes, Reaches}
 use Rattle.ada_schedules.specs.Closed.{asked_in, was_refused, GoesOn, IsClosed}
 use Rattle.ada_schedules.specs.Stuck.{IsStuck}
-use Rattle.ada_schedules.proofs.Covering.{none_stuck}
+use Rattle.ada_schedules.proofs.Covering.{IsCovered, follows_covered, stuck_within}
+use Rattle.ada_schedules.proofs.Once.{comes_once}
 use Rattle.ada_explore.specs.Scripts.{Rest, scripted, rest, at as state, is_same, asker_at, request_at, next_of, is_next, may_say, may_come, all_silent, runs}
-use Rattle.ada_explore.specs.Findings.{NoneGetsStuck}
+use Rattle.ada_explore.specs.declared.wanted.Wanted.{Wanted}
+use Rattle.ada_explore.specs.declared.wanted.Wanted.TheVariants.{Free, Left}
+use Rattle.ada_explore.specs.Findings.{NoneGetsStuck, NeverSays, is_left}
 use Rattle.ada_explore.specs.internal.Sameness.{SameRest}
-use Rattle.ada_explore.specs.internal.Covering.{IsAlike, IsWithin, AreCovering, AreKept, LeadsOn, LeadsOnAfter, GoesOnWell, IsDone, AreDone}
-use Rattle.ada_explore.proofs.Once.{comes_once}
+use Rattle.ada_explore.specs.internal.Covering.{IsAlike, IsWithin, AreCovering, AreKept, LeadsOn, LeadsOnAfter, IsWell, GoesOnWell, IsDone, AreDone, StaysWell}
 use Rattle.ada_explore.proofs.Shapes.{declared_alike}
 use Rattle.ada_explore.proofs.naming.Speaking.{scripts_speak}
 
@@ -66,37 +68,43 @@ pub after_more : (script : List Line) (old new : List (List ℕ)) (path : List �
 after_more script old new path place kept leads =
     record { from = leads.from; comes = leads.comes; leads = leads_more script old new leads.from place kept leads.leads }
 
-done_more : (script : List Line) (old new : List (List ℕ)) (path : List ℕ) → AreKept old new → IsDone script old path → IsDone script new path
-done_more script old new path kept done = record {
+done_more : (script : List Line) (wanted : Wanted) (old new : List (List ℕ)) (path : List ℕ) → AreKept old new → IsDone script wanted old path
+    → IsDone script wanted new path
+done_more script wanted old new path kept done = record {
   state = done.state;
   comes = done.comes;
   well = record {
     lawful = done.well.lawful;
     settled = done.well.settled;
-    free = done.well.free;
+    well = done.well.well;
     steps = λ place request asks. leads_more script old new done.state place kept (done.well.steps place request asks);
   };
 }
 
 -- one more state is done
-pub one_more_done : (script : List Line) (old new : List (List ℕ)) (path : List ℕ) (count : ℕ) → slice_get old count ≡ Some path → AreKept old new
-    → IsDone script new path → AreDone script old count → AreDone script new (count + 1)
-one_more_done script old new path count is kept done before = record {
-  begun = covering_more script old new (beginning (scripted script)) kept before.begun;
+pub one_more_done : (script : List Line) (wanted : Wanted) (start : List ℕ) (old new : List (List ℕ)) (path : List ℕ) (count : ℕ)
+    → slice_get old count ≡ Some path → AreKept old new → IsDone script wanted new path → AreDone script wanted start old count
+    → AreDone script wanted start new (count + 1)
+one_more_done script wanted start old new path count is kept done before = record {
+  begun = record {
+    from = before.begun.from;
+    comes = before.begun.comes;
+    covered = covering_more script old new before.begun.from kept before.begun.covered;
+  };
   done = λ i other below there. by i other there (cases_eq i count) below;
 }
   where
-    by : (i : ℕ) (other : List ℕ) → slice_get new i ≡ Some other → (i ≡ count) ⊎ (i ≡ count → ⊥) → i < count + 1 → IsDone script new other
+    by : (i : ℕ) (other : List ℕ) → slice_get new i ≡ Some other → (i ≡ count) ⊎ (i ≡ count → ⊥) → i < count + 1 → IsDone script wanted new other
     by i other there (inl here) below =
         let same : path ≡ other = same_Some path other (sym (kept count path is) ∙ sym (ap (slice_get new) here) ∙ there) in
-        subst (λ (p : List ℕ). IsDone script new p) same done
+        subst (λ (p : List ℕ). IsDone script wanted new p) same done
     by i other there (inr earlier) below =
         let within : count < length old = slice_get_within old count path is in
         let before_it : i < count = omega arith in
         let was : slice_get old i ≡ Some (get_or old i []) = slice_get-get_or old i [] (omega arith) in
         let same : get_or old i [] ≡ other = same_Some (get_or old i []) other (sym (kept i (get_or old i []) was) ∙ there) in
-        subst (λ (p : List ℕ). IsDone script new p) same
-        (done_more script old new (get_or old i []) kept (before.done i (get_or old i []) before_it was))
+        subst (λ (p : List ℕ). IsDone script wanted new p) same
+        (done_more script wanted old new (get_or old i []) kept (before.done i (get_or old i []) before_it was))
 
 -- ---- a state that stands in for one
 
@@ -153,17 +161,18 @@ module _ (script : List Line) (journal : List Event) (left : Rest) (place : ℕ)
       (position_or_len test left.left, sym (find_at test left.left) ∙ found, may)
 
 -- where each line that may come leads to what is covered, what a schedule leads to is done
-pub all_steps : (script : List Line) (paths : List (List ℕ)) (path : List ℕ) (journal : List Event) (left : List ℕ) (names : Scope)
-    → Comes (scripted script) (reverse path) (state journal left names) → IsLawful journal → IsSettled journal → (IsStuck journal → ⊥)
+pub all_steps : (script : List Line) (wanted : Wanted) (paths : List (List ℕ)) (path : List ℕ) (journal : List Event) (left : List ℕ) (names : Scope)
+    → Comes (scripted script) (reverse path) (state journal left names) → IsLawful journal → IsSettled journal
+    → IsWell wanted (state journal left names)
     → ((i place : ℕ) → slice_get left i ≡ Some place → may_come script journal (rest left names) place ≡ true → LeadsOnAfter script paths path place)
-    → IsDone script paths path
-all_steps script paths path journal left names comes lawful settled free leads = record {
+    → IsDone script wanted paths path
+all_steps script wanted paths path journal left names comes lawful settled well leads = record {
   state = state journal left names;
   comes = comes;
   well = record {
     lawful = lawful;
     settled = settled;
-    free = free;
+    well = well;
     steps = λ place request asks.
         let (i, is, may) = is_left script journal (rest left names) place request asks in
         let on = leads i place is may in
@@ -174,12 +183,20 @@ all_steps script paths path journal left names comes lawful settled free leads =
 
 -- ---- a closed set
 
-module _ (script : List Line) (paths : List (List ℕ)) (count : ℕ) (done : AreDone script paths count) (all : length paths ≤ count) where
-  well : (here : State Rest) → IsWithin script paths here → GoesOnWell script paths here
+-- what is as is wanted, if what covers it is
+well_alike : (wanted : Wanted) (here by : State Rest) → IsWell wanted by → here.rest.left ≡ by.rest.left
+    → (IsStuck here.journal → IsStuck by.journal) → IsWell wanted here
+well_alike Free here by well left stuck = λ is. well (stuck is)
+well_alike (Left places) here by well left stuck =
+    subst (λ (all : List ℕ). list_all (λ (place : ℕ). list_any (λ (other : ℕ). other == place) all) places.items ≡ true) (sym left) well
+
+module _ (script : List Line) (wanted : Wanted) (start : List ℕ) (paths : List (List ℕ)) (count : ℕ) (done : AreDone script wanted start paths count)
+    (all : length paths ≤ count) where
+  well : (here : State Rest) → IsWithin script paths here → GoesOnWell script wanted paths here
   well here within =
       let below : within.at < length paths = slice_get_within paths within.at within.path within.is in
       let known = done.done within.at within.path (omega arith) within.is in
-      subst (λ (s : State Rest). GoesOnWell script paths s)
+      subst (λ (s : State Rest). GoesOnWell script wanted paths s)
       (comes_once (scripted script) (reverse within.path) known.state here known.comes within.comes) known.well
 
   accepted_on : (here : State Rest) (place : ℕ) (to : State Rest) (request : Request) → Acts (scripted script) place here to → AreCovering script paths to
@@ -205,7 +222,6 @@ module _ (script : List Line) (paths : List (List ℕ)) (count : ℕ) (done : Ar
 
   closed : IsClosed (scripted script) (SameRest script) (IsWithin script paths)
   closed = record {
-    begun = done.begun;
     lawful = λ here within. (well here within).lawful;
     settled = λ here within. (well here within).settled;
     accepted = λ here place request within asks unrefused.
@@ -216,7 +232,34 @@ module _ (script : List Line) (paths : List (List ℕ)) (count : ℕ) (done : Ar
         refused_on here place on.to request cause on.acts on.covered asks refused;
   }
 
-  pub none_gets_stuck : length script ≤ 4096 → NoneGetsStuck script
-  none_gets_stuck short =
-      none_stuck (scripted script) (SameRest script) (IsWithin script paths) (scripts_speak script short) closed
-      (λ here within. (well here within).free)
+  -- what covers a state is as is wanted, so that is, too
+  well_too : (here : State Rest) → IsCovered (scripted script) (SameRest script) (IsWithin script paths) here → length script ≤ 4096
+      → IsWell wanted here
+  well_too here known short =
+      well_alike wanted here known.covered.by (well known.covered.by known.covered.within).well known.covered.same.left
+      (stuck_within (scripted script) (SameRest script) (IsWithin script paths) (scripts_speak script short) closed here known)
+
+  pub stays_well : length script ≤ 4096 → StaysWell script wanted start
+  stays_well short = record {
+    from = done.begun.from;
+    comes = done.begun.comes;
+    well = λ more to comes.
+        let known = follows_covered (scripted script) (SameRest script) (IsWithin script paths) (scripts_speak script short) closed
+            (reverse start) done.begun.from done.begun.comes done.begun.covered more to comes in
+        well_too to known short;
+  }
+
+-- ---- what that says of a script
+
+pub none_gets_stuck : (script : List Line) → StaysWell script Free [] → NoneGetsStuck script
+none_gets_stuck script stays state (choices, comes) =
+    stays.well choices state (subst (λ (all : List ℕ). Comes (scripted script) all state) (sym (append-nil choices)) comes)
+
+pub never_said : (script : List Line) (start places : List ℕ) (lines : Vec ℕ Global) → lines.items ≡ places → StaysWell script (Left lines) start
+    → NeverSays script start places
+never_said script start places lines same stays = record {
+  from = stays.from;
+  comes = stays.comes;
+  left = λ more to comes.
+      subst (λ (ps : List ℕ). list_all (is_left to.rest) ps ≡ true) same (stays.well more to comes);
+}

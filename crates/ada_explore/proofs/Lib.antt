@@ -3,7 +3,6 @@ mod Acting
 mod Paths
 mod Standstill
 pub mod naming
-mod Once
 mod Shapes
 mod Closing
 mod Free

@@ -8,11 +8,10 @@ use Rattle.ada_events.specs.Lawful.{IsLawful, IsSettled}
 use Rattle.ada_standing.specs.Renaming.{Renaming}
 use Rattle.ada_statements.specs.Scope.{Scope}
 use Rattle.ada_script.specs.declared.script.Line.{Line}
-use Rattle.ada_schedules.specs.Schedules.{State, Acts, Comes, Reaches, beginning}
-use Rattle.ada_schedules.specs.Stuck.{IsStuck}
+use Rattle.ada_schedules.specs.Schedules.{State, Acts, Comes, Reaches}
+use Rattle.ada_explore.specs.declared.wanted.Wanted.{Wanted}
 use Rattle.ada_explore.specs.Scripts.{Rest, scripted, at as state, may_come}
-use Rattle.ada_explore.specs.internal.Covering.{IsAlike, AreCovering, AreKept, LeadsOnAfter, AreCovered, IsDone, AreDone}
-use Rattle.ada_explore.proofs.Paths.{begins}
+use Rattle.ada_explore.specs.internal.Covering.{IsAlike, AreCovering, AreKept, LeadsOnAfter, AreCovered, IsWell, IsBegun, IsDone, AreDone}
 use Rattle.ada_explore.proofs.Closing.{kept_on, after_more, alike_covers, one_longer, all_steps, one_more_done}
 
 -- what follows from what a result says
@@ -28,16 +27,15 @@ covered_there script lines paths old new i path places same is equal comes (name
     alike_covers script paths old new names (subst (λ (ls : List Line). IsAlike ls old new names) same alike) reached
     (record { at = i; path = path; is = is; comes = subst (λ (ps : List ℕ). Comes (scripted script) (reverse ps) new) equal comes })
 
--- the beginning is covered
-pub begun_done : (script : List Line) (before paths : List (List ℕ)) (schedule : List ℕ) (from : State Rest) → schedule ≡ []
-    → from ≡ beginning (scripted script) → (Comes (scripted script) (reverse schedule) from → AreKept before paths × AreCovering script paths from)
-    → AreDone script paths 0
-begun_done script before paths schedule from empty is covers =
-    let comes = subst (λ (ps : List ℕ). Comes (scripted script) (reverse ps) from) (sym empty) (begins script from is) in
-    record {
-      begun = subst (λ (s : State Rest). AreCovering script paths s) is (covers comes).1;
-      done = λ i path below there. absurd (omega arith);
-    }
+-- what a schedule leads to is covered
+pub begun : (script : List Line) (before paths : List (List ℕ)) (start schedule : List ℕ) (from : State Rest) → schedule ≡ start
+    → Comes (scripted script) (reverse start) from
+    → (Comes (scripted script) (reverse schedule) from → AreKept before paths × AreCovering script paths from) → IsBegun script start paths
+begun script before paths start schedule from same comes covers = record {
+  from = from;
+  comes = comes;
+  covered = (covers (subst (λ (ps : List ℕ). Comes (scripted script) (reverse ps) from) (sym same) comes)).1;
+}
 
 -- a line that was said leads to what is covered
 pub stepped : (script lines : List Line) (before paths : List (List ℕ)) (path schedule : List ℕ) (place : ℕ) (from to : State Rest) → lines ≡ script
@@ -71,16 +69,23 @@ one_more_covered script first old new path here count place there before (kept, 
 
 -- ---- states that are gone on from
 
-pub all_covered : (script : List Line) (old new : List (List ℕ)) (path : List ℕ) (journal : List Event) (left : List ℕ) (names : Scope)
-    → Comes (scripted script) (reverse path) (state journal left names) → IsLawful journal → IsSettled journal → (IsStuck journal → ⊥)
-    → AreCovered script old new path (state journal left names) (length left) → AreKept old new × IsDone script new path
-all_covered script old new path journal left names comes lawful settled free covered = (
+pub all_covered : (script : List Line) (wanted : Wanted) (old new : List (List ℕ)) (path : List ℕ) (journal : List Event) (left : List ℕ) (names : Scope)
+    → Comes (scripted script) (reverse path) (state journal left names) → IsLawful journal → IsSettled journal
+    → IsWell wanted (state journal left names) → AreCovered script old new path (state journal left names) (length left)
+    → AreKept old new × IsDone script wanted new path
+all_covered script wanted old new path journal left names comes lawful settled well covered = (
   covered.kept,
-  all_steps script new path journal left names comes lawful settled free
+  all_steps script wanted new path journal left names comes lawful settled well
       (λ i place is may. covered.leads i place (slice_get_within left i place is) is may),
 )
 
-pub gone_on : (script : List Line) (old new : List (List ℕ)) (path places : List ℕ) (count : ℕ) → places ≡ path → slice_get old count ≡ Some path
-    → AreKept old new × IsDone script new places → AreDone script old count → AreDone script new (count + 1)
-gone_on script old new path places count equal is (kept, done) before =
-    one_more_done script old new path count is kept (subst (λ (ps : List ℕ). IsDone script new ps) equal done) before
+pub gone_on : (script : List Line) (wanted : Wanted) (old new : List (List ℕ)) (path places : List ℕ) (count : ℕ) → places ≡ path
+    → slice_get old count ≡ Some path → AreKept old new × IsDone script wanted new places → (start : List ℕ)
+    → AreDone script wanted start old count → AreDone script wanted start new (count + 1)
+gone_on script wanted old new path places count equal is (kept, done) start before =
+    one_more_done script wanted start old new path count is kept (subst (λ (ps : List ℕ). IsDone script wanted new ps) equal done) before
+
+-- nothing is done yet
+pub none_done : (script : List Line) (wanted : Wanted) (start : List ℕ) (paths : List (List ℕ)) → IsBegun script start paths
+    → AreDone script wanted start paths 0
+none_done script wanted start paths begun = record { begun = begun; done = λ i path below there. absurd (omega arith) }

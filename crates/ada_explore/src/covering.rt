@@ -1,4 +1,4 @@
-//! The check that no schedule of a script gets stuck: a search in breadth first whose merging is checked. A state is
+//! The check of what all schedules of a script come to: a search in breadth first whose merging is checked. A state is
 //! taken for one that was met only where that stands in for it, so what was met at the end covers whatever any
 //! schedule comes to.
 
@@ -7,14 +7,15 @@ ghost use Rattle.ada_standing.specs.Names.{renaming_of};
 ghost use Rattle.ada_standing.specs.Renaming.{Renaming as Naming};
 ghost use Rattle.ada_schedules.specs.Schedules.{Comes, Reaches};
 ghost use Rattle.ada_explore.specs.Scripts as scripts;
-ghost use Rattle.ada_explore.specs.Findings.{NoneGetsStuck};
-ghost use Rattle.ada_explore.specs.internal.Covering.{AreCovered, AreCovering, AreDone, AreKept, IsAlike, IsDone, LeadsOnAfter};
+ghost use Rattle.ada_explore.specs.Findings.{NeverSays, NoneGetsStuck};
+ghost use Rattle.ada_explore.specs.internal.Covering.{AreCovered, AreCovering, AreDone, AreKept, IsAlike, IsBegun, IsDone};
+ghost use Rattle.ada_explore.specs.internal.Covering.{LeadsOnAfter, StaysWell};
 
 use crate::alike::Scopes;
 use crate::guess::guess;
 use crate::key::key_of;
 use crate::states::{Schedule, States};
-use crate::stuck::is_free;
+use crate::wanted::Wanted;
 use crate::watch::TURN;
 use crate::{Halt, Standing, Watch, follow};
 use ada_compact::stands_in;
@@ -197,13 +198,19 @@ fn cover_choices(
     Ok(true)
 }
 
-// Whether what a schedule leads to isn't stuck, and each line that may come leads to what is covered.
-fn go_on(alloc: Global, script: &Script, states: &mut States, path: &[u16]) -> Result<bool, Halt>
+// Whether what a schedule leads to is as is wanted, and each line that may come leads to what is covered.
+fn go_on(
+    alloc: Global,
+    script: &Script,
+    wanted: &Wanted,
+    states: &mut States,
+    path: &[u16],
+) -> Result<bool, Halt>
     ensures { IfOk result (λ done. done ≡ true → AreKept states.old states.new
-        × IsDone script.now states.new path.now) }
+        × IsDone script.now wanted.now states.new path.now) }
 {
     let standing = follow(alloc, script, path)?;
-    if !is_free(&standing.kernel)? {
+    if !wanted.is_met(&standing)? {
         return Ok(false);
     }
     cover_choices(alloc, script, states, path, &standing)
@@ -213,31 +220,73 @@ fn go_on(alloc: Global, script: &Script, states: &mut States, path: &[u16]) -> R
 fn go_on_from(
     alloc: Global,
     script: &Script,
+    wanted: &Wanted,
     states: &mut States,
     state: usize,
 ) -> Result<bool, Halt>
-    ensures { IfOk result (λ done. done ≡ true → AreDone script.now states.old state
-        → AreDone script.now states.new (state + 1)) }
+    ensures { IfOk result (λ done. done ≡ true → (start : List ℕ)
+        → AreDone script.now wanted.now start states.old state
+        → AreDone script.now wanted.now start states.new (state + 1)) }
 {
     let Some(schedule) = states.schedule(state) else {
         return Ok(false);
     };
     let path = schedule.copy(alloc)?;
-    go_on(alloc, script, states, path.places())
+    go_on(alloc, script, wanted, states, path.places())
 }
 
-// The beginning alone, if it stands in for itself.
-fn begin(alloc: Global, script: &Script) -> Result<Option<States>, Halt>
-    ensures { IfOk result (λ begun. IfSome begun (λ states. AreDone script.now states 0)) }
+// What a schedule leads to alone, if that stands in for itself.
+fn begin(alloc: Global, script: &Script, start: &[u16]) -> Result<Option<States>, Halt>
+    ensures { IfOk result (λ begun. IfSome begun (λ states. IsBegun script.now start.now states)) }
 {
     let mut states = States::new(alloc);
-    let standing = Standing::new(alloc, script)?;
-    let schedule = Schedule::new(alloc);
+    let standing = follow(alloc, script, start)?;
+    let schedule = Schedule::of(alloc, start)?;
     if cover(alloc, script, &mut states, &standing, schedule)? {
         Ok(Some(states))
     } else {
         Ok(None)
     }
+}
+
+// How many states cover all that schedules come to when they go on from one, where each of them is as is wanted. It
+// goes on from each state that is met, in their order, up to so many.
+fn cover_all<W: Watch>(
+    alloc: Global,
+    script: &Script,
+    start: &[u16],
+    wanted: &Wanted,
+    most: u32,
+    watch: &mut W,
+) -> Result<Option<u32>, Halt>
+    ensures { IfOk result (λ found. IfSome found (λ states.
+        StaysWell script.now wanted.now start.now)) }
+{
+    if script.lines().len() > MOST_LINES {
+        return Err(Halt::TooLong);
+    }
+    let Some(mut states) = begin(alloc, script, start)? else {
+        return Ok(None);
+    };
+    for state in 0..most {
+        if state as usize >= states.count() {
+            return Ok(Some(state));
+        }
+        if is_ended(&states, state, watch)
+            || !go_on_from(alloc, script, wanted, &mut states, state as usize)?
+        {
+            return Ok(None);
+        }
+    }
+    if states.count() <= most as usize {
+        return Ok(Some(most));
+    }
+    Ok(None)
+}
+
+// Whether whoever watches ends the search, before it goes on from a state.
+fn is_ended<W: Watch>(states: &States, state: u32, watch: &mut W) -> bool {
+    state % TURN == 0 && !watch.goes_on(states.progress(state))
 }
 
 /// How many states cover all that schedules of a script come to, where none of them is stuck: then no schedule gets
@@ -252,43 +301,23 @@ pub fn covered_by<W: Watch>(
 ) -> Result<Option<u32>, Halt>
     ensures { IfOk result (λ found. IfSome found (λ states. NoneGetsStuck script.now)) }
 {
-    if script.lines().len() > MOST_LINES {
-        return Err(Halt::TooLong);
-    }
-    let Some(mut states) = begin(alloc, script)? else {
-        return Ok(None);
-    };
-    cover_all(alloc, script, &mut states, most, watch)
+    cover_all(alloc, script, &[], &Wanted::Free, most, watch)
 }
 
-// Goes on from each state that is met, in their order, up to so many.
-fn cover_all<W: Watch>(
+/// Whether the lines at some places are left in whatever a schedule comes to when it goes on, so that none of them is
+/// ever said. False if that isn't found: one of them may be said, there are more states than so many, or whoever
+/// watches ends the search. An `Err` is that of [`covered_by`], or says that this isn't a schedule of the script.
+pub fn never_says<W: Watch>(
     alloc: Global,
     script: &Script,
-    states: &mut States,
+    path: &[u16],
+    places: &[u16],
     most: u32,
     watch: &mut W,
-) -> Result<Option<u32>, Halt>
-    requires short { length script.now ≤ 4096 }
-    requires begun { AreDone script.now states.old 0 }
-    ensures { IfOk result (λ found. IfSome found (λ states. NoneGetsStuck script.now)) }
+) -> Result<bool, Halt>
+    ensures { IfOk result (λ never. never ≡ true → NeverSays script.now path.now places.now) }
 {
-    for state in 0..most {
-        if state as usize >= states.count() {
-            return Ok(Some(state));
-        }
-        if is_ended(states, state, watch) || !go_on_from(alloc, script, states, state as usize)? {
-            return Ok(None);
-        }
-    }
-    if states.count() <= most as usize {
-        return Ok(Some(most));
-    }
-    Ok(None)
-}
-
-// Whether whoever watches ends the search, before it goes on from a state.
-fn is_ended<W: Watch>(states: &States, state: u32, watch: &mut W) -> bool {
-    let met = u32::try_from(states.count()).unwrap_or(u32::MAX);
-    state % TURN == 0 && !watch.goes_on(state, met)
+    let places = Vec::from_slice(alloc, places).map_err(|_| Halt::Memory)?;
+    let found = cover_all(alloc, script, path, &Wanted::Left(places), most, watch)?;
+    Ok(found.is_some())
 }

@@ -1,18 +1,30 @@
 //! What is found of all schedules of a script.
 ghost use Rattle.std.specs.Prelude.{◌≡◌, true, IfOk, IfSome};
-ghost use Rattle.ada_explore.specs.Findings.{GetsStuck, NoneGetsStuck};
+ghost use Rattle.ada_explore.specs.Findings.{GetsStuck, NeverSays, NoneGetsStuck};
 
-use crate::covering::covered_by;
+use crate::covering::{covered_by, never_says};
 use crate::search::Search;
 use crate::{End, Halt, Refused, Watch, follow, is_stuck};
 use ada_script::Script;
 use std::alloc::Global;
+
+/// A schedule from which on some lines are never said, whatever comes.
+#[derive(Drop)]
+pub struct Stop {
+    /// The places of the lines that it says.
+    pub path: Vec<u16>,
+    /// The places of those that are never said. Their tasks don't end.
+    pub lines: Vec<u16>,
+}
 
 /// What was found of all schedules of a script.
 #[derive(Drop)]
 pub struct Finding {
     /// A schedule that gets stuck, by the places of its lines; none that was met is shorter.
     pub stuck: Option<Vec<u16>>,
+    /// If none was met that gets stuck, a schedule after which some tasks are held up for good; none that was met is
+    /// shorter.
+    pub stopped: Option<Stop>,
     /// How many states cover all that schedules come to, if it was found that no schedule gets stuck.
     pub covered: Option<u32>,
     /// How many states were met.
@@ -58,6 +70,65 @@ fn first_stuck(alloc: Global, script: &Script, search: &Search) -> Result<Option
     }
 }
 
+// Whether some lines are never said after a schedule; not if a limit of the kernel is met.
+fn never_says_them<W: Watch>(
+    alloc: Global,
+    script: &Script,
+    stop: &Stop,
+    most: u32,
+    watch: &mut W,
+) -> Result<bool, Halt>
+    ensures { IfOk result (λ never. never ≡ true
+        → NeverSays script.now stop.now.path.items stop.now.lines.items) }
+{
+    match never_says(alloc, script, &stop.path, &stop.lines, most, watch) {
+        Err(Halt::Limit(_)) => Ok(false),
+        found => found,
+    }
+}
+
+// The schedule that a search met, if that is so after it.
+fn stop_if_so<W: Watch>(
+    alloc: Global,
+    script: &Script,
+    stop: Stop,
+    most: u32,
+    watch: &mut W,
+) -> Result<Option<Stop>, Halt>
+    ensures { IfOk result (λ found. IfSome found (λ stop.
+        NeverSays script.now stop.path.items stop.lines.items)) }
+{
+    if never_says_them(alloc, script, &stop, most, watch)? {
+        Ok(Some(stop))
+    } else {
+        Ok(None)
+    }
+}
+
+// The first schedule of a search that saw all, and met none that gets stuck, after which some lines are never said.
+fn first_stop<W: Watch>(
+    alloc: Global,
+    script: &Script,
+    search: &Search,
+    most: u32,
+    watch: &mut W,
+) -> Result<Option<Stop>, Halt>
+    ensures { IfOk result (λ found. IfSome found (λ stop.
+        NeverSays script.now stop.path.items stop.lines.items)) }
+{
+    if search.end != End::AllSeen || search.first.is_some() {
+        return Ok(None);
+    }
+    let Some((state, lines)) = search.first_stop(script)? else {
+        return Ok(None);
+    };
+    let stop = Stop {
+        path: search.path(state)?,
+        lines,
+    };
+    stop_if_so(alloc, script, stop, most, watch)
+}
+
 // How many states cover all that schedules of a script come to, if none that was met is stuck and none is left.
 fn covered<W: Watch>(
     alloc: Global,
@@ -78,8 +149,9 @@ fn covered<W: Watch>(
 }
 
 /// Searches all schedules of a script; so many states are gone on from, at most. A schedule that is told gets stuck: it
-/// is one of the script's, and nothing can let go on what it comes to. If it is told how many states cover all, no
-/// schedule gets stuck. If neither is told, nothing is known. An `Err` is want of memory, or a script with more lines
+/// is one of the script's, and nothing can let go on what it comes to. If one is told that is stopped, the lines are
+/// never said after it. If it is told how many states cover all, no schedule gets stuck; that isn't looked for if one
+/// is stopped. If nothing of these is told, nothing is known. An `Err` is want of memory, or a script with more lines
 /// than a script may have.
 pub fn explore<W: Watch>(
     alloc: Global,
@@ -89,14 +161,21 @@ pub fn explore<W: Watch>(
 ) -> Result<Finding, Halt>
     ensures stuck { IfOk result (λ finding.
         IfSome finding.stuck (λ path. GetsStuck script.now path.items)) }
+    ensures stopped { IfOk result (λ finding. IfSome finding.stopped (λ stop.
+        NeverSays script.now stop.path.items stop.lines.items)) }
     ensures none { IfOk result (λ finding.
         IfSome finding.covered (λ states. NoneGetsStuck script.now)) }
 {
     let search = Search::of(alloc, script, most, watch)?;
     let stuck = first_stuck(alloc, script, &search)?;
-    let covered = covered(alloc, script, &search, most, watch)?;
+    let stopped = first_stop(alloc, script, &search, most, watch)?;
+    let covered = match stopped {
+        Some(_) => None,
+        None => covered(alloc, script, &search, most, watch)?,
+    };
     Ok(Finding {
         stuck,
+        stopped,
         covered,
         states: search.states(),
         stuck_states: search.stuck,

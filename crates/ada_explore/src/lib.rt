@@ -5,6 +5,7 @@
 //! Section numbers are those of the Ada 83 manual, ANSI/MIL-STD-1815A.
 #![tactic(auto)]
 
+mod ahead;
 mod alike;
 pub mod covering;
 pub mod finding;
@@ -16,12 +17,13 @@ mod search;
 pub mod standing;
 mod states;
 pub mod stuck;
+mod wanted;
 pub mod watch;
 
-pub use covering::covered_by;
-pub use finding::{Finding, explore};
+pub use covering::{covered_by, never_says};
+pub use finding::{Finding, Stop, explore};
 pub use following::follow;
 pub use search::{End, Refused};
 pub use standing::{Halt, Standing};
 pub use stuck::is_stuck;
-pub use watch::{Unwatched, Watch};
+pub use watch::{Progress, Unwatched, Watch};

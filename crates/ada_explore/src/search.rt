@@ -1,14 +1,20 @@
 //! A search of all schedules of a script, in breadth first: it tells the shortest schedule that gets stuck. Nothing is
 //! promised of it: what it tells is followed again.
 
+use crate::ahead::Ahead;
 use crate::key::key_of;
 use crate::standing::asker_at;
 use crate::watch::TURN;
-use crate::{Halt, Standing, Watch, is_stuck};
+use crate::{Halt, Progress, Standing, Watch, is_stuck};
 use ada_events::{Refusal, TaskNo};
 use ada_script::{Line, Script};
+use ada_waiting::next_due;
 use indexmap::IndexSet;
 use std::alloc::Global;
+
+/// So many bytes a state takes beside its key, and a step from one to another, about.
+const STATE: u64 = 128;
+const LEAD: u64 = 12;
 
 /// How a search ended.
 #[derive(Clone, Copy, Debug, PartialEq, Eq)]
@@ -43,6 +49,8 @@ pub(crate) struct Search {
     steps: Vec<Step>,
     /// What tells states apart.
     keys: IndexSet<Vec<u8>>,
+    /// So many bytes these have.
+    bytes: u64,
     /// The first stuck state.
     pub(crate) first: Option<u32>,
     /// How many states are stuck.
@@ -53,6 +61,10 @@ pub(crate) struct Search {
     pub(crate) taken: u64,
     /// The lines that were refused, the first one first.
     pub(crate) refused: Vec<Refused>,
+    /// Which states lead to which, in the order of those that lead.
+    leads: Vec<Lead>,
+    /// The states in which no line may come, with the lines that their tasks would say if they went on.
+    ends: Vec<Deadend>,
     pub(crate) end: End,
 }
 
@@ -60,6 +72,21 @@ pub(crate) struct Search {
 struct Step {
     from: u32,
     place: u16,
+}
+
+// One state leads to another.
+#[derive(Clone, Copy, Debug, PartialEq, Eq)]
+struct Lead {
+    from: u32,
+    to: u32,
+}
+
+// A state in which no line may come.
+#[derive(Drop)]
+struct Deadend {
+    state: u32,
+    /// The places of the lines that are left for good.
+    left: Vec<u16>,
 }
 
 impl Search {
@@ -74,11 +101,14 @@ impl Search {
             alloc,
             steps: Vec::new(alloc),
             keys: IndexSet::new(alloc),
+            bytes: 0,
             first: None,
             stuck: 0,
             short: 0,
             taken: 0,
             refused: Vec::new(alloc),
+            leads: Vec::new(alloc),
+            ends: Vec::new(alloc),
             end: End::AllSeen,
         };
         search.begin(script)?;
@@ -86,7 +116,7 @@ impl Search {
             if state >= search.states() {
                 return Ok(search);
             }
-            if state % TURN == 0 && !watch.goes_on(state, search.states()) {
+            if state % TURN == 0 && !watch.goes_on(search.progress(state)) {
                 search.end = End::Ended;
                 return Ok(search);
             }
@@ -105,7 +135,18 @@ impl Search {
             from: 0,
             place: u16::MAX,
         };
-        self.meet(script.lines(), &standing, step)
+        self.meet(script.lines(), &standing, step)?;
+        Ok(())
+    }
+
+    fn progress(&self, done: u32) -> Progress {
+        let leads = (self.leads.len() as u64).saturating_mul(LEAD);
+        let states = u64::from(self.states()).saturating_mul(STATE);
+        Progress {
+            done,
+            met: self.states(),
+            bytes: self.bytes.saturating_add(states).saturating_add(leads),
+        }
     }
 
     /// How many states were met.
@@ -136,8 +177,8 @@ impl Search {
         let path = self.path(state)?;
         let standing = play(self.alloc, script, &path)?;
         let choices = choices(self.alloc, script.lines(), &standing)?;
-        if choices.is_empty() && is_short(&standing) {
-            self.short = self.short.saturating_add(1);
+        if choices.is_empty() {
+            self.end_at(script.lines(), state, &standing)?;
         }
         let after = u32::try_from(path.len()).unwrap_or(u32::MAX);
         let mut here = Some(standing);
@@ -155,6 +196,15 @@ impl Search {
         Ok(())
     }
 
+    // Notes a state in which no line may come.
+    fn end_at(&mut self, script: &[Line], state: u32, standing: &Standing) -> Result<(), Halt> {
+        if is_short(standing) {
+            self.short = self.short.saturating_add(1);
+        }
+        let left = left_for_good(self.alloc, script, standing)?;
+        self.ends.push(Deadend { state, left }).map_err(|_| Halt::Memory)
+    }
+
     // Takes a step, after which a schedule has this length.
     fn step(
         &mut self,
@@ -166,10 +216,10 @@ impl Search {
         self.taken = self.taken.saturating_add(1);
         let mut standing = from;
         match standing.perform(script.lines(), step.place) {
-            Ok(None) => self.meet(script.lines(), &standing, step),
+            Ok(None) => self.lead(script.lines(), &standing, step),
             Ok(Some(cause)) => {
                 self.note_refused(step.place, cause, after)?;
-                self.meet(script.lines(), &standing, step)
+                self.lead(script.lines(), &standing, step)
             }
             Err(Halt::Limit(cause)) => {
                 self.end = End::Limit(cause);
@@ -195,21 +245,114 @@ impl Search {
         self.refused.push(refused).map_err(|_| Halt::Memory)
     }
 
-    // Notes a state, if it is new.
-    fn meet(&mut self, script: &[Line], standing: &Standing, step: Step) -> Result<(), Halt> {
+    // Notes where a step leads.
+    fn lead(&mut self, script: &[Line], standing: &Standing, step: Step) -> Result<(), Halt> {
+        let to = self.meet(script, standing, step)?;
+        let lead = Lead {
+            from: step.from,
+            to,
+        };
+        self.leads.push(lead).map_err(|_| Halt::Memory)
+    }
+
+    // The number of a state, which is noted if it is new.
+    fn meet(&mut self, script: &[Line], standing: &Standing, step: Step) -> Result<u32, Halt> {
         let key = key_of(self.alloc, script, standing).map_err(|_| Halt::Memory)?;
+        let bytes = key.len() as u64;
         let (state, is_new) = self.keys.insert_full(key).map_err(|_| Halt::Memory)?;
-        if !is_new {
-            return Ok(());
+        let state = u32::try_from(state).map_err(|_| Halt::Memory)?;
+        if is_new {
+            self.bytes = self.bytes.saturating_add(bytes);
+            self.steps.push(step).map_err(|_| Halt::Memory)?;
+            self.note_stuck(standing, state);
         }
-        self.steps.push(step).map_err(|_| Halt::Memory)?;
+        Ok(state)
+    }
+
+    fn note_stuck(&mut self, standing: &Standing, state: u32) {
         if is_stuck(&standing.kernel) {
             self.stuck = self.stuck.saturating_add(1);
-            if self.first.is_none() {
-                self.first = u32::try_from(state).ok();
+            self.first = self.first.or(Some(state));
+        }
+    }
+
+    /// The first state in which tasks are held up for good, if one was met, with the places of the lines that they
+    /// never say: the same wherever it leads. All states were seen.
+    pub(crate) fn first_stop(&self, script: &Script) -> Result<Option<(u32, Vec<u16>)>, Halt> {
+        if self.ends.iter().all(|end| end.left.is_empty()) {
+            return Ok(None);
+        }
+        let ahead = self.ahead(script.lines().len())?;
+        for state in 0..self.states() {
+            if ahead.is_settled(state) {
+                let lines = left_ahead(self.alloc, script, &ahead, state)?;
+                if self.are_held(script, state, &lines)? {
+                    return Ok(Some((state, lines)));
+                }
             }
         }
-        Ok(())
+        Ok(None)
+    }
+
+    // What lies ahead of each state. Each leads to later ones alone, so the last come first.
+    fn ahead(&self, lines: usize) -> Result<Ahead, Halt> {
+        let mut ahead = Ahead::new(self.alloc, self.states(), lines)?;
+        for end in &self.ends {
+            ahead.end_at(end.state, &end.left);
+        }
+        for lead in self.leads.iter().rev() {
+            ahead.lead(lead.from, lead.to);
+        }
+        Ok(ahead)
+    }
+
+    // Whether the tasks of some lines are held up in a state.
+    fn are_held(&self, script: &Script, state: u32, lines: &[u16]) -> Result<bool, Halt> {
+        let path = self.path(state)?;
+        let standing = play(self.alloc, script, &path)?;
+        Ok(lines.iter().all(|line| is_held_at(script.lines(), &standing, *line)))
+    }
+}
+
+// The places of the lines that are left wherever a state leads.
+fn left_ahead(
+    alloc: Global,
+    script: &Script,
+    ahead: &Ahead,
+    state: u32,
+) -> Result<Vec<u16>, Halt> {
+    let mut places = Vec::new(alloc);
+    for line in 0..u16::try_from(script.lines().len()).unwrap_or(u16::MAX) {
+        if ahead.is_left(state, line) {
+            places.push(line).map_err(|_| Halt::Memory)?;
+        }
+    }
+    Ok(places)
+}
+
+// The places of the lines whose tasks are held up where no line may come; none if a moment is due, since a tick more
+// might let them go on.
+fn left_for_good(alloc: Global, script: &[Line], standing: &Standing) -> Result<Vec<u16>, Halt> {
+    let mut left = Vec::new(alloc);
+    if next_due(&standing.kernel).is_some() {
+        return Ok(left);
+    }
+    for place in &standing.left {
+        if is_held_at(script, standing, *place) {
+            left.push(*place).map_err(|_| Halt::Memory)?;
+        }
+    }
+    Ok(left)
+}
+
+// Whether the task of a line is suspended, and not at an open terminate alternative (9.7.1).
+fn is_held_at(script: &[Line], standing: &Standing, place: u16) -> bool {
+    let task = asker_at(script, &standing.names, place);
+    match task.and_then(|task| standing.kernel.record(task)) {
+        Some(record) => {
+            !record.has_ended() && record.suspension.at > 0 && !record.suspension.quittable
+        }
+        None => false,
     }
 }
 

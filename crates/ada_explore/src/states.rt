@@ -3,7 +3,7 @@
 ghost use Rattle.std.specs.Prelude.{◌≡◌, ◌∷◌, ◌++◌, [], length, slice_get, IfOk, OnOk};
 ghost use Rattle.std.specs.Option.{option_copied};
 
-use crate::Halt;
+use crate::{Halt, Progress};
 use indexmap::IndexMap;
 use std::alloc::Global;
 use std::marker::Model;
@@ -23,13 +23,12 @@ impl Model for Schedule {
 }
 
 impl Schedule {
-    /// Of no lines.
-    pub(crate) fn new(alloc: Global) -> Self
-        ensures { result ≡ [] }
+    /// Of the lines at these places.
+    pub(crate) fn of(alloc: Global, places: &[u16]) -> Result<Self, Halt>
+        ensures { IfOk result (λ schedule. schedule ≡ places.now) }
     {
-        Schedule {
-            places: Vec::new(alloc),
-        }
+        let places = Vec::from_slice(alloc, places).map_err(|_| Halt::Memory)?;
+        Ok(Schedule { places })
     }
 
     /// The places of the lines, in their order.
@@ -39,12 +38,16 @@ impl Schedule {
         &self.places
     }
 
+    // So many bytes its places take.
+    fn bytes(&self) -> u64 {
+        (self.places.len() as u64).saturating_mul(2)
+    }
+
     /// The same schedule.
     pub(crate) fn copy(&self, alloc: Global) -> Result<Self, Halt>
         ensures { IfOk result (λ copy. copy ≡ self.now) }
     {
-        let places = Vec::from_slice(alloc, &self.places).map_err(|_| Halt::Memory)?;
-        Ok(Schedule { places })
+        Schedule::of(alloc, &self.places)
     }
 
     /// A schedule that says one line more than these.
@@ -63,7 +66,12 @@ pub(crate) struct States {
     schedules: Vec<Schedule>,
     /// Which of them has a key. Nothing is promised of it: whether that state stands in for another is checked.
     keys: IndexMap<Vec<u8>, u32>,
+    /// So many bytes the keys and the schedules have.
+    bytes: u64,
 }
+
+/// So many bytes a state takes beside these, about.
+const STATE: u64 = 160;
 
 impl Model for States {
     ghost use Rattle.std.specs.Prelude.{ℕ, List};
@@ -81,6 +89,17 @@ impl States {
         States {
             schedules: Vec::new(alloc),
             keys: IndexMap::new(alloc),
+            bytes: 0,
+        }
+    }
+
+    /// How far the search has come that went on from so many of them.
+    pub(crate) fn progress(&self, done: u32) -> Progress {
+        let met = u32::try_from(self.schedules.len()).unwrap_or(u32::MAX);
+        Progress {
+            done,
+            met,
+            bytes: u64::from(met).saturating_mul(STATE).saturating_add(self.bytes),
         }
     }
 
@@ -116,8 +135,10 @@ impl States {
     pub(crate) fn meet(&mut self, schedule: Schedule, key: Vec<u8>) -> Result<(), Halt>
         ensures { OnOk result (self.new ≡ self.old ++ schedule ∷ []) }
     {
+        let bytes = (key.len() as u64).saturating_add(schedule.bytes());
         self.note(key)?;
         self.schedules.push(schedule).map_err(|_| Halt::Memory)?;
+        self.bytes = self.bytes.saturating_add(bytes);
         Ok(())
     }
 }

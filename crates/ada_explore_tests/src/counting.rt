@@ -1,7 +1,7 @@
 //! What a search counts, by hand, and how it ends early.
 
 use ada_events::Refusal;
-use ada_explore::{End, Finding, Halt, Refused, Unwatched, Watch, explore};
+use ada_explore::{End, Finding, Halt, Progress, Refused, Unwatched, Watch, explore};
 use ada_script::read;
 use std::alloc::Global;
 use std::test::Fail;
@@ -27,7 +27,7 @@ main: complete
 struct Impatient;
 
 impl Watch for Impatient {
-    fn goes_on(&mut self, _done: u32, _met: u32) -> bool {
+    fn goes_on(&mut self, _progress: Progress) -> bool {
         false
     }
 }

@@ -1,6 +1,6 @@
 //! What is found of scripts some of whose schedules get stuck.
 
-use crate::plain::shortest_stuck;
+use crate::plain::ends_of;
 use ada_explore::{End, Halt, Unwatched, explore};
 use ada_script::read;
 use std::alloc::Global;
@@ -37,6 +37,9 @@ Bob: complete
 main: complete
 ";
 
+/// More schedules, with all that begin them, than any script here has.
+const MOST: u32 = 1_000_000;
+
 // How long the shortest schedule is that gets stuck, by the search, which sees all, and by the plain one.
 fn found_in(alloc: Global, text: &[u8]) -> Result<(Option<usize>, Option<usize>), Halt> {
     let script = read(alloc, text).map_err(|_| Halt::Memory)?;
@@ -48,7 +51,7 @@ fn found_in(alloc: Global, text: &[u8]) -> Result<(Option<usize>, Option<usize>)
         Some(path) => Some(path.len()),
         None => None,
     };
-    Ok((length, shortest_stuck(alloc, &script)?))
+    Ok((length, ends_of(alloc, &script, MOST)?.stuck))
 }
 
 fn assert_found<R: Abort>(

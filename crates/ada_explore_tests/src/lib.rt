@@ -9,3 +9,7 @@ mod covering;
 mod finding;
 #[cfg(test)]
 mod plain;
+#[cfg(test)]
+mod random;
+#[cfg(test)]
+mod stopping;

@@ -1,26 +1,41 @@
 //! A plain search: it goes through each schedule to its end, and takes no two states for the same.
 
+use ada_events::TaskNo;
 use ada_explore::{Halt, Standing, follow, is_stuck};
-use ada_script::{Line, Script};
+use ada_kernel::Kernel;
+use ada_script::{Line, Script, Statement};
+use ada_waiting::next_due;
 use std::alloc::Global;
 
-/// More schedules, with all that begin them, than any script of these tests has.
-const MOST: u32 = 1_000_000;
+/// What schedules come to.
+#[derive(Clone, Copy, Debug, PartialEq, Eq)]
+pub struct Ends {
+    /// How many lines the shortest one has that gets stuck; none if none does.
+    pub stuck: Option<usize>,
+    /// Whether one ends with a task that is held up, though it has lines left, and nothing is due.
+    pub stops: bool,
+}
 
-/// How many lines the shortest schedule has that gets stuck; none if none does.
-pub fn shortest_stuck(alloc: Global, script: &Script) -> Result<Option<usize>, Halt> {
+/// What the schedules of a script come to, which has at most so many, with all that begin them.
+pub fn ends_of(alloc: Global, script: &Script, most: u32) -> Result<Ends, Halt> {
+    let mut ends = Ends {
+        stuck: None,
+        stops: false,
+    };
     let mut open = Vec::new(alloc);
     open.push(Vec::new(alloc)).map_err(|_| Halt::Memory)?;
-    let mut shortest = None;
-    for _ in 0..MOST {
+    for _ in 0..most {
         let Some(path) = open.pop() else {
-            return Ok(shortest);
+            return Ok(ends);
         };
         let standing = follow(alloc, script, &path)?;
-        if is_stuck(&standing.kernel) {
-            shortest = Some(shorter(shortest, path.len()));
-        }
+        let met = open.len();
         go_on(alloc, script.lines(), &standing, &path, &mut open)?;
+        if is_stuck(&standing.kernel) {
+            ends.stuck = Some(shorter(ends.stuck, path.len()));
+        } else if open.len() == met && stops(script.lines(), &standing) {
+            ends.stops = true;
+        }
     }
     Err(Halt::TooLong)
 }
@@ -56,4 +71,40 @@ fn longer(alloc: Global, path: &[u16], place: u16) -> Result<Vec<u16>, Halt> {
     }
     longer.push(place).map_err(|_| Halt::Memory)?;
     Ok(longer)
+}
+
+// Whether a task that has lines left is held up where no line may come, and nothing is due.
+fn stops(script: &[Line], standing: &Standing) -> bool {
+    next_due(&standing.kernel).is_none()
+        && standing.left.iter().any(|place| match script.get(usize::from(*place)) {
+            Some(line) => match speaker(&line.statement, standing) {
+                Some(task) => is_held(&standing.kernel, task),
+                None => false,
+            },
+            None => false,
+        })
+}
+
+// The task of a line of the random scripts.
+fn speaker(statement: &Statement, standing: &Standing) -> Option<TaskNo> {
+    match statement {
+        Statement::Up { by }
+        | Statement::Accept { by, .. }
+        | Statement::Select { by, .. }
+        | Statement::Call { by, .. }
+        | Statement::CallWithin { by, .. }
+        | Statement::Try { by, .. }
+        | Statement::End { by }
+        | Statement::Delay { by, .. }
+        | Statement::Abort { by, .. }
+        | Statement::Complete { by } => Some(standing.names.task(by)),
+        _ => None,
+    }
+}
+
+// Whether a task hasn't ended, doesn't run, and can't terminate where it is.
+fn is_held(kernel: &Kernel, task: TaskNo) -> bool {
+    let is_callable = kernel.callable(task) == Some(true);
+    let may_quit = kernel.record(task).map(|record| record.suspension.quittable);
+    is_callable && kernel.running(task) == Some(false) && may_quit == Some(false)
 }

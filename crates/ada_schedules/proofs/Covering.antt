@@ -1,5 +1,6 @@
 -- A closed set covers whatever a schedule comes to.
-use Rattle.std.proofs.Common.{◌≡◌, Some, None, List, [], ◌∷◌, ◌∙◌}
+use Rattle.std.proofs.Common.{◌≡◌, Some, None, List, [], ◌∷◌, ◌++◌, sym, subst, ◌∙◌}
+use Rattle.std.proofs.lemmas.List.{append-nil}
 use Rattle.ada_events.specs.declared.event.Event.{Event}
 use Rattle.ada_events.specs.declared.request.Request.{Request}
 use Rattle.ada_events.specs.declared.refusal.Refusal.{Refusal}
@@ -14,19 +15,33 @@ use Rattle.ada_standing.specs.Asking.{renamed_request}
 use Rattle.ada_standing.proofs.chained.Chain.{stand_ins_chain}
 use Rattle.ada_standing.proofs.asked.Refusing.{refused_alike}
 use Rattle.ada_standing.proofs.led.Leading.{leads_alike}
-use Rattle.ada_schedules.specs.Schedules.{Program, State, Acts, Comes, Reaches}
+use Rattle.ada_schedules.specs.Schedules.{Program, State, Acts, Comes, Reaches, beginning}
 use Rattle.ada_schedules.specs.Closed.{asked_in, went_on, was_refused, StandsFor, SpeaksInNames, Covers, IsClosed}
 use Rattle.ada_schedules.specs.Stuck.{IsStuck}
-use Rattle.ada_schedules.specs.Laws.{program_of, Passing, PassingBoth, ClosedSetsCoverAll, NoScheduleGetsStuck}
+use Rattle.ada_schedules.specs.Laws.{program_of, Passing, PassingBoth, ClosedSetsCoverWhatFollows, ClosedSetsCoverAll, NoScheduleGetsStuck}
+use Rattle.ada_schedules.proofs.Once.{came, comes_once}
 use Rattle.ada_schedules.proofs.Stuck.{few_tasks, stuck_alike}
 
+-- what a schedule comes to is lawful and settled
+come_lawful : (program : Program) (choices : List program.Choice) (state : State program.Rest) → Comes program choices state
+    → IsLawfulUnlimited state.journal × IsSettled state.journal
+come_lawful program choices state (Comes.begun) = (tt, empty_is_settled)
+come_lawful program choices state (Comes.one_more {choices = before} {from} {to} choice comes acts) =
+    on from to acts (come_lawful program before from comes)
+  where
+    on : (here there : State program.Rest) → Acts program choice here there → IsLawfulUnlimited here.journal × IsSettled here.journal
+        → IsLawfulUnlimited there.journal × IsSettled there.journal
+    on here _ (Acts.accepted request journal asks accepted leads) (lawful, settled) =
+        (after-unlimited here.journal request journal lawful settled accepted leads, leads.settled)
+    on here _ (Acts.refused request cause asks refused) known = known
+
 -- a schedule came to the state, which is covered, lawful and settled
-record IsCovered (program : Program) (Same : Renaming → program.Rest → program.Rest → Type 0) (Within : State program.Rest → Type 0)
+pub record IsCovered (program : Program) (Same : Renaming → program.Rest → program.Rest → Type 0) (Within : State program.Rest → Type 0)
     (state : State program.Rest) : Type 0 where
-  reached : Reaches program state
-  covered : Covers program Same Within state
-  lawful : IsLawfulUnlimited state.journal
-  settled : IsSettled state.journal
+  pub reached : Reaches program state
+  pub covered : Covers program Same Within state
+  pub lawful : IsLawfulUnlimited state.journal
+  pub settled : IsSettled state.journal
 
 module _ (program : Program) (Same : Renaming → program.Rest → program.Rest → Type 0) (Within : State program.Rest → Type 0)
     (speaks : SpeaksInNames program Same) (closed : IsClosed program Same Within) where
@@ -111,27 +126,51 @@ module _ (program : Program) (Same : Renaming → program.Rest → program.Rest 
   acts_on choice from to known (Acts.accepted request journal asks accepted leads) = accepted_on from choice request journal known asks accepted leads
   acts_on choice from to known (Acts.refused request cause asks refused) = refused_on from choice request cause known asks refused
 
-  -- whatever a schedule comes to is covered
-  comes_covered : (all : List program.Choice) (state : State program.Rest) → Comes program all state → IsCovered program Same Within state
-  comes_covered all state (Comes.begun) = record { reached = ([], Comes.begun); covered = closed.begun; lawful = tt; settled = empty_is_settled }
-  comes_covered all state (Comes.one_more {choices} {from} {to} choice comes acts) = acts_on choice from to (comes_covered choices from comes) acts
+  -- whatever follows a covered state is covered
+  pub follows_covered : (choices : List program.Choice) (from : State program.Rest) → Comes program choices from → Covers program Same Within from
+      → (more : List program.Choice) (to : State program.Rest) → Comes program (more ++ choices) to → IsCovered program Same Within to
+  follows_covered choices from comes covers [] to also =
+      let (lawful, settled) = come_lawful program choices from comes in
+      subst (λ (s : State program.Rest). IsCovered program Same Within s) (comes_once program choices from to comes also)
+      (record { reached = (choices, comes); covered = covers; lawful = lawful; settled = settled })
+  follows_covered choices from comes covers (choice ∷ more) to also =
+      let (before, there, acts) = came program (choice ∷ (more ++ choices)) to also in
+      acts_on choice before to (follows_covered choices from comes covers more before there) acts
 
-  pub all_covered : (state : State program.Rest) → Reaches program state → Covers program Same Within state
-  all_covered state (choices, comes) = (comes_covered choices state comes).covered
+  -- whatever a schedule comes to is covered, if the beginning is
+  reached_covered : Covers program Same Within (beginning program) → (state : State program.Rest) → Reaches program state
+      → IsCovered program Same Within state
+  reached_covered begun state (choices, comes) =
+      follows_covered [] (beginning program) Comes.begun begun choices state
+      (subst (λ (all : List program.Choice). Comes program all state) (sym (append-nil choices)) comes)
+
+  all_covered : Covers program Same Within (beginning program) → (state : State program.Rest) → Reaches program state
+      → Covers program Same Within state
+  all_covered begun state reached = (reached_covered begun state reached).covered
+
+  -- a stuck state is covered by a stuck one
+  pub stuck_within : (state : State program.Rest) (known : IsCovered program Same Within state) → IsStuck state.journal
+      → IsStuck known.covered.by.journal
+  stuck_within state known stuck =
+      let here = known.covered in
+      stuck_alike state.journal here.by.journal here.names here.stands known.lawful (closed.lawful here.by here.within) known.settled stuck
 
   -- and if none of the set is stuck, nothing is that a schedule comes to
-  pub none_stuck : ((state : State program.Rest) → Within state → IsStuck state.journal → ⊥) → (state : State program.Rest) → Reaches program state
-      → IsStuck state.journal → ⊥
-  none_stuck none state (choices, comes) stuck =
-      let known = comes_covered choices state comes in
-      let here = known.covered in
-      none here.by here.within (stuck_alike state.journal here.by.journal here.names here.stands known.lawful
-      (closed.lawful here.by here.within) known.settled stuck)
+  none_stuck : Covers program Same Within (beginning program) → ((state : State program.Rest) → Within state → IsStuck state.journal → ⊥)
+      → (state : State program.Rest) → Reaches program state → IsStuck state.journal → ⊥
+  none_stuck begun none state reached stuck =
+      let known = reached_covered begun state reached in
+      none known.covered.by known.covered.within (stuck_within state known stuck)
+
+pub closed_sets_cover_what_follows : {Rest Choice : Type 0} → ClosedSetsCoverWhatFollows Rest Choice
+closed_sets_cover_what_follows {Rest} {Choice} start asks after refused same within speaks closed choices more from to comes covers also =
+    (follows_covered (program_of Rest Choice start asks after refused) (PassingBoth same) (Passing within) speaks closed choices from comes covers more
+    to also).covered
 
 pub closed_sets_cover_all : {Rest Choice : Type 0} → ClosedSetsCoverAll Rest Choice
-closed_sets_cover_all {Rest} {Choice} start asks after refused same within speaks closed =
-    all_covered (program_of Rest Choice start asks after refused) (PassingBoth same) (Passing within) speaks closed
+closed_sets_cover_all {Rest} {Choice} start asks after refused same within speaks closed begun =
+    all_covered (program_of Rest Choice start asks after refused) (PassingBoth same) (Passing within) speaks closed begun
 
 pub no_schedule_gets_stuck : {Rest Choice : Type 0} → NoScheduleGetsStuck Rest Choice
-no_schedule_gets_stuck {Rest} {Choice} start asks after refused same within speaks closed none =
-    none_stuck (program_of Rest Choice start asks after refused) (PassingBoth same) (Passing within) speaks closed none
+no_schedule_gets_stuck {Rest} {Choice} start asks after refused same within speaks closed begun none =
+    none_stuck (program_of Rest Choice start asks after refused) (PassingBoth same) (Passing within) speaks closed begun none

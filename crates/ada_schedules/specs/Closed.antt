@@ -9,7 +9,7 @@ use Rattle.ada_standing.specs.Renaming.{Renaming, chained}
 use Rattle.ada_standing.specs.StandsIn.{StandsIn}
 use Rattle.ada_standing.specs.Asking.{renamed_request, names_kept}
 use Rattle.ada_standing.specs.Leading.{LedAlike}
-use Rattle.ada_schedules.specs.Schedules.{Program, State, beginning, Reaches}
+use Rattle.ada_schedules.specs.Schedules.{Program, State, Reaches}
 
 -- what a choice asks for in a state
 abbrev pub asked_in : (program : Program) → State program.Rest → program.Choice → Option Request
@@ -70,10 +70,9 @@ pub record GoesOn (program : Program) (Same : Renaming → program.Rest → prog
   pub after : After state.journal request journal
   pub covered : Covers program Same Within (went_on program state choice journal)
 
--- a set of lawful, settled states, of which one covers the beginning. Whatever a choice of one of them asks for leads to
--- what one of them covers, also if it is refused
+-- a set of lawful, settled states. Whatever a choice of one of them asks for leads to what one of them covers, also if it
+-- is refused
 pub record IsClosed (program : Program) (Same : Renaming → program.Rest → program.Rest → Type 0) (Within : State program.Rest → Type 0) : Type 0 where
-  pub begun : Covers program Same Within (beginning program)
   pub lawful : (state : State program.Rest) → Within state → IsLawful state.journal
   pub settled : (state : State program.Rest) → Within state → IsSettled state.journal
   pub accepted : (state : State program.Rest) (choice : program.Choice) (request : Request) → Within state

@@ -10,6 +10,7 @@ pub mod order;
 pub mod output;
 pub mod painting;
 pub mod report;
+pub mod schedules;
 pub mod watching;
 
 use ada_findings::{Failure, Finding, ScopeFault, status_of};

@@ -48,16 +48,26 @@ pub enum Job<'a> {
     Explore(Exploration<'a>),
 }
 
-/// A search of all schedules of a script.
+/// How far a search looks.
 #[derive(Clone, Copy, Debug, PartialEq, Eq)]
-pub struct Exploration<'a> {
-    pub file: Option<&'a str>,
+pub struct Bounds {
     /// The most states that are gone on from.
     pub states: u32,
     /// After so many seconds the search ends.
     pub seconds: Option<u32>,
-    /// Where a schedule that gets stuck is written as a script.
+    /// When its states take so many megabytes it ends.
+    pub megabytes: Option<u32>,
+}
+
+/// A search of all schedules of a script.
+#[derive(Clone, Copy, Debug, PartialEq, Eq)]
+pub struct Exploration<'a> {
+    pub file: Option<&'a str>,
+    pub bounds: Bounds,
+    /// Where the schedule that is found is written as a script.
     pub script: Option<&'a str>,
+    /// Where its choices are written.
+    pub choices: Option<&'a str>,
 }
 
 /// When a text has colours.
@@ -163,15 +173,19 @@ static EXPLORE_HELP: &str = "Examples:
   adascope explore --script stuck.tasks design.tasks; adatask < stuck.tasks
 
 Each task says its lines in their order, any task that runs may go on, and a tick comes where none
-can. The first line is the verdict: 'none: ..' with status 0 or 'stuck: ..' with status 3, both
-proved, or 'unknown: ..' with status 5.
+can. The first line is the verdict: 'none: ..' with status 0, 'stuck: ..' or 'stops: ..' with status
+3, all proved, or 'unknown: ..' with status 5.
 ";
 
 static STATES: &str = "The most states that are gone on from";
 
 static SECONDS: &str = "End the search after so many seconds";
 
-static SCHEDULE: &str = "Write the schedule that gets stuck to this file, as a script";
+static MEMORY: &str = "End the search when its states take about so many megabytes";
+
+static SCHEDULE: &str = "Write the schedule that is found to this file, as a script";
+
+static CHOICES: &str = "Write its choices to this file: whose line comes next, and its pick";
 
 static FORMAT: &str =
     "svg: tasks and events; mermaid: the calls as a sequence; dot: who waits for whom at the end";
@@ -197,7 +211,7 @@ static HELP: &str = "Exit status:
      refused
   2  the command line is refused; of compare: an input is no script; of conform: the input is no log
   3  with --strict: a line of a script was refused, or something is stuck at the end; of explore:
-     some schedule gets stuck
+     some schedule gets stuck, or tasks of it stop for good
   4  a file, memory, the input or the output was refused
   5  of explore: it isn't known whether any schedule gets stuck
 ";
@@ -299,32 +313,35 @@ fn conform<'a>(alloc: Global) -> Result<Command<'a>, AllocError> {
         .arg(strict_option(alloc, STRICT_LOG))
 }
 
-fn explore<'a>(alloc: Global) -> Result<Command<'a>, AllocError> {
-    let states = Arg::new(alloc, "states")
-        .long("states")
+// An option that has a number.
+fn number_option<'a>(alloc: Global, name: &'a str, help: &'a str) -> Arg<'a> {
+    Arg::new(alloc, name)
+        .long(name)
         .value_name("N")
         .action(ArgAction::Set)
         .value_parser(value_parser!(u32))
-        .default_value("1000000")
-        .help(STATES);
-    let seconds = Arg::new(alloc, "seconds")
-        .long("seconds")
-        .value_name("N")
-        .action(ArgAction::Set)
-        .value_parser(value_parser!(u32))
-        .help(SECONDS);
-    let script = Arg::new(alloc, "script")
-        .long("script")
+        .help(help)
+}
+
+// An option that names a file to write to.
+fn output_option<'a>(alloc: Global, name: &'a str, help: &'a str) -> Arg<'a> {
+    Arg::new(alloc, name)
+        .long(name)
         .value_name("OUT")
         .action(ArgAction::Set)
-        .help(SCHEDULE);
+        .help(help)
+}
+
+fn explore<'a>(alloc: Global) -> Result<Command<'a>, AllocError> {
     Command::new(alloc, "explore")
         .about(EXPLORE)
         .after_help(EXPLORE_HELP)
         .arg(file(alloc, "FILE"))?
-        .arg(states)?
-        .arg(seconds)?
-        .arg(script)
+        .arg(number_option(alloc, "states", STATES).default_value("1000000"))?
+        .arg(number_option(alloc, "seconds", SECONDS))?
+        .arg(number_option(alloc, "memory", MEMORY))?
+        .arg(output_option(alloc, "script", SCHEDULE))?
+        .arg(output_option(alloc, "choices", CHOICES))
 }
 
 fn program<'a>(alloc: Global) -> Result<Command<'a>, AllocError> {
@@ -385,9 +402,13 @@ fn ordered<'a>(matches: &ArgMatches<'a>) -> Order<'a> {
 fn searched<'a>(found: &ArgMatches<'a>) -> Exploration<'a> {
     Exploration {
         file: file_in(found, "FILE"),
-        states: found.get_one::<u32>("states").unwrap_or(u32::MAX),
-        seconds: found.get_one::<u32>("seconds"),
+        bounds: Bounds {
+            states: found.get_one::<u32>("states").unwrap_or(u32::MAX),
+            seconds: found.get_one::<u32>("seconds"),
+            megabytes: found.get_one::<u32>("memory"),
+        },
         script: found.get_str("script"),
+        choices: found.get_str("choices"),
     }
 }
 

@@ -1,8 +1,12 @@
 //! A line on a terminal that says how a search goes on, and the end of its time.
 
-use ada_explore::Watch;
+use crate::order::Bounds;
+use ada_explore::{Progress, Watch};
 use std::io::Eprint;
 use std::time::{Clock, Duration, Instant};
+
+/// So many bytes has a megabyte.
+const MEGABYTE: u64 = 1_000_000;
 
 /// Who watches a search.
 #[derive(Drop)]
@@ -10,19 +14,18 @@ pub struct Watching<'a, R> {
     rt: &'a R,
     /// None where the clock can't be read: then the search has no end of time.
     start: Option<Instant>,
-    /// After so many seconds the search ends.
-    seconds: Option<u32>,
+    bounds: Bounds,
     /// Whether the line is written.
     is_shown: bool,
 }
 
 impl<'a, R: Eprint + Clock> Watching<'a, R> {
     /// Begins to watch.
-    pub fn new(rt: &'a R, seconds: Option<u32>, is_shown: bool) -> Self {
+    pub fn new(rt: &'a R, bounds: Bounds, is_shown: bool) -> Self {
         Watching {
             rt,
             start: Instant::now(rt).ok(),
-            seconds,
+            bounds,
             is_shown,
         }
     }
@@ -41,25 +44,28 @@ impl<'a, R: Eprint + Clock> Watching<'a, R> {
         }
     }
 
-    fn show(&self, done: u32, met: u32, elapsed: Duration) {
-        let seconds = elapsed.as_secs();
-        let rate = u64::from(met) / seconds.max(1);
+    fn show(&self, progress: Progress, elapsed: Duration) {
+        let Progress { done, met, bytes } = progress;
+        let rate = u64::from(met) / elapsed.as_secs().max(1);
         let left = met.saturating_sub(done);
+        let megabytes = bytes / MEGABYTE;
         let _ = eprint!(self.rt;
-            "\r\x1b[K{met} states, {rate} a second, {left} of them to go on from"
+            "\r\x1b[K{met} states, {rate} a second, {megabytes} MB, {left} of them to go on from"
         );
     }
 }
 
 impl<R: Eprint + Clock> Watch for Watching<'_, R> {
-    fn goes_on(&mut self, done: u32, met: u32) -> bool {
+    fn goes_on(&mut self, progress: Progress) -> bool {
         let elapsed = self.elapsed();
         if self.is_shown {
-            self.show(done, met, elapsed);
+            self.show(progress, elapsed);
         }
-        match self.seconds {
-            Some(most) => elapsed.as_secs() < u64::from(most),
-            None => true,
-        }
+        let Bounds {
+            seconds, megabytes, ..
+        } = self.bounds;
+        let has_time = seconds.map_or(true, |most| elapsed.as_secs() < u64::from(most));
+        let has_room = megabytes.map_or(true, |most| progress.bytes / MEGABYTE < u64::from(most));
+        has_time && has_room
     }
 }

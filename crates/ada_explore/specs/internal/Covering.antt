@@ -1,5 +1,5 @@
 -- States to which schedules of a script lead, and what they cover.
-use Rattle.std.specs.Prelude.{◌≡◌, ℕ, ◌<◌, Bool, true, Some, List, reverse, slice_get}
+use Rattle.std.specs.Prelude.{◌≡◌, ℕ, ◌<◌, ◌++◌, Bool, true, Some, List, reverse, slice_get}
 use Rattle.std.specs.List.{list_all}
 use Rattle.ada_events.specs.declared.request.Request.{Request}
 use Rattle.ada_events.specs.Lawful.{IsLawful, IsSettled}
@@ -8,10 +8,13 @@ use Rattle.ada_standing.specs.StandsIn.{StandsIn}
 use Rattle.ada_statements.specs.Scope.{Scope}
 use Rattle.ada_statements.specs.Binding.{task_of, master_of}
 use Rattle.ada_script.specs.declared.script.Line.{Line}
-use Rattle.ada_schedules.specs.Schedules.{State, Acts, Comes, beginning}
+use Rattle.ada_schedules.specs.Schedules.{State, Acts, Comes}
 use Rattle.ada_schedules.specs.Closed.{asked_in, Covers}
 use Rattle.ada_schedules.specs.Stuck.{IsStuck}
+use Rattle.ada_explore.specs.declared.wanted.Wanted.{Wanted}
+use Rattle.ada_explore.specs.declared.wanted.Wanted.TheVariants.{Free, Left}
 use Rattle.ada_explore.specs.Scripts.{Rest, scripted, may_come}
+use Rattle.ada_explore.specs.Findings.{is_left}
 use Rattle.ada_explore.specs.internal.Sameness.{SameRest, same_task, same_master, says_alike_at}
 
 -- a name is bound to tasks, or to masters, of which the second stands for the first
@@ -61,20 +64,37 @@ pub record AreCovered (script : List Line) (old new : List (List ℕ)) (path : L
   pub leads : (k place : ℕ) → k < count → slice_get state.rest.left k ≡ Some place → may_come script state.journal state.rest place ≡ true
       → LeadsOnAfter script new path place
 
--- a state is lawful, settled and not stuck, and whatever may come next leads to what is covered
-pub record GoesOnWell (script : List Line) (paths : List (List ℕ)) (state : State Rest) : Type 0 where
+-- a state is as is wanted: it isn't stuck, or the lines at some places are left
+abbrev pub IsWell : Wanted → State Rest → Type 0
+IsWell Free state = IsStuck state.journal → ⊥
+IsWell (Left places) state = list_all (is_left state.rest) places.items ≡ true
+
+-- a state is lawful, settled and as is wanted, and whatever may come next leads to what is covered
+pub record GoesOnWell (script : List Line) (wanted : Wanted) (paths : List (List ℕ)) (state : State Rest) : Type 0 where
   pub lawful : IsLawful state.journal
   pub settled : IsSettled state.journal
-  pub free : IsStuck state.journal → ⊥
+  pub well : IsWell wanted state
   pub steps : (place : ℕ) (request : Request) → asked_in (scripted script) state place ≡ Some request → LeadsOn script paths state place
 
 -- a schedule leads to such a state
-pub record IsDone (script : List Line) (paths : List (List ℕ)) (path : List ℕ) : Type 0 where
+pub record IsDone (script : List Line) (wanted : Wanted) (paths : List (List ℕ)) (path : List ℕ) : Type 0 where
   pub state : State Rest
   pub comes : Comes (scripted script) (reverse path) state
-  pub well : GoesOnWell script paths state
+  pub well : GoesOnWell script wanted paths state
 
--- the beginning is covered, and what so many of the schedules lead to is done
-pub record AreDone (script : List Line) (paths : List (List ℕ)) (count : ℕ) : Type 0 where
-  pub begun : AreCovering script paths (beginning (scripted script))
-  pub done : (i : ℕ) (path : List ℕ) → i < count → slice_get paths i ≡ Some path → IsDone script paths path
+-- what a schedule leads to is covered
+pub record IsBegun (script : List Line) (start : List ℕ) (paths : List (List ℕ)) : Type 0 where
+  pub from : State Rest
+  pub comes : Comes (scripted script) (reverse start) from
+  pub covered : AreCovering script paths from
+
+-- so it is, and what so many of the schedules lead to is done
+pub record AreDone (script : List Line) (wanted : Wanted) (start : List ℕ) (paths : List (List ℕ)) (count : ℕ) : Type 0 where
+  pub begun : IsBegun script start paths
+  pub done : (i : ℕ) (path : List ℕ) → i < count → slice_get paths i ≡ Some path → IsDone script wanted paths path
+
+-- a schedule leads to a state from which on all is as is wanted, whatever comes
+pub record StaysWell (script : List Line) (wanted : Wanted) (start : List ℕ) : Type 0 where
+  pub from : State Rest
+  pub comes : Comes (scripted script) (reverse start) from
+  pub well : (more : List ℕ) (to : State Rest) → Comes (scripted script) (more ++ reverse start) to → IsWell wanted to

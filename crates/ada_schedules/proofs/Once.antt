@@ -28,11 +28,11 @@ acts_once program choice from _ _ (Acts.refused request cause asks refused) (Act
     ap (was_refused program from choice) one
 
 -- the step before the last one of a schedule
-abbrev Came : (program : Program) → List program.Choice → State program.Rest → Type 0
+abbrev pub Came : (program : Program) → List program.Choice → State program.Rest → Type 0
 Came program [] to = to ≡ beginning program
 Came program (choice ∷ choices) to = (from : State program.Rest) × Comes program choices from × Acts program choice from to
 
-came : (program : Program) (choices : List program.Choice) (to : State program.Rest) → Comes program choices to → Came program choices to
+pub came : (program : Program) (choices : List program.Choice) (to : State program.Rest) → Comes program choices to → Came program choices to
 came program choices to (Comes.begun) = refl
 came program choices to (Comes.one_more {choices = before} {from} {to = end} choice comes acts) = (from, comes, acts)
 

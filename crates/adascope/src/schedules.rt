@@ -1,0 +1,212 @@
+//! The texts of what was found of all schedules of a script.
+
+use ada_explain::standstill::write_standstill;
+use ada_explain::{Scene, Source};
+use ada_explore::{End, Finding as Explored, Halt, Standing, Stop, follow};
+use ada_replay::RunFault;
+use ada_script::{Script, Statement};
+use std::alloc::{AllocError, Global};
+
+/// A script, with its text.
+#[derive(Clone, Copy)]
+pub struct Told<'a> {
+    pub alloc: Global,
+    pub script: &'a Script,
+    pub source: &'a Source<'a>,
+}
+
+// Of a schedule that was found only want of memory comes.
+fn fault_of(_halt: Halt) -> RunFault {
+    RunFault::Memory
+}
+
+// A number of things, as `1 state` or `2 states`.
+fn write_count(text: &mut String, count: u64, thing: &str) -> Result<(), AllocError> {
+    let ending = if count == 1 { "" } else { "s" };
+    write!(text, "{count} {thing}{ending}")
+}
+
+// Says of a search that it didn't see all.
+fn write_seen(text: &mut String, found: &Explored) -> Result<(), AllocError> {
+    match found.end {
+        End::AllSeen => text.push_str("\n"),
+        End::Bound | End::Ended => text.push_str(" seen, and more are left\n"),
+        End::Limit(cause) => write!(text, " seen; some schedules meet a limit [{cause}]\n"),
+    }
+}
+
+// Says in how many states the script stops short.
+fn write_short(text: &mut String, found: &Explored) -> Result<(), AllocError> {
+    if found.short_states == 0 {
+        return Ok(());
+    }
+    text.push_str("In ")?;
+    write_count(text, u64::from(found.short_states), "state")?;
+    text.push_str(
+        " no line can come, though the main program isn't terminated: a task runs, or waits",
+    )?;
+    text.push_str(" for a moment.\n")
+}
+
+/// The schedule that a verdict is about, if it is about one: that which gets stuck, or after which tasks are held up
+/// for good.
+pub fn schedule_in(found: &Explored) -> Option<&[u16]> {
+    match (&found.stuck, &found.stopped) {
+        (Some(path), _) => Some(path),
+        (None, Some(stop)) => Some(&stop.path),
+        (None, None) => None,
+    }
+}
+
+impl<'a> Told<'a> {
+    /// What was found.
+    pub fn report(&self, found: &Explored) -> Result<String, RunFault> {
+        let mut text = String::new(self.alloc);
+        self.write_verdict(&mut text, found).map_err(|_| RunFault::Memory)?;
+        write_short(&mut text, found).map_err(|_| RunFault::Memory)?;
+        self.write_refused(&mut text, found).map_err(|_| RunFault::Memory)?;
+        if let Some(path) = schedule_in(found) {
+            let end = follow(self.alloc, self.script, path).map_err(fault_of)?;
+            write_standstill(&mut text, Scene::of(&end.kernel, &end.names)).map_err(
+                |_| RunFault::Memory,
+            )?;
+        }
+        if let Some(stop) = &found.stopped {
+            self.write_unsaid(&mut text, stop).map_err(|_| RunFault::Memory)?;
+        }
+        Ok(text)
+    }
+
+    // The first line.
+    fn write_verdict(&self, text: &mut String, found: &Explored) -> Result<(), AllocError> {
+        if let Some(path) = &found.stuck {
+            text.push_str("stuck: after ")?;
+            write_count(text, path.len() as u64, "step")?;
+            write!(text, ", in {} of ", found.stuck_states)?;
+            write_count(text, u64::from(found.states), "state")?;
+            return write_seen(text, found);
+        }
+        if let Some(stop) = &found.stopped {
+            return self.write_stop(text, found, stop);
+        }
+        if let Some(states) = found.covered {
+            text.push_str("none: no schedule gets stuck; ")?;
+            write_count(text, u64::from(states), "state")?;
+            return text.push_str("\n");
+        }
+        text.push_str("unknown: ")?;
+        write_count(text, u64::from(found.states), "state")?;
+        if found.end == End::AllSeen {
+            return text.push_str(" seen, and none is stuck; that these cover all wasn't found\n");
+        }
+        write_seen(text, found)?;
+        text.push_str("None of these is stuck.\n")
+    }
+
+    fn write_stop(
+        &self,
+        text: &mut String,
+        found: &Explored,
+        stop: &Stop,
+    ) -> Result<(), AllocError> {
+        text.push_str("stops: ")?;
+        let mut is_first = true;
+        for place in &stop.lines {
+            if self.is_first_of(stop, *place) {
+                let comma = if is_first { "" } else { ", " };
+                write!(text, "{comma}{}", self.speaker(*place))?;
+                is_first = false;
+            }
+        }
+        text.push_str(" for good, after ")?;
+        write_count(text, stop.path.len() as u64, "step")?;
+        text.push_str("; ")?;
+        write_count(text, u64::from(found.states), "state")?;
+        text.push_str("\n")
+    }
+
+    // What the tasks that stopped never say.
+    fn write_unsaid(&self, text: &mut String, stop: &Stop) -> Result<(), AllocError> {
+        for place in &stop.lines {
+            if self.is_first_of(stop, *place) {
+                let (speaker, number) = (self.speaker(*place), self.number(*place));
+                let line = self.source.line(number);
+                write!(text, "{speaker} never comes to line {number}, '{line}'.\n")?;
+            }
+        }
+        Ok(())
+    }
+
+    // Whether a line is the first of its task that is never said.
+    fn is_first_of(&self, stop: &Stop, place: u16) -> bool {
+        let speaker = self.speaker(place);
+        let first = stop.lines.iter().find(|other| self.speaker(**other) == speaker);
+        first == Some(&place)
+    }
+
+    // Says which lines some schedules say in vain.
+    fn write_refused(&self, text: &mut String, found: &Explored) -> Result<(), AllocError> {
+        for refused in &found.refused {
+            let number = self.number(refused.place);
+            write!(text, "Refused in ")?;
+            write_count(text, refused.steps, "step")?;
+            write!(text, ", first after {}: line {number}, ", refused.after)?;
+            write!(text, "'{}' [{}]\n", self.source.line(number), refused.cause)?;
+        }
+        Ok(())
+    }
+
+    // The number of the line at a place, from 1.
+    fn number(&self, place: u16) -> u32 {
+        match self.script.lines().get(usize::from(place)) {
+            Some(line) => line.line,
+            None => 0,
+        }
+    }
+
+    // Whose line it is: the name before its colon, or `tick`.
+    fn speaker(&self, place: u16) -> &'a str {
+        match self.source.line(self.number(place)).split_once(':') {
+            Some((name, _)) => name.trim(),
+            None => "tick",
+        }
+    }
+
+    // Which of the alternatives that are open the line takes, where several may be.
+    fn pick(&self, place: u16) -> u32 {
+        match self.script.lines().get(usize::from(place)) {
+            Some(line) => match &line.statement {
+                Statement::Select { pick, .. } => *pick,
+                _ => 0,
+            },
+            None => 0,
+        }
+    }
+
+    /// The lines of a schedule as a script, but for the refused ones, without which it leads to the same.
+    pub fn lines_of(&self, path: &[u16]) -> Result<String, RunFault> {
+        let mut standing = Standing::new(self.alloc, self.script).map_err(fault_of)?;
+        let mut lines = String::new(self.alloc);
+        for place in path {
+            let refused = standing.say(self.script.lines(), *place).map_err(fault_of)?;
+            if refused.is_none() {
+                let line = self.source.line(self.number(*place));
+                write!(lines, "{line}\n").map_err(|_| RunFault::Memory)?;
+            }
+        }
+        Ok(lines)
+    }
+
+    /// The choices of a schedule, one a line: whose line comes next, and its pick where that isn't 0.
+    pub fn choices_of(&self, path: &[u16]) -> Result<String, AllocError> {
+        let mut choices = String::new(self.alloc);
+        for place in path {
+            choices.push_str(self.speaker(*place))?;
+            match self.pick(*place) {
+                0 => choices.push_str("\n")?,
+                pick => write!(choices, " {pick}\n")?,
+            }
+        }
+        Ok(choices)
+    }
+}
