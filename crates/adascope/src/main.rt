@@ -2,6 +2,7 @@
 #![tactic(auto)]
 
 pub mod announced;
+pub mod checking;
 pub mod conforming;
 pub mod exploring;
 pub mod input;

@@ -1,5 +1,6 @@
 //! How an order is obeyed.
 
+use crate::checking::tell_checks;
 use crate::conforming::tell_conformance;
 use crate::exploring::tell_schedules;
 use crate::order::{Job, What};
@@ -57,6 +58,7 @@ pub fn obey<'a, R: Files + Input + Print + Eprint + Clock + AllocGlobal>(
             let told = tell_schedules(rt, &order, terminals.is_watched);
             told.map_err(|fault| failure(order.file, fault))
         }
+        Job::Check(order) => tell_checks(rt, &order),
     }
 }
 

@@ -1,5 +1,6 @@
 //! The command line: what its words order.
 
+use ada_expectations::Form;
 use clap::{Arg, ArgAction, ArgMatches, Command, Error, value_parser};
 use std::alloc::{AllocError, Global};
 use std::convert::AsStr;
@@ -24,7 +25,7 @@ pub enum What {
 }
 
 /// What the program is to do. A file is none where it is the standard input.
-#[derive(Clone, Copy, Debug, PartialEq, Eq)]
+#[derive(Debug, Drop, PartialEq, Eq)]
 pub enum Job<'a> {
     /// To tell something of a script.
     Tell {
@@ -46,6 +47,18 @@ pub enum Job<'a> {
     },
     /// To search all schedules of a script.
     Explore(Exploration<'a>),
+    /// To hold plays against what comments of their scripts say.
+    Check(Checking<'a>),
+}
+
+/// A check of some plays.
+#[derive(Debug, Drop, PartialEq, Eq)]
+pub struct Checking<'a> {
+    /// The files of the scripts, as they are named.
+    pub files: Vec<&'a str>,
+    pub form: Form,
+    /// Whether a play has to end with the main program terminated, if no comment says how it ends.
+    pub is_to_end: bool,
 }
 
 /// How far a search looks.
@@ -80,7 +93,7 @@ pub enum Color {
 }
 
 /// What the words of a command line order.
-#[derive(Clone, Copy, Debug, PartialEq, Eq)]
+#[derive(Debug, Drop, PartialEq, Eq)]
 pub struct Order<'a> {
     pub job: Job<'a>,
     pub color: Color,
@@ -165,6 +178,29 @@ A log is a script of any length that a kernel takes. The status is 0 if it confo
 refused, and 2 if a line is none of the language, or the log has more than 16777216 bytes.
 ";
 
+static CHECK: &str = "Hold the plays of scripts against what their comments say is expected";
+
+static CHECK_HELP: &str = "Examples:
+
+  adascope check homework/*.tasks
+  adascope check --format junit tests/*.tasks > report.xml
+
+What is expected stands in comments: '# expect: terminated', 'stuck', 'circle', 'goes on', 'waits
+until 500', and 'refused 9 NotRunning' of line 9, or 'refused NotRunning' of the line that follows.
+A line that is refused otherwise isn't expected. The status is 0 if all is as expected, 1 if a file
+is no script, and 3 otherwise.
+";
+
+static FINISHED: &str =
+    "A play has to end with the main program terminated, if no comment says how it ends";
+
+static REPORT: &str =
+    "text: a line for each file; json: an object for each; junit: one XML document";
+
+static REPORTS: [&str; 3] = ["text", "json", "junit"];
+
+static SCRIPTS: &str = "The files that have the scripts, or - for the standard input";
+
 static EXPLORE: &str = "Search all schedules of a script for one that gets stuck";
 
 static EXPLORE_HELP: &str = "Examples:
@@ -222,7 +258,7 @@ static HELP: &str = "Exit status:
 pub fn order_of<'a, S: AsStr>(alloc: Global, words: &'a [S]) -> Result<Order<'a>, Error> {
     let command = program(alloc)?;
     let matches = command.try_get_matches_from(words)?;
-    Ok(ordered(&matches))
+    Ok(ordered(alloc, &matches)?)
 }
 
 fn file<'a>(alloc: Global, name: &'a str) -> Arg<'a> {
@@ -313,6 +349,30 @@ fn conform<'a>(alloc: Global) -> Result<Command<'a>, AllocError> {
         .arg(strict_option(alloc, STRICT_LOG))
 }
 
+fn check<'a>(alloc: Global) -> Result<Command<'a>, AllocError> {
+    let files = Arg::new(alloc, "FILE")
+        .action(ArgAction::Append)
+        .num_args(1..)
+        .required(true)
+        .help(SCRIPTS);
+    let finished = Arg::new(alloc, "finished")
+        .long("finished")
+        .action(ArgAction::SetTrue)
+        .help(FINISHED);
+    let format = Arg::new(alloc, "format")
+        .long("format")
+        .action(ArgAction::Set)
+        .value_parser(REPORTS.as_slice())
+        .default_value("text")
+        .help(REPORT);
+    Command::new(alloc, "check")
+        .about(CHECK)
+        .after_help(CHECK_HELP)
+        .arg(files)?
+        .arg(finished)?
+        .arg(format)
+}
+
 // An option that has a number.
 fn number_option<'a>(alloc: Global, name: &'a str, help: &'a str) -> Arg<'a> {
     Arg::new(alloc, name)
@@ -363,12 +423,13 @@ fn others<'a>(alloc: Global, program: Command<'a>) -> Result<Command<'a>, AllocE
         .subcommand(events(alloc)?)?
         .subcommand(compare(alloc)?)?
         .subcommand(conform(alloc)?)?
+        .subcommand(check(alloc)?)?
         .subcommand(explore(alloc)?)
 }
 
 // What the subcommand that was met orders.
-fn ordered<'a>(matches: &ArgMatches<'a>) -> Order<'a> {
-    match matches.subcommand() {
+fn ordered<'a>(alloc: Global, matches: &ArgMatches<'a>) -> Result<Order<'a>, AllocError> {
+    let order = match matches.subcommand() {
         Some(("lint", found)) => Order {
             job: tell(faults_in(found), found, false),
             color: color_in(found),
@@ -387,6 +448,7 @@ fn ordered<'a>(matches: &ArgMatches<'a>) -> Order<'a> {
             is_strict: found.get_flag("strict"),
         }),
         Some(("explore", found)) => plain(Job::Explore(searched(found))),
+        Some(("check", found)) => plain(Job::Check(checked(alloc, found)?)),
         Some((_, found)) => Order {
             job: tell(What::Explanation, found, found.get_flag("strict")),
             color: color_in(found),
@@ -396,7 +458,22 @@ fn ordered<'a>(matches: &ArgMatches<'a>) -> Order<'a> {
             file: None,
             is_strict: false,
         }),
-    }
+    };
+    Ok(order)
+}
+
+fn checked<'a>(alloc: Global, found: &ArgMatches<'a>) -> Result<Checking<'a>, AllocError> {
+    let files = found.get_strs("FILE").unwrap_or(&[]);
+    let form = match found.get_str("format") {
+        Some("json") => Form::Json,
+        Some("junit") => Form::Junit,
+        _ => Form::Text,
+    };
+    Ok(Checking {
+        files: Vec::from_slice(alloc, files)?,
+        form,
+        is_to_end: found.get_flag("finished"),
+    })
 }
 
 fn searched<'a>(found: &ArgMatches<'a>) -> Exploration<'a> {

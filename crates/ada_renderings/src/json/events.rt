@@ -1,5 +1,6 @@
 //! All objects of a play.
 
+use crate::json::ending::write_ending;
 use crate::json::members::{
     begin_object, end_object, put_number, put_position, put_text, put_truth,
 };
@@ -13,7 +14,7 @@ use ada_script::{EntryName, Name, Statement, Value};
 use std::alloc::{AllocError, Global};
 
 /// Writes a play of a script of this text: a JSON object for each event, refusal and shown attribute, in the order in
-/// which they came, each on a line.
+/// which they came, and then how it ends, each on a line.
 pub fn write_events(alloc: Global, source: &[u8], account: &Account) -> Result<String, AllocError> {
     let source = Source::of(alloc, source)?;
     let mut writer = Writer {
@@ -33,6 +34,7 @@ pub fn write_events(alloc: Global, source: &[u8], account: &Account) -> Result<S
             }
         }
     }
+    write_ending(alloc, &mut writer.out, writer.scene)?;
     Ok(writer.out)
 }
 

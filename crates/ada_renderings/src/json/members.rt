@@ -98,6 +98,12 @@ pub fn begin_object(out: &mut String, line: u32) -> Result<(), AllocError> {
     out.push_str(buffer.format(line))
 }
 
+/// Begins an object of a kind, which is of no line of the script.
+pub fn begin_kind(out: &mut String, kind: &str) -> Result<(), AllocError> {
+    out.push_str("{\"kind\":")?;
+    put_quoted(out, kind)
+}
+
 /// Ends an object and its line.
 pub fn end_object(out: &mut String) -> Result<(), AllocError> {
     out.push_str("}\n")
