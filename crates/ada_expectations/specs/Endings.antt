@@ -1,5 +1,5 @@
 -- When a play ends as is expected.
-use Rattle.std.specs.Prelude.{Bool, true, false, int_eq}
+use Rattle.std.specs.Prelude.{Bool, true, false, ◌&&◌, int_le}
 use Rattle.ada_explain.specs.declared.standstill.Standstill.{Standstill}
 use Rattle.ada_waiting.specs.declared.standstill.Verdict.{Verdict}
 use Rattle.ada_waiting.specs.declared.standstill.Verdict.TheVariants as verdict
@@ -11,7 +11,7 @@ abbrev pub has_verdict : Ending → Verdict → Bool
 has_verdict Terminated verdict.Finished = true
 has_verdict Stuck verdict.Stuck = true
 has_verdict GoesOn verdict.GoesOn = true
-has_verdict (WaitsUntil moment) (verdict.WaitsForTick until) = int_eq moment until
+has_verdict (WaitsUntil moment) (verdict.WaitsForTick until) = int_le moment until && int_le until moment
 has_verdict _ _ = false
 
 -- and by whether tasks wait for one another in a circle

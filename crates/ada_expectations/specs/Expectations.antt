@@ -12,7 +12,7 @@ use Rattle.ada_expectations.specs.Endings.{is_so}
 
 -- that a line is refused is what is expected
 abbrev pub is_expected_by : RefusedLine → Expected → Bool
-is_expected_by refused (Refused line cause) = line == refused.line && bytes_eq cause (refusal_name refused.cause)
+is_expected_by refused (Refused line cause) = line == refused.line && bytes_eq cause.now (refusal_name refused.cause)
 is_expected_by refused (Ending ending) = false
 
 -- what a comment says is so: the play ends so, or one of the refused lines is the one

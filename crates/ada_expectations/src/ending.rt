@@ -30,7 +30,9 @@ impl Ending {
             (Ending::Terminated, Verdict::Finished) => true,
             (Ending::Stuck, Verdict::Stuck) => true,
             (Ending::GoesOn, Verdict::GoesOn) => true,
-            (Ending::WaitsUntil(moment), Verdict::WaitsForTick { until }) => moment == until,
+            (Ending::WaitsUntil(moment), Verdict::WaitsForTick { until }) => {
+                moment <= until && until <= moment
+            }
             _ => false,
         }
     }

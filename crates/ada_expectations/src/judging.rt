@@ -1,6 +1,6 @@
 //! Whether a play is as is expected.
 ghost use Rattle.std.specs.Prelude.{◌≡◌, true, IfOk};
-ghost use Rattle.std.specs.List.{list_any};
+ghost use Rattle.std.specs.List.{list_all, list_any};
 ghost use Rattle.ada_expectations.specs.declared.expectation.Expectation.{Expectation as Comment};
 ghost use Rattle.ada_expectations.specs.Expectations as expectations;
 
@@ -86,8 +86,10 @@ pub fn judge<'a>(
 {
     let script = read_script(alloc, text)?;
     let account = account_of(alloc, script)?;
-    let judged = judgement_of(alloc, text, &account, is_to_end);
-    judged.map_err(|_| RunFault::Memory)
+    match judgement_of(alloc, text, &account, is_to_end) {
+        Ok(judgement) => Ok(judgement),
+        Err(_) => Err(RunFault::Memory),
+    }
 }
 
 fn judgement_of<'a>(
@@ -142,17 +144,44 @@ fn refused_lines(alloc: Global, account: &Account) -> Result<Vec<RefusedLine>, A
     Ok(refused)
 }
 
+// Whether one of the refused lines is what is expected.
+fn is_among(refused: &[RefusedLine], expected: &Expected<'_>) -> bool
+    ensures { result ≡ list_any
+        (λ line. expectations.is_expected_by line expected.now) refused.now }
+{
+    refused.iter().any(|line| line.is(expected))
+}
+
 // Whether a play is so.
 fn is_met(expected: &Expected<'_>, end: Standstill, refused: &[RefusedLine]) -> bool
     ensures { result ≡ expectations.is_met end refused.now expected.now }
 {
     match expected {
         Expected::Ending(ending) => ending.is_so(end),
-        Expected::Refused { .. } => refused.iter().any(|line| line.is(expected)),
+        Expected::Refused { .. } => is_among(refused, expected),
     }
 }
 
-// Whether whatever comments say is so, and of each refused line one says it.
+// Whether whatever comments say is so.
+fn are_met(comments: &[Expectation<'_>], end: Standstill, refused: &[RefusedLine]) -> bool
+    ensures { result ≡ list_all
+        (λ (comment : Comment). expectations.is_met end refused.now comment.expected)
+        comments.now }
+{
+    comments.iter().all(|comment| is_met(&comment.expected, end, refused))
+}
+
+// Whether of each refused line a comment says so.
+fn are_expected(refused: &[RefusedLine], comments: &[Expectation<'_>]) -> bool
+    ensures { result ≡ list_all (λ line. list_any
+        (λ (comment : Comment). expectations.is_expected_by line comment.expected)
+        comments.now)
+        refused.now }
+{
+    refused.iter().all(|line| line.is_expected(comments))
+}
+
+// Whether both are so.
 fn is_as_expected(
     comments: &[Expectation<'_>],
     end: Standstill,
@@ -160,8 +189,7 @@ fn is_as_expected(
 ) -> bool
     ensures { result ≡ expectations.is_as_expected comments.now end refused.now }
 {
-    comments.iter().all(|comment| is_met(&comment.expected, end, refused))
-        && refused.iter().all(|line| line.is_expected(comments))
+    are_met(comments, end, refused) && are_expected(refused, comments)
 }
 
 fn push_unmet<'a>(
