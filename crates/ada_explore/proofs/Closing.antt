@@ -1,5 +1,5 @@
 -- What was met and gone on from covers whatever a schedule comes to.
-use Rattle.std.proofs.Common.{◌≡◌, ℕ, zero, suc, ◌+◌, ◌<◌, ◌≤◌, Bool, true, false, cond, ◌&&◌, Option, Some, None}
+use Rattle.std.proofs.Common.{◌≡◌, ◌==◌, ℕ, zero, suc, ◌+◌, ◌<◌, ◌≤◌, Bool, true, false, cond, ◌&&◌, Option, Some, None}
 use Rattle.std.proofs.Common.{Vec, Global, List, [], ◌∷◌, ◌++◌, length, reverse, find, slice_get, get_or, refl, sym, ap, subst, ◌∙◌, inl, inr, arith, ◌⊎◌}
 use Rattle.std.specs.Option.{is_some}
 use Rattle.std.specs.List.{list_all, list_any, position_or_len}
@@ -23,7 +23,7 @@ use Rattle.ada_schedules.proofs.Once.{comes_once}
 use Rattle.ada_explore.specs.Scripts.{Rest, scripted, rest, at as state, is_same, asker_at, request_at, next_of, is_next, may_say, may_come, all_silent, runs}
 use Rattle.ada_explore.specs.declared.wanted.Wanted.{Wanted}
 use Rattle.ada_explore.specs.declared.wanted.Wanted.TheVariants.{Free, Left}
-use Rattle.ada_explore.specs.Findings.{NoneGetsStuck, NeverSays, is_left}
+use Rattle.ada_explore.specs.Findings.{NoneGetsStuck, NeverSays, is_unsaid}
 use Rattle.ada_explore.specs.internal.Sameness.{SameRest}
 use Rattle.ada_explore.specs.internal.Covering.{IsAlike, IsWithin, AreCovering, AreKept, LeadsOn, LeadsOnAfter, IsWell, GoesOnWell, IsDone, AreDone, StaysWell}
 use Rattle.ada_explore.proofs.Shapes.{declared_alike}
@@ -245,7 +245,7 @@ module _ (script : List Line) (wanted : Wanted) (start : List ℕ) (paths : List
     comes = done.begun.comes;
     well = λ more to comes.
         let known = follows_covered (scripted script) (SameRest script) (IsWithin script paths) (scripts_speak script short) closed
-            (reverse start) done.begun.from done.begun.comes done.begun.covered more to comes in
+        (reverse start) done.begun.from done.begun.comes done.begun.covered more to comes in
         well_too to known short;
   }
 
@@ -261,5 +261,5 @@ never_said script start places lines same stays = record {
   from = stays.from;
   comes = stays.comes;
   left = λ more to comes.
-      subst (λ (ps : List ℕ). list_all (is_left to.rest) ps ≡ true) same (stays.well more to comes);
+      subst (λ (ps : List ℕ). list_all (is_unsaid to.rest) ps ≡ true) same (stays.well more to comes);
 }

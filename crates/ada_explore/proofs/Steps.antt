@@ -1,6 +1,6 @@
 -- What each function of the check makes of what the ones below it say.
 use Rattle.std.proofs.Common.{◌≡◌, ℕ, ◌+◌, ◌<◌, true, Some, List, [], ◌∷◌, ◌++◌, length, reverse, slice_get, sym, ap, subst, ◌∙◌, arith, inl, inr, ◌⊎◌}
-use Rattle.std.specs.Prelude.{Result, Ok, Err, IfOk}
+use Rattle.std.specs.Prelude.{Result, Ok, Err, IfOk, IfSome, Option, None}
 use Rattle.std.proofs.lemmas.Bool.{cases_eq}
 use Rattle.std.proofs.lemmas.Option.{same_Some, slice_get_within}
 use Rattle.ada_events.specs.declared.event.Event.{Event}
@@ -18,6 +18,11 @@ use Rattle.ada_explore.proofs.Closing.{kept_on, after_more, alike_covers, one_lo
 pub ok_then : {T E : Type 0} (r : Result T E) (P Q : T → Type 0) → ((t : T) → P t → Q t) → IfOk r P → IfOk r Q
 ok_then (Ok t) P Q on is = on t is
 ok_then (Err e) P Q on is = is
+
+-- and from what an option says
+pub some_then : {T : Type 0} (o : Option T) (P Q : T → Type 0) → ((t : T) → P t → Q t) → IfSome o P → IfSome o Q
+some_then (Some t) P Q on is = on t is
+some_then None P Q on is = is
 
 -- a state to which a schedule that was met leads stands in for one
 pub covered_there : (script lines : List Line) (paths : List (List ℕ)) (old new : State Rest) (i : ℕ) (path places : List ℕ) → lines ≡ script

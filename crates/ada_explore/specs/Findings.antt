@@ -15,12 +15,12 @@ abbrev pub NoneGetsStuck : List Line → Type 0
 NoneGetsStuck script = (state : State Rest) → Reaches (scripted script) state → IsStuck state.journal → ⊥
 
 -- nobody said the line at a place yet
-abbrev pub is_left : Rest → ℕ → Bool
-is_left rest place = list_any (λ other. other == place) rest.left
+abbrev pub is_unsaid : Rest → ℕ → Bool
+is_unsaid rest place = list_any (λ other. other == place) rest.left
 
 -- the schedule that says the lines at these places, in their order, comes to a state from which on none of some others is
 -- ever said, whatever comes
 pub record NeverSays (script : List Line) (path places : List ℕ) : Type 0 where
   pub from : State Rest
   pub comes : Comes (scripted script) (reverse path) from
-  pub left : (more : List ℕ) (to : State Rest) → Comes (scripted script) (more ++ reverse path) to → list_all (is_left to.rest) places ≡ true
+  pub left : (more : List ℕ) (to : State Rest) → Comes (scripted script) (more ++ reverse path) to → list_all (is_unsaid to.rest) places ≡ true

@@ -49,11 +49,16 @@ impl Ahead {
 
     // Where a word of a state is.
     fn place(&self, state: u32, word: usize) -> usize {
-        self.words.saturating_mul(state as usize).saturating_add(word)
+        self.words
+            .saturating_mul(state as usize)
+            .saturating_add(word)
     }
 
     fn word(&self, state: u32, word: usize) -> Known {
-        self.known.get(self.place(state, word)).copied().unwrap_or(Known::of(0))
+        self.known
+            .get(self.place(state, word))
+            .copied()
+            .unwrap_or(Known::of(0))
     }
 
     fn set_word(&mut self, state: u32, word: usize, known: Known) {

@@ -2,7 +2,7 @@
 //! taken for one that was met only where that stands in for it, so what was met at the end covers whatever any
 //! schedule comes to.
 
-ghost use Rattle.std.specs.Prelude.{◌≡◌, ◌+◌, ◌≤◌, true, length, reverse, IfOk, IfSome};
+ghost use Rattle.std.specs.Prelude.{◌≡◌, ◌+◌, ℕ, List, true, length, reverse, IfOk, IfSome};
 ghost use Rattle.ada_standing.specs.Names.{renaming_of};
 ghost use Rattle.ada_standing.specs.Renaming.{Renaming as Naming};
 ghost use Rattle.ada_schedules.specs.Schedules.{Comes, Reaches};

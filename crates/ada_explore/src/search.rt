@@ -14,6 +14,7 @@ use std::alloc::Global;
 
 /// So many bytes a state takes beside its key, and a step from one to another, about.
 const STATE: u64 = 128;
+
 const LEAD: u64 = 12;
 
 /// How a search ended.
@@ -202,7 +203,9 @@ impl Search {
             self.short = self.short.saturating_add(1);
         }
         let left = left_for_good(self.alloc, script, standing)?;
-        self.ends.push(Deadend { state, left }).map_err(|_| Halt::Memory)
+        self.ends
+            .push(Deadend { state, left })
+            .map_err(|_| Halt::Memory)
     }
 
     // Takes a step, after which a schedule has this length.
@@ -310,17 +313,16 @@ impl Search {
     fn are_held(&self, script: &Script, state: u32, lines: &[u16]) -> Result<bool, Halt> {
         let path = self.path(state)?;
         let standing = play(self.alloc, script, &path)?;
-        Ok(lines.iter().all(|line| is_held_at(script.lines(), &standing, *line)))
+        Ok(
+            lines
+                .iter()
+                .all(|line| is_held_at(script.lines(), &standing, *line)),
+        )
     }
 }
 
 // The places of the lines that are left wherever a state leads.
-fn left_ahead(
-    alloc: Global,
-    script: &Script,
-    ahead: &Ahead,
-    state: u32,
-) -> Result<Vec<u16>, Halt> {
+fn left_ahead(alloc: Global, script: &Script, ahead: &Ahead, state: u32) -> Result<Vec<u16>, Halt> {
     let mut places = Vec::new(alloc);
     for line in 0..u16::try_from(script.lines().len()).unwrap_or(u16::MAX) {
         if ahead.is_left(state, line) {

@@ -99,7 +99,9 @@ impl States {
         Progress {
             done,
             met,
-            bytes: u64::from(met).saturating_mul(STATE).saturating_add(self.bytes),
+            bytes: u64::from(met)
+                .saturating_mul(STATE)
+                .saturating_add(self.bytes),
         }
     }
 

@@ -1,7 +1,7 @@
 //! What is wanted of each state that a schedule goes on to.
 ghost use Rattle.std.specs.Prelude.{◌≡◌, true, IfOk};
 ghost use Rattle.ada_events.specs.Lawful.{IsLawful, IsSettled};
-ghost use Rattle.ada_explore.specs.Findings.{is_left};
+ghost use Rattle.ada_explore.specs.Findings.{is_unsaid};
 ghost use Rattle.ada_explore.specs.Scripts as scripts;
 ghost use Rattle.ada_explore.specs.internal.Covering.{IsWell};
 ghost use Rattle.std.specs.List.{list_all};
@@ -21,7 +21,7 @@ pub(crate) enum Wanted {
 // Whether the lines at some places are left.
 fn are_left(standing: &Standing, places: &[u16]) -> bool
     ensures { result ≡ list_all
-        (is_left (scripts.rest standing.now.left.items standing.now.names)) places.now }
+        (is_unsaid (scripts.rest standing.now.left.items standing.now.names)) places.now }
 {
     places.iter().all(|place| standing.left.contains(place))
 }

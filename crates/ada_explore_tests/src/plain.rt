@@ -105,6 +105,8 @@ fn speaker(statement: &Statement, standing: &Standing) -> Option<TaskNo> {
 // Whether a task hasn't ended, doesn't run, and can't terminate where it is.
 fn is_held(kernel: &Kernel, task: TaskNo) -> bool {
     let is_callable = kernel.callable(task) == Some(true);
-    let may_quit = kernel.record(task).map(|record| record.suspension.quittable);
+    let may_quit = kernel
+        .record(task)
+        .map(|record| record.suspension.quittable);
     is_callable && kernel.running(task) == Some(false) && may_quit == Some(false)
 }

@@ -11,15 +11,11 @@ use std::test::Fail;
 /// So many scripts are tried by each test. One that has more schedules than these, with all that begin them, is left
 /// out.
 const SCRIPTS: u32 = 30;
+
 const MOST: u32 = 300;
 
 // A line or a few of a task, of which another one has the entry `E`, too.
-fn write_body(
-    text: &mut String,
-    dice: &mut Dice,
-    me: &str,
-    other: &str,
-) -> Result<(), AllocError> {
+fn write_body(text: &mut String, dice: &mut Dice, me: &str, other: &str) -> Result<(), AllocError> {
     match dice.below(11) {
         0 => write!(text, "{me}: accept E\n{me}: end\n"),
         1 => write!(text, "{me}: call {other} E\n"),
@@ -35,12 +31,7 @@ fn write_body(
     }
 }
 
-fn write_task(
-    text: &mut String,
-    dice: &mut Dice,
-    me: &str,
-    other: &str,
-) -> Result<(), AllocError> {
+fn write_task(text: &mut String, dice: &mut Dice, me: &str, other: &str) -> Result<(), AllocError> {
     write!(text, "{me}: up\n")?;
     write_body(text, dice, me, other)?;
     if dice.one_in(4) {
@@ -85,9 +76,7 @@ fn finds(alloc: Global, script: &Script, ends: Ends) -> Result<bool, Halt> {
     };
     let stops = ends.stuck.is_none() && ends.stops;
     let none = ends.stuck.is_none() && !ends.stops;
-    Ok(stuck == ends.stuck
-        && found.stopped.is_some() == stops
-        && found.covered.is_some() == none)
+    Ok(stuck == ends.stuck && found.stopped.is_some() == stops && found.covered.is_some() == none)
 }
 
 // The first script of these of which the search finds something else, and no text if there is none.

@@ -51,7 +51,7 @@ ClosedSetsCoverAll Rest Choice =
     → SpeaksInNames (program_of Rest Choice start asks after refused) (PassingBoth same)
     → IsClosed (program_of Rest Choice start asks after refused) (PassingBoth same) (Passing within)
     → Covers (program_of Rest Choice start asks after refused) (PassingBoth same) (Passing within)
-        (beginning (program_of Rest Choice start asks after refused))
+    (beginning (program_of Rest Choice start asks after refused))
     → (state : State Rest) → Reaches (program_of Rest Choice start asks after refused) state
     → Covers (program_of Rest Choice start asks after refused) (PassingBoth same) (Passing within) state
 
@@ -63,7 +63,7 @@ NoScheduleGetsStuck Rest Choice =
     → SpeaksInNames (program_of Rest Choice start asks after refused) (PassingBoth same)
     → IsClosed (program_of Rest Choice start asks after refused) (PassingBoth same) (Passing within)
     → Covers (program_of Rest Choice start asks after refused) (PassingBoth same) (Passing within)
-        (beginning (program_of Rest Choice start asks after refused))
+    (beginning (program_of Rest Choice start asks after refused))
     → ((state : State Rest) → Passing within state → IsStuck state.journal → ⊥)
     → (state : State Rest) → Reaches (program_of Rest Choice start asks after refused) state → IsStuck state.journal → ⊥
 

@@ -62,9 +62,11 @@ impl<'a> Told<'a> {
     /// What was found.
     pub fn report(&self, found: &Explored) -> Result<String, RunFault> {
         let mut text = String::new(self.alloc);
-        self.write_verdict(&mut text, found).map_err(|_| RunFault::Memory)?;
+        self.write_verdict(&mut text, found)
+            .map_err(|_| RunFault::Memory)?;
         write_short(&mut text, found).map_err(|_| RunFault::Memory)?;
-        self.write_refused(&mut text, found).map_err(|_| RunFault::Memory)?;
+        self.write_refused(&mut text, found)
+            .map_err(|_| RunFault::Memory)?;
         if let Some(path) = schedule_in(found) {
             let end = follow(self.alloc, self.script, path).map_err(fault_of)?;
             write_standstill(&mut text, Scene::of(&end.kernel, &end.names)).map_err(
@@ -72,7 +74,8 @@ impl<'a> Told<'a> {
             )?;
         }
         if let Some(stop) = &found.stopped {
-            self.write_unsaid(&mut text, stop).map_err(|_| RunFault::Memory)?;
+            self.write_unsaid(&mut text, stop)
+                .map_err(|_| RunFault::Memory)?;
         }
         Ok(text)
     }
@@ -140,7 +143,10 @@ impl<'a> Told<'a> {
     // Whether a line is the first of its task that is never said.
     fn is_first_of(&self, stop: &Stop, place: u16) -> bool {
         let speaker = self.speaker(place);
-        let first = stop.lines.iter().find(|other| self.speaker(**other) == speaker);
+        let first = stop
+            .lines
+            .iter()
+            .find(|other| self.speaker(**other) == speaker);
         first == Some(&place)
     }
 

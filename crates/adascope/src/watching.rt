@@ -62,7 +62,9 @@ impl<R: Eprint + Clock> Watch for Watching<'_, R> {
             self.show(progress, elapsed);
         }
         let Bounds {
-            seconds, megabytes, ..
+            seconds,
+            megabytes,
+            ..
         } = self.bounds;
         let has_time = seconds.map_or(true, |most| elapsed.as_secs() < u64::from(most));
         let has_room = megabytes.map_or(true, |most| progress.bytes / MEGABYTE < u64::from(most));

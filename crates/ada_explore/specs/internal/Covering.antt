@@ -14,7 +14,7 @@ use Rattle.ada_schedules.specs.Stuck.{IsStuck}
 use Rattle.ada_explore.specs.declared.wanted.Wanted.{Wanted}
 use Rattle.ada_explore.specs.declared.wanted.Wanted.TheVariants.{Free, Left}
 use Rattle.ada_explore.specs.Scripts.{Rest, scripted, may_come}
-use Rattle.ada_explore.specs.Findings.{is_left}
+use Rattle.ada_explore.specs.Findings.{is_unsaid}
 use Rattle.ada_explore.specs.internal.Sameness.{SameRest, same_task, same_master, says_alike_at}
 
 -- a name is bound to tasks, or to masters, of which the second stands for the first
@@ -67,7 +67,7 @@ pub record AreCovered (script : List Line) (old new : List (List ℕ)) (path : L
 -- a state is as is wanted: it isn't stuck, or the lines at some places are left
 abbrev pub IsWell : Wanted → State Rest → Type 0
 IsWell Free state = IsStuck state.journal → ⊥
-IsWell (Left places) state = list_all (is_left state.rest) places.items ≡ true
+IsWell (Left places) state = list_all (is_unsaid state.rest) places.items ≡ true
 
 -- a state is lawful, settled and as is wanted, and whatever may come next leads to what is covered
 pub record GoesOnWell (script : List Line) (wanted : Wanted) (paths : List (List ℕ)) (state : State Rest) : Type 0 where
