@@ -76,11 +76,7 @@ impl RefusedLine {
 
 /// Plays a script, and judges the play by the comments of its text. A play that was to end, and of whose end no comment
 /// says anything, has to end with the main program terminated. An `Err` says that the text is no script, or `Memory`.
-pub fn judge<'a>(
-    alloc: Global,
-    text: &'a [u8],
-    is_to_end: bool,
-) -> Result<Judgement<'a>, RunFault>
+pub fn judge<'a>(alloc: Global, text: &'a [u8], is_to_end: bool) -> Result<Judgement<'a>, RunFault>
     ensures { IfOk result (λ judged. judged.is_met
         ≡ expectations.is_as_expected judged.expected.items judged.end judged.refused.items) }
 {
@@ -168,7 +164,9 @@ fn are_met(comments: &[Expectation<'_>], end: Standstill, refused: &[RefusedLine
         (λ (comment : Comment). expectations.is_met end refused.now comment.expected)
         comments.now }
 {
-    comments.iter().all(|comment| is_met(&comment.expected, end, refused))
+    comments
+        .iter()
+        .all(|comment| is_met(&comment.expected, end, refused))
 }
 
 // Whether of each refused line a comment says so.
@@ -182,11 +180,7 @@ fn are_expected(refused: &[RefusedLine], comments: &[Expectation<'_>]) -> bool
 }
 
 // Whether both are so.
-fn is_as_expected(
-    comments: &[Expectation<'_>],
-    end: Standstill,
-    refused: &[RefusedLine],
-) -> bool
+fn is_as_expected(comments: &[Expectation<'_>], end: Standstill, refused: &[RefusedLine]) -> bool
     ensures { result ≡ expectations.is_as_expected comments.now end refused.now }
 {
     are_met(comments, end, refused) && are_expected(refused, comments)
@@ -224,7 +218,9 @@ fn push_unexpected<'a>(
 
 // Whether nothing is said of the end, and the main program isn't terminated.
 fn is_unfinished(list: &[Expectation<'_>], end: Standstill) -> bool {
-    !list.iter().any(|expectation| expectation.expected.is_ending())
+    !list
+        .iter()
+        .any(|expectation| expectation.expected.is_ending())
         && !Ending::Terminated.is_so(end)
         && end.verdict != Verdict::Finished
 }

@@ -6,7 +6,6 @@ pub mod expectation;
 pub mod judging;
 pub mod reading;
 pub mod telling;
-
 #[cfg(test)]
 mod tests;
 

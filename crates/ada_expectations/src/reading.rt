@@ -76,7 +76,9 @@ fn expected_by<'a>(words: &mut Words<'a>) -> Option<Expected<'a>> {
         b"stuck" => Ending::Stuck,
         b"circle" => Ending::Circle,
         b"goes" if words.next() == Some(b"on") => Ending::GoesOn,
-        b"waits" if words.next() == Some(b"until") => Ending::WaitsUntil(word(words)?.parse::<i64>().ok()?),
+        b"waits" if words.next() == Some(b"until") => Ending::WaitsUntil(
+            word(words)?.parse::<i64>().ok()?,
+        ),
         b"refused" => return refusal_by(words),
         _ => return None,
     };

@@ -58,7 +58,10 @@ fn write_failing(
             text.push_str("'")
         }
         Failing::Refused { line, cause } => {
-            write!(text, "line {line} is refused, which isn't expected [{cause}]")
+            write!(
+                text,
+                "line {line} is refused, which isn't expected [{cause}]"
+            )
         }
         Failing::Misread { line } => write!(text, "line {line}: nothing that can be expected"),
         Failing::Unfinished => {
@@ -193,7 +196,8 @@ impl Suite {
         reasons: &str,
         outcome: Outcome<'_>,
     ) -> Result<(), AllocError> {
-        self.cases.push_str("  <testcase classname=\"adascope\" name=\"")?;
+        self.cases
+            .push_str("  <testcase classname=\"adascope\" name=\"")?;
         write_escaped(&mut self.cases, file)?;
         if reasons.is_empty() {
             return self.cases.push_str("\"/>\n");
@@ -212,12 +216,19 @@ impl Suite {
         let mut text = String::new(self.alloc);
         if self.form == Form::Junit {
             text.push_str("<?xml version=\"1.0\" encoding=\"UTF-8\"?>\n")?;
-            write!(text, "<testsuite name=\"adascope check\" tests=\"{}\"", self.tests)?;
-            write!(text, " failures=\"{}\" errors=\"{}\">\n", self.failures, self.errors)?;
+            write!(
+                text,
+                "<testsuite name=\"adascope check\" tests=\"{}\"",
+                self.tests
+            )?;
+            write!(
+                text,
+                " failures=\"{}\" errors=\"{}\">\n",
+                self.failures, self.errors
+            )?;
             text.push_str(&self.cases)?;
             text.push_str("</testsuite>\n")?;
         }
         Ok(text)
     }
-
 }

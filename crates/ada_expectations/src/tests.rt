@@ -104,10 +104,12 @@ fn tells_of_a_script(rt: HostRuntime) -> Result<(), Fail> {
     let judged = judge(rt.alloc(), OTHERWISE, false)?;
     let mut suite = Suite::new(rt.alloc(), Form::Text);
     let told = suite.add("a.tasks", Outcome::Played(&judged))?;
-    assert_eq!(&rt; told.as_str(),
+    assert_eq!(&rt;
+        told.as_str(),
         "a.tasks: line 1: expected 'stuck', and it ends 'waits until 5'; line 4: expected \
          'refused 2 NotRunning', and it isn't; line 2 is refused, which isn't expected \
-         [NotInAccept]\n");
+         [NotInAccept]\n"
+    );
     Ok(())
 }
 
@@ -117,11 +119,13 @@ fn reports_in_xml(rt: HostRuntime) -> Result<(), Fail> {
     let mut suite = Suite::new(rt.alloc(), Form::Junit);
     assert!(rt; suite.add("<a>", Outcome::Played(&met))?.is_empty());
     assert!(rt; suite.add("b", Outcome::Unread)?.is_empty());
-    assert_eq!(&rt; suite.end()?.as_str(),
+    assert_eq!(&rt;
+        suite.end()?.as_str(),
         "<?xml version=\"1.0\" encoding=\"UTF-8\"?>\n\
          <testsuite name=\"adascope check\" tests=\"2\" failures=\"0\" errors=\"1\">\n  \
          <testcase classname=\"adascope\" name=\"&lt;a&gt;\"/>\n  \
          <testcase classname=\"adascope\" name=\"b\"><error message=\"cannot read the file\"/>\
-         </testcase>\n</testsuite>\n");
+         </testcase>\n</testsuite>\n"
+    );
     Ok(())
 }

@@ -1,10 +1,10 @@
 //! How a play ends: what each task does then, who waits for whom, and what can let the journal go on.
 
 use crate::json::members::{begin_kind, end_object, put_number, put_position, put_tasks, put_text};
+use ada_events::TaskNo;
 use ada_explain::Scene;
 use ada_explain::circles::circles;
 use ada_explain::end::End;
-use ada_events::TaskNo;
 use ada_waiting::{Reason, Verdict, due_in, verdict_in};
 use std::alloc::{AllocError, Global};
 
