@@ -1,5 +1,5 @@
 -- When a play is as the comments of its script say.
-use Rattle.std.specs.Prelude.{Bool, true, false, ◌&&◌, ◌==◌, List}
+use Rattle.std.specs.Prelude.{Bool, false, ◌&&◌, ◌==◌, List}
 use Rattle.std.specs.List.{list_all, list_any}
 use Rattle.std.specs.Str.{bytes_eq}
 use Rattle.ada_events.specs.RefusalNames.{refusal_name}

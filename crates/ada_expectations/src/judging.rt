@@ -1,5 +1,5 @@
 //! Whether a play is as is expected.
-ghost use Rattle.std.specs.Prelude.{◌≡◌, true, IfOk};
+ghost use Rattle.std.specs.Prelude.{◌≡◌, IfOk};
 ghost use Rattle.std.specs.List.{list_all, list_any};
 ghost use Rattle.ada_expectations.specs.declared.expectation.Expectation.{Expectation as Comment};
 ghost use Rattle.ada_expectations.specs.Expectations as expectations;

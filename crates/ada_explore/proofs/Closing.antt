@@ -1,6 +1,6 @@
 -- What was met and gone on from covers whatever a schedule comes to.
 use Rattle.std.proofs.Common.{◌≡◌, ◌==◌, ℕ, zero, suc, ◌+◌, ◌<◌, ◌≤◌, Bool, true, false, cond, ◌&&◌, Option, Some, None}
-use Rattle.std.proofs.Common.{Vec, Global, List, [], ◌∷◌, ◌++◌, length, reverse, find, slice_get, get_or, refl, sym, ap, subst, ◌∙◌, inl, inr, arith, ◌⊎◌}
+use Rattle.std.proofs.Common.{List, [], ◌∷◌, ◌++◌, length, reverse, find, slice_get, get_or, refl, sym, ap, subst, ◌∙◌, inl, inr, arith, ◌⊎◌}
 use Rattle.std.specs.Option.{is_some}
 use Rattle.std.specs.List.{list_all, list_any, position_or_len}
 use Rattle.std.proofs.lemmas.Bool.{true≢false, eqb-true, and_parts, cases_eq}
@@ -23,7 +23,7 @@ use Rattle.ada_schedules.proofs.Once.{comes_once}
 use Rattle.ada_explore.specs.Scripts.{Rest, scripted, rest, at as state, is_same, asker_at, request_at, next_of, is_next, may_say, may_come, all_silent, runs}
 use Rattle.ada_explore.specs.declared.wanted.Wanted.{Wanted}
 use Rattle.ada_explore.specs.declared.wanted.Wanted.TheVariants.{Free, Left}
-use Rattle.ada_explore.specs.Findings.{NoneGetsStuck, NeverSays, is_unsaid}
+use Rattle.ada_explore.specs.Findings.{NoneGetsStuck}
 use Rattle.ada_explore.specs.internal.Sameness.{SameRest}
 use Rattle.ada_explore.specs.internal.Covering.{IsAlike, IsWithin, AreCovering, AreKept, LeadsOn, LeadsOnAfter, IsWell, GoesOnWell, IsDone, AreDone, StaysWell}
 use Rattle.ada_explore.proofs.Shapes.{declared_alike}
@@ -254,12 +254,3 @@ module _ (script : List Line) (wanted : Wanted) (start : List ℕ) (paths : List
 pub none_gets_stuck : (script : List Line) → StaysWell script Free [] → NoneGetsStuck script
 none_gets_stuck script stays state (choices, comes) =
     stays.well choices state (subst (λ (all : List ℕ). Comes (scripted script) all state) (sym (append-nil choices)) comes)
-
-pub never_said : (script : List Line) (start places : List ℕ) (lines : Vec ℕ Global) → lines.items ≡ places → StaysWell script (Left lines) start
-    → NeverSays script start places
-never_said script start places lines same stays = record {
-  from = stays.from;
-  comes = stays.comes;
-  left = λ more to comes.
-      subst (λ (ps : List ℕ). list_all (is_unsaid to.rest) ps ≡ true) same (stays.well more to comes);
-}

@@ -89,8 +89,3 @@ pub gone_on : (script : List Line) (wanted : Wanted) (old new : List (List ℕ))
     → AreDone script wanted start old count → AreDone script wanted start new (count + 1)
 gone_on script wanted old new path places count equal is (kept, done) start before =
     one_more_done script wanted start old new path count is kept (subst (λ (ps : List ℕ). IsDone script wanted new ps) equal done) before
-
--- nothing is done yet
-pub none_done : (script : List Line) (wanted : Wanted) (start : List ℕ) (paths : List (List ℕ)) → IsBegun script start paths
-    → AreDone script wanted start paths 0
-none_done script wanted start paths begun = record { begun = begun; done = λ i path below there. absurd (omega arith) }
