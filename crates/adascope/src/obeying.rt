@@ -2,6 +2,7 @@
 
 use crate::conforming::tell_conformance;
 use crate::exploring::tell_schedules;
+use crate::fixing::tell_repairs;
 use crate::order::{Job, What};
 use crate::output::write_text;
 use crate::painting::{Kind, painted};
@@ -57,6 +58,9 @@ pub fn obey<'a, R: Files + Input + Print + Eprint + Clock + AllocGlobal>(
             let told = tell_schedules(rt, &order, terminals.is_watched);
             told.map_err(|fault| failure(order.file, fault))
         }
+        Job::Fix(order) => tell_repairs(rt, &order, is_colored).map_err(|fault| failure(
+            order.file, fault,
+        )),
     }
 }
 
