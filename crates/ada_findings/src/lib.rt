@@ -4,5 +4,5 @@
 pub mod checking;
 pub mod fault;
 
-pub use checking::{Form, check};
+pub use checking::{Form, Repaired, check, repair};
 pub use fault::{Failure, Finding, ScopeFault, status_of};

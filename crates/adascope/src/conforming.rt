@@ -18,6 +18,14 @@ const LAST_LINE: u32 = 4096;
 
 // The log that a file has, or the standard input.
 fn log_of<R: Files + Input + AllocGlobal>(rt: &R, file: Option<&str>) -> Result<Log, ScopeFault> {
+    Log::of(bytes_of(rt, file)?).ok_or(ScopeFault::TooLong)
+}
+
+/// The bytes of a file, or of the standard input: as many as a log has, and one more if there are more.
+pub(crate) fn bytes_of<R: Files + Input + AllocGlobal>(
+    rt: &R,
+    file: Option<&str>,
+) -> Result<Vec<u8>, ScopeFault> {
     let bytes = match file {
         Some(file) => {
             let reader = fs::open(rt, file).map_err(|_| ScopeFault::Open)?;
@@ -25,7 +33,7 @@ fn log_of<R: Files + Input + AllocGlobal>(rt: &R, file: Option<&str>) -> Result<
         }
         None => read_log(rt.alloc(), rt.reader())?,
     };
-    Log::of(bytes).ok_or(ScopeFault::TooLong)
+    Ok(bytes)
 }
 
 // What `lint` says of a log's first faulty line, where a script may have that many lines, and how far the log conforms.

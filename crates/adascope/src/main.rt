@@ -5,6 +5,7 @@ pub mod announced;
 pub mod checking;
 pub mod conforming;
 pub mod exploring;
+pub mod fixing;
 pub mod input;
 pub mod obeying;
 pub mod order;
@@ -43,7 +44,7 @@ fn try_words(rt: &HostRuntime, words: &[String]) -> ExitCode {
     match order_of(rt.alloc(), words) {
         Ok(order) => {
             let terminals = Terminals {
-                is_colored: order.is_colored(may_be_colored(rt)),
+                is_colored: order.is_colored(may_be_colored(rt, order.is_told_on_error())),
                 is_watched: !is_dumb(rt) && rt.stderr().is_terminal(),
             };
             end(rt, &obey(rt, order.job, terminals))
@@ -52,14 +53,20 @@ fn try_words(rt: &HostRuntime, words: &[String]) -> ExitCode {
     }
 }
 
-// Whether the standard output is a terminal that has colours, and nobody asks that nothing has them.
-fn may_be_colored(rt: &HostRuntime) -> bool {
+// Whether the standard output, or else standard error, is a terminal that has colours, and nobody asks that nothing has
+// them.
+fn may_be_colored(rt: &HostRuntime, is_on_error: bool) -> bool {
     let asks = match env::var(rt, "NO_COLOR") {
         Ok(text) => !text.is_empty(),
         Err(VarError::NotPresent) => false,
         Err(_) => true,
     };
-    !asks && !is_dumb(rt) && rt.stdout().is_terminal()
+    let is_terminal = if is_on_error {
+        rt.stderr().is_terminal()
+    } else {
+        rt.stdout().is_terminal()
+    };
+    !asks && !is_dumb(rt) && is_terminal
 }
 
 fn is_dumb(rt: &HostRuntime) -> bool {

@@ -3,6 +3,7 @@
 use crate::checking::tell_checks;
 use crate::conforming::tell_conformance;
 use crate::exploring::tell_schedules;
+use crate::fixing::tell_repairs;
 use crate::order::{Job, What};
 use crate::output::write_text;
 use crate::painting::{Kind, painted};
@@ -59,6 +60,9 @@ pub fn obey<'a, R: Files + Input + Print + Eprint + Clock + AllocGlobal>(
             told.map_err(|fault| failure(order.file, fault))
         }
         Job::Check(order) => tell_checks(rt, &order),
+        Job::Fix(order) => tell_repairs(rt, &order, is_colored).map_err(|fault| failure(
+            order.file, fault,
+        )),
     }
 }
 

@@ -49,6 +49,8 @@ pub enum Job<'a> {
     Explore(Exploration<'a>),
     /// To hold plays against what comments of their scripts say.
     Check(Checking<'a>),
+    /// To repair a script where it is certain how.
+    Fix(Repairing<'a>),
 }
 
 /// A check of some plays.
@@ -83,6 +85,16 @@ pub struct Exploration<'a> {
     pub choices: Option<&'a str>,
 }
 
+/// The repair of a script.
+#[derive(Clone, Copy, Debug, PartialEq, Eq)]
+pub struct Repairing<'a> {
+    pub file: Option<&'a str>,
+    /// So many findings of what is left are told at most.
+    pub most: usize,
+    /// Whether they are told as JSON.
+    pub is_json: bool,
+}
+
 /// When a text has colours.
 #[derive(Clone, Copy, Debug, PartialEq, Eq)]
 pub enum Color {
@@ -108,6 +120,11 @@ impl Order<'_> {
             Color::Never => false,
         }
     }
+
+    /// Whether what may have colours is on standard error.
+    pub fn is_told_on_error(&self) -> bool {
+        matches!(self.job, Job::Fix(_))
+    }
 }
 
 static ABOUT: &str = "Explain and check scripts of requests to a kernel of Ada tasks";
@@ -130,6 +147,9 @@ const MOST_FINDINGS: usize = 50;
 
 static ALL: &str = "Print all findings, and not the first 50 alone";
 
+static FIX: &str =
+    "Write the script with the repairs that are certain, and tell on standard error what is left";
+
 static LIST_FORMAT: &str = "text: as editors read it; json: a line of JSON for each finding";
 
 static LIST_FORMATS: [&str; 2] = ["text", "json"];
@@ -139,6 +159,7 @@ static LINT_HELP: &str = "Examples:
   adascope lint design.tasks
   adascope lint < design.tasks
   adascope lint --format json design.tasks | jq -r .message
+  adascope lint --fix design.tasks > fixed.tasks
 ";
 
 static DRAW: &str = "Draw the play: tasks and events as SVG, or another format";
@@ -319,6 +340,10 @@ fn lint<'a>(alloc: Global) -> Result<Command<'a>, AllocError> {
         .long("all")
         .action(ArgAction::SetTrue)
         .help(ALL);
+    let fix = Arg::new(alloc, "fix")
+        .long("fix")
+        .action(ArgAction::SetTrue)
+        .help(FIX);
     let format = Arg::new(alloc, "format")
         .long("format")
         .action(ArgAction::Set)
@@ -330,6 +355,7 @@ fn lint<'a>(alloc: Global) -> Result<Command<'a>, AllocError> {
         .after_help(LINT_HELP)
         .arg(file(alloc, "FILE"))?
         .arg(all)?
+        .arg(fix)?
         .arg(format)?
         .arg(color_option(alloc))
 }
@@ -431,7 +457,7 @@ fn others<'a>(alloc: Global, program: Command<'a>) -> Result<Command<'a>, AllocE
 fn ordered<'a>(alloc: Global, matches: &ArgMatches<'a>) -> Result<Order<'a>, AllocError> {
     let order = match matches.subcommand() {
         Some(("lint", found)) => Order {
-            job: tell(faults_in(found), found, false),
+            job: linted(found),
             color: color_in(found),
         },
         Some(("draw", found)) => plain(tell(picture_in(found), found, false)),
@@ -476,6 +502,28 @@ fn checked<'a>(alloc: Global, found: &ArgMatches<'a>) -> Result<Checking<'a>, Al
     })
 }
 
+fn linted<'a>(found: &ArgMatches<'a>) -> Job<'a> {
+    let most = if found.get_flag("all") {
+        usize::MAX
+    } else {
+        MOST_FINDINGS
+    };
+    let is_json = found.get_str("format") == Some("json");
+    if found.get_flag("fix") {
+        return Job::Fix(Repairing {
+            file: file_in(found, "FILE"),
+            most,
+            is_json,
+        });
+    }
+    let what = if is_json {
+        What::FaultRecords(most)
+    } else {
+        What::Faults(most)
+    };
+    tell(what, found, false)
+}
+
 fn searched<'a>(found: &ArgMatches<'a>) -> Exploration<'a> {
     Exploration {
         file: file_in(found, "FILE"),
@@ -509,19 +557,6 @@ fn color_in(matches: &ArgMatches<'_>) -> Color {
         Some("always") => Color::Always,
         Some("never") => Color::Never,
         _ => Color::Auto,
-    }
-}
-
-// How many findings are printed, and in which format.
-fn faults_in(matches: &ArgMatches<'_>) -> What {
-    let most = if matches.get_flag("all") {
-        usize::MAX
-    } else {
-        MOST_FINDINGS
-    };
-    match matches.get_str("format") {
-        Some("json") => What::FaultRecords(most),
-        _ => What::Faults(most),
     }
 }
 
