@@ -26,6 +26,14 @@ static void add_all(uint64_t *set, const uint64_t *other) {
   for (i = 0; i < words; i++) set[i] |= other[i];
 }
 
+static void make_clocks(const run *r) {
+  words = r->steps / BITS + 1;
+  clocks = malloc((size_t)r->steps * words * sizeof *clocks + 1);
+  if (clocks) return;
+  fputs("adatask: there is no memory for the search\n", stderr);
+  exit(4);
+}
+
 static uint16_t who_at(const run *r, unsigned at) { return r->step[at].taken.who; }
 
 /* Whether nothing of what comes between two steps, and not after the earlier one, comes before a step. */
@@ -56,10 +64,10 @@ static void reverse(const run *r, node *at, unsigned early, unsigned late) {
   }
 }
 
-/* A tick that couldn't come earlier has no other order. */
-static bool is_reversible(const run *r, const node *at, unsigned early, unsigned late) {
+/* A tick that comes late can't come while the earlier step could. */
+static bool is_reversible(const run *r, unsigned early, unsigned late) {
   uint16_t one = who_at(r, early), other = who_at(r, late);
-  return one != other && (other != A_TICK || is_candidate(at, A_TICK));
+  return one != other && (other != A_TICK || has_any_time);
 }
 
 /* The clock of a step, and its races if it is new. */
@@ -74,7 +82,7 @@ static void look_at_step(const run *r, node *const *path, unsigned at, bool is_n
   for (i = at; i--;) {
     if (has(before, i) || !depend(footprint_of(r, &r->step[i]), print)) continue;
     add_all(before, clock_of(i));
-    if (races && is_reversible(r, path[i], i, at)) races[count++] = i;
+    if (races && is_reversible(r, i, at)) races[count++] = i;
   }
   add(before, at);
   for (i = 0; is_new && i < count; i++) reverse(r, path[races[i]], races[i], at);
@@ -118,12 +126,7 @@ static void want_kept(const run *r, node *at, unsigned depth) {
 /* Finds the races of the steps from the first one that is new. */
 void find_races(const run *r, node *const *path, unsigned first) {
   unsigned i;
-  words = r->steps / BITS + 1;
-  clocks = malloc((size_t)r->steps * words * sizeof *clocks + 1);
-  if (!clocks) {
-    fputs("adatask: there is no memory for the search\n", stderr);
-    exit(4);
-  }
+  make_clocks(r);
   for (i = 0; i < r->steps; i++) {
     look_at_step(r, path, i, i >= first);
     note_step_of(r, i);
@@ -131,4 +134,52 @@ void find_races(const run *r, node *const *path, unsigned first) {
   }
   forget_steps(r);
   free(clocks);
+}
+
+/* ---- Classes of orders that differ in steps alone that don't depend on each other ---- */
+
+/* What comes before each step since it depends on that, or is of the same task. */
+static void find_order(const run *r) {
+  unsigned at, i;
+  memset(clocks, 0, (size_t)r->steps * words * sizeof *clocks);
+  for (at = 0; at < r->steps; at++) {
+    footprint print = footprint_of(r, &r->step[at]);
+    for (i = at; i--;) {
+      if (who_at(r, i) == who_at(r, at) || depend(footprint_of(r, &r->step[i]), print)) add(clock_of(at), i);
+    }
+  }
+}
+
+static bool is_covered(const uint64_t *set, const uint64_t *by) {
+  unsigned i = 0;
+  while (i < words && !(set[i] & ~by[i])) i++;
+  return i == words;
+}
+
+/* Of the steps that can come next in an order of the same class, that of the task with the least number. */
+static unsigned next_in_order(const run *r, const uint64_t *taken) {
+  unsigned i, best = r->steps;
+  for (i = 0; i < r->steps; i++) {
+    if (has(taken, i) || !is_covered(clock_of(i), taken)) continue;
+    if (best == r->steps || who_at(r, i) < who_at(r, best)) best = i;
+  }
+  return best;
+}
+
+/* A number that runs have in common whose orders are of one class: that of the least order in it. */
+uint64_t class_of(const run *r) {
+  uint64_t number = UINT64_C(14695981039346656037), *taken;
+  unsigned i;
+  make_clocks(r);
+  find_order(r);
+  taken = calloc(words, sizeof *taken);
+  for (i = 0; taken && i < r->steps; i++) {
+    unsigned at = next_in_order(r, taken);
+    number = (number ^ who_at(r, at)) * UINT64_C(1099511628211);
+    number = (number ^ r->step[at].taken.pick) * UINT64_C(1099511628211);
+    add(taken, at);
+  }
+  free(taken);
+  free(clocks);
+  return number;
 }

@@ -15,10 +15,9 @@
 bool is_controlled;
 task *turn;
 uint64_t turns;
+bool has_any_time;
 
 static enum { BY_NOBODY, BY_ORDER, BY_SEED, BY_LIST, BY_SEARCH } chosen;
-/* Whether a tick can be chosen while tasks would go on. */
-static bool has_any_time;
 /* Those that would go on, in the order in which they became so. */
 static task *first_ready, *last_ready;
 static uint64_t random_state;

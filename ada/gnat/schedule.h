@@ -26,6 +26,8 @@ typedef struct {
 /* The task that has the turn, and how often the turn was given. */
 extern task *turn;
 extern uint64_t turns;
+/* Whether a tick can be chosen while tasks would go on. */
+extern bool has_any_time;
 
 /* ---- Lists of choices: choices.c ---- */
 

@@ -228,6 +228,7 @@ static void take_end(const job *j, int status) {
     keep_unhandled(j, name, "main");
   }
   if (wished.ends) count_end(status, j->out);
+  if (wished.ends && wished.plain) count_class(class_of(r));
 }
 
 static void take_run(job *j, int status) {

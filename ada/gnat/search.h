@@ -30,6 +30,7 @@ extern findings found;
 /* ---- The verdict: verdict.c ---- */
 
 void count_end(int status, int out);
+void count_class(uint64_t number);
 int write_verdict(const char *folder, bool is_any_left);
 void name_choices(const char *folder);
 

@@ -102,5 +102,6 @@ unsigned depth_of(trial t);
 /* ---- Races: races.c ---- */
 
 void find_races(const run *r, node *const *path, unsigned first);
+uint64_t class_of(const run *r);
 
 #endif

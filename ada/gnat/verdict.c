@@ -32,6 +32,41 @@ static bool is_end(const end_of_runs *end, int status, const char *output, size_
   return end->status == status && end->length == length && !memcmp(end->output, output, length);
 }
 
+/* ---- Classes ---- */
+
+/* The numbers of those that were met, in a table with more room than numbers; 0 is none. */
+static uint64_t *classes;
+static size_t class_count, class_room;
+
+static bool put_class(uint64_t *table, size_t room, uint64_t number) {
+  size_t at = number % room;
+  while (table[at] && table[at] != number) at = (at + 1) % room;
+  if (table[at]) return false;
+  table[at] = number;
+  return true;
+}
+
+static void make_class_room(void) {
+  size_t more = class_room ? 4 * class_room : 1 << 14, i;
+  uint64_t *larger = calloc(more, sizeof *larger);
+  if (!larger) {
+    fputs("adatask: there is no memory for the search\n", stderr);
+    exit(FILE_STATUS);
+  }
+  for (i = 0; i < class_room; i++) {
+    if (classes[i]) put_class(larger, more, classes[i]);
+  }
+  free(classes);
+  classes = larger;
+  class_room = more;
+}
+
+/* A schedule was of this class. */
+void count_class(uint64_t number) {
+  if (2 * class_count >= class_room) make_class_room();
+  class_count += put_class(classes, class_room, number ? number : 1);
+}
+
 /* A schedule ended so, and the program printed that. */
 void count_end(int status, int out) {
   char output[OUTPUT_SIZE];
@@ -142,8 +177,8 @@ static void write_rest(FILE *to, bool is_any_left) {
     fputs("Each schedule is an order of steps, each of which ends at a tasking operation. Orders of what lies within\n"
           "steps, as uses of variables that tasks share, weren't tried.\n", to);
   } else {
-    fputs("Of orders that differ only in steps of different tasks one was tried. Variables that tasks share aren't\n"
-          "seen by this: --plain tries each order of steps.\n", to);
+    fputs("Of orders that differ only in independent steps one was tried. Variables and protected objects that tasks\n"
+          "share aren't seen by this: --plain tries each order of steps.\n", to);
   }
 }
 
@@ -166,6 +201,7 @@ int write_verdict(const char *folder, bool is_any_left) {
   int status = write_first_line(to, is_left);
   write_rest(to, is_left);
   if (wished.ends) write_ends(to);
+  if (class_count) fprintf(to, "classes: %zu\n", class_count);
   return fclose(to) ? FILE_STATUS : status;
 }
 
