@@ -166,10 +166,23 @@ void end_unfit(const char *format, ...);
 extern bool is_searched;
 void search_from_here(void);
 void end_search(void);
-void note_change(const task *t);
-void note_look(const task *t);
-void note_change_of_all(void);
 void note_ends(void);
+void add_change(const task *t);
+void add_look(const task *t);
+void add_change_of_all(void);
+
+/* The step of a search that isn't over changes a task's state; asks for an attribute of it; or changes any. */
+static inline void note_change(const task *t) {
+  if (is_searched) add_change(t);
+}
+
+static inline void note_look(const task *t) {
+  if (is_searched) add_look(t);
+}
+
+static inline void note_change_of_all(void) {
+  if (is_searched) add_change_of_all();
+}
 
 /* ---- Journal, files and dump: journal.c, files.c, dump.c ---- */
 

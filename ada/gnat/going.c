@@ -18,7 +18,8 @@ void (*mark_aborted)(void *block);
 
 static pthread_mutex_t lock = PTHREAD_MUTEX_INITIALIZER;
 static __thread task *own;
-static __thread bool is_lock_mine;
+/* Whether this thread marks tasks as aborted, with the lock. */
+static __thread bool is_marking;
 /* Those whose threads may go on once the lock is given. */
 static task *to_wake;
 /* Whether there ever was an abort, and since then the newest event that was looked at. Without one, nobody is looked
@@ -28,12 +29,8 @@ static uint64_t looked;
 
 task *self(void) { return own; }
 void set_self(task *t) { own = t; }
-bool has_lock(void) { return is_lock_mine; }
-
-void take_lock(void) {
-  pthread_mutex_lock(&lock);
-  is_lock_mine = true;
-}
+bool has_lock(void) { return is_marking; }
+void take_lock(void) { pthread_mutex_lock(&lock); }
 
 /* Without the lock: until the task gets the turn, where the schedule is chosen. */
 void await_turn(task *me) {
@@ -53,7 +50,6 @@ static void wake(task *t) {
 void give_lock(void) {
   task *t = to_wake;
   to_wake = NULL;
-  is_lock_mine = false;
   pthread_mutex_unlock(&lock);
   wake(t);
 }
@@ -112,7 +108,9 @@ static void mark_those_halted(void) {
     t = task_numbered(event.task);
     if (!t) continue;
     t->was_halted = true;
+    is_marking = true;
     if (t->block && t->has_thread) mark_aborted(t->block);
+    is_marking = false;
   }
 }
 
@@ -144,7 +142,7 @@ void leave_innermost(task *server) {
 }
 
 static void note_rendezvous(const task *server) {
-  const task *caller = caller_of(server, 0);
+  const task *caller = is_searched ? caller_of(server, 0) : NULL;
   note_change(server);
   if (caller) note_change(caller);
 }

@@ -38,6 +38,7 @@ static cpu_set_t processors;
 static sigset_t child_signal, old_signals;
 static struct timespec begun, shown;
 static bool is_cut_short;
+static unsigned last_depth;
 findings found;
 
 /* ---- What is asked for ---- */
@@ -236,6 +237,7 @@ static void take_run(job *j, int status) {
   trial t = j->trial;
   unsigned first = t.at ? depth_of(t) : 0;
   j->process = 0;
+  last_depth = r->steps;
   if (r->end == STRAYED || !take_steps(r, t, path)) {
     found.strayed++;
     end_trial(t, t.at);
@@ -268,7 +270,7 @@ static void show_line(bool is_last) {
   if (!wished.line || (!is_last && since(&shown) * PARTS < 1)) return;
   real_time(&shown);
   dprintf((int)wished.line, "\r%lu schedules, %.0f a second, depth %u \033[K%s", tried,
-          seconds > 0 ? (double)tried / seconds : 0, (unsigned)jobs[0].run->steps, is_last ? "\r\033[K" : "");
+          seconds > 0 ? (double)tried / seconds : 0, last_depth, is_last ? "\r\033[K" : "");
 }
 
 static bool is_enough(void) {

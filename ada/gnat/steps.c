@@ -49,7 +49,7 @@ void end_outside(void) { end_run(OUTSIDE); }
 static step *latest(void) { return this_run->steps ? &this_run->step[this_run->steps - 1] : NULL; }
 
 static void note(uint16_t whose, uint16_t what) {
-  step *s = is_searched ? latest() : NULL;
+  step *s = latest();
   uint32_t i;
   if (!s) return;
   for (i = s->first_mark; i < this_run->marks; i++) {
@@ -72,17 +72,11 @@ static uint16_t number_of(const task *t) {
   return (uint16_t)t->number;
 }
 
-void note_change(const task *t) {
-  if (is_searched) note(number_of(t), CHANGES);
-}
+void add_change(const task *t) { note(number_of(t), CHANGES); }
 
-void note_look(const task *t) {
-  if (is_searched) note(number_of(t), LOOKS_AT);
-}
+void add_look(const task *t) { note(number_of(t), LOOKS_AT); }
 
-void note_change_of_all(void) {
-  if (is_searched) note(EVERYBODY, CHANGES);
-}
+void add_change_of_all(void) { note(EVERYBODY, CHANGES); }
 
 /* Whom the last request terminated. */
 void note_ends(void) {
