@@ -108,12 +108,12 @@ static void check_pick_taken(void) {
 
 /* The place of the candidate that the next line names. After the last line the first one goes on. */
 unsigned choose_by_list(const candidates *those) {
-  const line *one = &lines[followed];
+  const line *one;
   char text[TEXT_SIZE];
   unsigned i;
   check_pick_taken();
   if (followed == count) return 0;
-  followed++;
+  one = &lines[followed++];
   pending_pick = one->pick;
   for (i = 0; i < those->tasks; i++) {
     if (!strcmp(those->task[i]->name, one->name)) return i;

@@ -9,7 +9,8 @@
 #include <string.h>
 #include <unistd.h>
 
-static bool is_stuck;
+bool is_stuck;
+
 static sem_t is_wanted;
 
 /* ---- Parts of sentences ---- */

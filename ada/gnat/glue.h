@@ -69,7 +69,7 @@ struct task {
   bool is_ready, goes_last, has_asked, is_to_end;
   pthread_cond_t *condition; /* for which it waits outside of the kernel, and until when */
   int64_t outside_due;
-  bool is_late;
+  bool is_late, is_let_go;
   task *next_numbered, *next_to_wake, *next_ready, *next_spare;
 };
 
@@ -191,6 +191,7 @@ FILE *open_named(const char *variable);
 void flush_one(FILE *file, const char *variable);
 void open_files(void);
 void flush_files(void);
+extern bool is_stuck;
 void end_stuck(void);
 void say_all(void);
 void begin_dumps(void);

@@ -199,10 +199,14 @@ int adagnat_await_activation(void) {
 
 /* A thread begins. */
 void adagnat_thread_begins(unsigned place) {
+  task *me;
+  bool is_to_wait;
   take_lock();
-  set_self(task_at(place));
+  me = task_at(place);
+  set_self(me);
+  is_to_wait = is_controlled || me->is_let_go;
   give_lock();
-  if (is_controlled) await_turn(self());
+  if (is_to_wait) await_turn(me);
 }
 
 /* Ends the task's own activation. */

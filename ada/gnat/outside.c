@@ -145,8 +145,17 @@ void wake_outside(int64_t now) {
   }
 }
 
+static bool is_under_control(void) { return __atomic_load_n(&is_controlled, __ATOMIC_RELAXED); }
+
 /* Whether the task that has the turn asks, and not the run time's own threads. */
-static bool is_of_task(void) { return is_controlled && self() && turn == self(); }
+static bool is_of_task(void) {
+  bool has_turn;
+  if (!is_under_control() || !self()) return false;
+  take_lock();
+  has_turn = turn == self();
+  give_lock();
+  return has_turn;
+}
 
 /* The turn is given on, and the mutex is taken again once it has come back. */
 static int wait_outside(pthread_cond_t *condition, pthread_mutex_t *mutex, int64_t due) {
@@ -196,12 +205,12 @@ int pthread_cond_timedwait(pthread_cond_t *condition, pthread_mutex_t *mutex, co
 }
 
 int pthread_cond_signal(pthread_cond_t *condition) {
-  if (is_controlled) wake_waiting(condition, false);
+  if (is_under_control()) wake_waiting(condition, false);
   return ((int (*)(pthread_cond_t *))real_pthread_cond_signal())(condition);
 }
 
 int pthread_cond_broadcast(pthread_cond_t *condition) {
-  if (is_controlled) wake_waiting(condition, true);
+  if (is_under_control()) wake_waiting(condition, true);
   return ((int (*)(pthread_cond_t *))real_pthread_cond_broadcast())(condition);
 }
 
@@ -246,7 +255,7 @@ static void *run_watch(void *nothing) {
     nanosleep(&pause, NULL);
     real_time(&now);
     take_lock();
-    if (has_finished) break;
+    if (has_finished || is_stuck) break;
     if (seen != turns) {
       seen = turns;
       since = now;

@@ -307,10 +307,11 @@ void end_schedule(void) {
   if (!is_controlled) return;
   check_list_over();
   flush_choices();
-  is_controlled = false;
+  __atomic_store_n(&is_controlled, false, __ATOMIC_RELAXED);
   while (first_ready) {
     task *t = first_ready;
     make_unready(t);
+    t->is_let_go = true;
     sem_post(&t->go);
   }
 }

@@ -1,5 +1,6 @@
 --  SPDX-License-Identifier: MIT
---  Clocks under a schedule that is chosen: time passes by delays alone, and each day is the same.
+--  Clocks under a schedule that is chosen: time passes by delays alone, and each day is the same. A task has the name
+--  that a tick has in lists of choices.
 
 with Ada.Calendar;
 with Ada.Real_Time;
@@ -18,15 +19,15 @@ procedure Clocks is
       Ada.Text_IO.Put_Line (What & Duration'Image (Clock - Day) & Duration'Image (Length));
    end Show;
 
-   task Sleeper;
+   task Tick;
 
-   task body Sleeper is
+   task body Tick is
    begin
       delay 0.25;
-      Show ("sleeper");
+      Show ("task");
       delay until Day + 2.5;
-      Show ("sleeper");
-   end Sleeper;
+      Show ("task");
+   end Tick;
 begin
    Ada.Text_IO.Put_Line ("year" & Year_Number'Image (Year (Day)));
    delay 3600.0;
