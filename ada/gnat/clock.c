@@ -33,8 +33,10 @@ void begin_clock(void) {
   pthread_condattr_destroy(&attributes);
 }
 
+/* Where the schedule is chosen, time passes by ticks alone. */
 static int64_t present_nanoseconds(void) {
   struct timespec now;
+  if (is_controlled) return moment * NANOSECONDS;
   clock_gettime(CLOCK_MONOTONIC, &now);
   return (int64_t)(now.tv_sec - start.tv_sec) * MILLISECONDS * NANOSECONDS + (now.tv_nsec - start.tv_nsec);
 }
@@ -42,9 +44,11 @@ static int64_t present_nanoseconds(void) {
 /* The moment in milliseconds from the beginning. */
 int64_t present(void) { return present_nanoseconds() / NANOSECONDS; }
 
-static void tick_to(int64_t now) {
+void tick_to(int64_t now) {
   uint64_t at;
-  int32_t code = ada_tick(&kernel, now, &at);
+  int32_t code;
+  note_change_of_all();
+  code = ada_tick(&kernel, now, &at);
   if (code) {
     refuse(NULL, code, "a tick");
     return;
@@ -136,7 +140,7 @@ void end_timed(task *me, int64_t duration, bool goes_on) {
   int64_t due = kernel.now + duration;
   ada_set_clock(&kernel, ADA_NO_CLOCK);
   me->due = due;
-  if (goes_on || due >= bound) return;
+  if (goes_on || is_controlled || due >= bound) return;
   bound = due;
   if (!has_thread) {
     has_thread = true;

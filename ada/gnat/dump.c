@@ -3,16 +3,14 @@
    the signal SIGQUIT. */
 
 #define _POSIX_C_SOURCE 200809L
-#include "glue.h"
+#include "schedule.h"
 #include <signal.h>
 #include <stdlib.h>
 #include <string.h>
 #include <unistd.h>
 
-/* How a program ends that is stuck. */
-enum { STUCK_STATUS = 83 };
+bool is_stuck;
 
-static bool is_stuck;
 static sem_t is_wanted;
 
 /* ---- Parts of sentences ---- */
@@ -80,6 +78,12 @@ static void say_thread(const task *t) {
     fputs(" goes on when the accept statement with its call is left", stderr);
   } else if (why.awaits_threads) {
     fputs(" goes on when the threads of its dependents are over", stderr);
+  } else if (is_controlled && t->condition) {
+    fputs(" waits for something that isn't a task", stderr);
+  } else if (is_controlled && t == turn) {
+    fputs(" has the turn", stderr);
+  } else if (is_controlled && t->is_ready) {
+    fputs(" would go on, if it had the turn", stderr);
   } else if (t->gone) {
     fputs(" was aborted, and its thread goes on to its next tasking operation", stderr);
   } else {
@@ -185,9 +189,14 @@ void end_stuck(void) {
   if (is_stuck) return;
   is_stuck = true;
   fflush(NULL);
+  if (is_searched) {
+    flush_choices();
+    _exit(STUCK_STATUS);
+  }
   fputs("adatask: stuck: no task goes on, and no moment is due.\n", stderr);
   say_all();
   flush_files();
+  flush_choices();
   if (!hangs_on()) _exit(STUCK_STATUS);
 }
 

@@ -6,7 +6,7 @@
 #include <stdlib.h>
 #include <string.h>
 
-static FILE *open_named(const char *variable) {
+FILE *open_named(const char *variable) {
   const char *name = getenv(variable);
   FILE *file;
   if (!name || !*name) return NULL;
@@ -15,7 +15,7 @@ static FILE *open_named(const char *variable) {
   return file;
 }
 
-static void flush_one(FILE *file, const char *variable) {
+void flush_one(FILE *file, const char *variable) {
   if (!file || (!fflush(file) && !ferror(file))) return;
   fprintf(stderr, "adatask: what %s names can't be written whole\n", variable);
 }

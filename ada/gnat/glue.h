@@ -46,7 +46,8 @@ struct task {
   char name[NAME_SIZE];
   int answer; /* to what it asked for last, once it goes on */
   int asked;
-  bool gone, was_halted, has_quit, is_completed, is_elaborated, is_started, has_thread, is_over, is_released, is_to_free;
+  bool gone, was_halted, has_quit, is_completed, is_elaborated, is_started, has_thread, is_over, is_released;
+  bool is_to_free;
   bool is_server;          /* one of the run time's own */
   unsigned entries, chunk; /* how many entries, how many of them make a family */
   task *maker;
@@ -63,7 +64,13 @@ struct task {
   uint32_t tail;
   bool is_timed;
   int64_t due; /* when what it asked for is over, if it is timed */
-  task *next_numbered, *next_to_wake, *next_spare;
+  /* Where the schedule is chosen: whether it would go on, goes on after all others, has just asked a question, and
+     ends the accept statement without statements that it has entered. */
+  bool is_ready, goes_last, has_asked, is_to_end;
+  pthread_cond_t *condition; /* for which it waits outside of the kernel, and until when */
+  int64_t outside_due;
+  bool is_late, is_let_go;
+  task *next_numbered, *next_to_wake, *next_ready, *next_spare;
 };
 
 extern ada_kernel kernel;
@@ -95,6 +102,8 @@ int abort_one(task *me, task *t);
 
 void take_lock(void);
 void give_lock(void);
+bool has_lock(void);
+void await_turn(task *me);
 void wait_with_lock(pthread_cond_t *condition, const struct timespec *until);
 task *self(void);
 void set_self(task *t);
@@ -114,6 +123,7 @@ extern void (*mark_aborted)(void *block);
 
 void begin_clock(void);
 int64_t present(void);
+void tick_to(int64_t now);
 void tick_if_due(void);
 int64_t begin_timed(int64_t nanoseconds);
 void end_timed(task *me, int64_t duration, bool goes_on);
@@ -129,15 +139,59 @@ void write_asked(const task *by, const char *format, ...);
 void write_created(const task *by, const task *made, const ada_family *families, size_t count);
 void write_list(const task *by, const char *verb, task *const *list, size_t count);
 void write_call(const task *by, uint32_t patience, int64_t duration);
-void write_wait(const task *by, const ada_choice *choices, size_t count, uint32_t tail, int64_t duration);
+void write_wait(const task *by, uint32_t pick, const ada_choice *choices, size_t count, uint32_t tail,
+                int64_t duration);
 void write_tick(int64_t now);
 void write_delay(const task *by, int64_t duration);
+
+/* ---- Schedules that are chosen: schedule.c, choices.c, outside.c ---- */
+
+/* Whether one task alone goes on at a time, chosen by what the environment says. */
+extern bool is_controlled;
+void begin_schedule(void);
+void end_schedule(void);
+void make_ready(task *t);
+void make_unready(task *t);
+void pass_turn(task *me, bool goes_on);
+void ask_for_turn(task *me);
+void begin_turn(task *me);
+uint32_t choose_pick(const task *by, const ada_choice *choices, size_t count);
+void give_turn_if_free(void);
+void begin_watch(void);
+void end_unfit(const char *format, ...);
+
+/* ---- A search of schedules: steps.c, search.c ---- */
+
+/* Whether this is a run of a search, so that its steps are noted. */
+extern bool is_searched;
+void search_from_here(void);
+void end_search(void);
+void note_ends(void);
+void add_change(const task *t);
+void add_look(const task *t);
+void add_change_of_all(void);
+
+/* The step of a search that isn't over changes a task's state; asks for an attribute of it; or changes any. */
+static inline void note_change(const task *t) {
+  if (is_searched) add_change(t);
+}
+
+static inline void note_look(const task *t) {
+  if (is_searched) add_look(t);
+}
+
+static inline void note_change_of_all(void) {
+  if (is_searched) add_change_of_all();
+}
 
 /* ---- Journal, files and dump: journal.c, files.c, dump.c ---- */
 
 void write_events(void);
+FILE *open_named(const char *variable);
+void flush_one(FILE *file, const char *variable);
 void open_files(void);
 void flush_files(void);
+extern bool is_stuck;
 void end_stuck(void);
 void say_all(void);
 void begin_dumps(void);

@@ -18,6 +18,8 @@ void (*mark_aborted)(void *block);
 
 static pthread_mutex_t lock = PTHREAD_MUTEX_INITIALIZER;
 static __thread task *own;
+/* Whether this thread marks tasks as aborted, with the lock. */
+static __thread bool is_marking;
 /* Those whose threads may go on once the lock is given. */
 static task *to_wake;
 /* Whether there ever was an abort, and since then the newest event that was looked at. Without one, nobody is looked
@@ -27,7 +29,13 @@ static uint64_t looked;
 
 task *self(void) { return own; }
 void set_self(task *t) { own = t; }
+bool has_lock(void) { return is_marking; }
 void take_lock(void) { pthread_mutex_lock(&lock); }
+
+/* Without the lock: until the task gets the turn, where the schedule is chosen. */
+void await_turn(task *me) {
+  while (sem_wait(&me->go)) continue;
+}
 
 /* A task that was woken may end at once, so it is looked at before that. */
 static void wake(task *t) {
@@ -100,7 +108,9 @@ static void mark_those_halted(void) {
     t = task_numbered(event.task);
     if (!t) continue;
     t->was_halted = true;
+    is_marking = true;
     if (t->block && t->has_thread) mark_aborted(t->block);
+    is_marking = false;
   }
 }
 
@@ -109,6 +119,7 @@ static void settle(void) {
   write_events();
   ada_threads_settle(&threads, &kernel);
   if (has_aborted) mark_those_halted();
+  if (is_searched) note_ends();
 }
 
 /* The task whose call began the accept statement of a depth, the innermost being 0; a null pointer if there is none. */
@@ -130,10 +141,18 @@ void leave_innermost(task *server) {
   ada_threads_serve_no_more(&threads, server->place, &caller);
 }
 
+static void note_rendezvous(const task *server) {
+  const task *caller = is_searched ? caller_of(server, 0) : NULL;
+  note_change(server);
+  if (caller) note_change(caller);
+}
+
 /* Asks for the end of the innermost rendezvous. */
 void end_innermost(task *server, bool is_raised) {
   uint64_t at;
-  int32_t code = ada_end(&kernel, server->number, is_raised, &at);
+  int32_t code;
+  note_rendezvous(server);
+  code = ada_end(&kernel, server->number, is_raised, &at);
   leave_innermost(server);
   if (code) {
     server->answer = refuse(server, code, "the end of a rendezvous");
@@ -143,7 +162,8 @@ void end_innermost(task *server, bool is_raised) {
   }
 }
 
-/* An accept statement without statements ends with the request that began it: no thread has to be woken for that. */
+/* An accept statement without statements ends with the request that began it: no thread has to be woken for that. But
+   where the schedule is chosen others may come between, so it ends when the acceptor has the turn. */
 static void take_wait(task *t, const ada_outcome *outcome) {
   unsigned number = outcome->number;
   task *caller;
@@ -154,7 +174,12 @@ static void take_wait(task *t, const ada_outcome *outcome) {
   t->taken = t->choice[number].alternative;
   begin_rendezvous(t, caller);
   t->parameters = caller->parameters;
-  if (t->choice[number].has_no_body) end_innermost(t, false);
+  if (!t->choice[number].has_no_body) return;
+  if (is_controlled) {
+    t->is_to_end = true;
+  } else {
+    end_innermost(t, false);
+  }
 }
 
 static int answer_to_call(uint32_t kind) {
@@ -190,10 +215,26 @@ void let_go(void) {
   uint32_t place;
   while (!ada_threads_next(&threads, &kernel, &place)) {
     task *t = task_at(place);
-    t->next_to_wake = to_wake;
-    to_wake = t;
     take_outcome(t);
+    if (is_controlled) {
+      make_ready(t);
+    } else {
+      t->next_to_wake = to_wake;
+      to_wake = t;
+    }
   }
+}
+
+/* A task gets the turn, where the schedule is chosen. If it was aborted the kernel has ended its rendezvous. */
+void begin_turn(task *me) {
+  if (!me->is_to_end) return;
+  me->is_to_end = false;
+  if (is_gone(me)) {
+    leave_innermost(me);
+  } else {
+    end_innermost(me, false);
+  }
+  let_go();
 }
 
 /* After a request that was accepted: whom it lets go on, but for who asked for it. */
@@ -217,14 +258,17 @@ int stay(task *me) {
   uint32_t goes_on = 1;
   int answer;
   ada_threads_stay(&threads, &kernel, me->place, &goes_on);
-  if (!goes_on) {
+  if (!goes_on && !is_controlled) {
     look_if_stuck();
     give_lock();
     await_go(me);
     return me->answer;
   }
-  take_outcome(me);
-  let_go();
+  if (goes_on) {
+    take_outcome(me);
+    let_go();
+  }
+  if (is_controlled) pass_turn(me, goes_on);
   answer = me->answer;
   give_lock();
   return answer;

@@ -33,6 +33,7 @@ unsigned adagnat_begin(void *block, void (*mark)(void *)) {
   strcpy(environment->name, "main");
   set_number(environment, 0);
   set_self(environment);
+  begin_schedule();
   begin_clock();
   open_files();
   return environment->place;
@@ -56,11 +57,20 @@ static size_t families_of(task *t, unsigned entries, ada_family *families) {
 
 static int32_t ask_for_task(const task *me, const task *t, const ada_family *families, size_t count) {
   uint64_t at;
-  int32_t code = ada_create(&kernel, me->number, t->master_kind, t->master, families, count, &at);
+  int32_t code;
+  note_change(me);
+  code = ada_create(&kernel, me->number, t->master_kind, t->master, families, count, &at);
   if ((code == ADA_TOO_MANY_TASKS || code == ADA_TOO_MANY_SLOTS) && make_room()) {
     code = ada_create(&kernel, me->number, t->master_kind, t->master, families, count, &at);
   }
   return code;
+}
+
+/* A search makes its processes while there is one thread alone. */
+static void begin_helpers(void) {
+  if (is_searched) return;
+  begin_dumps();
+  begin_watch();
 }
 
 /* The table of threads has room for the task before it is made. */
@@ -73,7 +83,7 @@ static int create(task *me, task *t, unsigned entries, const char *image, int le
   set_number(t, ada_tasks(&kernel) - 1);
   t->maker = me;
   name_task(t, image, length);
-  if (t->number == 1) begin_dumps();
+  if (t->number == 1) begin_helpers();
   write_created(me, t, families, count);
   follow();
   return OK;
@@ -114,10 +124,12 @@ int adagnat_create(unsigned parent, int level, unsigned entries, void *block, co
 static void begin_thread(task *t) {
   t->has_thread = true;
   ada_threads_begin(&threads, t->place);
+  if (is_controlled) make_ready(t);
 }
 
 /* A thread of the task won't be, or is over. */
 static void end_thread(task *t) {
+  if (is_controlled) make_unready(t);
   t->has_thread = false;
   t->is_over = true;
   if (t->is_server) servers--;
@@ -134,11 +146,14 @@ int adagnat_activate(unsigned count, const unsigned *those, int *go) {
   int answer;
   if (!me) return NO_TASK;
   if (count > MOST_TASKS) return TOO_MANY_TASKS;
+  if (is_searched) search_from_here();
   take_lock();
   tick_if_due();
+  note_change(me);
   for (i = 0; i < count; i++) {
     list[i] = task_at(those[i]);
     numbers[i] = list[i]->number;
+    note_change(list[i]);
   }
   code = is_gone(me) ? 0 : ada_activate(&kernel, me->number, numbers, count, &at);
   me->answer = is_gone(me) ? GONE : code ? refuse(me, code, "an activation") : OK;
@@ -184,9 +199,14 @@ int adagnat_await_activation(void) {
 
 /* A thread begins. */
 void adagnat_thread_begins(unsigned place) {
+  task *me;
+  bool is_to_wait;
   take_lock();
-  set_self(task_at(place));
+  me = task_at(place);
+  set_self(me);
+  is_to_wait = is_controlled || me->is_let_go;
   give_lock();
+  if (is_to_wait) await_turn(me);
 }
 
 /* Ends the task's own activation. */
@@ -197,17 +217,21 @@ int adagnat_elaborated(void) {
   if (!me) return NO_TASK;
   take_lock();
   tick_if_due();
-  answer = is_gone(me) ? GONE : OK;
-  if (!answer && !me->is_elaborated) {
-    int32_t code = ada_elaborated(&kernel, me->number, 1, &at);
+  me->answer = is_gone(me) ? GONE : OK;
+  if (!me->answer && !me->is_elaborated) {
+    int32_t code;
+    note_change(me);
+    code = ada_elaborated(&kernel, me->number, 1, &at);
     if (code) {
-      answer = refuse(me, code, "the end of an activation");
+      me->answer = refuse(me, code, "the end of an activation");
     } else {
       write_asked(me, "up");
       me->is_elaborated = true;
       follow();
     }
   }
+  if (is_controlled) return stay(me);
+  answer = me->answer;
   give_lock();
   return answer;
 }
@@ -221,6 +245,7 @@ static void ask_for_completion(task *me) {
   if (is_gone(me) || me->is_completed) return;
   give_up_unactivated(me);
   tick_if_due();
+  note_change(me);
   code = me->is_elaborated ? ada_complete(&kernel, me->number, &at) : ada_elaborated(&kernel, me->number, 0, &at);
   me->is_completed = true;
   if (code) {
@@ -256,7 +281,11 @@ int adagnat_thread_ends(void) {
     release_task(me);
     forget_task(me);
   }
-  look_if_stuck();
+  if (is_controlled) {
+    pass_turn(NULL, false);
+  } else {
+    look_if_stuck();
+  }
   give_lock();
   return is_to_free;
 }
@@ -297,6 +326,7 @@ int adagnat_abort(unsigned count, const unsigned *those) {
   }
   me->answer = OK;
   if (n && !is_gone(me)) {
+    note_change_of_all();
     code = ada_abort(&kernel, me->number, numbers, n, &at);
     if (code) {
       me->answer = refuse(me, code, "an abort");
@@ -316,6 +346,7 @@ int abort_one(task *me, task *t) {
   t->is_over = true;
   if (is_gone(me) || t->is_released) return OK;
   tick_if_due();
+  note_change_of_all();
   code = ada_abort(&kernel, me->number, &t->number, 1, &at);
   if (code) return refuse(me, code, "an abort");
   write_list(me, "abort", &t, 1);
@@ -360,6 +391,8 @@ void adagnat_finish(void) {
   bool is_any_left;
   take_lock();
   has_finished = true;
+  end_search();
+  end_schedule();
   flush_files();
   is_any_left = servers > 0;
   give_lock();

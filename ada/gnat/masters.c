@@ -52,6 +52,7 @@ static int open_block(task *me, uint32_t *kind, uint64_t *name) {
   *name = 0;
   if (is_gone(me) || me->is_completed) return OK;
   tick_if_due();
+  note_change(me);
   code = ada_open(&kernel, me->number, name);
   if (code) return code == ADA_TOO_DEEP ? OK : refuse(me, code, "the opening of a block");
   *kind = ADA_BLOCK;
@@ -65,6 +66,7 @@ static void close_block(task *me) {
   uint64_t at;
   int32_t code;
   tick_if_due();
+  note_change(me);
   code = ada_close(&kernel, me->number, &at);
   if (code) {
     refuse(me, code, "the end of a block");

@@ -34,9 +34,10 @@ static void take_simple_name(char *to, const char *image, int length) {
   if (!n) strcpy(to, "task");
 }
 
+/* The main program's, and in lists of choices that of a tick, are nobody else's. */
 static bool is_used(const char *name) {
   const used *u = all_used;
-  if (!strcmp(name, "main")) return true;
+  if (!strcmp(name, "main") || (is_controlled && !strcmp(name, "tick"))) return true;
   while (u && strcmp(u->name, name)) u = u->next;
   return u != NULL;
 }

@@ -26,6 +26,8 @@ static int call(task *me, uint32_t patience, int64_t nanoseconds) {
     tick_if_due();
   }
   me->is_timed = patience == ADA_TIMED;
+  note_change(me);
+  note_change(callee);
   code = ada_call(&kernel, me->number, callee->number, family_of(callee, me->entry), index_of(callee, me->entry),
                   patience, duration, &at);
   goes_on = code || kernel.goes_on;
@@ -88,6 +90,7 @@ static bool take_alternatives(task *me, const alternative *those, unsigned count
 static int wait(task *me, const ada_choice *choices, int64_t nanoseconds) {
   size_t count = me->choices ? me->choices : 1;
   ada_pause pause = {0, 1};
+  uint32_t pick;
   uint64_t at;
   int32_t code;
   bool is_timed = me->tail == ADA_DELAYS, goes_on;
@@ -96,11 +99,13 @@ static int wait(task *me, const ada_choice *choices, int64_t nanoseconds) {
   } else {
     tick_if_due();
   }
-  code = ada_wait(&kernel, me->number, choices, count, me->tail, &pause, is_timed, 0, &at);
+  note_change(me);
+  pick = is_controlled ? choose_pick(me, choices, count) : 0;
+  code = ada_wait(&kernel, me->number, choices, count, me->tail, &pause, is_timed, pick, &at);
   goes_on = code || kernel.goes_on;
   if (!code) {
     me->asked = A_WAIT;
-    write_wait(me, choices, count, me->tail, pause.duration);
+    write_wait(me, pick, choices, count, me->tail, pause.duration);
     follow();
   }
   if (is_timed) end_timed(me, pause.duration, goes_on);
@@ -169,6 +174,8 @@ int adagnat_delay(int64_t nanoseconds) {
     return sleep_for(nanoseconds);
   }
   duration = begin_timed(nanoseconds);
+  note_change(me);
+  me->goes_last = true;
   code = ada_delay(&kernel, me->number, duration, &at);
   goes_on = code || kernel.goes_on;
   me->answer = code ? refuse(me, code, "a delay") : OK;
@@ -186,7 +193,10 @@ int adagnat_is_callable(unsigned place) {
   const task *t;
   uint32_t is_callable = 0;
   take_lock();
+  ask_for_turn(self());
   t = task_at(place);
+  if (t) note_change(t);
+  if (t) note_look(t);
   if (t && !t->is_released) ada_callable(&kernel, t->number, &is_callable);
   give_lock();
   return (int)is_callable;
@@ -198,7 +208,9 @@ int adagnat_is_terminated(unsigned place) {
   const task *t;
   uint32_t is_terminated;
   take_lock();
+  ask_for_turn(self());
   t = task_at(place);
+  if (t) note_look(t);
   is_terminated = t != NULL;
   if (t && !t->is_released) ada_terminated(&kernel, t->number, &is_terminated);
   if (t && t->has_thread && !t->is_server) is_terminated = 0;
@@ -212,6 +224,7 @@ int adagnat_count(unsigned entry) {
   uint32_t count = 0;
   if (!me) return 0;
   take_lock();
+  ask_for_turn(me);
   ada_queued(&kernel, me->number, family_of(me, entry), index_of(me, entry), &count);
   give_lock();
   return (int)count;

@@ -94,6 +94,8 @@ package System.Tasking.Kernel is
    procedure Thread_Begins (Place : unsigned) with Import, Convention => C, External_Name => "adagnat_thread_begins";
    function Elaborated return int with Import, Convention => C, External_Name => "adagnat_elaborated";
    procedure Complete with Import, Convention => C, External_Name => "adagnat_complete";
+   procedure Unhandled (Name : System.Address; Length : int)
+     with Import, Convention => C, External_Name => "adagnat_unhandled";
    function Thread_Ends return int with Import, Convention => C, External_Name => "adagnat_thread_ends";
    function Free (Place : unsigned) return int with Import, Convention => C, External_Name => "adagnat_free";
    function Abort_Tasks (Count : unsigned; Places : System.Address) return int

@@ -318,6 +318,9 @@ package body System.Tasking.Stages is
    procedure Run_Handler (Self_Id : Task_Id; Cause : Cause_Of_Termination; X : Ada.Exceptions.Exception_Occurrence);
    --  Calls the handler for the end of a task (C.7.3 of Ada 2005), its own or that of a task on which it depends
 
+   procedure Note_Unhandled (Name : String);
+   --  The task ends by an exception of this name
+
    procedure Run_Handler (Self_Id : Task_Id; Cause : Cause_Of_Termination; X : Ada.Exceptions.Exception_Occurrence) is
       Handler : Termination_Handler := Self_Id.Common.Specific_Handler;
       P       : Task_Id := Self_Id.Common.Parent;
@@ -334,6 +337,11 @@ package body System.Tasking.Stages is
    exception
       when others => null;
    end Run_Handler;
+
+   procedure Note_Unhandled (Name : String) is
+   begin
+      Kernel.Unhandled (Name'Address, Name'Length);
+   end Note_Unhandled;
 
    procedure Task_Wrapper (Self_Id : Task_Id) is
       use Ada.Exceptions;
@@ -357,6 +365,7 @@ package body System.Tasking.Stages is
             Initialization.Defer_Abort_Nestable (Self_Id);
             Cause := Unhandled_Exception;
             Save_Occurrence (Occurrence, SSL.Get_Current_Excep.all.all);
+            Note_Unhandled (Exception_Name (Occurrence));
       end;
       Run_Handler (Self_Id, Cause, Occurrence);
       End_Thread (Self_Id);

@@ -53,10 +53,11 @@ void write_call(const task *by, uint32_t patience, int64_t duration) {
   putc('\n', script);
 }
 
-void write_wait(const task *by, const ada_choice *choices, size_t count, uint32_t tail, int64_t duration) {
+void write_wait(const task *by, uint32_t pick, const ada_choice *choices, size_t count, uint32_t tail,
+                int64_t duration) {
   size_t i;
   if (!script) return;
-  fprintf(script, "%s: select 0", by->name);
+  fprintf(script, "%s: select %u", by->name, (unsigned)pick);
   for (i = 0; i < count; i++) {
     fprintf(script, "%s%s accept", i ? " or" : "", choices[i].is_open ? "" : " closed");
     write_entry(by, choices[i].family, choices[i].index);
